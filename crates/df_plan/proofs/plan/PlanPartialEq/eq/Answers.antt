@@ -1,0 +1,7 @@
+use Rattle.std.proofs.lemmas.Bool.Decides.{same_from_decides}
+use Rattle.df_value.specs.Same.{same_by-Decides}
+use Rattle.df_plan.specs.contracts.plan.Plan.{the_row}
+use Rattle.df_plan.proofs.plan.PlanPartialEq.eq.Goals as goal
+
+pub returns : goal.returns
+returns c = same_from_decides _ _ c.same_plan.ensures (same_by-Decides the_row.coded c.args.self.now c.args.other.now)

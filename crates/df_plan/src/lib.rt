@@ -1,0 +1,6 @@
+//! Plans: how a table is made of frames.
+#![tactic(auto)]
+
+mod plan;
+
+pub use plan::{Agg, Plan};

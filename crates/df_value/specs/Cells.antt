@@ -1,0 +1,17 @@
+-- Cells and the types of columns: the values of a table, as the Polars Python reference has them for
+-- integers, strings and Booleans, with a null that belongs to every type.
+use Rattle.std.specs.Prelude.{Bool, true, false}
+use Rattle.df_value.specs.declared.cell.Cell.{Cell}
+use Rattle.df_value.specs.declared.cell.Cell.TheVariants as cell
+use Rattle.df_value.specs.declared.cell.CellType.{CellType}
+use Rattle.df_value.specs.declared.cell.CellType.TheVariants as kind
+
+-- whether a cell is null or of this type
+abbrev pub fits_type : CellType → Cell → Bool
+fits_type t cell.Null = true
+fits_type kind.Int (cell.Int n) = true
+fits_type kind.Wide (cell.Wide n) = true
+fits_type kind.Text (cell.Text t) = true
+fits_type kind.Bool (cell.Bool b) = true
+fits_type kind.Frac (cell.Frac f) = true
+fits_type t _ = false

@@ -1,0 +1,23 @@
+-- Chunks: rows of a frame, numbered from a first number on.
+use Rattle.std.specs.Prelude.{◌≡◌, ◌+◌, ◌≤◌, ◌^◌, ℕ, List, None, length, not, position}
+use Rattle.df_value.specs.declared.cell.Cell.{Cell}
+use Rattle.df_value.specs.declared.cell.CellType.{CellType}
+use Rattle.df_value.specs.Rows.{row_fits}
+
+-- what callers see of a chunk
+pub record ChunkParts : Type 0 where
+  pub schema : List (List ℕ × CellType)
+  pub first : ℕ
+  pub rows : List (List Cell)
+
+-- what a chunk is: few enough rows, whose numbers lie below 2^32, and of which none does not fit
+pub record IsChunk (schema : List (List ℕ × CellType)) (first : ℕ) (rows : List (List Cell)) : Type 0 where
+  pub short : length rows ≤ 65536
+  pub numbered : first + length rows ≤ 4294967296
+  pub fitting : position (λ r. not (row_fits schema r)) rows ≡ None
+
+-- the chunk is made of these parts
+pub record MakesChunk (schema : List (List ℕ × CellType)) (first : ℕ) (rows : List (List Cell)) (made : ChunkParts) : Type 0 where
+  pub of_schema : made.schema ≡ schema
+  pub of_first : made.first ≡ first
+  pub of_rows : made.rows ≡ rows

@@ -1,0 +1,9 @@
+pub mod Exactly
+pub mod Cells
+pub mod CellEq
+pub mod Rows
+pub mod Schemas
+pub mod SchemaFaults
+pub mod Chunks
+pub mod ChunkFaults
+pub mod Same

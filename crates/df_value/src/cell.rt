@@ -1,0 +1,84 @@
+//! Cells and rows.
+ghost use Rattle.std.specs.Prelude.{◌≡◌};
+ghost use Rattle.df_value.specs.Cells.{fits_type};
+
+use crate::frac::Frac;
+use crate::list::List;
+use crate::text::Text;
+use crate::traits::{Duplicate, Exact};
+use std::alloc::{AllocError, Global};
+
+/// What the cells of a column are.
+///
+/// Base frames have `Int` (i64), `Text` and `Bool` columns. `Wide` (i128) comes from sums and `Frac`
+/// from means. Null belongs to every type.
+#[derive(Clone, Copy, Debug, PartialEq, Eq, Hash)]
+pub enum CellType {
+    Int,
+    Wide,
+    Text,
+    Bool,
+    Frac,
+}
+
+/// One value of a table.
+#[derive(Debug, PartialEq, Eq, Hash, Drop)]
+pub enum Cell {
+    Null,
+    Int(i64),
+    Wide(i128),
+    Text(Text),
+    Bool(bool),
+    Frac(Frac),
+}
+
+/// One row of a table.
+pub type Row = List<Cell>;
+
+impl Cell {
+    /// Whether this cell may stand in a column of this type: it is null or of the type.
+    pub fn fits(&self, kind: CellType) -> bool
+        ensures { result ≡ fits_type kind self.now }
+    {
+        match (kind, self) {
+            (_, Cell::Null) => true,
+            (CellType::Int, Cell::Int(_)) => true,
+            (CellType::Wide, Cell::Wide(_)) => true,
+            (CellType::Text, Cell::Text(_)) => true,
+            (CellType::Bool, Cell::Bool(_)) => true,
+            (CellType::Frac, Cell::Frac(_)) => true,
+            _ => false,
+        }
+    }
+}
+
+impl Exact for CellType {
+    ghost use Rattle.std.proofs.Common.{rules};
+
+    ghost decides = { Prim.search rules };
+}
+
+impl Exact for Cell {
+    ghost use Rattle.std.proofs.Common.{rules};
+
+    ghost decides = { Prim.search rules };
+}
+
+impl Duplicate for CellType {
+    fn copy(&self, _alloc: Global) -> Result<CellType, AllocError> {
+        Ok(*self)
+    }
+}
+
+impl Duplicate for Cell {
+    fn copy(&self, alloc: Global) -> Result<Cell, AllocError> {
+        match self {
+            Cell::Null => Ok(Cell::Null),
+            Cell::Int(n) => Ok(Cell::Int(*n)),
+            Cell::Wide(n) => Ok(Cell::Wide(*n)),
+            Cell::Text(t) => Ok(Cell::Text(t.copy(alloc)?)),
+            Cell::Bool(b) => Ok(Cell::Bool(*b)),
+            Cell::Frac(f) => Ok(Cell::Frac(*f)),
+        }
+    }
+}

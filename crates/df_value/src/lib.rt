@@ -1,0 +1,26 @@
+//! Cells, rows, schemas and chunks: what a table is made of.
+//!
+//! A [`Cell`] is null or a value of one of five types, a [`Row`] a list of cells, a [`Schema`] the
+//! names and types of a table's columns, and a [`Chunk`] some rows of a frame with the number of the
+//! first. Contracts see a [`Text`] as the list of its bytes and a [`List`] as the list of its items.
+#![tactic(auto)]
+
+mod cell;
+mod chunk;
+mod frac;
+mod list;
+mod schema;
+mod text;
+mod traits;
+
+pub use cell::{Cell, CellType, Row};
+pub use chunk::{BadCell, Chunk, ChunkFault, MOST_ROWS_OF_CHUNK, Made, RefusedRows};
+pub use frac::Frac;
+pub use list::List;
+pub use schema::{MOST_COLUMNS, Schema, SchemaFault, doubled, place_of, type_of};
+pub use sqlite_items::Boxed;
+pub use text::Text;
+pub use traits::{Duplicate, Exact, same};
+
+#[cfg(test)]
+mod tests;

@@ -1,0 +1,178 @@
+//! Schemas: the names and types of the columns of a table.
+ghost use Rattle.std.specs.Prelude.{◌≡◌, ◌<◌, [], MatchResult, length, IfSome};
+ghost use Rattle.std.specs.List.{list_any};
+ghost use Rattle.std.specs.Option.{option_copied};
+ghost use Rattle.std.specs.Str.{bytes_eq};
+ghost use Rattle.df_value.specs.Schemas.{IsSchema, position_of, type_in, doubled_after, is_base as is_base_schema, is_base_type};
+ghost use Rattle.df_value.specs.SchemaFaults.{schema_fault};
+ghost use Rattle.df_value.specs.Rows.{row_fits};
+
+use crate::cell::{Cell, CellType, Row};
+use crate::list::List;
+use crate::text::Text;
+use crate::traits::{Duplicate, Exact};
+use std::alloc::{AllocError, Global};
+use std::marker::Model;
+use thiserror::Error;
+
+/// The most columns of a table.
+pub const MOST_COLUMNS: usize = 32;
+
+/// The columns of a table by name and type: 1 to 32 of them, no two of one name. Any text is a name.
+#[derive(PartialEq, Eq, Hash, Debug, Drop)]
+pub struct Schema {
+    columns: List<(Text, CellType)>,
+}
+
+impl Model for Schema {
+    ghost use Rattle.std.specs.Prelude.{List as Seq, ℕ};
+    ghost use Rattle.df_value.specs.declared.cell.CellType.{CellType};
+    ghost use Rattle.df_value.specs.Schemas.{IsSchema};
+
+    ghost Value = { Seq (Seq ℕ × CellType) };
+
+    ghost view = { λ s. s.columns };
+
+    ghost invariant = { λ s. IsSchema s.columns };
+
+    ghost inverse = { λ columns. record { columns = columns } };
+}
+
+/// Why a list of columns is no schema.
+#[derive(Debug, PartialEq, Eq, Drop, Error)]
+pub enum SchemaFault {
+    #[error("no columns")]
+    NoColumns,
+    #[error("more than 32 columns")]
+    TooWide,
+    #[error("a name stands twice")]
+    DoubledName,
+}
+
+impl Schema {
+    /// The schema of these columns.
+    ///
+    /// Refused are, in this order: no columns, more than 32 columns, a name that stands twice.
+    pub fn new(columns: List<(Text, CellType)>) -> Result<Schema, SchemaFault>
+        ensures { MatchResult result (λ s. (s ≡ columns) × IsSchema columns) (λ e. schema_fault columns ≡ Some e) }
+    {
+        if columns.is_empty() {
+            return Err(SchemaFault::NoColumns);
+        }
+        if columns.len() > MOST_COLUMNS {
+            return Err(SchemaFault::TooWide);
+        }
+        if doubled(columns.as_slice()).is_some() {
+            return Err(SchemaFault::DoubledName);
+        }
+        Ok(Schema { columns })
+    }
+
+    /// The columns in order.
+    pub fn columns(&self) -> &List<(Text, CellType)>
+        ensures value { result.now ≡ self.now }
+        ensures sound { IsSchema self.now }
+    {
+        &self.columns
+    }
+
+    /// The place of the column of this name, from 0.
+    pub fn position(&self, name: &Text) -> Option<usize>
+        ensures value { result ≡ position_of name.now self.now }
+        ensures within { IfSome result (λ i. i < length self.now) }
+    {
+        place_of(name, self.columns.as_slice())
+    }
+
+    /// The type of the column of this name.
+    pub fn type_of(&self, name: &Text) -> Option<CellType>
+        ensures { result ≡ type_in name.now self.now }
+    {
+        type_of(name, self.columns.as_slice())
+    }
+
+    /// Whether a base frame may have this schema: all types are Int, Text or Bool.
+    pub fn is_base(&self) -> bool
+        ensures { result ≡ is_base_schema self.now }
+    {
+        self.columns.as_slice().iter().all(|c| is_base(c.1))
+    }
+
+    /// Whether a row has one cell for each column, which is null or of the column's type.
+    pub fn fits(&self, row: &Row) -> bool
+        ensures { result ≡ row_fits self.now row.now }
+    {
+        fits_columns(self.columns.as_slice(), row.as_slice())
+    }
+}
+
+impl Duplicate for Schema {
+    fn copy(&self, alloc: Global) -> Result<Schema, AllocError> {
+        Ok(Schema {
+            columns: self.columns.copy(alloc)?,
+        })
+    }
+}
+
+impl Exact for Schema {
+    ghost use Rattle.std.proofs.Common.{rules};
+    ghost use Rattle.df_value.specs.Exactly.{list_decides, pair_decides};
+    ghost use Rattle.std.proofs.lemmas.Slice.Eq.{bytes_eq-Decides};
+
+    ghost decides = { λ a b. list_decides (pair_decides bytes_eq-Decides (Prim.search rules)) a b };
+}
+
+fn is_base(kind: CellType) -> bool
+    ensures { result ≡ is_base_type kind }
+{
+    matches!(kind, CellType::Int | CellType::Text | CellType::Bool)
+}
+
+fn fits_columns(columns: &[(Text, CellType)], cells: &[Cell]) -> bool
+    ensures { result ≡ row_fits columns.now cells.now }
+{
+    if columns.len() != cells.len() {
+        return false;
+    }
+    for i in 0..columns.len() {
+        if !cells[i].fits(columns[i].1) {
+            return false;
+        }
+    }
+    true
+}
+
+/// The first name that stands earlier in the list.
+pub fn doubled(columns: &[(Text, CellType)]) -> Option<&Text>
+    ensures { option_copied result ≡ doubled_after [] columns.now }
+{
+    for i in 0..columns.len() {
+        let name = &columns[i].0;
+        if stands_in(name, &columns[..i]) {
+            return Some(name);
+        }
+    }
+    None
+}
+
+// Whether a column has this name.
+fn stands_in(name: &Text, columns: &[(Text, CellType)]) -> bool
+    ensures { result ≡ list_any (λ c. bytes_eq c.0 name.now) columns.now }
+{
+    columns.iter().any(|c| c.0 == *name)
+}
+
+/// The place of the column of this name, from 0.
+pub fn place_of(name: &Text, columns: &[(Text, CellType)]) -> Option<usize>
+    ensures value { result ≡ position_of name.now columns.now }
+    ensures within { IfSome result (λ i. i < length columns.now) }
+{
+    columns.iter().position(|c| c.0 == *name)
+}
+
+/// The type of the column of this name.
+pub fn type_of(name: &Text, columns: &[(Text, CellType)]) -> Option<CellType>
+    ensures { result ≡ type_in name.now columns.now }
+{
+    columns.iter().find(|c| c.0 == *name).map(|c| c.1)
+}
