@@ -1,0 +1,108 @@
+//! A plan that was checked.
+ghost use Rattle.std.specs.Prelude.{◌≡◌, ◌≢◌, Ok, Err, IfOk, IfErr};
+ghost use Rattle.df_plan.specs.Checks.{checked};
+
+use crate::checks::check;
+use crate::fault::PlanFault;
+use crate::plan::Plan;
+use df_value::{Duplicate, List, Schema};
+use std::alloc::{AllocError, Global};
+use std::marker::Model;
+
+/// A plan that checks over frames of known schemas, with the schema of its result.
+#[derive(Debug, PartialEq, Eq, Drop)]
+pub struct CheckedPlan {
+    plan: Plan,
+    frames: List<Schema>,
+    schema: Schema,
+}
+
+impl Model for CheckedPlan {
+    ghost use Rattle.df_plan.specs.CheckedParts.{CheckedParts};
+    ghost use Rattle.std.specs.Coded.{codes};
+    ghost use Rattle.df_plan.specs.contracts.plan.Plan as plan_type;
+
+    ghost Value = { CheckedParts };
+
+    ghost coded = { Prim.hlevel (codes, plan_type.the_row.coded) };
+
+    ghost use Rattle.std.specs.Prelude.{◌≡◌, Ok};
+    ghost use Rattle.df_plan.specs.Checks.{checked};
+
+    ghost view = { λ p. record { plan = p.plan; frames = p.frames; schema = p.schema } };
+
+    ghost invariant = { λ p. checked p.plan p.frames ≡ Ok p.schema };
+
+    ghost inverse = { λ p. record { plan = p.plan; frames = p.frames; schema = p.schema } };
+}
+
+impl CheckedPlan {
+    /// The plan, if it checks over frames of these schemas, of which it keeps copies.
+    ///
+    /// Refused is first a plan of more than 12 levels. Then comes the first fault of a walk that visits
+    /// inputs before their node. Of a scan: an index that is no frame. Of a group-by: no keys; key by
+    /// key a missing column or one of type Frac; aggregate by aggregate a missing column or one whose
+    /// type it does not take; the first name of the result that stands earlier in it; more than 32
+    /// columns.
+    pub fn new(alloc: Global, plan: Plan, frames: &[Schema]) -> Result<CheckedPlan, PlanFault>
+        ensures ok { IfOk result (λ p. (p.plan ≡ plan) × (p.frames ≡ frames.now) × (checked plan frames.now ≡ Ok p.schema)) }
+        ensures fault { IfErr result (λ f. f ≢ PlanFault.Memory → checked plan frames.now ≡ Err f) }
+    {
+        match check(alloc, &plan, frames) {
+            Ok(schema) => match copy_all(alloc, frames) {
+                Ok(frames) => Ok(CheckedPlan {
+                    plan,
+                    frames,
+                    schema,
+                }),
+                Err(_) => Err(PlanFault::Memory),
+            },
+            Err(fault) => Err(fault),
+        }
+    }
+
+    /// The plan.
+    pub fn plan(&self) -> &Plan
+        ensures { result.now ≡ self.now.plan }
+    {
+        &self.plan
+    }
+
+    /// The schemas of the frames that the plan was checked over.
+    pub fn frames(&self) -> &List<Schema>
+        ensures { result.now ≡ self.now.frames }
+    {
+        &self.frames
+    }
+
+    /// The schema of the plan's result.
+    pub fn schema(&self) -> &Schema
+        ensures value { result.now ≡ self.now.schema }
+        ensures sound { checked self.now.plan self.now.frames ≡ Ok self.now.schema }
+    {
+        &self.schema
+    }
+}
+
+fn copy_all(alloc: Global, schemas: &[Schema]) -> Result<List<Schema>, AllocError>
+    ensures { IfOk result (λ copies. copies ≡ schemas.now) }
+{
+    let mut copies = Vec::with_capacity(alloc, schemas.len())?;
+    for schema in schemas {
+        copies.push(schema.copy(alloc)?)?;
+    }
+    Ok(List::from_vec(copies))
+}
+
+impl Duplicate for CheckedPlan {
+    fn copy(&self, alloc: Global) -> Result<CheckedPlan, AllocError> {
+        let plan = self.plan.copy(alloc)?;
+        let frames = self.frames.copy(alloc)?;
+        let schema = self.schema.copy(alloc)?;
+        Ok(CheckedPlan {
+            plan,
+            frames,
+            schema,
+        })
+    }
+}
