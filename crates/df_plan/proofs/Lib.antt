@@ -1,0 +1,5 @@
+pub mod Choices
+pub mod Keys
+pub mod Partition
+pub mod Found
+pub mod Sound

@@ -1,2 +1,5 @@
 pub mod Checks
 pub mod CheckedParts
+pub mod Groups
+pub mod Aggregates
+pub mod Meaning

@@ -63,7 +63,8 @@ impl CheckedPlan {
 
     /// The plan.
     pub fn plan(&self) -> &Plan
-        ensures { result.now ≡ self.now.plan }
+        ensures value { result.now ≡ self.now.plan }
+        ensures sound { checked self.now.plan self.now.frames ≡ Ok self.now.schema }
     {
         &self.plan
     }

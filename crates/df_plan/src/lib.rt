@@ -1,12 +1,26 @@
 //! Plans: how a table is made of frames, with their check and their plain evaluation.
+//!
+//! To add an operator: a variant of [`Plan`] with its arms in `copy` and `same_plan` (plan.rt); its
+//! checks in `check_step` (specs/Checks.antt) and `check_node` (checks.rt); its meaning in `table_step`
+//! (specs/Meaning.antt) and its body in `table_of_plan` (evaluation.rt); that its rows fit in
+//! proofs/Sound.antt. To add an aggregate: a variant of [`Agg`] and the functions that match on it.
 #![tactic(auto)]
 
+mod aggregates;
 mod checked;
 mod checks;
+mod evaluation;
 mod fault;
+mod groups;
 mod plan;
+mod table;
 
 pub use checked::CheckedPlan;
 pub use checks::MOST_LEVELS;
+pub use evaluation::evaluate;
 pub use fault::PlanFault;
+pub use groups::{group_lengths, group_of, keys_of};
 pub use plan::{Agg, Plan};
+
+#[cfg(test)]
+mod tests;

@@ -1,0 +1,209 @@
+-- The rows that a checked plan gives fit the schema that the check found.
+use Rattle.std.proofs.Common.{◌≡◌, ℕ, ◌<◌, ◌∙◌, Bool, true, false, zero, suc, cond, List, [], ◌∷◌, ◌++◌, length, map, refl, ap, sym, subst, arith, append_assoc}
+use Rattle.std.specs.Prelude.{IsTrue, Ok, Err, Option, Some, None, ◌&&◌, option_map, slice_get, unwrap_or, nat_lt, pos}
+use Rattle.std.specs.List.{list_any, list_all, position_or_len}
+use Rattle.std.specs.Str.{bytes_eq}
+use Rattle.std.specs.Cmp.Lexicographic.{pointwise}
+use Rattle.std.proofs.lemmas.Grind.{common_steps}
+use Rattle.std.proofs.lemmas.List.Folds.{find_at, list_all-map, list_all-append}
+use Rattle.std.proofs.lemmas.Option.{slice_get_within}
+use Rattle.std.proofs.lemmas.Bool.Decides.{Decides-ltb}
+use Rattle.df_value.specs.declared.cell.Cell.{Cell}
+use Rattle.df_value.specs.declared.cell.Cell.TheVariants as cell
+use Rattle.df_value.specs.declared.cell.CellType.{CellType}
+use Rattle.df_value.specs.declared.cell.CellType.TheVariants as kind
+use Rattle.df_value.specs.Cells.{fits_type}
+use Rattle.df_value.specs.Rows.{row_fits, row_eq, cell_at}
+use Rattle.df_value.specs.Schemas.{type_in, position_of, doubled_after}
+use Rattle.df_plan.specs.Groups.{key_of, keys_of, group_of, distinct_after}
+use Rattle.df_plan.specs.declared.table.Table.{Table}
+use Rattle.df_plan.specs.Meaning.{rows_fit, key_column, aggregate_column, aggregate_of, places_of, grouped_columns, grouped, grouped_rows, group_row, frame_from, frames_fit, table_step, table_of}
+use Rattle.df_plan.specs.Checks.{Columns, Checked, then_checked, group_checked, frame_checked, check_step, columns_of, checked}
+use Rattle.df_plan.specs.declared.plan.Agg.{Agg}
+use Rattle.df_plan.specs.declared.plan.Agg.TheVariants as agg
+use Rattle.df_plan.specs.declared.plan.Plan.{Plan}
+use Rattle.df_plan.specs.declared.plan.Plan.TheOpen.{Plan-F}
+use Rattle.df_plan.specs.declared.plan.Plan.TheFolds.{fold-roll-Plan, ind-Plan, map-Plan}
+use Rattle.df_plan.specs.declared.plan.Plan.TheViews.{roll-Plan}
+use Rattle.df_plan.proofs.Choices.{either}
+use Rattle.df_plan.proofs.Found.{AreColumns, then_ok, group_found, checked_columns}
+
+abbrev Rows : Type 0
+Rows = List (List Cell)
+
+first_of_two : (a b : Bool) → IsTrue (a && b) → IsTrue a
+first_of_two true b h = refl
+first_of_two false b h = cc
+
+second_of_two : (a b : Bool) → IsTrue (a && b) → IsTrue b
+second_of_two true b h = h
+second_of_two false b h = cc
+
+both_true : (a b : Bool) → IsTrue a → IsTrue b → IsTrue (a && b)
+both_true true b h k = k
+both_true false b h k = cc
+
+-- the cell beside a column fits its type
+cell_fits :
+    (columns : Columns) (row : List Cell) (i : ℕ) (c : List ℕ × CellType) →
+    IsTrue (row_fits columns row) → slice_get columns i ≡ Some c →
+    IsTrue (fits_type c.1 (unwrap_or (slice_get row i) cell.Null))
+cell_fits [] row i c fits h = cc
+cell_fits (d ∷ ds) [] i c fits h = cc
+cell_fits (d ∷ ds) (v ∷ vs) zero c fits h = grind (arith, common_steps)
+cell_fits (d ∷ ds) (v ∷ vs) (suc i) c fits h =
+    cell_fits ds vs i c (second_of_two (fits_type d.1 v) (row_fits ds vs) fits) h
+
+found_type :
+    (o : Option (List ℕ × CellType)) (t : CellType) → option_map (λ c. c.1) o ≡ Some t →
+    (c : List ℕ × CellType) × ((o ≡ Some c) × (c.1 ≡ t))
+found_type None t h = cc
+found_type (Some c) t h = (c, (refl, cc))
+
+-- the cell of a column of a row that fits has the column's type
+pub column_fits :
+    (columns : Columns) (row : List Cell) → IsTrue (row_fits columns row) → (name : List ℕ) (t : CellType) →
+    type_in name columns ≡ Some t → IsTrue (fits_type t (cell_at (position_of name columns) row))
+column_fits columns row fits name t h =
+    let place = position_or_len (λ c. bytes_eq c.0 name) columns in
+    let found = found_type (slice_get columns place) t (simp find_at at h) in
+    let within : place < length columns = slice_get_within columns place found.0 found.1.0 in
+    let test : nat_lt place (length columns) ≡ true = (Decides-ltb place (length columns)).1 within in
+    let here : IsTrue (fits_type found.0.1 (unwrap_or (slice_get row place) cell.Null)) = cell_fits columns row place found.0 fits found.1.0 in
+    rw (test, ← found.1.1) here
+
+-- two rows side by side fit two lists of columns side by side
+fits_both :
+    (cs ds : Columns) (v w : List Cell) → IsTrue (row_fits cs v) → IsTrue (row_fits ds w) →
+    IsTrue (row_fits (cs ++ ds) (v ++ w))
+fits_both [] ds [] w h k = k
+fits_both [] ds (x ∷ v) w h k = cc
+fits_both (c ∷ cs) ds [] w h k = cc
+fits_both (c ∷ cs) ds (x ∷ v) w h k =
+    both_true (fits_type c.1 x) (row_fits (cs ++ ds) (v ++ w)) (first_of_two (fits_type c.1 x) (row_fits cs v) h)
+      (fits_both cs ds v w (second_of_two (fits_type c.1 x) (row_fits cs v) h) k)
+
+key_fits_at :
+    (o : Option CellType) (t : CellType) (v : Cell) → o ≡ Some t → IsTrue (fits_type t v) → IsTrue (fits_type (unwrap_or o kind.Int) v)
+key_fits_at o t v e h = rw e h
+
+-- the key of a row that fits
+key_fits :
+    (columns : Columns) (row : List Cell) → IsTrue (row_fits columns row) → (names : List (List ℕ)) → AreColumns columns names →
+    IsTrue (row_fits (map (key_column columns) names) (key_of (places_of columns names) row))
+key_fits columns row fits [] h = refl
+key_fits columns row fits (name ∷ names) h =
+    both_true (fits_type (unwrap_or (type_in name columns) kind.Int) (cell_at (position_of name columns) row)) _
+      (key_fits_at (type_in name columns) h.0.0 _ h.0.1 (column_fits columns row fits name h.0.0 h.0.1))
+      (key_fits columns row fits names h.1)
+
+aggregate_fits : (columns : Columns) (rows : Rows) (a : Agg) → IsTrue (fits_type (aggregate_column ([], a)).1 (aggregate_of columns rows a))
+aggregate_fits columns rows agg.Len = refl
+aggregate_fits columns rows (agg.Sum name) = refl
+
+aggregates_fit :
+    (columns : Columns) (rows : Rows) (aggs : List (List ℕ × Agg)) →
+    IsTrue (row_fits (map aggregate_column aggs) (map (λ a. aggregate_of columns rows a.1) aggs))
+aggregates_fit columns rows [] = refl
+aggregates_fit columns rows (a ∷ as') =
+    both_true (fits_type (aggregate_column a).1 (aggregate_of columns rows a.1)) _ (aggregate_fits columns rows a.1) (aggregates_fit columns rows as')
+
+-- what holds of all rows holds of the distinct ones
+distinct_all :
+    (p : List Cell → Bool) (seen rs : Rows) → IsTrue (list_all p seen) → IsTrue (list_all p rs) →
+    IsTrue (list_all p (distinct_after seen rs))
+distinct_all p seen [] h k = h
+distinct_all p seen (r ∷ rs) h k =
+    either (λ ks. IsTrue (list_all p ks)) (list_any (row_eq r) seen) _ _
+      (distinct_all p seen rs h (second_of_two (p r) (list_all p rs) k))
+      (distinct_all p (seen ++ r ∷ []) rs
+        (list_all-append p seen (r ∷ []) ∙ both_true (list_all p seen) (p r && true) h (both_true (p r) true (first_of_two (p r) (list_all p rs) k) refl))
+        (second_of_two (p r) (list_all p rs) k))
+
+map_all :
+    (p q : List Cell → Bool) (f : List Cell → List Cell) → ((r : List Cell) → IsTrue (p r) → IsTrue (q (f r))) →
+    (rs : Rows) → IsTrue (list_all p rs) → IsTrue (list_all q (map f rs))
+map_all p q f keeps [] h = refl
+map_all p q f keeps (r ∷ rs) h =
+    both_true (q (f r)) (list_all q (map f rs)) (keeps r (first_of_two (p r) (list_all p rs) h))
+      (map_all p q f keeps rs (second_of_two (p r) (list_all p rs) h))
+
+-- the rows of a group-by fit its columns
+pub groups_fit :
+    (t : Table) (keys : List (List ℕ)) (aggs : List (List ℕ × Agg)) → AreColumns t.columns keys → IsTrue (rows_fit t.columns t.rows) →
+    IsTrue (rows_fit (grouped_columns t.columns keys aggs) (grouped_rows t keys aggs))
+groups_fit t keys aggs named fit =
+    let places = places_of t.columns keys in
+    let key_columns = map (key_column t.columns) keys in
+    let of_rows : IsTrue (list_all (row_fits key_columns) (map (key_of places) t.rows)) =
+        map_all (row_fits t.columns) (row_fits key_columns) (key_of places) (λ r h. key_fits t.columns r h keys named) t.rows fit in
+    let of_keys : IsTrue (list_all (row_fits key_columns) (keys_of places t.rows)) =
+        distinct_all (row_fits key_columns) [] (map (key_of places) t.rows) refl of_rows in
+    map_all (row_fits key_columns) (row_fits (grouped_columns t.columns keys aggs)) (group_row t.columns places aggs t.rows)
+      (λ k h. fits_both key_columns (map aggregate_column aggs) k _ h (aggregates_fit t.columns (group_of places t.rows k) aggs))
+      (keys_of places t.rows) of_keys
+
+-- what holds of a table whose columns a check found
+abbrev HasRows : Checked → Table → Type 0
+HasRows c t = (cs : Columns) → c ≡ Ok cs → (t.columns ≡ cs) × IsTrue (rows_fit cs t.rows)
+
+group_has_rows :
+    (c : Checked) (t : Table) (keys : List (List ℕ)) (aggs : List (List ℕ × Agg)) → HasRows c t →
+    HasRows (then_checked c (λ columns. group_checked columns keys aggs)) (grouped t keys aggs)
+group_has_rows c t keys aggs of_input cs h =
+    let input = then_ok c (λ columns. group_checked columns keys aggs) cs h in
+    let has = of_input input.0 input.1.0 in
+    let found = group_found input.0 keys aggs cs input.1.1 in
+    let named = subst (λ (columns : Columns). AreColumns columns keys) (sym has.0) found.1 in
+    let is : grouped_columns t.columns keys aggs ≡ cs = ap (λ (columns : Columns). grouped_columns columns keys aggs) has.0 ∙ sym found.0 in
+    let fit = subst (λ (columns : Columns). IsTrue (rows_fit columns t.rows)) (sym has.0) has.1 in
+    (is, subst (λ (columns : Columns). IsTrue (rows_fit columns (grouped_rows t keys aggs))) is (groups_fit t keys aggs named fit))
+
+-- where all frames fit their schemas, the frame of an index has rows that fit the schema there
+frame_rows :
+    (schemas : List Columns) (frames : List Rows) → IsTrue (frames_fit schemas frames) → (f : ℕ) (cs : Columns) →
+    slice_get schemas f ≡ Some cs → (rs : Rows) × ((slice_get frames f ≡ Some rs) × IsTrue (rows_fit cs rs))
+frame_rows [] frames fit f cs h = cc
+frame_rows (s ∷ schemas) [] fit f cs h = cc
+frame_rows (s ∷ schemas) (rs ∷ frames) fit zero cs h =
+    let same : s ≡ cs = cc in
+    (rs, (refl, subst (λ (c : Columns). IsTrue (rows_fit c rs)) same (first_of_two (rows_fit s rs) (frames_fit schemas frames) fit)))
+frame_rows (s ∷ schemas) (rs ∷ frames) fit (suc f) cs h =
+    frame_rows schemas frames (second_of_two (rows_fit s rs) (frames_fit schemas frames) fit) f cs h
+
+frame_found : (f : ℕ) (o : Option Columns) (cs : Columns) → frame_checked f o ≡ Ok cs → o ≡ Some cs
+frame_found f None cs h = cc
+frame_found f (Some columns) cs h = cc
+
+scan_has_rows :
+    (schemas : List Columns) (frames : List Rows) → IsTrue (frames_fit schemas frames) → (f : ℕ) →
+    HasRows (frame_checked f (slice_get schemas f)) (frame_from (slice_get schemas f) (slice_get frames f))
+scan_has_rows schemas frames fit f cs h =
+    let here = frame_found f (slice_get schemas f) cs h in
+    let rows = frame_rows schemas frames fit f cs here in
+    rw (here, rows.1.0) (refl, rows.1.1)
+
+-- one node, whose input has rows that fit
+step :
+    (schemas : List Columns) (frames : List Rows) → IsTrue (frames_fit schemas frames) →
+    (y : Plan-F ((p : Plan) × HasRows (columns_of p schemas) (table_of p schemas frames))) →
+    let p = roll-Plan (map-Plan ((p : Plan) × HasRows (columns_of p schemas) (table_of p schemas frames)) Plan (λ p. p.0) y) in
+    HasRows (columns_of p schemas) (table_of p schemas frames)
+step schemas frames fit (Plan-F.Scan f) =
+    rw (fold-roll-Plan Checked (check_step schemas), fold-roll-Plan Table (table_step schemas frames)) (scan_has_rows schemas frames fit f)
+step schemas frames fit (Plan-F.GroupBy a keys aggs) =
+    rw (fold-roll-Plan Checked (check_step schemas), fold-roll-Plan Table (table_step schemas frames))
+      (group_has_rows (columns_of a.0 schemas) (table_of a.0 schemas frames) keys aggs a.1)
+
+plan_has_rows :
+    (schemas : List Columns) (frames : List Rows) → IsTrue (frames_fit schemas frames) → (p : Plan) →
+    HasRows (columns_of p schemas) (table_of p schemas frames)
+plan_has_rows schemas frames fit =
+    ind-Plan (λ p. HasRows (columns_of p schemas) (table_of p schemas frames))
+      (λ x y is. subst (λ z. HasRows (columns_of (roll-Plan z) schemas) (table_of (roll-Plan z) schemas frames)) is (step schemas frames fit y))
+
+-- the rows of a plan that checks fit the schema that the check found
+pub table_fits :
+    (schemas : List Columns) (frames : List Rows) → IsTrue (frames_fit schemas frames) → (p : Plan) (cs : Columns) →
+    checked p schemas ≡ Ok cs → IsTrue (rows_fit cs (table_of p schemas frames).rows)
+table_fits schemas frames fit p cs h = (plan_has_rows schemas frames fit p cs (checked_columns p schemas cs h)).1

@@ -1,0 +1,77 @@
+-- The table that a plan means over frames: each operator of the Polars Python reference on plain lists
+-- of rows, taken from the whole table of its input.
+use Rattle.std.specs.Prelude.{ℕ, pos, List, [], ◌∷◌, ◌++◌, Option, Some, None, Bool, true, false, ◌&&◌, length, map, slice_get, unwrap_or}
+use Rattle.std.specs.List.{list_all}
+use Rattle.df_value.specs.declared.cell.Cell.{Cell}
+use Rattle.df_value.specs.declared.cell.Cell.TheVariants as cell
+use Rattle.df_value.specs.declared.cell.CellType.{CellType}
+use Rattle.df_value.specs.declared.cell.CellType.TheVariants as kind
+use Rattle.df_value.specs.Rows.{row_fits}
+use Rattle.df_value.specs.Schemas.{position_of, type_in}
+use Rattle.df_plan.specs.Groups.{keys_of, group_of}
+use Rattle.df_plan.specs.Aggregates.{cells_of, sum_of}
+use Rattle.df_plan.specs.declared.plan.Agg.{Agg}
+use Rattle.df_plan.specs.declared.plan.Agg.TheVariants as agg
+use Rattle.df_plan.specs.declared.plan.Plan.{Plan, fold-Plan}
+use Rattle.df_plan.specs.declared.plan.Plan.TheOpen.{Plan-F}
+use Rattle.df_plan.specs.declared.table.Table.{Table}
+
+-- an aggregate of the rows of a group
+abbrev pub aggregate_of : List (List ℕ × CellType) → List (List Cell) → Agg → Cell
+aggregate_of columns rows agg.Len = cell.Int (pos (length rows))
+aggregate_of columns rows (agg.Sum name) = cell.Wide (sum_of (cells_of (position_of name columns) rows))
+
+abbrev pub type_of_aggregate : Agg → CellType
+type_of_aggregate agg.Len = kind.Int
+type_of_aggregate (agg.Sum name) = kind.Wide
+
+-- the key, and after it the aggregates of its group
+abbrev pub group_row :
+    List (List ℕ × CellType) → List (Option ℕ) → List (List ℕ × Agg) → List (List Cell) → List Cell → List Cell
+group_row columns places aggs rows key = key ++ map (λ a. aggregate_of columns (group_of places rows key) a.1) aggs
+
+abbrev pub key_column : List (List ℕ × CellType) → List ℕ → List ℕ × CellType
+key_column columns name = (name, unwrap_or (type_in name columns) kind.Int)
+
+abbrev pub aggregate_column : List ℕ × Agg → List ℕ × CellType
+aggregate_column a = (a.0, type_of_aggregate a.1)
+
+abbrev pub places_of : List (List ℕ × CellType) → List (List ℕ) → List (Option ℕ)
+places_of columns names = map (λ name. position_of name columns) names
+
+abbrev pub grouped_columns : List (List ℕ × CellType) → List (List ℕ) → List (List ℕ × Agg) → List (List ℕ × CellType)
+grouped_columns columns keys aggs = map (key_column columns) keys ++ map aggregate_column aggs
+
+-- a row for each key, in the order in which the keys first appear
+abbrev pub grouped_rows : Table → List (List ℕ) → List (List ℕ × Agg) → List (List Cell)
+grouped_rows t keys aggs =
+    map (group_row t.columns (places_of t.columns keys) aggs t.rows) (keys_of (places_of t.columns keys) t.rows)
+
+abbrev pub grouped : Table → List (List ℕ) → List (List ℕ × Agg) → Table
+grouped t keys aggs = record { columns = grouped_columns t.columns keys aggs; rows = grouped_rows t keys aggs }
+
+-- the columns and rows of a frame, empty where either is missing
+abbrev pub frame_from : Option (List (List ℕ × CellType)) → Option (List (List Cell)) → Table
+frame_from None rows = record { columns = []; rows = [] }
+frame_from (Some columns) None = record { columns = []; rows = [] }
+frame_from (Some columns) (Some rows) = record { columns = columns; rows = rows }
+
+-- the table of one node, from that of its input
+abbrev pub table_step : List (List (List ℕ × CellType)) → List (List (List Cell)) → Plan-F Table → Table
+table_step schemas frames (Plan-F.Scan frame) = frame_from (slice_get schemas frame) (slice_get frames frame)
+table_step schemas frames (Plan-F.GroupBy t keys aggs) = grouped t keys aggs
+
+-- the table that a plan means over frames of these schemas and rows
+abbrev pub table_of : Plan → List (List (List ℕ × CellType)) → List (List (List Cell)) → Table
+table_of p schemas frames = fold-Plan Table (table_step schemas frames) p
+
+-- whether all rows fit
+abbrev pub rows_fit : List (List ℕ × CellType) → List (List Cell) → Bool
+rows_fit columns rows = list_all (row_fits columns) rows
+
+-- whether there is one list of rows for each schema, and all of them fit it
+abbrev pub frames_fit : List (List (List ℕ × CellType)) → List (List (List Cell)) → Bool
+frames_fit [] [] = true
+frames_fit [] (rs ∷ rows) = false
+frames_fit (s ∷ schemas) [] = false
+frames_fit (s ∷ schemas) (rs ∷ rows) = rows_fit s rs && frames_fit schemas rows

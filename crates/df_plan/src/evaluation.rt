@@ -1,0 +1,175 @@
+//! The plain evaluation of a plan, over whole tables.
+ghost use Rattle.std.specs.Prelude.{◌≡◌, IfOk, IsTrue, map, slice_get};
+ghost use Rattle.df_plan.specs.Meaning.{table_of, frame_from, frames_fit, rows_fit, grouped, grouped_columns as columns_of_groups, group_row as row_of_group, aggregate_of, type_of_aggregate, places_of as places_at, key_column};
+
+use crate::aggregates::sum_of;
+use crate::checked::CheckedPlan;
+use crate::groups::{group_of, keys_of};
+use crate::plan::{Agg, Plan};
+use crate::table::Table;
+use df_value::{Cell, CellType, Duplicate, List, Row, Schema, Text, place_of, type_of};
+use std::alloc::{AllocError, Global};
+
+/// The rows that a plan gives over frames: `frames[i]` are the rows of frame i, by rising number.
+///
+/// Each operator is taken from the whole of its input, so the time may grow with the square of the
+/// number of rows.
+pub fn evaluate(
+    alloc: Global,
+    plan: &CheckedPlan,
+    frames: &[List<Row>],
+) -> Result<List<Row>, AllocError>
+    requires { IsTrue (frames_fit plan.now.frames frames.now) }
+    ensures value { IfOk result (λ rows. rows ≡ (table_of plan.now.plan plan.now.frames frames.now).rows) }
+    ensures fit { IfOk result (λ rows. IsTrue (rows_fit plan.now.schema rows)) }
+{
+    let table = table_of_plan(alloc, plan.plan(), plan.frames().as_slice(), frames)?;
+    Ok(table.rows)
+}
+
+fn table_of_plan(
+    alloc: Global,
+    plan: &Plan,
+    schemas: &[Schema],
+    frames: &[List<Row>],
+) -> Result<Table, AllocError>
+    ensures { IfOk result (λ t. t ≡ table_of plan.now schemas.now frames.now) }
+{
+    match plan {
+        Plan::Scan(frame) => copy_frame(alloc, schemas, frames, *frame),
+        Plan::GroupBy(input, keys, aggs) => {
+            let input = table_of_plan(alloc, input.get(), schemas, frames)?;
+            group_by(alloc, &input, keys.as_slice(), aggs.as_slice())
+        }
+    }
+}
+
+// A copy of the frame, or no rows where there is none.
+fn copy_frame(
+    alloc: Global,
+    schemas: &[Schema],
+    frames: &[List<Row>],
+    frame: usize,
+) -> Result<Table, AllocError>
+    ensures { IfOk result (λ t. t ≡ frame_from (slice_get schemas.now frame) (slice_get frames.now frame)) }
+{
+    match (schemas.get(frame), frames.get(frame)) {
+        (Some(schema), Some(rows)) => {
+            let columns = schema.columns().copy(alloc)?;
+            let rows = rows.copy(alloc)?;
+            Ok(Table { columns, rows })
+        }
+        _ => Ok(Table {
+            columns: List::from_vec(Vec::new(alloc)),
+            rows: List::from_vec(Vec::new(alloc)),
+        }),
+    }
+}
+
+// The groups of a table, by the first appearance of their keys.
+fn group_by(
+    alloc: Global,
+    table: &Table,
+    keys: &[Text],
+    aggs: &[(Text, Agg)],
+) -> Result<Table, AllocError>
+    ensures { IfOk result (λ t. t ≡ grouped table.now keys.now aggs.now) }
+{
+    let places = places_of(alloc, &table.columns, keys)?;
+    let found = keys_of(alloc, places.as_slice(), table.rows.as_slice())?;
+    let columns = grouped_columns(alloc, &table.columns, keys, aggs)?;
+    let rows = group_rows(alloc, table, places.as_slice(), found.as_slice(), aggs)?;
+    Ok(Table { columns, rows })
+}
+
+fn places_of(
+    alloc: Global,
+    columns: &List<(Text, CellType)>,
+    names: &[Text],
+) -> Result<Vec<Option<usize>>, AllocError>
+    ensures { IfOk result (λ places. places.items ≡ places_at columns.now names.now) }
+{
+    names
+        .iter()
+        .map(|name| place_of(name, columns.as_slice()))
+        .collect(alloc)
+}
+
+fn grouped_columns(
+    alloc: Global,
+    columns: &List<(Text, CellType)>,
+    keys: &[Text],
+    aggs: &[(Text, Agg)],
+) -> Result<List<(Text, CellType)>, AllocError>
+    ensures { IfOk result (λ cs. cs ≡ columns_of_groups columns.now keys.now aggs.now) }
+{
+    let mut out = Vec::new(alloc);
+    for name in keys {
+        out.push((name.copy(alloc)?, type_of_key(columns, name)))?;
+    }
+    for agg in aggs {
+        out.push((agg.0.copy(alloc)?, type_of_agg(&agg.1)))?;
+    }
+    Ok(List::from_vec(out))
+}
+
+fn type_of_key(columns: &List<(Text, CellType)>, name: &Text) -> CellType
+    ensures { (name.now, result) ≡ key_column columns.now name.now }
+{
+    type_of(name, columns.as_slice()).unwrap_or(CellType::Int)
+}
+
+fn type_of_agg(agg: &Agg) -> CellType
+    ensures { result ≡ type_of_aggregate agg.now }
+{
+    match agg {
+        Agg::Len => CellType::Int,
+        Agg::Sum(_) => CellType::Wide,
+    }
+}
+
+// A row for each key.
+fn group_rows(
+    alloc: Global,
+    table: &Table,
+    places: &[Option<usize>],
+    found: &[Row],
+    aggs: &[(Text, Agg)],
+) -> Result<List<Row>, AllocError>
+    ensures { IfOk result
+        (λ rows. rows ≡ map (row_of_group table.now.columns places.now aggs.now table.now.rows) found.now) }
+{
+    let mut rows = Vec::with_capacity(alloc, found.len())?;
+    for key in found {
+        rows.push(group_row(alloc, table, places, key, aggs)?)?;
+    }
+    Ok(List::from_vec(rows))
+}
+
+// The key, and after it the aggregates of its group.
+fn group_row(
+    alloc: Global,
+    table: &Table,
+    places: &[Option<usize>],
+    key: &Row,
+    aggs: &[(Text, Agg)],
+) -> Result<Row, AllocError>
+    ensures { IfOk result
+        (λ row. row ≡ row_of_group table.now.columns places.now aggs.now table.now.rows key.now) }
+{
+    let group = group_of(alloc, places, table.rows.as_slice(), key)?;
+    let mut row = key.copy(alloc)?.into_vec();
+    for agg in aggs {
+        row.push(aggregate(&table.columns, group.as_slice(), &agg.1))?;
+    }
+    Ok(List::from_vec(row))
+}
+
+fn aggregate(columns: &List<(Text, CellType)>, group: &[Row], agg: &Agg) -> Cell
+    ensures { result ≡ aggregate_of columns.now group.now agg.now }
+{
+    match agg {
+        Agg::Len => Cell::Int(group.len() as i64),
+        Agg::Sum(name) => Cell::Wide(sum_of(place_of(name, columns.as_slice()), group)),
+    }
+}
