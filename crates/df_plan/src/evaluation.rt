@@ -19,9 +19,11 @@ pub fn evaluate(
     plan: &CheckedPlan,
     frames: &[List<Row>],
 ) -> Result<List<Row>, AllocError>
-    requires { IsTrue (frames_fit plan.now.frames frames.now) }
     ensures value { IfOk result (λ rows. rows ≡ (table_of plan.now.plan plan.now.frames frames.now).rows) }
-    ensures fit { IfOk result (λ rows. IsTrue (rows_fit plan.now.schema rows)) }
+
+    // Where there is a table for each frame, and its rows fit, the rows of the result fit too.
+    ensures fit { IsTrue (frames_fit plan.now.frames frames.now) →
+        IfOk result (λ rows. IsTrue (rows_fit plan.now.schema rows)) }
 {
     let table = table_of_plan(alloc, plan.plan(), plan.frames().as_slice(), frames)?;
     Ok(table.rows)

@@ -125,6 +125,13 @@ impl Chunk {
     {
         &self.rows
     }
+
+    /// The rows by rising number, taken out of the chunk.
+    pub fn into_rows(self) -> List<Row>
+        ensures { result ≡ self.rows }
+    {
+        self.rows
+    }
 }
 
 /// The least index of a row that does not fit the schema.

@@ -54,6 +54,7 @@ fn chunks(rt: HostRuntime) -> Result<(), Fail> {
     assert_eq!(rt; chunk.first(), 4_294_967_295);
     assert_eq!(rt; chunk.rows().len(), 1);
     assert!(rt; same(chunk.schema(), &schema));
+    assert_eq!(rt; chunk.into_rows().len(), 1);
     let two = List::from_vec(vec![in alloc; int_row(alloc, 5)?, int_row(alloc, 6)?]?);
     let Err(refused) = Chunk::new(alloc, &schema, 4_294_967_295, two) else {
         assert!(rt; false);

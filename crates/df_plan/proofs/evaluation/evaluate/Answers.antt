@@ -2,7 +2,7 @@ use Rattle.df_plan.proofs.Sound.{table_fits}
 use Rattle.df_plan.proofs.evaluation.evaluate.Goals as goal
 
 pub returns-clause-fit : goal.returns-clause-fit
-returns-clause-fit c =
+returns-clause-fit c fits =
     let plan = c.args.plan.now in
     rw (c.in_ok-table.ensures, c.plan.ensures.value, c.as_slice.ensures, c.frames.ensures)
-      (table_fits plan.frames c.args.frames.now c.requires plan.plan plan.schema c.plan.ensures.sound)
+      (table_fits plan.frames c.args.frames.now fits plan.plan plan.schema c.plan.ensures.sound)

@@ -1,0 +1,136 @@
+-- What every document that is read promises.
+use Rattle.std.proofs.Common.{◌≡◌, ◌≤◌, ◌<◌, ℕ, Bool, true, false, cond, List, [], length, nat_lt, position, Option, Some, None, Result, Ok, Err, IfOk, codes, ◌∷◌, ◌+◌, refl, sym, ap, subst, arith, rules, ◌∙◌}
+use Rattle.std.specs.List.{All, AllPass, list_all}
+use Rattle.std.specs.Str.{bytes_eq}
+use Rattle.std.proofs.lemmas.Bool.{cases_Bool}
+use Rattle.std.proofs.lemmas.Bool.Decides.{nat_tests}
+use Rattle.std.proofs.lemmas.List.Elements.{All-nil}
+use Rattle.std.proofs.lemmas.List.Quantifiers.{position-Some}
+use Rattle.std.proofs.lemmas.List.Sums.{list_all-from_AllPass}
+use Rattle.toml.specs.Data.{Data, Members}
+use Rattle.df_value.specs.Schemas.{is_base, is_base_type}
+use Rattle.df_value.specs.declared.cell.CellType.{CellType}
+use Rattle.df_value.specs.declared.cell.CellType.TheVariants as kind
+use Rattle.df_value.specs.declared.schema.SchemaFault.{SchemaFault}
+use Rattle.df_value.specs.SchemaFaults.{schema_fault}
+use Rattle.df_plan.specs.declared.plan.Plan.{Plan, Scan, GroupBy, the_lemmas}
+use Rattle.df_plan.specs.declared.plan.Agg.{Agg}
+use Rattle.df_text.specs.declared.document.FrameSpec.{FrameSpec}
+use Rattle.df_text.specs.declared.document.ViewSpec.{ViewSpec}
+use Rattle.df_text.specs.declared.document.Views.{Views}
+use Rattle.df_text.specs.declared.document.Place.{Place}
+use Rattle.df_text.specs.declared.document.Place.TheVariants as place
+use Rattle.df_text.specs.declared.steps.StepWord.{StepWord}
+use Rattle.df_text.specs.declared.steps.StepWord.TheVariants as step_word
+use Rattle.df_text.specs.declared.views_fault.ViewsFault.{ViewsFault}
+use Rattle.df_text.specs.declared.views_fault.ViewsFault.TheVariants as fault
+use Rattle.df_text.specs.Reading.{read_each, read_after}
+use Rattle.df_text.specs.Tree.{keys_pass, text_in, array_in, table_in, first_in, pair_in, tree_of}
+use Rattle.df_text.specs.Frames.{column_of, type_of_word, entries_of_frame, unless_fault, schema_of, new_name, frame_of, frames_of}
+use Rattle.df_text.specs.Steps.{aggregate_of, applied, step_of, step_of_word, steps_after, group_by}
+use Rattle.df_text.specs.Scans.{scans_below}
+use Rattle.df_text.specs.Document.{IsDocument, is_top_key, Tables, at_most, document_of, entries_of_view, few_steps, found_frame, frame_named, new_view_name, tables_at, tables_of, view_of, views_of}
+use Rattle.df_text.proofs.ReadFacts.{then_gives, if_gives, given, all_give, each_give, length_gives}
+
+-- the three words name base types
+word_of : (a b c : Bool) (at : Place) (t : CellType) → cond a (Ok kind.Int) (cond b (Ok kind.Text) (cond c (Ok kind.Bool) (Err (fault.Word at)))) ≡ Ok t → is_base_type t ≡ true
+word_of true b c at t e = let same : kind.Int ≡ t = cc in rw (← same) refl
+word_of false true c at t e = let same : kind.Text ≡ t = cc in rw (← same) refl
+word_of false false true at t e = let same : kind.Bool ≡ t = cc in rw (← same) refl
+word_of false false false at t e = absurd (cc)
+
+column_base : (at : Place) (d : Data) → IfOk (column_of at d) (λ (c : List ℕ × CellType). is_base_type c.1 ≡ true)
+column_base at d =
+    then_gives _ (array_in at d) _ (λ ds _. then_gives _ (pair_in at ds) _ (λ p _.
+    then_gives _ (text_in at p.0) _ (λ name _. then_gives _ (text_in at p.1) _ (λ word _.
+    then_gives _ (type_of_word at word) _ (λ t is. word_of _ _ _ at t is)))))
+
+kept_columns : (index : ℕ) (columns schema : List (List ℕ × CellType)) (o : Option SchemaFault) → unless_fault index columns o ≡ Ok schema → columns ≡ schema
+kept_columns index columns schema (Some f) e = absurd (cc)
+kept_columns index columns schema None e = cc
+
+frame_base : (before : List FrameSpec) (d : Data) → IfOk (frame_of before d) (λ (f : FrameSpec). is_base f.schema ≡ true)
+frame_base before d =
+    let at = place.Frame (length before) in
+    then_gives _ (table_in at d) _ (λ ms _. then_gives _ (entries_of_frame at ms) _ (λ entries _.
+    then_gives _ (read_each (column_of at) entries.columns) _ (λ columns are.
+    then_gives _ (schema_of (length before) columns) _ (λ schema same.
+    then_gives _ (new_name at entries.name before) _ (λ name _.
+    let passes : List ℕ × CellType → Bool = λ c. is_base_type c.1 in
+    let each = each_give (λ (c : List ℕ × CellType). passes c ≡ true) (column_of at) (column_base at) entries.columns in
+    let all = given (λ cs. All (λ (c : List ℕ × CellType). passes c ≡ true) cs) (read_each (column_of at) entries.columns) columns each are in
+    rw (← kept_columns (length before) columns schema (schema_fault columns) same) (list_all-from_AllPass passes columns all))))))
+
+scans-GroupBy : (n : ℕ) (p : Plan) (keys : List (List ℕ)) (aggs : List (List ℕ × Agg)) → scans_below n (GroupBy p keys aggs) ≡ scans_below n p
+scans-GroupBy n p keys aggs = search (rules, the_lemmas)
+
+scans-Scan : (n i : ℕ) → scans_below n (Scan i) ≡ nat_lt i n
+scans-Scan n i = search (rules, the_lemmas)
+
+applied_scans : (n : ℕ) (at : Place) (word : StepWord) (input : Plan) (ds : List Data) → scans_below n input ≡ true → IfOk (applied at word input ds) (λ p. scans_below n p ≡ true)
+applied_scans n at step_word.GroupBy input ds h =
+    then_gives _ (first_in at ds) _ (λ k _. then_gives _ (array_in at k.0) _ (λ ks _.
+    then_gives _ (read_each (text_in at) ks) _ (λ keys _. then_gives _ (read_each (aggregate_of at) k.1) _ (λ aggregates _.
+    scans-GroupBy n input keys aggregates ∙ h))))
+
+step_scans : (n : ℕ) (at : Place) (input : Plan) (d : Data) → scans_below n input ≡ true → IfOk (step_of at input d) (λ p. scans_below n p ≡ true)
+step_scans n at input d h =
+    then_gives _ (array_in at d) _ (λ ds _. then_gives _ (first_in at ds) _ (λ s _. then_gives _ (text_in at s.0) _ (λ w _.
+    then_gives _ (step_of_word at w) _ (λ word _. applied_scans n at word input s.1 h))))
+
+steps_scans : (n : ℕ) (at : Place) (input : Plan) (ds : List Data) → scans_below n input ≡ true → IfOk (steps_after at input ds) (λ p. scans_below n p ≡ true)
+steps_scans n at input [] h = h
+steps_scans n at input (d ∷ ds) h =
+    then_gives _ (step_of at input d) _ (λ next is. steps_scans n at next ds (given (λ p. scans_below n p ≡ true) (step_of at input d) next (step_scans n at input d h) is))
+
+found_within : (at : Place) (p : FrameSpec → Bool) (frames : List FrameSpec) (o : Option ℕ) (i : ℕ) → position p frames ≡ o → found_frame at o ≡ Ok i → nat_lt i (length frames) ≡ true
+found_within at p [] None i is e = absurd (cc)
+found_within at p (f ∷ frames) None i is e = absurd (cc)
+found_within at p [] (Some j) i is e = absurd (cc)
+found_within at p (f ∷ frames) (Some j) i is e =
+    let same : j ≡ i = cc in
+    let within = position-Some p (f ∷ frames) j f is in
+    rw (← same) (grind (arith, nat_tests))
+
+view_scans : (frames : List FrameSpec) (before : List ViewSpec) (d : Data) → IfOk (view_of frames before d) (λ (v : ViewSpec). scans_below (length frames) v.plan ≡ true)
+view_scans frames before d =
+    let at = place.View (length before) in
+    let n = length frames in
+    then_gives _ (table_in at d) _ (λ ms _. then_gives _ (entries_of_view at ms) _ (λ entries _.
+    then_gives _ (new_view_name at entries.name before) _ (λ name _.
+    then_gives _ (frame_named at entries.source frames) _ (λ index is.
+    then_gives _ (steps_after at (Scan index) entries.steps) _ (λ p are.
+    let below = scans-Scan n index ∙ found_within at _ frames _ index refl is in
+    given (λ q. scans_below n q ≡ true) (steps_after at (Scan index) entries.steps) p (steps_scans n at (Scan index) entries.steps below) are)))))
+
+few_by_test : (b : Bool) (n : ℕ) (many : ViewsFault) (ds : List Data) → nat_lt n (length ds) ≡ b → IfOk (cond b (Err many) (Ok ds)) (λ few. length few ≤ n)
+few_by_test true n many ds e = tt
+few_by_test false n many ds e = grind (arith, nat_tests)
+
+few : (n : ℕ) (many : ViewsFault) (ds : List Data) → IfOk (at_most n many ds) (λ some. length some ≤ n)
+few n many ds = few_by_test (nat_lt n (length ds)) n many ds refl
+
+few_tables : (ms : Members) → IfOk (tables_of ms) (λ t. (length t.frames ≤ 8) × (length t.views ≤ 32))
+few_tables ms =
+    if_gives _ (keys_pass is_top_key ms) _ (fault.Shape place.Top)
+    (then_gives _ (tables_at (codes "frame") ms) _ (λ frames _. then_gives _ (tables_at (codes "view") ms) _ (λ views _.
+    then_gives _ (at_most 8 fault.TooManyFrames frames) _ (λ some is. then_gives _ (at_most 32 fault.TooManyViews views) _ (λ others are. (
+      given (λ ds. length ds ≤ 8) (at_most 8 fault.TooManyFrames frames) some (few 8 fault.TooManyFrames frames) is,
+      given (λ ds. length ds ≤ 32) (at_most 32 fault.TooManyViews views) others (few 32 fault.TooManyViews views) are,
+    ))))))
+
+pub document_sound : (bytes : List ℕ) → IfOk (document_of bytes) (λ v. IsDocument v)
+document_sound bytes =
+    then_gives _ (tree_of bytes) _ (λ ms _. then_gives _ (tables_of ms) _ (λ tables ts.
+    then_gives _ (frames_of tables.frames) _ (λ frames fs. then_gives _ (views_of frames tables.views) _ (λ views vs.
+    let most = given (λ t. (length t.frames ≤ 8) × (length t.views ≤ 32)) (tables_of ms) tables (few_tables ms) ts in
+    let n : length frames ≡ 0 + length tables.frames = given (λ (xs : List FrameSpec). length xs ≡ 0 + length tables.frames) (frames_of tables.frames) frames (length_gives frame_of [] tables.frames) fs in
+    let m : length views ≡ 0 + length tables.views = given (λ (xs : List ViewSpec). length xs ≡ 0 + length tables.views) (views_of frames tables.views) views (length_gives (view_of frames) [] tables.views) vs in
+    record {
+      few_frames = omega (arith, most.0);
+      few_views = omega (arith, most.1);
+      base = given (λ xs. All (λ (f : FrameSpec). is_base f.schema ≡ true) xs) (frames_of tables.frames) frames
+          (all_give (λ (f : FrameSpec). is_base f.schema ≡ true) frame_of frame_base [] tables.frames (All-nil _)) fs;
+      scans = given (λ xs. All (λ (w : ViewSpec). scans_below (length frames) w.plan ≡ true) xs) (views_of frames tables.views) views
+          (all_give (λ (w : ViewSpec). scans_below (length frames) w.plan ≡ true) (view_of frames) (view_scans frames) [] tables.views (All-nil _)) vs;
+    }))))

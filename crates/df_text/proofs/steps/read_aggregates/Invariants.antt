@@ -1,0 +1,9 @@
+use Rattle.std.proofs.Common.{◌≡◌, map, drop}
+use Rattle.toml.specs.View.{view}
+use Rattle.df_text.specs.Reading.{read_after, read_each}
+use Rattle.df_text.specs.Steps.{aggregate_of}
+use Rattle.df_text.proofs.steps.read_aggregates.Given as goal
+
+abbrev pub invariant-loop-value : goal.invariant-loop-value
+invariant-loop-value l =
+    read_each (aggregate_of l.place) (map view l.values) ≡ read_after (λ _ d. aggregate_of l.place d) l.aggregates.items (map view (drop l.value-index l.values))

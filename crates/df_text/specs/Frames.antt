@@ -1,0 +1,77 @@
+-- The frames of a view document: each has the keys `name` and `text`, both texts, and `columns`, an array of
+-- columns, each an array of a name and the word of a type.
+use Rattle.std.specs.Prelude.{◌+◌, ◌&&◌, ◌||◌, ℕ, Bool, List, [], ◌∷◌, length, codes, Option, Some, None, Result, Ok, Err, if◌then◌else◌}
+use Rattle.std.specs.List.{list_any}
+use Rattle.std.specs.Str.{bytes_eq}
+use Rattle.toml.specs.Data.{Data, Members}
+use Rattle.df_value.specs.declared.cell.CellType.{CellType}
+use Rattle.df_value.specs.declared.cell.CellType.TheVariants as kind
+use Rattle.df_value.specs.declared.schema.SchemaFault.{SchemaFault}
+use Rattle.df_value.specs.SchemaFaults.{schema_fault}
+use Rattle.df_text.specs.declared.document.FrameSpec.{FrameSpec}
+use Rattle.df_text.specs.declared.document.FrameSource.TheVariants as source
+use Rattle.df_text.specs.declared.document.Place.{Place}
+use Rattle.df_text.specs.declared.document.Place.TheVariants as place
+use Rattle.df_text.specs.declared.views_fault.ViewsFault.{ViewsFault}
+use Rattle.df_text.specs.declared.views_fault.ViewsFault.TheVariants as fault
+use Rattle.df_text.specs.Reading.{then_read, read_after, read_each}
+use Rattle.df_text.specs.Tree.{keys_pass, value_at, text_in, array_in, table_in, pair_in}
+
+abbrev pub is_frame_key : List ℕ → Bool
+is_frame_key k = bytes_eq k (codes "name") || (bytes_eq k (codes "columns") || bytes_eq k (codes "text"))
+
+-- what stands at the keys of a frame
+pub record FrameEntries : Type 0 where
+  pub name : List ℕ
+  pub columns : List Data
+  pub text : List ℕ
+
+-- exactly the three keys, each with a value of its kind
+abbrev pub entries_of_frame : Place → Members → Result FrameEntries ViewsFault
+entries_of_frame at ms =
+    if keys_pass is_frame_key ms then
+    then_read (value_at at (codes "name") ms) (λ n. then_read (text_in at n) (λ name.
+    then_read (value_at at (codes "columns") ms) (λ c. then_read (array_in at c) (λ columns.
+    then_read (value_at at (codes "text") ms) (λ t. then_read (text_in at t) (λ text.
+    Ok (record { name = name; columns = columns; text = text })))))))
+    else Err (fault.Shape at)
+
+-- the type that a word names
+abbrev pub type_of_word : Place → List ℕ → Result CellType ViewsFault
+type_of_word at w =
+    if bytes_eq w (codes "Int") then Ok kind.Int
+    else if bytes_eq w (codes "Text") then Ok kind.Text
+    else if bytes_eq w (codes "Bool") then Ok kind.Bool
+    else Err (fault.Word at)
+
+-- an array of two texts, a name and the word of a type
+abbrev pub column_of : Place → Data → Result (List ℕ × CellType) ViewsFault
+column_of at d =
+    then_read (array_in at d) (λ ds. then_read (pair_in at ds) (λ p.
+    then_read (text_in at p.0) (λ name. then_read (text_in at p.1) (λ word.
+    then_read (type_of_word at word) (λ t. Ok (name, t))))))
+
+abbrev pub unless_fault : ℕ → List (List ℕ × CellType) → Option SchemaFault → Result (List (List ℕ × CellType)) ViewsFault
+unless_fault index columns (Some f) = Err (fault.Schema index f)
+unless_fault index columns None = Ok columns
+
+-- the columns of the frame of this index, if they are a schema
+abbrev pub schema_of : ℕ → List (List ℕ × CellType) → Result (List (List ℕ × CellType)) ViewsFault
+schema_of index columns = unless_fault index columns (schema_fault columns)
+
+-- a name that none of these frames has
+abbrev pub new_name : Place → List ℕ → List FrameSpec → Result (List ℕ) ViewsFault
+new_name at name frames = if list_any (λ (f : FrameSpec). bytes_eq f.name name) frames then Err (fault.Doubled at) else Ok name
+
+-- a frame after those that stand before it
+abbrev pub frame_of : List FrameSpec → Data → Result FrameSpec ViewsFault
+frame_of before d =
+    let at = place.Frame (length before) in
+    then_read (table_in at d) (λ ms. then_read (entries_of_frame at ms) (λ entries.
+    then_read (read_each (column_of at) entries.columns) (λ columns.
+    then_read (schema_of (length before) columns) (λ schema.
+    then_read (new_name at entries.name before) (λ name.
+    Ok (record { name = name; schema = schema; source = source.Text entries.text }))))))
+
+abbrev pub frames_of : List Data → Result (List FrameSpec) ViewsFault
+frames_of ds = read_after frame_of [] ds

@@ -1,0 +1,12 @@
+-- The frames that a plan reads.
+use Rattle.std.specs.Prelude.{ℕ, Bool, nat_lt}
+use Rattle.df_plan.specs.declared.plan.Plan.{Plan, fold-Plan}
+use Rattle.df_plan.specs.declared.plan.Plan.TheOpen.{Plan-F}
+
+abbrev pub scans_step : ℕ → Plan-F Bool → Bool
+scans_step n (Plan-F.Scan frame) = nat_lt frame n
+scans_step n (Plan-F.GroupBy input keys aggregates) = input
+
+-- whether each frame that a plan reads has an index below this number
+abbrev pub scans_below : ℕ → Plan → Bool
+scans_below n p = fold-Plan Bool (scans_step n) p

@@ -1,0 +1,64 @@
+-- The steps of a view: each is an array that begins with a word. They are applied in order to a plan.
+use Rattle.std.specs.Prelude.{ℕ, List, [], ◌∷◌, codes, Result, Ok, Err, if◌then◌else◌}
+use Rattle.std.specs.Str.{bytes_eq}
+use Rattle.toml.specs.Data.{Data}
+use Rattle.df_plan.specs.declared.plan.Agg.{Agg}
+use Rattle.df_plan.specs.declared.plan.Agg.TheVariants as agg
+use Rattle.df_plan.specs.declared.plan.Plan.{Plan}
+use Rattle.df_plan.specs.declared.plan.Plan.TheVariants as plan
+use Rattle.df_text.specs.declared.steps.AggWord.{AggWord}
+use Rattle.df_text.specs.declared.steps.AggWord.TheVariants as agg_word
+use Rattle.df_text.specs.declared.steps.StepWord.{StepWord}
+use Rattle.df_text.specs.declared.steps.StepWord.TheVariants as step_word
+use Rattle.df_text.specs.declared.document.Place.{Place}
+use Rattle.df_text.specs.declared.views_fault.ViewsFault.{ViewsFault}
+use Rattle.df_text.specs.declared.views_fault.ViewsFault.TheVariants as fault
+use Rattle.df_text.specs.Reading.{then_read, read_each}
+use Rattle.df_text.specs.Tree.{text_in, array_in, first_in, only_in, none_in}
+
+-- the aggregate that a word names
+abbrev pub agg_of_word : Place → List ℕ → Result AggWord ViewsFault
+agg_of_word at w =
+    if bytes_eq w (codes "len") then Ok agg_word.Len
+    else if bytes_eq w (codes "sum") then Ok agg_word.Sum
+    else Err (fault.Word at)
+
+-- an aggregate under its output's name, where these items stand after the word
+abbrev pub output_of : Place → AggWord → Data → List Data → Result (List ℕ × Agg) ViewsFault
+output_of at agg_word.Len output rest =
+    then_read (none_in at rest) (λ _. then_read (text_in at output) (λ name. Ok (name, agg.Len)))
+output_of at agg_word.Sum output rest =
+    then_read (only_in at rest) (λ c. then_read (text_in at output) (λ name.
+    then_read (text_in at c) (λ column. Ok (name, agg.Sum column))))
+
+-- an array of an output's name, the word of an aggregate, and its column if the aggregate takes one
+abbrev pub aggregate_of : Place → Data → Result (List ℕ × Agg) ViewsFault
+aggregate_of at d =
+    then_read (array_in at d) (λ ds. then_read (first_in at ds) (λ o. then_read (first_in at o.1) (λ w.
+    then_read (text_in at w.0) (λ word. then_read (agg_of_word at word) (λ a. output_of at a o.0 w.1)))))
+
+-- the step that a word names
+abbrev pub step_of_word : Place → List ℕ → Result StepWord ViewsFault
+step_of_word at w = if bytes_eq w (codes "group_by") then Ok step_word.GroupBy else Err (fault.Word at)
+
+-- an array of key names, and then any number of aggregates
+abbrev pub group_by : Place → Plan → List Data → Result Plan ViewsFault
+group_by at input ds =
+    then_read (first_in at ds) (λ k. then_read (array_in at k.0) (λ ks.
+    then_read (read_each (text_in at) ks) (λ keys. then_read (read_each (aggregate_of at) k.1) (λ aggregates.
+    Ok (plan.GroupBy input keys aggregates)))))
+
+-- a step of this word, with the items after the word
+abbrev pub applied : Place → StepWord → Plan → List Data → Result Plan ViewsFault
+applied at step_word.GroupBy input ds = group_by at input ds
+
+-- the plan after a step
+abbrev pub step_of : Place → Plan → Data → Result Plan ViewsFault
+step_of at input d =
+    then_read (array_in at d) (λ ds. then_read (first_in at ds) (λ s. then_read (text_in at s.0) (λ w.
+    then_read (step_of_word at w) (λ word. applied at word input s.1))))
+
+-- the plan after all steps, in order
+abbrev pub steps_after : Place → Plan → List Data → Result Plan ViewsFault
+steps_after at input [] = Ok input
+steps_after at input (d ∷ ds) = then_read (step_of at input d) (λ next. steps_after at next ds)

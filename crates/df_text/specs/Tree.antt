@@ -1,0 +1,74 @@
+-- The tree of a TOML document, as the TOML standard (1.1) has it, and what its values are asked for.
+use Rattle.std.specs.Prelude.{◌≡◌, ◌≢◌, ◌&&◌, ℕ, Bool, true, false, List, [], ◌∷◌, Option, Some, None, Result, Ok, Err, MatchResult, String, if◌then◌else◌}
+use Rattle.std.specs.Str.{is_utf8}
+use Rattle.std.specs.BTreeMap.{BTreeMap}
+use Rattle.std.specs.declared.alloc.Global.{Global}
+use Rattle.toml.specs.Parse.{parse_document}
+use Rattle.toml.specs.View.{table_view}
+use Rattle.toml.specs.declared.value.Value.{Value}
+use Rattle.toml.specs.Data.{Data, string, array, table, Items, no_items, item, Members, no_members, member, get_member}
+use Rattle.df_text.specs.declared.document.Place.{Place}
+use Rattle.df_text.specs.declared.views_fault.ViewsFault.{ViewsFault}
+use Rattle.df_text.specs.declared.views_fault.ViewsFault.TheVariants as fault
+
+abbrev pub parsed : Option Members → Result Members ViewsFault
+parsed (Some ms) = Ok ms
+parsed None = Err fault.NotToml
+
+-- the top table of a document: UTF-8 that is TOML
+abbrev pub tree_of : List ℕ → Result Members ViewsFault
+tree_of bytes = if is_utf8 bytes then parsed (parse_document bytes) else Err fault.NotToml
+
+-- the table is the tree, unless memory was refused
+abbrev pub GivesTable : Result Members ViewsFault → Result (BTreeMap (String Global) Value) ViewsFault → Type 0
+GivesTable want result = MatchResult result (λ t. want ≡ Ok (table_view t)) (λ f. f ≢ fault.Memory → want ≡ Err f)
+
+-- whether each key is one of these
+unfoldable pub keys_pass : (List ℕ → Bool) → Members → Bool
+keys_pass p no_members = true
+keys_pass p (member k d ms) = p k && keys_pass p ms
+
+-- what must be there
+abbrev pub required : {A : Type 0} → Place → Option A → Result A ViewsFault
+required place (Some x) = Ok x
+required place None = Err (fault.Shape place)
+
+-- the value at a key that must be there
+abbrev pub value_at : Place → List ℕ → Members → Result Data ViewsFault
+value_at place key ms = required place (get_member key ms)
+
+abbrev pub text_in : Place → Data → Result (List ℕ) ViewsFault
+text_in place (string s) = Ok s
+text_in place _ = Err (fault.Shape place)
+
+unfoldable pub list_of : Items → List Data
+list_of no_items = []
+list_of (item d ds) = d ∷ list_of ds
+
+abbrev pub array_in : Place → Data → Result (List Data) ViewsFault
+array_in place (array ds) = Ok (list_of ds)
+array_in place _ = Err (fault.Shape place)
+
+abbrev pub table_in : Place → Data → Result Members ViewsFault
+table_in place (table ms) = Ok ms
+table_in place _ = Err (fault.Shape place)
+
+-- the first item, and those after it
+abbrev pub first_in : Place → List Data → Result (Data × List Data) ViewsFault
+first_in place (d ∷ ds) = Ok (d, ds)
+first_in place [] = Err (fault.Shape place)
+
+-- the item of an array of one
+abbrev pub only_in : Place → List Data → Result Data ViewsFault
+only_in place (d ∷ []) = Ok d
+only_in place _ = Err (fault.Shape place)
+
+-- the items of an array of two
+abbrev pub pair_in : Place → List Data → Result (Data × Data) ViewsFault
+pair_in place (d ∷ e ∷ []) = Ok (d, e)
+pair_in place _ = Err (fault.Shape place)
+
+-- nothing more
+abbrev pub none_in : Place → List Data → Result (Unit {0}) ViewsFault
+none_in place [] = Ok tt
+none_in place _ = Err (fault.Shape place)

@@ -1,0 +1,43 @@
+//! What a view document says.
+use df_plan::Plan;
+use df_value::{List, Schema, Text};
+
+/// The frames and views that a document names, each in the document's order.
+#[derive(Debug, Drop)]
+pub struct Views {
+    pub frames: List<FrameSpec>,
+    pub views: List<ViewSpec>,
+}
+
+/// A frame: its name, its columns, and where its records come from.
+#[derive(Debug, Drop)]
+pub struct FrameSpec {
+    pub name: Text,
+    pub schema: Schema,
+    pub source: FrameSource,
+}
+
+/// Where the records of a frame come from.
+#[derive(Debug, Drop)]
+pub enum FrameSource {
+    /// The CSV itself.
+    Text(Text),
+}
+
+/// A view: its name, and the plan that makes it of the document's frames.
+#[derive(Debug, Drop)]
+pub struct ViewSpec {
+    pub name: Text,
+    pub plan: Plan,
+}
+
+/// The part of a document that a fault is in.
+#[derive(Clone, Copy, Debug, PartialEq, Eq)]
+pub enum Place {
+    /// The table of the whole document.
+    Top,
+    /// The frame of this index, from 0.
+    Frame(usize),
+    /// The view of this index, from 0.
+    View(usize),
+}

@@ -1,0 +1,149 @@
+//! The frames of a view document.
+ghost use Rattle.std.specs.Prelude.{◌≡◌, [], MatchResult, Ok, Err, map, length, string_bytes, codes};
+ghost use Rattle.std.specs.List.{list_any, list_all};
+ghost use Rattle.std.specs.Map.{keys_of};
+ghost use Rattle.std.specs.Str.{bytes_eq};
+ghost use Rattle.toml.specs.View.{table_view, view};
+ghost use Rattle.df_text.specs.Reading.{Answers, read_each};
+ghost use Rattle.df_text.specs.Tree.{keys_pass};
+ghost use Rattle.df_text.specs.Frames.{is_frame_key as is_key_of_frame, entries_of_frame, type_of_word, column_of, schema_of, frame_of, frames_of};
+
+use crate::document::{FrameSource, FrameSpec, Place};
+use crate::tree::{array_in, pair_in, table_in, text_in, value_at};
+use crate::views_fault::ViewsFault;
+use df_value::{CellType, List, Schema, Text};
+use std::alloc::Global;
+use toml::{Table, Value};
+
+/// What stands at the keys of a frame.
+#[derive(Clone, Copy)]
+struct FrameEntries<'a> {
+    name: &'a str,
+    columns: &'a [Value],
+    text: &'a str,
+}
+
+/// The frames of these tables, or the first fault.
+pub fn read_frames(alloc: Global, tables: &[Value]) -> Result<List<FrameSpec>, ViewsFault>
+    ensures { Answers (frames_of (map view tables.now)) result }
+{
+    let mut frames = Vec::new(alloc);
+    for table in tables {
+        let frame = read_frame(alloc, frames.as_slice(), table)?;
+        frames.push(frame)?;
+    }
+    Ok(List::from_vec(frames))
+}
+
+/// A frame after those that stand before it.
+fn read_frame(alloc: Global, before: &[FrameSpec], value: &Value) -> Result<FrameSpec, ViewsFault>
+    ensures { Answers (frame_of before.now (view value.now)) result }
+{
+    let place = Place::Frame(before.len());
+    let entries = frame_entries(place, table_in(place, value)?)?;
+    let columns = read_columns(alloc, place, entries.columns)?;
+    let schema = read_schema(before.len(), columns)?;
+    if has_frame(before, entries.name) {
+        return Err(ViewsFault::Doubled(place));
+    }
+    let name = Text::from_str(alloc, entries.name)?;
+    let source = FrameSource::Text(Text::from_str(alloc, entries.text)?);
+    Ok(FrameSpec {
+        name,
+        schema,
+        source,
+    })
+}
+
+/// What stands at the keys of a frame, if they are its three keys.
+fn frame_entries(place: Place, table: &Table) -> Result<FrameEntries<'_>, ViewsFault>
+    ensures { MatchResult result
+        (λ e. entries_of_frame place (table_view table.now)
+        ≡ Ok (record { name = e.name.now; columns = map view e.columns.now; text = e.text.now }))
+        (λ f. entries_of_frame place (table_view table.now) ≡ Err f) }
+{
+    if !has_frame_keys(table) {
+        return Err(ViewsFault::Shape(place));
+    }
+    let name = text_in(place, value_at(place, table, "name")?)?;
+    let columns = array_in(place, value_at(place, table, "columns")?)?;
+    let text = text_in(place, value_at(place, table, "text")?)?;
+    Ok(FrameEntries {
+        name,
+        columns,
+        text,
+    })
+}
+
+/// Whether a table has no key but those of a frame.
+fn has_frame_keys(table: &Table) -> bool
+    ensures { result ≡ keys_pass is_key_of_frame (table_view table.now) }
+{
+    all_frame_keys(table)
+}
+
+fn all_frame_keys(table: &Table) -> bool
+    ensures { result ≡ list_all (λ k. is_key_of_frame (string_bytes k)) (keys_of table.now.entries) }
+{
+    table.keys().all(|k| is_frame_key(k.as_str()))
+}
+
+fn is_frame_key(key: &str) -> bool
+    ensures { result ≡ is_key_of_frame key.now }
+{
+    key == "name" || key == "columns" || key == "text"
+}
+
+/// The columns of a frame, from left to right.
+fn read_columns(
+    alloc: Global,
+    place: Place,
+    values: &[Value],
+) -> Result<List<(Text, CellType)>, ViewsFault>
+    ensures { Answers (read_each (column_of place) (map view values.now)) result }
+{
+    let mut columns = Vec::new(alloc);
+    for value in values {
+        let column = read_column(alloc, place, value)?;
+        columns.push(column)?;
+    }
+    Ok(List::from_vec(columns))
+}
+
+fn read_column(alloc: Global, place: Place, value: &Value) -> Result<(Text, CellType), ViewsFault>
+    ensures { Answers (column_of place (view value.now)) result }
+{
+    let pair = pair_in(place, array_in(place, value)?)?;
+    let name = text_in(place, pair.0)?;
+    let kind = type_named(place, text_in(place, pair.1)?)?;
+    Ok((Text::from_str(alloc, name)?, kind))
+}
+
+/// The type that a word names.
+fn type_named(place: Place, word: &str) -> Result<CellType, ViewsFault>
+    ensures { result ≡ type_of_word place word.now }
+{
+    match word {
+        "Int" => Ok(CellType::Int),
+        "Text" => Ok(CellType::Text),
+        "Bool" => Ok(CellType::Bool),
+        _ => Err(ViewsFault::Word(place)),
+    }
+}
+
+/// The schema of these columns.
+fn read_schema(index: usize, columns: List<(Text, CellType)>) -> Result<Schema, ViewsFault>
+    ensures { MatchResult result (λ s. schema_of index columns ≡ Ok s) (λ f. schema_of index columns ≡ Err f) }
+{
+    match Schema::new(columns) {
+        Ok(schema) => Ok(schema),
+        Err(fault) => Err(ViewsFault::Schema(index, fault)),
+    }
+}
+
+/// Whether a frame has this name.
+fn has_frame(frames: &[FrameSpec], name: &str) -> bool
+    ensures { result ≡ list_any (λ f. bytes_eq f.name name.now) frames.now }
+{
+    frames.iter().any(|f| f.name.as_str() == name)
+}

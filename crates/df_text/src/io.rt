@@ -1,0 +1,80 @@
+//! Reading up to a limit, and writing a text.
+ghost use Rattle.std.specs.Prelude.{◌≡◌, ℕ, ◌≤◌, ◌<◌, length, take, IfOk, IfErr, IfSome, MatchResult};
+ghost use Rattle.std.specs.Io.KnownBytes.{Appends};
+ghost use Rattle.df_text.specs.declared.io.ReadLimitedFault.TheVariants.{Memory};
+
+use std::alloc::{AllocError, Global};
+use std::io::{Read, Write};
+use thiserror::Error;
+
+/// Why the bytes of a reader are not there.
+#[derive(Debug, PartialEq, Eq, Drop, Error)]
+pub enum ReadLimitedFault {
+    /// A read failed.
+    #[error("a read failed")]
+    Failed,
+    /// There are more bytes than the limit allows.
+    #[error("more bytes than the limit")]
+    TooLarge,
+    /// There was no memory for the bytes.
+    #[error("out of memory")]
+    Memory,
+}
+
+impl From<AllocError> for ReadLimitedFault {
+    ghost from_gives = { λ _ e. e ≡ Memory };
+
+    fn from(_e: AllocError) -> ReadLimitedFault {
+        ReadLimitedFault::Memory
+    }
+}
+
+/// A write that failed, or took no byte.
+#[derive(Debug, PartialEq, Eq, Drop, Error)]
+#[error("a write failed")]
+pub struct WriteFault;
+
+/// All bytes that a reader has left, which are at most `limit`.
+///
+/// `Failed` where a read fails, `TooLarge` where more than `limit` bytes were left, `Memory` where
+/// they do not fit into memory. At a fault the reader may have given some of its bytes.
+pub fn read_limited<R: Read>(
+    alloc: Global,
+    reader: &mut R,
+    limit: usize,
+) -> Result<Vec<u8>, ReadLimitedFault>
+    ensures bytes { IfOk result (λ v. IfSome (R.remaining reader.old) (λ xs. v.items ≡ xs)) }
+    ensures within { IfOk result (λ v. length v.items ≤ limit) }
+    ensures too_large { IfErr result (λ e. e ≡ ReadLimitedFault.TooLarge → IfSome (R.remaining reader.old) (λ xs. limit < length xs)) }
+{
+    let mut bytes = Vec::new(alloc);
+    let mut buffer = [0u8; 4096];
+    while bytes.len() <= limit {
+        let Ok(taken) = reader.read(&mut buffer) else {
+            return Err(ReadLimitedFault::Failed);
+        };
+        if taken == 0 {
+            return Ok(bytes);
+        }
+        bytes.extend_from_slice(&buffer[..taken])?;
+    }
+    Err(ReadLimitedFault::TooLarge)
+}
+
+/// Writes a text whole, or, where a write fails or takes no byte, a front of it.
+pub fn write_text<W: Write>(writer: &mut W, text: &[u8]) -> Result<(), WriteFault>
+    ensures { MatchResult result (λ _. Appends (W.contents writer.old) (W.contents writer.new) text.now)
+        (λ _. (n : ℕ) × (n ≤ length text.now) × Appends (W.contents writer.old) (W.contents writer.new) (take n text.now)) }
+{
+    let mut at = 0;
+    while at < text.len() {
+        let Ok(taken) = writer.write(&text[at..]) else {
+            return Err(WriteFault);
+        };
+        if taken == 0 {
+            return Err(WriteFault);
+        }
+        at += taken;
+    }
+    Ok(())
+}

@@ -1,0 +1,146 @@
+//! The steps of a view.
+ghost use Rattle.std.specs.Prelude.{◌≡◌, map, codes};
+ghost use Rattle.toml.specs.View.{view};
+ghost use Rattle.df_text.specs.Reading.{Answers, read_each};
+ghost use Rattle.df_text.specs.Tree.{text_in as text_of};
+ghost use Rattle.df_text.specs.Steps.{agg_of_word, output_of, aggregate_of, step_of_word, group_by as group_by_of, applied, step_of, steps_after};
+
+use crate::document::Place;
+use crate::tree::{array_in, first_in, none_in, only_in, text_in};
+use crate::views_fault::ViewsFault;
+use df_plan::{Agg, Plan};
+use df_value::{Boxed, List, Text};
+use std::alloc::Global;
+use toml::Value;
+
+/// What the word of a step stands for.
+pub enum StepWord {
+    GroupBy,
+}
+
+/// What the word of an aggregate stands for.
+pub enum AggWord {
+    Len,
+    Sum,
+}
+
+/// The plan after these steps, which are applied in order.
+pub fn apply_steps(
+    alloc: Global,
+    place: Place,
+    input: Plan,
+    steps: &[Value],
+) -> Result<Plan, ViewsFault>
+    ensures { Answers (steps_after place input (map view steps.now)) result }
+{
+    let mut plan = input;
+    for step in steps {
+        plan = apply_step(alloc, place, plan, step)?;
+    }
+    Ok(plan)
+}
+
+/// The plan after a step.
+fn apply_step(alloc: Global, place: Place, input: Plan, step: &Value) -> Result<Plan, ViewsFault>
+    ensures { Answers (step_of place input (view step.now)) result }
+{
+    let (word, rest) = first_in(place, array_in(place, step)?)?;
+    match step_named(place, text_in(place, word)?)? {
+        StepWord::GroupBy => group_by(alloc, place, input, rest),
+    }
+}
+
+/// The step that a word names.
+fn step_named(place: Place, word: &str) -> Result<StepWord, ViewsFault>
+    ensures { result ≡ step_of_word place word.now }
+{
+    match word {
+        "group_by" => Ok(StepWord::GroupBy),
+        _ => Err(ViewsFault::Word(place)),
+    }
+}
+
+/// Groups: an array of key names, and then the aggregates.
+fn group_by(alloc: Global, place: Place, input: Plan, items: &[Value]) -> Result<Plan, ViewsFault>
+    ensures { Answers (group_by_of place input (map view items.now)) result }
+{
+    let (keys, aggregates) = first_in(place, items)?;
+    let keys = read_names(alloc, place, array_in(place, keys)?)?;
+    let aggregates = read_aggregates(alloc, place, aggregates)?;
+    Ok(Plan::GroupBy(Boxed::new(alloc, input)?, keys, aggregates))
+}
+
+/// A list of names.
+fn read_names(alloc: Global, place: Place, values: &[Value]) -> Result<List<Text>, ViewsFault>
+    ensures { Answers (read_each (text_of place) (map view values.now)) result }
+{
+    let mut names = Vec::new(alloc);
+    for value in values {
+        let name = Text::from_str(alloc, text_in(place, value)?)?;
+        names.push(name)?;
+    }
+    Ok(List::from_vec(names))
+}
+
+/// The aggregates of a grouping, from left to right.
+fn read_aggregates(
+    alloc: Global,
+    place: Place,
+    values: &[Value],
+) -> Result<List<(Text, Agg)>, ViewsFault>
+    ensures { Answers (read_each (aggregate_of place) (map view values.now)) result }
+{
+    let mut aggregates = Vec::new(alloc);
+    for value in values {
+        let aggregate = read_aggregate(alloc, place, value)?;
+        aggregates.push(aggregate)?;
+    }
+    Ok(List::from_vec(aggregates))
+}
+
+/// An aggregate and the name of its output.
+fn read_aggregate(alloc: Global, place: Place, value: &Value) -> Result<(Text, Agg), ViewsFault>
+    ensures { Answers (aggregate_of place (view value.now)) result }
+{
+    let (output, rest) = first_in(place, array_in(place, value)?)?;
+    let (word, rest) = first_in(place, rest)?;
+    let word = agg_named(place, text_in(place, word)?)?;
+    read_output(alloc, place, word, output, rest)
+}
+
+/// The aggregate that a word names.
+fn agg_named(place: Place, word: &str) -> Result<AggWord, ViewsFault>
+    ensures { result ≡ agg_of_word place word.now }
+{
+    match word {
+        "len" => Ok(AggWord::Len),
+        "sum" => Ok(AggWord::Sum),
+        _ => Err(ViewsFault::Word(place)),
+    }
+}
+
+/// An aggregate of this word, with the items after the word.
+fn read_output(
+    alloc: Global,
+    place: Place,
+    word: AggWord,
+    output: &Value,
+    rest: &[Value],
+) -> Result<(Text, Agg), ViewsFault>
+    ensures { Answers (output_of place word (view output.now) (map view rest.now)) result }
+{
+    match word {
+        AggWord::Len => {
+            none_in(place, rest)?;
+            let output = text_in(place, output)?;
+            Ok((Text::from_str(alloc, output)?, Agg::Len))
+        }
+        AggWord::Sum => {
+            let column = only_in(place, rest)?;
+            let output = text_in(place, output)?;
+            let column = text_in(place, column)?;
+            let output = Text::from_str(alloc, output)?;
+            Ok((output, Agg::Sum(Text::from_str(alloc, column)?)))
+        }
+    }
+}

@@ -1,0 +1,131 @@
+//! The values of a TOML document, each asked for its kind.
+ghost use Rattle.std.specs.Prelude.{◌≡◌, map, MatchResult, Ok, Err, string_bytes, option_map};
+ghost use Rattle.std.specs.List.{list_all};
+ghost use Rattle.std.specs.Map.{keys_of};
+ghost use Rattle.toml.specs.Data.{get_member};
+ghost use Rattle.toml.specs.View.{table_view, view};
+ghost use Rattle.df_text.specs.Tree.{GivesTable, tree_of, value_at as value_at_key, text_in as text_of, array_in as array_of, table_in as table_of, first_in as first_of, pair_in as pair_of, only_in as only_of, none_in as none_of};
+
+use crate::document::Place;
+use crate::views_fault::ViewsFault;
+use std::alloc::Global;
+use toml::{Table, Value};
+
+/// The table of a document's text.
+pub fn parse(alloc: Global, bytes: &[u8]) -> Result<Table, ViewsFault>
+    ensures { GivesTable (tree_of bytes.now) result }
+{
+    match str::from_utf8(bytes) {
+        Ok(text) => match toml::table_from_str(alloc, text) {
+            Ok(table) => Ok(table),
+            Err(e) if e.is_memory() => Err(ViewsFault::Memory),
+            Err(_) => Err(ViewsFault::NotToml),
+        },
+        Err(_) => Err(ViewsFault::NotToml),
+    }
+}
+
+/// The value at a key that must be there.
+pub fn value_at<'a>(place: Place, table: &'a Table, key: &str) -> Result<&'a Value, ViewsFault>
+    ensures { MatchResult result
+        (λ v. value_at_key place key.now (table_view table.now) ≡ Ok (view v.now))
+        (λ f. value_at_key place key.now (table_view table.now) ≡ Err f) }
+{
+    match find(table, key) {
+        Some(value) => Ok(value),
+        None => Err(ViewsFault::Shape(place)),
+    }
+}
+
+/// The value at a key.
+pub fn find<'a>(table: &'a Table, key: &str) -> Option<&'a Value>
+    ensures { option_map (λ v. view v.now) result ≡ get_member key.now (table_view table.now) }
+{
+    table.get(key)
+}
+
+/// The text that a value is.
+pub fn text_in(place: Place, value: &Value) -> Result<&str, ViewsFault>
+    ensures { MatchResult result
+        (λ s. text_of place (view value.now) ≡ Ok s.now)
+        (λ f. text_of place (view value.now) ≡ Err f) }
+{
+    match value {
+        Value::String(text) => Ok(text.as_str()),
+        _ => Err(ViewsFault::Shape(place)),
+    }
+}
+
+/// The items of the array that a value is.
+pub fn array_in(place: Place, value: &Value) -> Result<&[Value], ViewsFault>
+    ensures { MatchResult result
+        (λ vs. array_of place (view value.now) ≡ Ok (map view vs.now))
+        (λ f. array_of place (view value.now) ≡ Err f) }
+{
+    match value {
+        Value::Array(items) => Ok(items.as_slice()),
+        _ => Err(ViewsFault::Shape(place)),
+    }
+}
+
+/// The table that a value is.
+pub fn table_in(place: Place, value: &Value) -> Result<&Table, ViewsFault>
+    ensures { MatchResult result
+        (λ t. table_of place (view value.now) ≡ Ok (table_view t.now))
+        (λ f. table_of place (view value.now) ≡ Err f) }
+{
+    match value {
+        Value::Table(table) => Ok(table),
+        _ => Err(ViewsFault::Shape(place)),
+    }
+}
+
+/// The first item and those after it.
+pub fn first_in(place: Place, items: &[Value]) -> Result<(&Value, &[Value]), ViewsFault>
+    ensures { MatchResult result
+        (λ p. first_of place (map view items.now) ≡ Ok (view p.0.now, map view p.1.now))
+        (λ f. first_of place (map view items.now) ≡ Err f) }
+{
+    match items {
+        [first, rest @ ..] => Ok((first, rest)),
+        [] => Err(ViewsFault::Shape(place)),
+    }
+}
+
+/// The two items of an array of two.
+pub fn pair_in(place: Place, items: &[Value]) -> Result<(&Value, &Value), ViewsFault>
+    ensures { MatchResult result
+        (λ p. pair_of place (map view items.now) ≡ Ok (view p.0.now, view p.1.now))
+        (λ f. pair_of place (map view items.now) ≡ Err f) }
+{
+    let (first, rest) = first_in(place, items)?;
+    let second = only_in(place, rest)?;
+    Ok((first, second))
+}
+
+/// The item of an array of one.
+pub fn only_in(place: Place, items: &[Value]) -> Result<&Value, ViewsFault>
+    ensures { MatchResult result
+        (λ v. only_of place (map view items.now) ≡ Ok (view v.now))
+        (λ f. only_of place (map view items.now) ≡ Err f) }
+{
+    let (first, rest) = first_in(place, items)?;
+    if rest.is_empty() {
+        Ok(first)
+    } else {
+        Err(ViewsFault::Shape(place))
+    }
+}
+
+/// Nothing, where no item is left.
+pub fn none_in(place: Place, items: &[Value]) -> Result<(), ViewsFault>
+    ensures { MatchResult result
+        (λ _. none_of place (map view items.now) ≡ Ok tt)
+        (λ f. none_of place (map view items.now) ≡ Err f) }
+{
+    if items.is_empty() {
+        Ok(())
+    } else {
+        Err(ViewsFault::Shape(place))
+    }
+}

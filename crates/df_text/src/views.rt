@@ -1,0 +1,245 @@
+//! View documents.
+ghost use Rattle.std.specs.Prelude.{◌≡◌, [], MatchResult, Ok, Err, IfOk, map, length, string_bytes, codes, nat_lt, position};
+ghost use Rattle.std.specs.List.{list_any, list_all};
+ghost use Rattle.std.specs.Map.{keys_of};
+ghost use Rattle.std.specs.Option.{option_copied};
+ghost use Rattle.std.specs.Str.{bytes_eq};
+ghost use Rattle.toml.specs.Data.{get_member};
+ghost use Rattle.toml.specs.View.{table_view, view};
+ghost use Rattle.df_text.specs.Reading.{Answers};
+ghost use Rattle.df_text.specs.Tree.{keys_pass};
+ghost use Rattle.df_text.specs.Document.{IsDocument, is_view_key as is_key_of_view, is_top_key as is_key_of_top, is_table as is_table_data, array_or_none as array_or_none_of, entries_of_view, frame_named, view_of, views_of, tables_at as tables_at_key, tables_of, document_of};
+
+use crate::document::{FrameSpec, Place, ViewSpec, Views};
+use crate::frames::read_frames;
+use crate::steps::apply_steps;
+use crate::tree::{array_in, find, parse, table_in, text_in, value_at};
+use crate::views_fault::ViewsFault;
+use df_plan::Plan;
+use df_value::{List, Text};
+use std::alloc::Global;
+use toml::{Table, Value};
+
+/// The most frames of a document.
+const MOST_FRAMES: usize = 8;
+
+/// The most views of a document.
+const MOST_VIEWS: usize = 32;
+
+/// The most steps of a view.
+const MOST_STEPS: usize = 64;
+
+/// The tables of the frames, and those of the views.
+#[derive(Clone, Copy)]
+struct Tables<'a> {
+    frames: &'a [Value],
+    views: &'a [Value],
+}
+
+/// What stands at the keys of a view.
+#[derive(Clone, Copy)]
+struct ViewEntries<'a> {
+    name: &'a str,
+    source: &'a str,
+    steps: &'a [Value],
+}
+
+/// The frames and views that a document names.
+pub fn read_views(alloc: Global, bytes: &[u8]) -> Result<Views, ViewsFault>
+    ensures answer { Answers (document_of bytes.now) result }
+    ensures sound { IfOk result (λ v. IsDocument v) }
+{
+    let table = parse(alloc, bytes)?;
+    let tables = top_tables(&table)?;
+    let frames = read_frames(alloc, tables.frames)?;
+    match read_view_tables(alloc, frames.as_slice(), tables.views) {
+        Ok(views) => Ok(Views { frames, views }),
+        Err(fault) => Err(fault),
+    }
+}
+
+/// The tables of a document, if it has no key but `frame` and `view`.
+fn top_tables(table: &Table) -> Result<Tables<'_>, ViewsFault>
+    ensures { MatchResult result
+        (λ t. tables_of (table_view table.now) ≡ Ok (record { frames = map view t.frames.now; views = map view t.views.now }))
+        (λ f. tables_of (table_view table.now) ≡ Err f) }
+{
+    if !has_top_keys(table) {
+        return Err(ViewsFault::Shape(Place::Top));
+    }
+    let frames = tables_at(table, "frame")?;
+    let views = tables_at(table, "view")?;
+    if frames.len() > MOST_FRAMES {
+        return Err(ViewsFault::TooManyFrames);
+    }
+    if views.len() > MOST_VIEWS {
+        return Err(ViewsFault::TooManyViews);
+    }
+    Ok(Tables { frames, views })
+}
+
+/// Whether a table has no key but those of the top.
+fn has_top_keys(table: &Table) -> bool
+    ensures { result ≡ keys_pass is_key_of_top (table_view table.now) }
+{
+    all_top_keys(table)
+}
+
+fn all_top_keys(table: &Table) -> bool
+    ensures { result ≡ list_all (λ k. is_key_of_top (string_bytes k)) (keys_of table.now.entries) }
+{
+    table.keys().all(|k| is_top_key(k.as_str()))
+}
+
+fn is_top_key(key: &str) -> bool
+    ensures { result ≡ is_key_of_top key.now }
+{
+    key == "frame" || key == "view"
+}
+
+/// The array of tables at a key of the top; a missing one is empty.
+fn tables_at<'a>(table: &'a Table, key: &str) -> Result<&'a [Value], ViewsFault>
+    ensures { MatchResult result
+        (λ vs. tables_at_key key.now (table_view table.now) ≡ Ok (map view vs.now))
+        (λ f. tables_at_key key.now (table_view table.now) ≡ Err f) }
+{
+    let values = array_or_none(Place::Top, table, key)?;
+    if are_tables(values) {
+        Ok(values)
+    } else {
+        Err(ViewsFault::Shape(Place::Top))
+    }
+}
+
+/// The items of the array at a key; a missing one is empty.
+fn array_or_none<'a>(place: Place, table: &'a Table, key: &str) -> Result<&'a [Value], ViewsFault>
+    ensures { MatchResult result
+        (λ vs. array_or_none_of place (get_member key.now (table_view table.now)) ≡ Ok (map view vs.now))
+        (λ f. array_or_none_of place (get_member key.now (table_view table.now)) ≡ Err f) }
+{
+    match find(table, key) {
+        Some(value) => array_in(place, value),
+        None => Ok(&[]),
+    }
+}
+
+fn are_tables(values: &[Value]) -> bool
+    ensures { result ≡ list_all is_table_data (map view values.now) }
+{
+    all_are_tables(values)
+}
+
+fn all_are_tables(values: &[Value]) -> bool
+    ensures { result ≡ list_all (λ v. is_table_data (view v)) values.now }
+{
+    values.iter().all(|v| is_table(v))
+}
+
+fn is_table(value: &Value) -> bool
+    ensures { result ≡ is_table_data (view value.now) }
+{
+    matches!(value, Value::Table(_))
+}
+
+/// The views of these tables over these frames, or the first fault.
+fn read_view_tables(
+    alloc: Global,
+    frames: &[FrameSpec],
+    tables: &[Value],
+) -> Result<List<ViewSpec>, ViewsFault>
+    ensures { Answers (views_of frames.now (map view tables.now)) result }
+{
+    let mut views = Vec::new(alloc);
+    for table in tables {
+        let spec = read_view(alloc, frames, views.as_slice(), table)?;
+        views.push(spec)?;
+    }
+    Ok(List::from_vec(views))
+}
+
+/// A view after those that stand before it.
+fn read_view(
+    alloc: Global,
+    frames: &[FrameSpec],
+    before: &[ViewSpec],
+    value: &Value,
+) -> Result<ViewSpec, ViewsFault>
+    ensures { Answers (view_of frames.now before.now (view value.now)) result }
+{
+    let place = Place::View(before.len());
+    let entries = view_entries(place, table_in(place, value)?)?;
+    if has_view(before, entries.name) {
+        return Err(ViewsFault::Doubled(place));
+    }
+    let index = frame_of_name(place, entries.source, frames)?;
+    let name = Text::from_str(alloc, entries.name)?;
+    match apply_steps(alloc, place, Plan::Scan(index), entries.steps) {
+        Ok(plan) => Ok(ViewSpec { name, plan }),
+        Err(fault) => Err(fault),
+    }
+}
+
+/// What stands at the keys of a view, if it has no others.
+fn view_entries(place: Place, table: &Table) -> Result<ViewEntries<'_>, ViewsFault>
+    ensures { MatchResult result
+        (λ e. entries_of_view place (table_view table.now)
+        ≡ Ok (record { name = e.name.now; source = e.source.now; steps = map view e.steps.now }))
+        (λ f. entries_of_view place (table_view table.now) ≡ Err f) }
+{
+    if !has_view_keys(table) {
+        return Err(ViewsFault::Shape(place));
+    }
+    let name = text_in(place, value_at(place, table, "name")?)?;
+    let source = text_in(place, value_at(place, table, "from")?)?;
+    let steps = array_or_none(place, table, "steps")?;
+    if steps.len() > MOST_STEPS {
+        return Err(ViewsFault::Shape(place));
+    }
+    Ok(ViewEntries {
+        name,
+        source,
+        steps,
+    })
+}
+
+/// Whether a table has no key but those of a view.
+fn has_view_keys(table: &Table) -> bool
+    ensures { result ≡ keys_pass is_key_of_view (table_view table.now) }
+{
+    all_view_keys(table)
+}
+
+fn all_view_keys(table: &Table) -> bool
+    ensures { result ≡ list_all (λ k. is_key_of_view (string_bytes k)) (keys_of table.now.entries) }
+{
+    table.keys().all(|k| is_view_key(k.as_str()))
+}
+
+fn is_view_key(key: &str) -> bool
+    ensures { result ≡ is_key_of_view key.now }
+{
+    key == "name" || key == "from" || key == "steps"
+}
+
+/// Whether a view has this name.
+fn has_view(views: &[ViewSpec], name: &str) -> bool
+    ensures { result ≡ list_any (λ v. bytes_eq v.name name.now) views.now }
+{
+    views.iter().any(|v| v.name.as_str() == name)
+}
+
+/// The index of the frame of this name.
+fn frame_of_name(place: Place, name: &str, frames: &[FrameSpec]) -> Result<usize, ViewsFault>
+    ensures { result ≡ frame_named place name.now frames.now }
+{
+    match place_of_name(name, frames) {
+        Some(index) => Ok(index),
+        None => Err(ViewsFault::NoFrame(place)),
+    }
+}
+
+fn place_of_name(name: &str, frames: &[FrameSpec]) -> Option<usize>
+    ensures { result ≡ position (λ f. bytes_eq f.name name.now) frames.now }
+{
+    frames.iter().position(|f| f.name.as_str() == name)
+}
