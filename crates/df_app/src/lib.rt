@@ -1,0 +1,18 @@
+//! A run of `dfviews`: the bytes of a view document in, the bytes of its printed views out.
+#![tactic(auto)]
+
+mod fault;
+mod fault_texts;
+mod outcome;
+mod output;
+mod pieces;
+mod refused;
+mod running;
+
+pub use fault::RunFault;
+pub use fault_texts::fault_text;
+pub use outcome::Outcome;
+pub use running::{MOST_BYTES_OF_DOCUMENT, run};
+
+#[cfg(test)]
+mod tests;

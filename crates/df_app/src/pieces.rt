@@ -1,0 +1,143 @@
+//! The frames of a document in pieces: chunks of rows, or bad cells.
+ghost use Rattle.std.specs.Prelude.{◌≡◌, ◌++◌, ◌≤◌, [], IfOk, OnOk, length, map};
+ghost use Rattle.std.specs.List.{list_all};
+ghost use Rattle.df_text.specs.Records.{IsRecords};
+ghost use Rattle.df_text.specs.Typed.{pieces_of};
+ghost use Rattle.df_app.specs.Output.{Answers, each_after, pieces_in, csv_of as csv_at, good_rows, is_good as is_good_piece, outcome_of, rows_of as rows_at};
+
+use crate::fault::RunFault;
+use crate::outcome::Outcome;
+use df_text::{CsvFault, FrameSource, FrameSpec, Records};
+use df_text::{count_pieces, parse_records, type_piece};
+use df_value::{Duplicate, List, Made, Row, Schema};
+use std::alloc::{AllocError, Global};
+
+/// The pieces of the frames, in their order.
+pub fn all_pieces(
+    alloc: Global,
+    frames: &[FrameSpec],
+    chunk: usize,
+) -> Result<List<List<Made>>, RunFault>
+    requires some { 1 ≤ chunk }
+    requires few { chunk ≤ 65536 }
+    ensures value { Answers (each_after (pieces_in chunk) [] frames.now) result }
+    ensures each { IfOk result (λ pieces. length pieces ≡ length frames.now) }
+{
+    let mut all = Vec::new(alloc);
+    for frame in frames {
+        all.push(read_pieces(alloc, frame, chunk)?)?;
+    }
+    Ok(List::from_vec(all))
+}
+
+fn read_pieces(alloc: Global, frame: &FrameSpec, chunk: usize) -> Result<List<Made>, RunFault>
+    requires some { 1 ≤ chunk }
+    requires few { chunk ≤ 65536 }
+    ensures { Answers (pieces_in chunk frame.now) result }
+{
+    match parse_records(alloc, csv_of(&frame.source), &frame.schema) {
+        Ok(records) => match pieces(alloc, &records, &frame.schema, chunk) {
+            Ok(pieces) => Ok(pieces),
+            Err(_) => Err(RunFault::Memory),
+        },
+        Err(CsvFault::Memory) => Err(RunFault::Memory),
+        Err(fault) => match frame.name.copy(alloc) {
+            Ok(name) => Err(RunFault::Csv(name, fault)),
+            Err(_) => Err(RunFault::Memory),
+        },
+    }
+}
+
+fn csv_of(source: &FrameSource) -> &[u8]
+    ensures { result.now ≡ csv_at source.now }
+{
+    match source {
+        FrameSource::Text(text) => text.as_str().as_bytes(),
+    }
+}
+
+// The pieces of the records, each of `chunk` of them but perhaps the last.
+fn pieces(
+    alloc: Global,
+    records: &Records,
+    schema: &Schema,
+    chunk: usize,
+) -> Result<List<Made>, AllocError>
+    requires some { 1 ≤ chunk }
+    requires few { chunk ≤ 65536 }
+    requires sound { IsRecords (length schema.now) records.now }
+    ensures { IfOk result (λ pieces. pieces ≡ pieces_of schema.now chunk records.now) }
+{
+    let count = count_pieces(records, chunk);
+    let mut out = Vec::with_capacity(alloc, count)?;
+    for n in 0..count {
+        out.push(type_piece(alloc, records, schema, chunk, n)?)?;
+    }
+    Ok(List::from_vec(out))
+}
+
+/// Whether a chunk was refused.
+pub fn outcome(pieces: &[List<Made>]) -> Outcome
+    ensures { result ≡ outcome_of pieces.now }
+{
+    if all_frames_good(pieces) {
+        Outcome::Clean
+    } else {
+        Outcome::Refused
+    }
+}
+
+fn all_frames_good(pieces: &[List<Made>]) -> bool
+    ensures { result ≡ list_all (list_all is_good_piece) pieces.now }
+{
+    pieces.iter().all(|of_frame| all_good(of_frame))
+}
+
+fn all_good(pieces: &List<Made>) -> bool
+    ensures { result ≡ list_all is_good_piece pieces.now }
+{
+    pieces.as_slice().iter().all(|made| is_good(made))
+}
+
+fn is_good(made: &Made) -> bool
+    ensures { result ≡ is_good_piece made.now }
+{
+    match made {
+        Made::Good(_) => true,
+        Made::Bad(_) => false,
+    }
+}
+
+/// The rows of the frames: those of their good pieces.
+pub fn all_rows(alloc: Global, pieces: List<List<Made>>) -> Result<Vec<List<Row>>, AllocError>
+    ensures { IfOk result (λ rows. rows.items ≡ map rows_at pieces) }
+{
+    let mut all = Vec::with_capacity(alloc, pieces.len())?;
+    for of_frame in pieces.into_vec() {
+        all.push(rows_of(alloc, of_frame)?)?;
+    }
+    Ok(all)
+}
+
+fn rows_of(alloc: Global, pieces: List<Made>) -> Result<List<Row>, AllocError>
+    ensures { IfOk result (λ rows. rows ≡ rows_at pieces) }
+{
+    let mut rows = Vec::new(alloc);
+    for made in pieces.into_vec() {
+        append_good(&mut rows, made)?;
+    }
+    Ok(List::from_vec(rows))
+}
+
+// Moves the rows of a good piece behind the others.
+fn append_good(rows: &mut Vec<Row>, made: Made) -> Result<(), AllocError>
+    ensures { OnOk result (rows.new.items ≡ rows.old.items ++ good_rows made) }
+{
+    match made {
+        Made::Good(chunk) => {
+            let mut more = chunk.into_rows().into_vec();
+            rows.append(&mut more)
+        }
+        Made::Bad(_) => Ok(()),
+    }
+}

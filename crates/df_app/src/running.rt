@@ -1,0 +1,59 @@
+//! A run, from the bytes of a document to what is written.
+ghost use Rattle.std.specs.Prelude.{◌≤◌, IfSome};
+ghost use Rattle.df_app.specs.Ran.{Gave, RanOn, Wrote};
+
+use crate::fault::RunFault;
+use crate::outcome::{Outcome, Output};
+use crate::output::output;
+use df_text::{ReadLimitedFault, read_limited, write_text};
+use std::alloc::Global;
+use std::io::{Read, Write};
+
+/// The most bytes of a view document.
+pub const MOST_BYTES_OF_DOCUMENT: usize = 1_048_576;
+
+/// Reads a view document, and writes its views and the chunks that were refused.
+///
+/// The document is read whole, at most 1,048,576 bytes; its plans are checked in the order of the
+/// views; its frames are read in their order and typed in chunks of `chunk` records, 1 to 65,536. A
+/// chunk with a bad cell does not enter its frame. Only then is anything written: the tables of the
+/// views in the document's order, then a line for each refused chunk. At a fault other than
+/// [`RunFault::Write`] nothing was written, at that one a prefix of the output.
+pub fn run<V: Read, W: Write>(
+    alloc: Global,
+    reader: &mut V,
+    chunk: usize,
+    writer: &mut W,
+) -> Result<Outcome, RunFault>
+    requires some { 1 ≤ chunk }
+    requires few { chunk ≤ 65536 }
+    ensures { IfSome (V.remaining reader.old)
+        (λ bytes. RanOn bytes chunk (W.contents writer.old) (W.contents writer.new) result) }
+{
+    match read_output(alloc, reader, chunk) {
+        Ok(output) => write_output(writer, &output),
+        Err(fault) => Err(fault),
+    }
+}
+
+fn read_output<V: Read>(alloc: Global, reader: &mut V, chunk: usize) -> Result<Output, RunFault>
+    requires some { 1 ≤ chunk }
+    requires few { chunk ≤ 65536 }
+    ensures { IfSome (V.remaining reader.old) (λ bytes. Gave bytes chunk result) }
+{
+    match read_limited(alloc, reader, MOST_BYTES_OF_DOCUMENT) {
+        Ok(bytes) => output(alloc, bytes.as_slice(), chunk),
+        Err(ReadLimitedFault::Failed) => Err(RunFault::ReadFault),
+        Err(ReadLimitedFault::TooLarge) => Err(RunFault::TooLarge),
+        Err(ReadLimitedFault::Memory) => Err(RunFault::Memory),
+    }
+}
+
+fn write_output<W: Write>(writer: &mut W, output: &Output) -> Result<Outcome, RunFault>
+    ensures { Wrote output.now (W.contents writer.old) (W.contents writer.new) result }
+{
+    match write_text(writer, output.text.as_slice()) {
+        Ok(()) => Ok(output.outcome),
+        Err(_) => Err(RunFault::Write),
+    }
+}
