@@ -112,8 +112,8 @@ refused_block (b ∷ bs) = (b ∷ bs) ∷ []
 abbrev pub text_from : Views → List CheckedParts → List (List Made) → ℕ → List ℕ
 text_from document plans pieces chunk =
     join_by (λ block. block) (codes "\n")
-      (map (table_in (map rows_of pieces)) (paired document.views plans)
-      ++ refused_block (flat_map (refused_in chunk) (paired document.frames pieces)))
+    (map (table_in (map rows_of pieces)) (paired document.views plans)
+    ++ refused_block (flat_map (refused_in chunk) (paired document.frames pieces)))
 
 -- the output of a document that was read: its plans are checked in the order of the views, then its frames are read
 -- in their order and typed in chunks of so many records

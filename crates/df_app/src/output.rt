@@ -182,11 +182,7 @@ fn joined(alloc: Global, blocks: &[List<u8>]) -> Result<List<u8>, AllocError>
     }
 }
 
-fn joined_behind(
-    alloc: Global,
-    first: &List<u8>,
-    rest: &[List<u8>],
-) -> Result<List<u8>, AllocError>
+fn joined_behind(alloc: Global, first: &List<u8>, rest: &[List<u8>]) -> Result<List<u8>, AllocError>
     ensures { IfOk result (λ text. text ≡ first.now ++ flat_map (λ block. codes "\n" ++ block) rest.now) }
 {
     let mut text = Vec::from_slice(alloc, first.as_slice())?;

@@ -7,8 +7,7 @@ ghost use Rattle.df_app.specs.Output.{Answers, each_after, pieces_in, csv_of as 
 
 use crate::fault::RunFault;
 use crate::outcome::Outcome;
-use df_text::{CsvFault, FrameSource, FrameSpec, Records};
-use df_text::{count_pieces, parse_records, type_piece};
+use df_text::{CsvFault, FrameSource, FrameSpec, Records, count_pieces, parse_records, type_piece};
 use df_value::{Duplicate, List, Made, Row, Schema};
 use std::alloc::{AllocError, Global};
 

@@ -7,13 +7,16 @@ use std::io::{self, ErrorKind, Read, Write};
 use std::process::Abort;
 use std::test::Fail;
 
-const SALES: &str = "[[frame]]\nname = \"sales\"\ncolumns = [[\"region\", \"Text\"], [\"qty\", \"Int\"]]\n";
+const SALES: &str =
+    "[[frame]]\nname = \"sales\"\ncolumns = [[\"region\", \"Text\"], [\"qty\", \"Int\"]]\n";
 
-const BY_REGION: &str = "[[view]]\nname = \"by_region\"\nfrom = \"sales\"\nsteps = [[\"group_by\", [\"region\"], [\"n\", \"len\"], [\"total\", \"sum\", \"qty\"]]]\n";
+const BY_REGION: &str =
+    "[[view]]\nname = \"by_region\"\nfrom = \"sales\"\nsteps = [[\"group_by\", [\"region\"], [\"n\", \"len\"], [\"total\", \"sum\", \"qty\"]]]\n";
 
 const GROUPS: &str = "by_region (2 x 3)\nregion  n  total\nnorth   2      2\nsouth   1      0\n";
 
-const BAD_CELL: &str = "[[frame]]\nname = \"t\"\ncolumns = [[\"x\", \"Int\"]]\ntext = \"x\\n5\\n12x\\n7\\n\"\n[[view]]\nname = \"t\"\nfrom = \"t\"\n";
+const BAD_CELL: &str =
+    "[[frame]]\nname = \"t\"\ncolumns = [[\"x\", \"Int\"]]\ntext = \"x\\n5\\n12x\\n7\\n\"\n[[view]]\nname = \"t\"\nfrom = \"t\"\n";
 
 // The document of the frame `sales` with this text, and the view `by_region` of it.
 fn sales(alloc: Global, csv: &str) -> Result<String, Fail> {
@@ -32,7 +35,10 @@ fn writes(
     let chunk = chunk.clamp(1, 65_536);
     let outcome = run(alloc, &mut input, chunk, &mut output);
     assert!(rt; outcome == Ok(want.1), "{outcome:?} of {document}");
-    assert!(rt; output.as_slice() == want.0.as_bytes(), "{output:?} of {document}");
+    assert!(rt;
+        output.as_slice() == want.0.as_bytes(),
+        "{output:?} of {document}"
+    );
     Ok(())
 }
 
@@ -74,7 +80,13 @@ fn groups(rt: HostRuntime) -> Result<(), Fail> {
     ];
     for case in cases {
         let document = sales(alloc, case.0)?;
-        writes(&rt, alloc, document.as_str(), 1000, (case.1, Outcome::Clean))?;
+        writes(
+            &rt,
+            alloc,
+            document.as_str(),
+            1000,
+            (case.1, Outcome::Clean),
+        )?;
         writes(&rt, alloc, document.as_str(), 1, (case.1, Outcome::Clean))?;
     }
     writes(&rt, alloc, "", 1000, ("", Outcome::Clean))
@@ -83,12 +95,15 @@ fn groups(rt: HostRuntime) -> Result<(), Fail> {
 #[test]
 fn printed_texts(rt: HostRuntime) -> Result<(), Fail> {
     let alloc = rt.alloc();
-    let widths = "[[frame]]\nname = \"t\"\ncolumns = [[\"word\", \"Text\"], [\"n\", \"Int\"]]\ntext = \"word,n\\n日本,1\\nab,2\\n\\\"\\n\\\",3\\n\"\n[[view]]\nname = \"t\"\nfrom = \"t\"\n";
+    let widths =
+        "[[frame]]\nname = \"t\"\ncolumns = [[\"word\", \"Text\"], [\"n\", \"Int\"]]\ntext = \"word,n\\n日本,1\\nab,2\\n\\\"\\n\\\",3\\n\"\n[[view]]\nname = \"t\"\nfrom = \"t\"\n";
     let want = "t (3 x 2)\nword  n\n日本  1\nab    2\n\\x0a  3\n";
     writes(&rt, alloc, widths, 1000, (want, Outcome::Clean))?;
-    let escapes = "[[frame]]\nname = 'a\\b'\ncolumns = [[\"w\", \"Text\"], [\"b\", \"Bool\"]]\ntext = 'w,b\n'\n[[view]]\nname = 'a\\b'\nfrom = 'a\\b'\n";
+    let escapes =
+        "[[frame]]\nname = 'a\\b'\ncolumns = [[\"w\", \"Text\"], [\"b\", \"Bool\"]]\ntext = 'w,b\n'\n[[view]]\nname = 'a\\b'\nfrom = 'a\\b'\n";
     fails(&rt, alloc, escapes, "V1")?;
-    let escapes = "[[frame]]\nname = 'a\\b'\ncolumns = [[\"w\", \"Text\"], [\"b\", \"Bool\"]]\ntext = '''\nw,b\na\\b,TRUE\n,False\n'''\n[[view]]\nname = 'a\\b'\nfrom = 'a\\b'\n";
+    let escapes =
+        "[[frame]]\nname = 'a\\b'\ncolumns = [[\"w\", \"Text\"], [\"b\", \"Bool\"]]\ntext = '''\nw,b\na\\b,TRUE\n,False\n'''\n[[view]]\nname = 'a\\b'\nfrom = 'a\\b'\n";
     let want = "a\\\\b (2 x 2)\nw         b\na\\\\b   true\nnull  false\n";
     writes(&rt, alloc, escapes, 1000, (want, Outcome::Clean))
 }
@@ -100,8 +115,10 @@ fn refused_chunks(rt: HostRuntime) -> Result<(), Fail> {
     writes(&rt, alloc, BAD_CELL, 3, (whole, Outcome::Refused))?;
     let single = "t (2 x 1)\nx\n5\n7\n\nrefused t 1: record 2, column x\n";
     writes(&rt, alloc, BAD_CELL, 1, (single, Outcome::Refused))?;
-    let alone = "[[frame]]\nname = \"a\\\\b\"\ncolumns = [[\"x\", \"Int\"], [\"y\", \"Bool\"]]\ntext = \"x,y\\n1,1\\n-,true\\n 7,true\\n9223372036854775808,true\\n\"\n";
-    let lines = "refused a\\\\b 0: record 1, column y\nrefused a\\\\b 1: record 2, column x\nrefused a\\\\b 2: record 3, column x\nrefused a\\\\b 3: record 4, column x\n";
+    let alone =
+        "[[frame]]\nname = \"a\\\\b\"\ncolumns = [[\"x\", \"Int\"], [\"y\", \"Bool\"]]\ntext = \"x,y\\n1,1\\n-,true\\n 7,true\\n9223372036854775808,true\\n\"\n";
+    let lines =
+        "refused a\\\\b 0: record 1, column y\nrefused a\\\\b 1: record 2, column x\nrefused a\\\\b 2: record 3, column x\nrefused a\\\\b 3: record 4, column x\n";
     writes(&rt, alloc, alone, 1, (lines, Outcome::Refused))
 }
 
@@ -110,9 +127,19 @@ fn two_views(rt: HostRuntime) -> Result<(), Fail> {
     let alloc = rt.alloc();
     let document = sales(alloc, "region,qty\nnorth,3\nsouth,\nnorth,-1\n")?;
     let document = document.as_str();
-    let document = format!(in alloc; "{document}[[view]]\nname = \"all\"\nfrom = \"sales\"\nsteps = [[\"group_by\", [\"region\", \"qty\"]]]\n")?;
-    let want = format!(in alloc; "{GROUPS}\nall (3 x 2)\nregion   qty\nnorth      3\nsouth   null\nnorth     -1\n")?;
-    writes(&rt, alloc, document.as_str(), 1000, (want.as_str(), Outcome::Clean))
+    let document = format!(in alloc;
+        "{document}[[view]]\nname = \"all\"\nfrom = \"sales\"\nsteps = [[\"group_by\", [\"region\", \"qty\"]]]\n"
+    )?;
+    let want = format!(in alloc;
+        "{GROUPS}\nall (3 x 2)\nregion   qty\nnorth      3\nsouth   null\nnorth     -1\n"
+    )?;
+    writes(
+        &rt,
+        alloc,
+        document.as_str(),
+        1000,
+        (want.as_str(), Outcome::Clean),
+    )
 }
 
 #[test]
@@ -131,15 +158,25 @@ fn faults_of_documents(rt: HostRuntime) -> Result<(), Fail> {
         ("[]", "V2 view 0"),
         ("[\"group_by\", []]", "v: P7"),
         ("[\"group_by\", [\"x\"]]", "v: P2 E1 x"),
-        ("[\"group_by\", [\"region\"], [\"region\", \"sum\", \"region\"]]", "v: P10 region"),
-        ("[\"group_by\", [\"region\"], [\"region\", \"sum\", \"qty\"]]", "v: P3 region"),
+        (
+            "[\"group_by\", [\"region\"], [\"region\", \"sum\", \"region\"]]",
+            "v: P10 region",
+        ),
+        (
+            "[\"group_by\", [\"region\"], [\"region\", \"sum\", \"qty\"]]",
+            "v: P3 region",
+        ),
     ];
     for case in steps {
         let step = case.0;
-        let document = format!(in alloc; "{SALES}text = \"region,qty\"\n[[view]]\nname = \"v\"\nfrom = \"sales\"\nsteps = [{step}]\n")?;
+        let document = format!(in alloc;
+            "{SALES}text = \"region,qty\"\n[[view]]\nname = \"v\"\nfrom = \"sales\"\nsteps = [{step}]\n"
+        )?;
         fails(&rt, alloc, document.as_str(), case.1)?;
     }
-    let nosuch = format!(in alloc; "{SALES}text = \"region,qty\"\n{BY_REGION}[[view]]\nname = \"w\"\nfrom = \"nosuch\"\n")?;
+    let nosuch = format!(in alloc;
+        "{SALES}text = \"region,qty\"\n{BY_REGION}[[view]]\nname = \"w\"\nfrom = \"nosuch\"\n"
+    )?;
     fails(&rt, alloc, nosuch.as_str(), "V6 view 1")
 }
 
@@ -169,13 +206,22 @@ fn limits(rt: HostRuntime) -> Result<(), Fail> {
     let columns = columns.as_str();
     let wide = format!(in alloc; "[[frame]]\nname = \"f\"\ncolumns = [{columns}]\ntext = \"\"\n")?;
     fails(&rt, alloc, wide.as_str(), "V7 frame 0 S2")?;
-    let steps = repeated(alloc, 12, "[\"group_by\", [\"qty\"], [\"o", "\", \"len\"]], ")?;
+    let steps = repeated(
+        alloc,
+        12,
+        "[\"group_by\", [\"qty\"], [\"o",
+        "\", \"len\"]], ",
+    )?;
     let steps = steps.as_str();
-    let deep = format!(in alloc; "{SALES}text = \"region,qty\"\n[[view]]\nname = \"v\"\nfrom = \"sales\"\nsteps = [{steps}]\n")?;
+    let deep = format!(in alloc;
+        "{SALES}text = \"region,qty\"\n[[view]]\nname = \"v\"\nfrom = \"sales\"\nsteps = [{steps}]\n"
+    )?;
     fails(&rt, alloc, deep.as_str(), "v: P5")?;
     let outputs = repeated(alloc, 32, ", [\"o", "\", \"len\"]")?;
     let outputs = outputs.as_str();
-    let wide = format!(in alloc; "{SALES}text = \"region,qty\"\n[[view]]\nname = \"v\"\nfrom = \"sales\"\nsteps = [[\"group_by\", [\"qty\"]{outputs}]]\n")?;
+    let wide = format!(in alloc;
+        "{SALES}text = \"region,qty\"\n[[view]]\nname = \"v\"\nfrom = \"sales\"\nsteps = [[\"group_by\", [\"qty\"]{outputs}]]\n"
+    )?;
     fails(&rt, alloc, wide.as_str(), "v: P8")
 }
 

@@ -27,7 +27,7 @@ keeps : (x : List Cell) (seen rs : List (List Cell)) → list_any (row_eq x) see
 keeps x seen [] h = h
 keeps x seen (r ∷ rs) h =
     either (λ ks. list_any (row_eq x) ks ≡ true) (list_any (row_eq r) seen) _ _
-      (keeps x seen rs h) (keeps x (seen ++ r ∷ []) rs (any_before x seen (r ∷ []) h))
+    (keeps x seen rs h) (keeps x (seen ++ r ∷ []) rs (any_before x seen (r ∷ []) h))
 
 -- what f gives of each row is among the distinct ones
 pub found_after :
@@ -36,18 +36,18 @@ pub found_after :
 found_after f seen [] k d h = absurd (omega arith)
 found_after f seen (r ∷ rs) zero d h =
     by_test (λ ks. list_any (row_eq (f r)) ks ≡ true) (list_any (row_eq (f r)) seen) _ _
-      (λ e. keeps (f r) seen (map f rs) e)
-      (λ e. keeps (f r) (seen ++ f r ∷ []) (map f rs) (any_last (f r) seen))
+    (λ e. keeps (f r) seen (map f rs) e)
+    (λ e. keeps (f r) (seen ++ f r ∷ []) (map f rs) (any_last (f r) seen))
 found_after f seen (r ∷ rs) (suc k) d h =
     either (λ ks. list_any (row_eq (f (get_or rs k d))) ks ≡ true) (list_any (row_eq (f r)) seen) _ _
-      (found_after f seen rs k d (omega arith)) (found_after f (seen ++ f r ∷ []) rs k d (omega arith))
+    (found_after f seen rs k d (omega arith)) (found_after f (seen ++ f r ∷ []) rs k d (omega arith))
 
 distinct_rows : (seen rs : List (List Cell)) → IsDistinct row_eq seen → IsDistinct row_eq (distinct_after seen rs)
 distinct_rows seen [] h = h
 distinct_rows seen (r ∷ rs) h =
     by_test (IsDistinct row_eq) (list_any (row_eq r) seen) _ _
-      (λ e. distinct_rows seen rs h)
-      (λ e. distinct_rows (seen ++ r ∷ []) rs (IsDistinct-push row_eq-equivalence seen r h e))
+    (λ e. distinct_rows seen rs h)
+    (λ e. distinct_rows (seen ++ r ∷ []) rs (IsDistinct-push row_eq-equivalence seen r h e))
 
 pub keys_of-IsDistinct : (places : List (Option ℕ)) (rows : List (List Cell)) → IsDistinct row_eq (keys_of places rows)
 keys_of-IsDistinct places rows =

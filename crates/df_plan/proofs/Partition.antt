@@ -71,7 +71,7 @@ whole f ks (r ∷ rs) d h =
     let first : List Cell → ℕ = λ k. cond (row_eq (f r) k) 1 0 in
     let later : List Cell → ℕ = λ k. length (filter (λ r. row_eq (f r) k) rs) in
     let parts : sum_by (λ k. length (filter (λ r. row_eq (f r) k) (r ∷ rs))) ks ≡ sum_by (λ k. first k + later k) ks =
-        ap (λ g. sum_by g ks) (λ i. λ k. length-kept (row_eq (f r) k) r (filter (λ r. row_eq (f r) k) rs) i) in
+    ap (λ g. sum_by g ks) (λ i. λ k. length-kept (row_eq (f r) k) r (filter (λ r. row_eq (f r) k) rs) i) in
     let sums : sum_by (λ k. first k + later k) ks ≡ sum_by first ks + sum_by later ks = added first later ks in
     let one : sum_by first ks ≡ 1 = once (f r) ks d (h 0 r (omega arith)) in
     let rest : sum_by later ks ≡ length rs = whole f ks rs d (λ k e l. h (suc k) e (omega arith)) in

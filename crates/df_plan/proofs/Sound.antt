@@ -81,7 +81,7 @@ fits_both [] ds (x ∷ v) w h k = cc
 fits_both (c ∷ cs) ds [] w h k = cc
 fits_both (c ∷ cs) ds (x ∷ v) w h k =
     both_true (fits_type c.1 x) (row_fits (cs ++ ds) (v ++ w)) (first_of_two (fits_type c.1 x) (row_fits cs v) h)
-      (fits_both cs ds v w (second_of_two (fits_type c.1 x) (row_fits cs v) h) k)
+    (fits_both cs ds v w (second_of_two (fits_type c.1 x) (row_fits cs v) h) k)
 
 key_fits_at :
     (o : Option CellType) (t : CellType) (v : Cell) → o ≡ Some t → IsTrue (fits_type t v) → IsTrue (fits_type (unwrap_or o kind.Int) v)
@@ -94,8 +94,8 @@ key_fits :
 key_fits columns row fits [] h = refl
 key_fits columns row fits (name ∷ names) h =
     both_true (fits_type (unwrap_or (type_in name columns) kind.Int) (cell_at (position_of name columns) row)) _
-      (key_fits_at (type_in name columns) h.0.0 _ h.0.1 (column_fits columns row fits name h.0.0 h.0.1))
-      (key_fits columns row fits names h.1)
+    (key_fits_at (type_in name columns) h.0.0 _ h.0.1 (column_fits columns row fits name h.0.0 h.0.1))
+    (key_fits columns row fits names h.1)
 
 aggregate_fits : (columns : Columns) (rows : Rows) (a : Agg) → IsTrue (fits_type (aggregate_column ([], a)).1 (aggregate_of columns rows a))
 aggregate_fits columns rows agg.Len = refl
@@ -115,10 +115,10 @@ distinct_all :
 distinct_all p seen [] h k = h
 distinct_all p seen (r ∷ rs) h k =
     either (λ ks. IsTrue (list_all p ks)) (list_any (row_eq r) seen) _ _
-      (distinct_all p seen rs h (second_of_two (p r) (list_all p rs) k))
-      (distinct_all p (seen ++ r ∷ []) rs
-        (list_all-append p seen (r ∷ []) ∙ both_true (list_all p seen) (p r && true) h (both_true (p r) true (first_of_two (p r) (list_all p rs) k) refl))
-        (second_of_two (p r) (list_all p rs) k))
+    (distinct_all p seen rs h (second_of_two (p r) (list_all p rs) k))
+    (distinct_all p (seen ++ r ∷ []) rs
+    (list_all-append p seen (r ∷ []) ∙ both_true (list_all p seen) (p r && true) h (both_true (p r) true (first_of_two (p r) (list_all p rs) k) refl))
+    (second_of_two (p r) (list_all p rs) k))
 
 map_all :
     (p q : List Cell → Bool) (f : List Cell → List Cell) → ((r : List Cell) → IsTrue (p r) → IsTrue (q (f r))) →
@@ -126,7 +126,7 @@ map_all :
 map_all p q f keeps [] h = refl
 map_all p q f keeps (r ∷ rs) h =
     both_true (q (f r)) (list_all q (map f rs)) (keeps r (first_of_two (p r) (list_all p rs) h))
-      (map_all p q f keeps rs (second_of_two (p r) (list_all p rs) h))
+    (map_all p q f keeps rs (second_of_two (p r) (list_all p rs) h))
 
 -- the rows of a group-by fit its columns
 pub groups_fit :
@@ -136,12 +136,12 @@ groups_fit t keys aggs named fit =
     let places = places_of t.columns keys in
     let key_columns = map (key_column t.columns) keys in
     let of_rows : IsTrue (list_all (row_fits key_columns) (map (key_of places) t.rows)) =
-        map_all (row_fits t.columns) (row_fits key_columns) (key_of places) (λ r h. key_fits t.columns r h keys named) t.rows fit in
+    map_all (row_fits t.columns) (row_fits key_columns) (key_of places) (λ r h. key_fits t.columns r h keys named) t.rows fit in
     let of_keys : IsTrue (list_all (row_fits key_columns) (keys_of places t.rows)) =
-        distinct_all (row_fits key_columns) [] (map (key_of places) t.rows) refl of_rows in
+    distinct_all (row_fits key_columns) [] (map (key_of places) t.rows) refl of_rows in
     map_all (row_fits key_columns) (row_fits (grouped_columns t.columns keys aggs)) (group_row t.columns places aggs t.rows)
-      (λ k h. fits_both key_columns (map aggregate_column aggs) k _ h (aggregates_fit t.columns (group_of places t.rows k) aggs))
-      (keys_of places t.rows) of_keys
+    (λ k h. fits_both key_columns (map aggregate_column aggs) k _ h (aggregates_fit t.columns (group_of places t.rows k) aggs))
+    (keys_of places t.rows) of_keys
 
 -- what holds of a table whose columns a check found
 abbrev HasRows : Checked → Table → Type 0
@@ -193,14 +193,14 @@ step schemas frames fit (Plan-F.Scan f) =
     rw (fold-roll-Plan Checked (check_step schemas), fold-roll-Plan Table (table_step schemas frames)) (scan_has_rows schemas frames fit f)
 step schemas frames fit (Plan-F.GroupBy a keys aggs) =
     rw (fold-roll-Plan Checked (check_step schemas), fold-roll-Plan Table (table_step schemas frames))
-      (group_has_rows (columns_of a.0 schemas) (table_of a.0 schemas frames) keys aggs a.1)
+    (group_has_rows (columns_of a.0 schemas) (table_of a.0 schemas frames) keys aggs a.1)
 
 plan_has_rows :
     (schemas : List Columns) (frames : List Rows) → IsTrue (frames_fit schemas frames) → (p : Plan) →
     HasRows (columns_of p schemas) (table_of p schemas frames)
 plan_has_rows schemas frames fit =
     ind-Plan (λ p. HasRows (columns_of p schemas) (table_of p schemas frames))
-      (λ x y is. subst (λ z. HasRows (columns_of (roll-Plan z) schemas) (table_of (roll-Plan z) schemas frames)) is (step schemas frames fit y))
+    (λ x y is. subst (λ z. HasRows (columns_of (roll-Plan z) schemas) (table_of (roll-Plan z) schemas frames)) is (step schemas frames fit y))
 
 -- the rows of a plan that checks fit the schema that the check found
 pub table_fits :

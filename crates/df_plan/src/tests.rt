@@ -93,7 +93,10 @@ fn faults_come_in_order(rt: HostRuntime) -> Result<(), Fail> {
     let frames = vec![in alloc; frame]?;
     let cases: [(Plan, PlanFault); 6] = [
         (Plan::Scan(1), PlanFault::NoFrame(1)),
-        (grouped(alloc, Plan::Scan(0), &[], len_and_sum(alloc, "k")?)?, PlanFault::EmptyList),
+        (
+            grouped(alloc, Plan::Scan(0), &[], len_and_sum(alloc, "k")?)?,
+            PlanFault::EmptyList,
+        ),
         (
             grouped(alloc, Plan::Scan(0), &["x"], len_and_sum(alloc, "k")?)?,
             PlanFault::Expr(ExprFault::NoColumn(text(alloc, "x")?)),

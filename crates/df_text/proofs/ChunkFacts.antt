@@ -1,6 +1,6 @@
 -- Typed rows make a chunk.
-use Rattle.std.proofs.Common.{◌≡◌, ◌+◌, ◌≤◌, ◌<◌, ℕ, suc, true, false, List, [], ◌∷◌, length, take, drop, Option, Some, None, refl, sym, ap, arith, inl, inr, ◌∙◌, nat_eq, nat_lt, subst}
-use Rattle.std.specs.Prelude.{All, Bool, not, option_map, ◌&&◌, ℤ}
+use Rattle.std.proofs.Common.{◌≡◌, ◌+◌, ◌≤◌, ℕ, suc, true, false, List, [], ◌∷◌, length, take, drop, Option, Some, None, refl, ap, arith, inl, inr, nat_eq, nat_lt, subst}
+use Rattle.std.specs.Prelude.{All, Bool, not, option_map, ℤ}
 use Rattle.std.specs.List.{position_or_len}
 use Rattle.std.proofs.lemmas.Bool.{cases_Bool}
 use Rattle.std.proofs.lemmas.Bool.Decides.{nat_tests}

@@ -1,5 +1,5 @@
 -- The widths of columns, one row and one column at a time, and that no text of a column is wider than it.
-use Rattle.std.proofs.Common.{◌≡◌, ◌+◌, ◌-◌, ◌<◌, ◌≤◌, ℕ, zero, suc, List, [], ◌∷◌, ◌++◌, length, get_or, take, map, max, refl, ap, ◌∙◌, arith, All, fold, Bool, IsUtf8}
+use Rattle.std.proofs.Common.{◌≡◌, ◌+◌, ◌<◌, ◌≤◌, ℕ, zero, suc, List, [], ◌∷◌, ◌++◌, length, get_or, take, map, max, refl, arith, All, fold, Bool, IsUtf8}
 use Rattle.std.specs.List.{enumerate_from}
 use Rattle.std.proofs.lemmas.List.{take_more, take_all, map-append, length-map}
 use Rattle.std.proofs.lemmas.List.Elements.{All-cons, All-map}

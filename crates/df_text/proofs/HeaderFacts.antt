@@ -1,15 +1,12 @@
 -- Marks, and the fields of a header.
-use Rattle.std.proofs.Common.{◌≡◌, ◌+◌, ◌-◌, ◌<◌, ℕ, zero, suc, Bool, true, false, List, [], ◌∷◌, ◌++◌, length, map, take, drop, Option, Some, None, refl, sym, ap, arith, inl, inr, ◌∙◌, add-one}
-use Rattle.std.specs.Prelude.{unwrap_or, option_map, position, nat_le, not}
-use Rattle.std.specs.List.{prefix_len}
-use Rattle.std.proofs.lemmas.List.{length-map, take_all, length-drop}
-use Rattle.std.proofs.lemmas.Simd.{map-map}
+use Rattle.std.proofs.Common.{◌≡◌, ◌+◌, ◌-◌, ◌<◌, ℕ, zero, suc, true, false, List, [], ◌∷◌, ◌++◌, length, take, drop, Option, Some, None, refl, sym, ap, arith, inl, inr, ◌∙◌, add-one}
+use Rattle.std.specs.Prelude.{unwrap_or, option_map, nat_le}
+use Rattle.std.proofs.lemmas.List.{take_all, length-drop}
 use Rattle.std.proofs.lemmas.Bool.Decides.{nat_tests}
 use Rattle.csv.specs.Reading.{is_bom, strip_bom}
 use Rattle.csv.specs.Records.{field_at}
-use Rattle.std.proofs.Common.{Bor, nat_lt, nat_eq}
-use Rattle.df_text.specs.Header.{count_named, header_fault, place_of, starts_with_mark, without_marks}
-use Rattle.df_text.specs.declared.csv_fault.CsvFault.TheVariants.{DoubledHeader, MissingColumn}
+use Rattle.std.proofs.Common.{Bor}
+use Rattle.df_text.specs.Header.{starts_with_mark, without_marks}
 use Rattle.std.proofs.lemmas.Bool.{cases_Bool, false≢true}
 
 mark3 : (a b c : ℕ) (rest : List ℕ) → starts_with_mark (a ∷ b ∷ c ∷ rest) ≡ is_bom a b c

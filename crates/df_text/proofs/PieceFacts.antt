@@ -1,5 +1,5 @@
 -- The n-th piece of k records.
-use Rattle.std.proofs.Common.{◌≡◌, ◌+◌, ◌-◌, ◌*◌, ◌<◌, ◌≤◌, ℕ, zero, suc, List, [], ◌∷◌, length, map, take, drop, min, Option, Some, None, refl, sym, ap, arith, ◌∙◌, zero-add, add-one}
+use Rattle.std.proofs.Common.{◌≡◌, ◌+◌, ◌-◌, ◌*◌, ◌<◌, ◌≤◌, ℕ, zero, suc, List, length, take, drop, min, Some, sym, ap, arith, ◌∙◌, zero-add}
 use Rattle.std.specs.Prelude.{option_map}
 use Rattle.std.specs.List.{range_with_len, slice_get}
 use Rattle.std.specs.Int.{div_ceil}

@@ -1,8 +1,6 @@
 -- What every document that is read promises.
-use Rattle.std.proofs.Common.{◌≡◌, ◌≤◌, ◌<◌, ℕ, Bool, true, false, cond, List, [], length, nat_lt, position, Option, Some, None, Result, Ok, Err, IfOk, codes, ◌∷◌, ◌+◌, refl, sym, ap, subst, arith, rules, ◌∙◌}
-use Rattle.std.specs.List.{All, AllPass, list_all}
-use Rattle.std.specs.Str.{bytes_eq}
-use Rattle.std.proofs.lemmas.Bool.{cases_Bool}
+use Rattle.std.proofs.Common.{◌≡◌, ◌≤◌, ℕ, Bool, true, false, cond, List, [], length, nat_lt, position, Option, Some, None, Ok, Err, IfOk, codes, ◌∷◌, ◌+◌, refl, arith, rules, ◌∙◌}
+use Rattle.std.specs.List.{All}
 use Rattle.std.proofs.lemmas.Bool.Decides.{nat_tests}
 use Rattle.std.proofs.lemmas.List.Elements.{All-nil}
 use Rattle.std.proofs.lemmas.List.Quantifiers.{position-Some}
@@ -17,19 +15,18 @@ use Rattle.df_plan.specs.declared.plan.Plan.{Plan, Scan, GroupBy, the_lemmas}
 use Rattle.df_plan.specs.declared.plan.Agg.{Agg}
 use Rattle.df_text.specs.declared.document.FrameSpec.{FrameSpec}
 use Rattle.df_text.specs.declared.document.ViewSpec.{ViewSpec}
-use Rattle.df_text.specs.declared.document.Views.{Views}
 use Rattle.df_text.specs.declared.document.Place.{Place}
 use Rattle.df_text.specs.declared.document.Place.TheVariants as place
-use Rattle.df_text.specs.declared.steps.StepWord.{StepWord}
-use Rattle.df_text.specs.declared.steps.StepWord.TheVariants as step_word
+use Rattle.df_text.specs.declared.view_steps.StepWord.{StepWord}
+use Rattle.df_text.specs.declared.view_steps.StepWord.TheVariants as step_word
 use Rattle.df_text.specs.declared.views_fault.ViewsFault.{ViewsFault}
 use Rattle.df_text.specs.declared.views_fault.ViewsFault.TheVariants as fault
-use Rattle.df_text.specs.Reading.{read_each, read_after}
+use Rattle.df_text.specs.Reading.{read_each}
 use Rattle.df_text.specs.Tree.{keys_pass, text_in, array_in, table_in, first_in, pair_in, tree_of}
 use Rattle.df_text.specs.Frames.{column_of, type_of_word, entries_of_frame, unless_fault, schema_of, new_name, frame_of, frames_of}
-use Rattle.df_text.specs.Steps.{aggregate_of, applied, step_of, step_of_word, steps_after, group_by}
+use Rattle.df_text.specs.Steps.{aggregate_of, applied, step_of, step_of_word, steps_after}
 use Rattle.df_text.specs.Scans.{scans_below}
-use Rattle.df_text.specs.Document.{IsDocument, is_top_key, Tables, at_most, document_of, entries_of_view, few_steps, found_frame, frame_named, new_view_name, tables_at, tables_of, view_of, views_of}
+use Rattle.df_text.specs.Document.{IsDocument, is_top_key, at_most, document_of, entries_of_view, found_frame, frame_named, new_view_name, tables_at, tables_of, view_of, views_of}
 use Rattle.df_text.proofs.ReadFacts.{then_gives, if_gives, given, all_give, each_give, length_gives}
 
 -- the three words name base types

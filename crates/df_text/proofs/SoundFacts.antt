@@ -1,5 +1,5 @@
 -- Records that a text has are few enough, and each has a field for each column.
-use Rattle.std.proofs.Common.{◌≡◌, ◌+◌, ◌≤◌, ℕ, true, false, List, [], ◌∷◌, ◌++◌, length, map, Option, Some, None, Result, Ok, Err, refl, sym, ap, arith, inl, inr, ◌∙◌, subst, nat_eq, nat_lt}
+use Rattle.std.proofs.Common.{◌≡◌, ◌+◌, ◌≤◌, ℕ, List, [], ◌∷◌, length, map, Option, Some, None, Result, Ok, Err, refl, arith, inl, inr, subst, nat_eq, nat_lt}
 use Rattle.std.specs.Prelude.{All, unwrap_or}
 use Rattle.csv.specs.Records.{field_at}
 use Rattle.std.specs.Str.{is_utf8}

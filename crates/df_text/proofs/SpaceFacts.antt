@@ -1,12 +1,11 @@
 -- Spaces before and after a text add their number to its width.
-use Rattle.std.proofs.Common.{◌≡◌, ◌+◌, ◌-◌, ◌<◌, ◌≤◌, ℕ, zero, suc, Bool, true, false, cond, not, List, [], ◌∷◌, ◌++◌, length, get_or, replicate, map, fold, max, refl, sym, ap, ◌∙◌, arith, All, IsUtf8, chars}
+use Rattle.std.proofs.Common.{◌≡◌, ◌+◌, ◌-◌, ◌≤◌, ℕ, zero, suc, Bool, true, false, cond, not, List, ◌++◌, replicate, refl, ◌∙◌, arith, IsUtf8, chars}
 use Rattle.std.specs.List.{list_all}
 use Rattle.std.specs.Str.{IsAscii}
 use Rattle.std.specs.Int.{is_in_range}
 use Rattle.std.proofs.lemmas.List.{length-replicate}
 use Rattle.std.proofs.lemmas.Str.{chars-append, chars-IsAscii, IsUtf8-from_ascii}
 use Rattle.unicode_width.specs.Width.{Reading, is_emoji_variation_base, plain, past_emoji, read_before, step, str_width}
-use Rattle.unicode_width.specs.declared.state.State.{State}
 use Rattle.unicode_width.proofs.Computing.{unicode_width}
 use Rattle.unicode_width.proofs.Rules.{is_simple, str_width-append_simple, str_width-printable}
 use Rattle.df_text.specs.Printed.{padded, width_of}

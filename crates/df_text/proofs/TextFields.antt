@@ -1,5 +1,5 @@
 -- The fields of a text in UTF-8 are texts: a byte that does not join the field at hand is ASCII.
-use Rattle.std.proofs.Common.{◌≡◌, ◌+◌, ◌<◌, ◌≤◌, ℕ, zero, suc, Bool, true, false, List, [], ◌∷◌, ◌++◌, length, take, drop, get_or, Option, Some, None, refl, sym, ap, arith, inl, inr, ◌⊎◌, add-one, append_assoc, eqb, subst}
+use Rattle.std.proofs.Common.{◌≡◌, ◌+◌, ◌<◌, ℕ, zero, suc, Bool, true, false, List, [], ◌∷◌, ◌++◌, length, take, drop, get_or, Option, Some, None, refl, ap, arith, inl, inr, ◌⊎◌, add-one, append_assoc, eqb, subst}
 use Rattle.std.specs.Prelude.{unwrap_or, if◌then◌else◌, ◌||◌, ◌≢◌}
 use Rattle.std.specs.Str.{IsUtf8}
 use Rattle.std.proofs.lemmas.Bool.{cases_Bool, false≢true}
@@ -7,7 +7,7 @@ use Rattle.std.proofs.lemmas.Bool.Decides.{nat_tests}
 use Rattle.std.proofs.lemmas.List.{append-nil}
 use Rattle.std.proofs.lemmas.Option.{same_Some}
 use Rattle.std.proofs.lemmas.Str.{IsUtf8-nil, IsUtf8-take, IsUtf8-drop, IsUtf8-append, IsCharBoundary-before_ascii, IsCharBoundary-after_ascii}
-use Rattle.csv.specs.Machine.{Read, next_record, is_end, in_field, start_field, start_record, step, ends_at_end}
+use Rattle.csv.specs.Machine.{Read, next_record, in_field, start_field, start_record, step, ends_at_end}
 use Rattle.csv.specs.Reading.{default_config, records, records_from, records_next}
 use Rattle.csv.specs.Records.{AllText, field_at}
 use Rattle.csv.specs.declared.parser.Action.{Action}

@@ -3,7 +3,7 @@ use Rattle.std.proofs.Common.{◌≡◌, ℕ, Bool, ◌&&◌, List, [], ◌∷�
 use Rattle.std.specs.List.{list_all}
 use Rattle.std.specs.Map.{keys_of}
 use Rattle.toml.specs.Data.{Data}
-use Rattle.toml.specs.View.{items_of, members_view, view}
+use Rattle.toml.specs.View.{items_of, members_view}
 use Rattle.toml.specs.declared.value.Value.{Value}
 use Rattle.df_text.specs.Tree.{keys_pass, list_of}
 

@@ -1,6 +1,6 @@
 -- Where a schema's columns stand in the header of a CSV file, and what is wrong with a header. RFC 4180 allows
 -- a header line with the names of the fields; a byte order mark is U+FEFF in UTF-8, as the Unicode standard has it.
-use Rattle.std.specs.Prelude.{◌≡◌, ◌==◌, ℕ, Bool, nat_lt, nat_le, slice_index, ◌&&◌, List, [], ◌∷◌, length, count_by, find, position, option_map, Option, Some, None, unwrap_or, if◌then◌else◌}
+use Rattle.std.specs.Prelude.{◌==◌, ℕ, Bool, nat_lt, nat_le, slice_index, ◌&&◌, List, [], ◌∷◌, length, count_by, find, position, option_map, Option, unwrap_or, if◌then◌else◌}
 use Rattle.std.specs.Option.{option_or}
 use Rattle.std.specs.Str.{bytes_eq}
 use Rattle.csv.specs.Reading.{is_bom}

@@ -6,10 +6,10 @@ use Rattle.df_plan.specs.declared.plan.Agg.{Agg}
 use Rattle.df_plan.specs.declared.plan.Agg.TheVariants as agg
 use Rattle.df_plan.specs.declared.plan.Plan.{Plan}
 use Rattle.df_plan.specs.declared.plan.Plan.TheVariants as plan
-use Rattle.df_text.specs.declared.steps.AggWord.{AggWord}
-use Rattle.df_text.specs.declared.steps.AggWord.TheVariants as agg_word
-use Rattle.df_text.specs.declared.steps.StepWord.{StepWord}
-use Rattle.df_text.specs.declared.steps.StepWord.TheVariants as step_word
+use Rattle.df_text.specs.declared.view_steps.AggWord.{AggWord}
+use Rattle.df_text.specs.declared.view_steps.AggWord.TheVariants as agg_word
+use Rattle.df_text.specs.declared.view_steps.StepWord.{StepWord}
+use Rattle.df_text.specs.declared.view_steps.StepWord.TheVariants as step_word
 use Rattle.df_text.specs.declared.document.Place.{Place}
 use Rattle.df_text.specs.declared.views_fault.ViewsFault.{ViewsFault}
 use Rattle.df_text.specs.declared.views_fault.ViewsFault.TheVariants as fault

@@ -3,10 +3,8 @@
 use Rattle.std.specs.Prelude.{◌+◌, ◌*◌, ℕ, List, [], ◌∷◌, length, map, take, drop, Option, Some, None}
 use Rattle.std.specs.Int.{div_ceil}
 use Rattle.std.specs.List.{range_with_len}
-use Rattle.df_value.specs.Chunks.{ChunkParts}
 use Rattle.df_value.specs.declared.cell.Cell.{Cell}
 use Rattle.df_value.specs.declared.cell.CellType.{CellType}
-use Rattle.df_value.specs.declared.chunk.BadCell.{BadCell}
 use Rattle.df_value.specs.declared.chunk.Made.{Made}
 use Rattle.df_value.specs.declared.chunk.Made.TheVariants as made
 use Rattle.df_text.specs.declared.typed.TypedRow.{TypedRow}

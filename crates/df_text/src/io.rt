@@ -45,7 +45,8 @@ pub fn read_limited<R: Read>(
 ) -> Result<Vec<u8>, ReadLimitedFault>
     ensures bytes { IfOk result (λ v. IfSome (R.remaining reader.old) (λ xs. v.items ≡ xs)) }
     ensures within { IfOk result (λ v. length v.items ≤ limit) }
-    ensures too_large { IfErr result (λ e. e ≡ ReadLimitedFault.TooLarge → IfSome (R.remaining reader.old) (λ xs. limit < length xs)) }
+    ensures too_large { IfErr result (λ e. e ≡ ReadLimitedFault.TooLarge →
+        IfSome (R.remaining reader.old) (λ xs. limit < length xs)) }
 {
     let mut bytes = Vec::new(alloc);
     let mut buffer = [0u8; 4096];
@@ -64,7 +65,8 @@ pub fn read_limited<R: Read>(
 /// Writes a text whole, or, where a write fails or takes no byte, a front of it.
 pub fn write_text<W: Write>(writer: &mut W, text: &[u8]) -> Result<(), WriteFault>
     ensures { MatchResult result (λ _. Appends (W.contents writer.old) (W.contents writer.new) text.now)
-        (λ _. (n : ℕ) × (n ≤ length text.now) × Appends (W.contents writer.old) (W.contents writer.new) (take n text.now)) }
+        (λ _. (n : ℕ) × (n ≤ length text.now)
+        × Appends (W.contents writer.old) (W.contents writer.new) (take n text.now)) }
 {
     let mut at = 0;
     while at < text.len() {

@@ -2,7 +2,7 @@
 //!
 //! [`read_views`] reads the TOML document that names frames and views, [`parse_records`] and
 //! [`read_records`] the records of a CSV file, [`type_chunk`] makes chunks of them, and [`print_table`]
-//! prints a table. A new step of a view is a variant of `StepWord` with its arm in steps.rt.
+//! prints a table. A new step of a view is a variant of `StepWord` with its arm in view_steps.rt.
 #![tactic(auto)]
 
 mod csv_fault;
@@ -16,9 +16,9 @@ mod io;
 mod pieces;
 mod printing;
 mod records;
-mod steps;
 mod tree;
 mod typed;
+mod view_steps;
 mod views;
 mod views_fault;
 mod widths;

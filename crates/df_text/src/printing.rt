@@ -127,7 +127,8 @@ fn push_line(
 ) -> Result<(), AllocError>
     requires widths { length widths.now ≡ length columns.now }
     requires texts { length texts.now ≡ length columns.now }
-    ensures { OnOk result (out.new.items ≡ out.old.items ++ printed_line columns.now widths.now (map string_bytes texts.now)) }
+    ensures { OnOk result (out.new.items ≡ out.old.items
+        ++ printed_line columns.now widths.now (map string_bytes texts.now)) }
 {
     for i in 0..columns.len() {
         push_gap(out, i == 0)?;
@@ -146,7 +147,8 @@ fn push_row(
     row: &Row,
 ) -> Result<(), AllocError>
     requires { length widths.now ≡ length columns.now }
-    ensures { OnOk result (out.new.items ≡ out.old.items ++ printed_line columns.now widths.now (row_texts (length columns.now) row.now)) }
+    ensures { OnOk result (out.new.items ≡ out.old.items
+        ++ printed_line columns.now widths.now (row_texts (length columns.now) row.now)) }
 {
     let texts = print_row(alloc, columns.len(), row)?;
     push_line(out, columns, widths, texts.as_slice())

@@ -1,6 +1,6 @@
 //! Worked rows of the CSV profile, and each public call once with ample memory.
 use crate::{CsvFault, Records, count_pieces, parse_records, read_records, type_chunk, type_piece};
-use df_value::{BadCell, Cell, CellType, Duplicate, List, Made, Schema, Text};
+use df_value::{Cell, CellType, Duplicate, List, Made, Schema, Text};
 use std::alloc::{AllocError, Global};
 use std::test::Fail;
 
@@ -79,15 +79,12 @@ fn faults_of_a_text(rt: HostRuntime) -> Result<(), Fail> {
     Ok(())
 }
 
-/// The piece of a file of one column and one record.
-fn typed(alloc: Global, kind: CellType, field: &str) -> Result<Made, Fail> {
+/// The piece of the first record of a file of one column.
+fn piece(alloc: Global, kind: CellType, text: &[u8]) -> Result<Made, Fail> {
     let schema = columns_of(alloc, &[("x", kind)])?;
-    let mut text = Vec::new(alloc);
-    text.extend_from_slice(b"x\n\"")?;
-    text.extend_from_slice(field.as_bytes())?;
-    text.extend_from_slice(b"\"\n")?;
-    let records = parse_records(alloc, text.as_slice(), &schema)?;
-    Ok(type_chunk(alloc, &records, &schema, 0, 1)?)
+    let records = parse_records(alloc, text, &schema)?;
+    let len = records.len().min(1);
+    Ok(type_chunk(alloc, &records, &schema, 0, len)?)
 }
 
 /// Whether a piece is a chunk of one row of this cell.
@@ -101,50 +98,67 @@ fn is_cell(made: &Made, cell: &Cell) -> bool {
     }
 }
 
+/// Whether a piece is a bad cell in the first record and column.
+fn is_bad(made: &Made) -> bool {
+    match made {
+        Made::Good(_) => false,
+        Made::Bad(cell) => cell.number == 1 && cell.column == 0,
+    }
+}
+
 #[test]
-fn fields_as_cells(rt: HostRuntime) -> Result<(), Fail> {
+fn integers(rt: HostRuntime) -> Result<(), Fail> {
     let alloc = rt.alloc();
-    let good = [
-        (CellType::Int, "+7", Cell::Int(7)),
-        (CellType::Int, "-0", Cell::Int(0)),
-        (CellType::Int, "007", Cell::Int(7)),
-        (CellType::Int, "-9223372036854775808", Cell::Int(i64::MIN)),
-        (CellType::Int, "9223372036854775807", Cell::Int(i64::MAX)),
-        (CellType::Int, "", Cell::Null),
-        (CellType::Bool, "TRUE", Cell::Bool(true)),
-        (CellType::Bool, "False", Cell::Bool(false)),
-        (CellType::Bool, "", Cell::Null),
-        (CellType::Text, "", Cell::Null),
-        (
-            CellType::Text,
-            " é",
-            Cell::Text(Text::from_str(alloc, " é")?),
-        ),
+    let good: [(&[u8], i64); 5] = [
+        (b"x\n+7\n", 7),
+        (b"x\n-0\n", 0),
+        (b"x\n007\n", 7),
+        (b"x\n-9223372036854775808\n", i64::MIN),
+        (b"x\n9223372036854775807\n", i64::MAX),
     ];
-    for (kind, field, cell) in &good {
-        assert!(rt; is_cell(&typed(alloc, *kind, field)?, cell), "{field}");
+    for (text, n) in good {
+        assert!(rt; is_cell(&piece(alloc, CellType::Int, text)?, &Cell::Int(n)));
     }
-    let bad = [
-        (CellType::Int, "9223372036854775808"),
-        (CellType::Int, "-9223372036854775809"),
-        (CellType::Int, " 7"),
-        (CellType::Int, "-"),
-        (CellType::Int, "+-7"),
-        (CellType::Bool, "1"),
-        (CellType::Bool, "true "),
+    let bad: [&[u8]; 6] = [
+        b"x\n9223372036854775808\n",
+        b"x\n-9223372036854775809\n",
+        b"x\n 7\n",
+        b"x\n-\n",
+        b"x\n+-7\n",
+        b"x\n7x\n",
     ];
-    for (kind, field) in bad {
-        let Made::Bad(cell) = typed(alloc, kind, field)? else {
-            assert!(rt; false, "{field}");
-            return Ok(());
-        };
-        assert!(rt;
-            cell == BadCell {
-                number: 1,
-                column: 0
-            }
-        );
+    for text in bad {
+        assert!(rt; is_bad(&piece(alloc, CellType::Int, text)?));
     }
+    Ok(())
+}
+
+#[test]
+fn booleans(rt: HostRuntime) -> Result<(), Fail> {
+    let alloc = rt.alloc();
+    let good: [(&[u8], bool); 3] = [
+        (b"x\nTRUE\n", true),
+        (b"x\nFalse\n", false),
+        (b"x\ntrue\n", true),
+    ];
+    for (text, value) in good {
+        assert!(rt; is_cell(&piece(alloc, CellType::Bool, text)?, &Cell::Bool(value)));
+    }
+    let bad: [&[u8]; 2] = [b"x\n1\n", b"x\ntrue \n"];
+    for text in bad {
+        assert!(rt; is_bad(&piece(alloc, CellType::Bool, text)?));
+    }
+    Ok(())
+}
+
+#[test]
+fn nulls_and_texts(rt: HostRuntime) -> Result<(), Fail> {
+    let alloc = rt.alloc();
+    for kind in [CellType::Int, CellType::Bool, CellType::Text] {
+        assert!(rt; is_cell(&piece(alloc, kind, b"x\n\"\"\n")?, &Cell::Null));
+    }
+    let text = Cell::Text(Text::from_str(alloc, " é")?);
+    assert!(rt; is_cell(&piece(alloc, CellType::Text, "x\n é\n".as_bytes())?, &text));
     Ok(())
 }
 
@@ -153,36 +167,38 @@ fn pieces_of_a_file(rt: HostRuntime) -> Result<(), Fail> {
     let alloc = rt.alloc();
     let schema = columns_of(alloc, &[("x", CellType::Int)])?;
     let records = parse_records(alloc, b"x\n5\n12x\n7\n", &schema)?;
+    assert_eq!(rt; count_pieces(&records, 2), 2);
+    for n in 0..count_pieces(&records, 2) {
+        let made = type_piece(alloc, &records, &schema, 2, n)?;
+        assert_eq!(rt; is_cell(&made, &Cell::Int(7)), n == 1);
+    }
+    Ok(())
+}
+
+#[test]
+fn bad_chunk(rt: HostRuntime) -> Result<(), Fail> {
+    let alloc = rt.alloc();
+    let schema = columns_of(alloc, &[("x", CellType::Int)])?;
+    let records = parse_records(alloc, b"x\n5\n12x\n7\n", &schema)?;
     assert_eq!(rt; records.len(), 3);
     let Made::Bad(cell) = type_chunk(alloc, &records, &schema, 0, 3)? else {
         assert!(rt; false);
         return Ok(());
     };
-    assert!(rt;
-        cell == BadCell {
-            number: 2,
-            column: 0
-        }
-    );
-    assert_eq!(rt; count_pieces(&records, 2), 2);
-    assert_eq!(rt; count_pieces(&records, 3), 1);
-    let Made::Good(chunk) = type_piece(alloc, &records, &schema, 2, 1)? else {
+    assert!(rt; cell.number == 2 && cell.column == 0);
+    Ok(())
+}
+
+#[test]
+fn first_bad_cell(rt: HostRuntime) -> Result<(), Fail> {
+    let alloc = rt.alloc();
+    let schema = columns_of(alloc, &[("a", CellType::Int), ("b", CellType::Bool)])?;
+    let records = parse_records(alloc, b"b,a\ntrue,1\nmaybe,2\nno,x\n", &schema)?;
+    assert_eq!(rt; records.len(), 3);
+    let Made::Bad(cell) = type_chunk(alloc, &records, &schema, 0, 3)? else {
         assert!(rt; false);
         return Ok(());
     };
-    assert_eq!(rt; chunk.first(), 2);
-    assert_eq!(rt; chunk.rows().len(), 1);
-    let two = columns_of(alloc, &[("a", CellType::Int), ("b", CellType::Bool)])?;
-    let records = parse_records(alloc, b"b,a\ntrue,1\nmaybe,2\nno,x\n", &two)?;
-    let Made::Bad(cell) = type_chunk(alloc, &records, &two, 0, 3)? else {
-        assert!(rt; false);
-        return Ok(());
-    };
-    assert!(rt;
-        cell == BadCell {
-            number: 2,
-            column: 1
-        }
-    );
+    assert!(rt; cell.number == 2 && cell.column == 1);
     Ok(())
 }

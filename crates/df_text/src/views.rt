@@ -12,8 +12,8 @@ ghost use Rattle.df_text.specs.Document.{IsDocument, is_view_key as is_key_of_vi
 
 use crate::document::{FrameSpec, Place, ViewSpec, Views};
 use crate::frames::read_frames;
-use crate::steps::apply_steps;
 use crate::tree::{array_in, find, parse, table_in, text_in, value_at};
+use crate::view_steps::apply_steps;
 use crate::views_fault::ViewsFault;
 use df_plan::Plan;
 use df_value::{List, Text};
@@ -44,7 +44,22 @@ struct ViewEntries<'a> {
     steps: &'a [Value],
 }
 
-/// The frames and views that a document names.
+/// The frames and views that a document names, in its order.
+///
+/// A document is TOML 1.1. Its top has at most the keys `frame` and `view`, each an array of tables; a
+/// missing one is empty. A frame has the keys `name`, `text` (the CSV itself) and `columns`, an array of
+/// arrays of a name and one of the words `Int`, `Text`, `Bool`. A view has the keys `name`, `from` (a
+/// frame's name) and perhaps `steps`, an array of at most 64 steps, which are applied in order; without
+/// one the view is the frame. The step is `["group_by", [key, ..], [output, "len"], [output, "sum",
+/// column], ..]`. Whether a frame has the columns that a plan names is not asked here.
+///
+/// Answered is the first fault in this order: `NotToml`; of the top `Shape`, `TooManyFrames` above 8,
+/// `TooManyViews` above 32; frame by frame `Shape` of its keys, column by column `Shape` before `Word`,
+/// then `Schema`, then `Doubled`; view by view `Shape` of its keys (also of more than 64 steps),
+/// `Doubled`, `NoFrame`, then step by step. Of a step comes its word (`Shape`, then `Word`), then the
+/// number of its items, then the items from left to right, each with its inside. Of an aggregate comes
+/// its word, then the number of its entries, its output and its column. `Memory` says that a growth was
+/// refused, and can stand in the place of any other answer.
 pub fn read_views(alloc: Global, bytes: &[u8]) -> Result<Views, ViewsFault>
     ensures answer { Answers (document_of bytes.now) result }
     ensures sound { IfOk result (λ v. IsDocument v) }

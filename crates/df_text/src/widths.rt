@@ -57,7 +57,8 @@ pub fn column_width(
     rows: &[Row],
 ) -> Result<usize, AllocError>
     ensures greatest { IfOk result (λ w. w ≡ column_width at name.now rows.now) }
-    ensures filled { IfOk result (λ w. All (λ t. (left : Bool) → width_of (padded left w t) ≡ w) (column_texts at name.now rows.now)) }
+    ensures filled { IfOk result (λ w. All (λ t. (left : Bool) → width_of (padded left w t) ≡ w)
+        (column_texts at name.now rows.now)) }
 {
     let header = escape(alloc, name.as_str())?;
     let mut width = header.as_str().width();

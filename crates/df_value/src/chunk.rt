@@ -82,7 +82,12 @@ impl Chunk {
     /// 2^32 or more; a row that has another number of cells than the schema has columns, or a cell
     /// that is neither null nor of its column's type (the least such index is named); the refusal of
     /// memory. The rows come back with the fault.
-    pub fn new(alloc: Global, schema: &Schema, first: u32, rows: List<Row>) -> Result<Chunk, RefusedRows>
+    pub fn new(
+        alloc: Global,
+        schema: &Schema,
+        first: u32,
+        rows: List<Row>,
+    ) -> Result<Chunk, RefusedRows>
         ensures made { MatchResult result (MakesChunk schema.now first rows) (λ e. e.rows ≡ rows) }
         ensures fault { MatchResult result (λ _. chunk_fault schema.now first rows ≡ None)
             (λ e. e.fault ≢ ChunkFault.Memory → chunk_fault schema.now first rows ≡ Some e.fault) }
@@ -90,17 +95,33 @@ impl Chunk {
             (λ e. e.fault ≡ ChunkFault.Memory → chunk_fault schema.now first rows ≡ None) }
     {
         if rows.len() > MOST_ROWS_OF_CHUNK {
-            return Err(RefusedRows { fault: ChunkFault::TooLong, rows });
+            return Err(RefusedRows {
+                fault: ChunkFault::TooLong,
+                rows,
+            });
         }
         if first as u64 + rows.len() as u64 > ROW_NUMBERS {
-            return Err(RefusedRows { fault: ChunkFault::NumberTooLarge, rows });
+            return Err(RefusedRows {
+                fault: ChunkFault::NumberTooLarge,
+                rows,
+            });
         }
         if let Some(at) = first_unlike(schema, rows.as_slice()) {
-            return Err(RefusedRows { fault: ChunkFault::RowUnlike(at), rows });
+            return Err(RefusedRows {
+                fault: ChunkFault::RowUnlike(at),
+                rows,
+            });
         }
         match schema.copy(alloc) {
-            Ok(schema) => Ok(Chunk { schema, first, rows }),
-            Err(_) => Err(RefusedRows { fault: ChunkFault::Memory, rows }),
+            Ok(schema) => Ok(Chunk {
+                schema,
+                first,
+                rows,
+            }),
+            Err(_) => Err(RefusedRows {
+                fault: ChunkFault::Memory,
+                rows,
+            }),
         }
     }
 

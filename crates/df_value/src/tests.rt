@@ -1,6 +1,7 @@
 //! Worked rows, and each public call once with ample memory.
-use crate::{Cell, CellType, Chunk, ChunkFault, Frac, List, Row, Schema, SchemaFault, Text};
-use crate::{Duplicate, same};
+use crate::{
+    Cell, CellType, Chunk, ChunkFault, Duplicate, Frac, List, Row, Schema, SchemaFault, Text, same,
+};
 use std::alloc::{AllocError, Global};
 use std::test::Fail;
 
@@ -81,7 +82,8 @@ fn cells(rt: HostRuntime) -> Result<(), Fail> {
         Cell::Wide(1 << 100),
         Cell::Text(Text::from_str(alloc, "é")?),
         Cell::Bool(true),
-        Cell::Frac(Frac::new(7, 2))]?;
+        Cell::Frac(Frac::new(7, 2)),
+    ]?;
     let row: Row = List::from_vec(cells);
     assert!(rt; same(&row, &row.copy(alloc)?));
     assert!(rt; row == row.copy(alloc)?);

@@ -5,4 +5,4 @@ pub returns-clause-fit : goal.returns-clause-fit
 returns-clause-fit c fits =
     let plan = c.args.plan.now in
     rw (c.in_ok-table.ensures, c.plan.ensures.value, c.as_slice.ensures, c.frames.ensures)
-      (table_fits plan.frames c.args.frames.now fits plan.plan plan.schema c.plan.ensures.sound)
+    (table_fits plan.frames c.args.frames.now fits plan.plan plan.schema c.plan.ensures.sound)

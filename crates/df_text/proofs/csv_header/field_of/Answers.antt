@@ -1,6 +1,6 @@
-use Rattle.std.proofs.Common.{◌≡◌, ◌∙◌, ap, Bor, List, ℕ, []}
+use Rattle.std.proofs.Common.{◌∙◌, ap, Bor, List, ℕ, []}
 use Rattle.std.specs.Prelude.{unwrap_or}
-use Rattle.csv.specs.Records.{field_at, fields_of}
+use Rattle.csv.specs.Records.{fields_of}
 use Rattle.df_text.proofs.HeaderFacts.{unwrap_now}
 use Rattle.df_text.proofs.TextFields.{text_at}
 use Rattle.df_text.proofs.csv_header.field_of.Goals as goal

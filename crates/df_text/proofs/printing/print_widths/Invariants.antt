@@ -1,4 +1,4 @@
-use Rattle.std.proofs.Common.{◌≡◌, ℕ, List, map, take, length}
+use Rattle.std.proofs.Common.{◌≡◌, map, take, length}
 use Rattle.std.specs.List.{enumerate_from}
 use Rattle.df_text.specs.Printed.{column_width}
 use Rattle.df_text.proofs.printing.print_widths.Given as goal

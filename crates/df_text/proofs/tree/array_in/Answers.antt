@@ -1,4 +1,4 @@
-use Rattle.std.proofs.Common.{Ok, map, ap, ◌∙◌}
+use Rattle.std.proofs.Common.{Ok, map, ap}
 use Rattle.toml.specs.View.{view}
 use Rattle.toml.proofs.Views.{view-Array}
 use Rattle.df_text.proofs.TreeFacts.{list_of-items}

@@ -1,7 +1,7 @@
 use Rattle.std.proofs.Common.{◌≡◌, map, drop}
 use Rattle.toml.specs.View.{view}
 use Rattle.df_text.specs.Steps.{steps_after}
-use Rattle.df_text.proofs.steps.apply_steps.Given as goal
+use Rattle.df_text.proofs.view_steps.apply_steps.Given as goal
 
 abbrev pub invariant-loop-step : goal.invariant-loop-step
 invariant-loop-step l =
