@@ -1,6 +1,6 @@
 -- Lists that grow place by place.
-use Rattle.std.proofs.Common.{◌≡◌, ℕ, ◌+◌, ◌<◌, ◌≤◌, zero, suc, List, [], ◌∷◌, ◌++◌, length, get_or, take, drop, refl, ap, arith, add-one}
-use Rattle.std.specs.Prelude.{Option, Some, None, slice_get}
+use Rattle.std.proofs.Common.{◌≡◌, ℕ, ◌<◌, zero, suc, List, [], ◌∷◌, ◌++◌, length, get_or, take, drop, ap, arith}
+use Rattle.std.specs.Prelude.{Some, slice_get}
 use Rattle.df_app.specs.Output.{paired}
 
 -- one more item, by what stands at its place

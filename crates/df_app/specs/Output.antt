@@ -1,9 +1,8 @@
 -- What a run of a view document writes: the tables of its views over its frames, and the chunks that were
 -- refused, or the first fault.
-use Rattle.std.specs.Prelude.{◌≡◌, ◌≢◌, ◌*◌, ℕ, ⊤, MatchResult, Bool, true, false, List, [], ◌∷◌, ◌++◌, length, map, codes, decimal, Option, Some, None, option_map, unwrap_or, slice_get, flat_map, Result, Ok, Err, if◌then◌else◌}
+use Rattle.std.specs.Prelude.{◌≡◌, ◌≢◌, ◌*◌, ℕ, ⊤, MatchResult, Bool, true, false, List, [], ◌∷◌, ◌++◌, length, map, nat_lt, codes, decimal, option_map, unwrap_or, slice_get, flat_map, Result, Ok, Err, if◌then◌else◌}
 use Rattle.std.specs.List.{enumerate_from, join_by, list_all}
 use Rattle.df_value.specs.declared.cell.Cell.{Cell}
-use Rattle.df_value.specs.declared.cell.CellType.{CellType}
 use Rattle.df_value.specs.declared.chunk.Made.{Made}
 use Rattle.df_value.specs.declared.chunk.Made.TheVariants as made
 use Rattle.df_plan.specs.CheckedParts.{CheckedParts}
@@ -123,20 +122,24 @@ output_in document chunk =
     then_run (each_after (pieces_in chunk) [] document.frames) (λ pieces.
     Ok (record { text = text_from document plans pieces chunk; outcome = outcome_of pieces })))
 
--- the output of a document's bytes
-abbrev pub output_of : List ℕ → ℕ → Result Output RunFault
-output_of bytes chunk = then_run (of_document (document_of bytes)) (λ document. output_in document chunk)
+-- the output of the bytes of a document that is not too large
+abbrev pub output_from : List ℕ → ℕ → Result Output RunFault
+output_from bytes chunk = then_run (of_document (document_of bytes)) (λ document. output_in document chunk)
 
--- a fault of the document, its plans or its frames, or want of memory
-abbrev pub IsOfDocument : RunFault → Type 0
-IsOfDocument (fault.Views f) = ⊤
-IsOfDocument (fault.Plan view f) = ⊤
-IsOfDocument (fault.Csv frame f) = ⊤
-IsOfDocument fault.Memory = ⊤
-IsOfDocument fault.ReadFault = ⊥
-IsOfDocument fault.TooLarge = ⊥
-IsOfDocument fault.Write = ⊥
+-- the output of a document's bytes, which are at most 1048576
+abbrev pub output_of : List ℕ → ℕ → Result Output RunFault
+output_of bytes chunk = if nat_lt 1048576 (length bytes) then Err fault.TooLarge else output_from bytes chunk
+
+-- a fault that bytes can have which are not too many, or want of memory
+abbrev pub ComesFromBytes : RunFault → Type 0
+ComesFromBytes (fault.Views f) = ⊤
+ComesFromBytes (fault.Plan view f) = ⊤
+ComesFromBytes (fault.Csv frame f) = ⊤
+ComesFromBytes fault.Memory = ⊤
+ComesFromBytes fault.ReadFault = ⊥
+ComesFromBytes fault.TooLarge = ⊥
+ComesFromBytes fault.Write = ⊥
 
 -- The call answers what is wanted, unless memory was refused.
 abbrev pub Answers : {A : Type 0} → Result A RunFault → Result A RunFault → Type 0
-Answers want result = MatchResult result (λ x. want ≡ Ok x) (λ f. IsOfDocument f × (f ≢ fault.Memory → want ≡ Err f))
+Answers want result = MatchResult result (λ x. want ≡ Ok x) (λ f. ComesFromBytes f × (f ≢ fault.Memory → want ≡ Err f))

@@ -1,5 +1,5 @@
 -- What a run did, of a document whose bytes are known, to a writer.
-use Rattle.std.specs.Prelude.{◌≡◌, ◌≤◌, ◌<◌, ℕ, List, ⊤, length, take, Option, Result, Ok, Err}
+use Rattle.std.specs.Prelude.{◌≡◌, ◌<◌, ℕ, List, ⊤, length, take, Option, Result, Ok, Err}
 use Rattle.std.specs.Io.KnownBytes.{Appends, Keeps}
 use Rattle.df_app.specs.declared.fault.RunFault.{RunFault}
 use Rattle.df_app.specs.declared.fault.RunFault.TheVariants as fault
@@ -7,35 +7,37 @@ use Rattle.df_app.specs.declared.outcome.Outcome.{Outcome}
 use Rattle.df_app.specs.declared.outcome.Output.{Output}
 use Rattle.df_app.specs.Output.{output_of}
 
--- What a fault says that comes before anything is written: that of a document, of a plan or of a frame is the one
--- that the document's output has, and too large is only a document of more bytes than the limit.
+-- What a fault says that comes before anything is written: but for a failed read and want of memory, it is the
+-- fault that the document's bytes have in the place of an output.
 abbrev pub Tells : List ℕ → ℕ → RunFault → Type 0
 Tells bytes chunk fault.ReadFault = ⊤
 Tells bytes chunk fault.Memory = ⊤
-Tells bytes chunk fault.TooLarge = 1048576 < length bytes
-Tells bytes chunk (fault.Views f) = output_of bytes chunk ≡ Err (fault.Views f)
-Tells bytes chunk (fault.Plan view f) = output_of bytes chunk ≡ Err (fault.Plan view f)
-Tells bytes chunk (fault.Csv frame f) = output_of bytes chunk ≡ Err (fault.Csv frame f)
 Tells bytes chunk fault.Write = ⊥
+Tells bytes chunk f = output_of bytes chunk ≡ Err f
 
 -- what the bytes of a document gave: its output, or a fault
 abbrev pub Gave : List ℕ → ℕ → Result Output RunFault → Type 0
-Gave bytes chunk (Ok o) = (length bytes ≤ 1048576) × (output_of bytes chunk ≡ Ok o)
+Gave bytes chunk (Ok o) = output_of bytes chunk ≡ Ok o
 Gave bytes chunk (Err f) = Tells bytes chunk f
+
+-- the whole of an output was written, or a prefix of it that is not the whole
+abbrev pub Wrote : Output → Option (List ℕ) → Option (List ℕ) → Result Outcome RunFault → Type 0
+Wrote o old new (Ok outcome) = (o.outcome ≡ outcome) × Appends old new o.text
+Wrote o old new (Err f) = (f ≡ fault.Write) × (n : ℕ) × (n < length o.text) × Appends old new (take n o.text)
 
 -- at a write fault a prefix of the output was written, at any other fault nothing
 abbrev pub Stopped : List ℕ → ℕ → Option (List ℕ) → Option (List ℕ) → RunFault → Type 0
 Stopped bytes chunk old new fault.Write =
-    (o : Output) × (output_of bytes chunk ≡ Ok o) × (n : ℕ) × (n ≤ length o.text) × Appends old new (take n o.text)
+    (o : Output) × (output_of bytes chunk ≡ Ok o) × (n : ℕ) × (n < length o.text) × Appends old new (take n o.text)
 Stopped bytes chunk old new f = Tells bytes chunk f × Keeps old new
 
--- at Ok the whole output was written, and nothing else
+-- at Ok the whole output of the document was written, and nothing else
 abbrev pub RanOn : List ℕ → ℕ → Option (List ℕ) → Option (List ℕ) → Result Outcome RunFault → Type 0
 RanOn bytes chunk old new (Ok outcome) =
-    (length bytes ≤ 1048576) × (o : Output) × (output_of bytes chunk ≡ Ok o) × (o.outcome ≡ outcome) × Appends old new o.text
+    (o : Output) × (output_of bytes chunk ≡ Ok o) × (o.outcome ≡ outcome) × Appends old new o.text
 RanOn bytes chunk old new (Err f) = Stopped bytes chunk old new f
 
--- the whole of an output was written, or a prefix of it
-abbrev pub Wrote : Output → Option (List ℕ) → Option (List ℕ) → Result Outcome RunFault → Type 0
-Wrote o old new (Ok outcome) = (o.outcome ≡ outcome) × Appends old new o.text
-Wrote o old new (Err f) = (f ≡ fault.Write) × (n : ℕ) × (n ≤ length o.text) × Appends old new (take n o.text)
+-- whatever the reader gave: nothing was written, unless a write failed
+abbrev pub KeepsUnlessWrite : Option (List ℕ) → Option (List ℕ) → RunFault → Type 0
+KeepsUnlessWrite old new fault.Write = ⊤
+KeepsUnlessWrite old new f = Keeps old new

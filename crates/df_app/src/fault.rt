@@ -23,7 +23,7 @@ pub enum RunFault {
     /// The plan of the view of this name does not check.
     #[error("view {0:?}: {1}")]
     Plan(Text, PlanFault),
-    /// The frame of this name has no records.
+    /// The CSV of the frame of this name cannot be read.
     #[error("frame {0:?}: {1}")]
     Csv(Text, CsvFault),
     /// A write failed, or took no byte. A prefix of the output was written.

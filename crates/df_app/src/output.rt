@@ -2,7 +2,7 @@
 ghost use Rattle.std.specs.Prelude.{◌≡◌, ◌++◌, ◌≤◌, [], IfOk, OnOk, codes, flat_map, length, map};
 ghost use Rattle.std.specs.List.{join_by};
 ghost use Rattle.df_text.specs.Document.{document_of};
-ghost use Rattle.df_app.specs.Output.{Answers, each_after, of_document, output_in as output_of_views, output_of, outcome_of, paired, plan_of, refused_block, schemas_of, table_in, text_from};
+ghost use Rattle.df_app.specs.Output.{Answers, each_after, of_document, output_from, output_in as output_of_views, outcome_of, paired, plan_of, refused_block, schemas_of, table_in, text_from};
 
 use crate::fault::RunFault;
 use crate::outcome::Output;
@@ -17,7 +17,7 @@ use std::alloc::{AllocError, Global};
 pub fn output(alloc: Global, bytes: &[u8], chunk: usize) -> Result<Output, RunFault>
     requires some { 1 ≤ chunk }
     requires few { chunk ≤ 65536 }
-    ensures { Answers (output_of bytes.now chunk) result }
+    ensures { Answers (output_from bytes.now chunk) result }
 {
     match read_document(alloc, bytes) {
         Ok(document) => output_in(alloc, &document, chunk),

@@ -1,6 +1,6 @@
 //! A run, from the bytes of a document to what is written.
-ghost use Rattle.std.specs.Prelude.{◌≤◌, IfSome};
-ghost use Rattle.df_app.specs.Ran.{Gave, RanOn, Wrote};
+ghost use Rattle.std.specs.Prelude.{◌≤◌, IfErr, IfSome};
+ghost use Rattle.df_app.specs.Ran.{Gave, KeepsUnlessWrite, RanOn, Wrote};
 
 use crate::fault::RunFault;
 use crate::outcome::{Outcome, Output};
@@ -27,8 +27,9 @@ pub fn run<V: Read, W: Write>(
 ) -> Result<Outcome, RunFault>
     requires some { 1 ≤ chunk }
     requires few { chunk ≤ 65536 }
-    ensures { IfSome (V.remaining reader.old)
+    ensures ran { IfSome (V.remaining reader.old)
         (λ bytes. RanOn bytes chunk (W.contents writer.old) (W.contents writer.new) result) }
+    ensures nothing_else { IfErr result (KeepsUnlessWrite (W.contents writer.old) (W.contents writer.new)) }
 {
     match read_output(alloc, reader, chunk) {
         Ok(output) => write_output(writer, &output),

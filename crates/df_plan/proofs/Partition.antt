@@ -1,5 +1,5 @@
 -- The groups of rows by distinct keys, among which each row's key stands, are all rows.
-use Rattle.std.proofs.Common.{◌≡◌, ℕ, ◌<◌, ◌+◌, Bool, true, false, zero, suc, ◌||◌, ◌∙◌, cond, List, [], ◌∷◌, length, get_or, map, filter, refl, ap, sym, subst, arith, sum, count_by, Option}
+use Rattle.std.proofs.Common.{◌≡◌, ℕ, ◌<◌, ◌+◌, Bool, true, false, suc, ◌||◌, ◌∙◌, cond, List, [], ◌∷◌, length, get_or, map, filter, refl, ap, sym, subst, arith, sum, count_by, Option}
 use Rattle.std.specs.List.{list_any, IsDistinct, sum_by, AllByRecursion}
 use Rattle.std.proofs.lemmas.List.Folds.{fold-map}
 use Rattle.std.proofs.lemmas.List.Sums.{sum_by-cons}

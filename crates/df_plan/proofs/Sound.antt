@@ -1,11 +1,10 @@
 -- The rows that a checked plan gives fit the schema that the check found.
-use Rattle.std.proofs.Common.{◌≡◌, ℕ, ◌<◌, ◌∙◌, Bool, true, false, zero, suc, cond, List, [], ◌∷◌, ◌++◌, length, map, refl, ap, sym, subst, arith, append_assoc}
-use Rattle.std.specs.Prelude.{IsTrue, Ok, Err, Option, Some, None, ◌&&◌, option_map, slice_get, unwrap_or, nat_lt, pos}
+use Rattle.std.proofs.Common.{◌≡◌, ℕ, ◌<◌, ◌∙◌, Bool, true, false, zero, suc, List, [], ◌∷◌, ◌++◌, length, map, refl, ap, sym, subst, arith}
+use Rattle.std.specs.Prelude.{IsTrue, Ok, Option, Some, None, ◌&&◌, option_map, slice_get, unwrap_or, nat_lt}
 use Rattle.std.specs.List.{list_any, list_all, position_or_len}
 use Rattle.std.specs.Str.{bytes_eq}
-use Rattle.std.specs.Cmp.Lexicographic.{pointwise}
 use Rattle.std.proofs.lemmas.Grind.{common_steps}
-use Rattle.std.proofs.lemmas.List.Folds.{find_at, list_all-map, list_all-append}
+use Rattle.std.proofs.lemmas.List.Folds.{find_at, list_all-append}
 use Rattle.std.proofs.lemmas.Option.{slice_get_within}
 use Rattle.std.proofs.lemmas.Bool.Decides.{Decides-ltb}
 use Rattle.df_value.specs.declared.cell.Cell.{Cell}
@@ -13,11 +12,11 @@ use Rattle.df_value.specs.declared.cell.Cell.TheVariants as cell
 use Rattle.df_value.specs.declared.cell.CellType.{CellType}
 use Rattle.df_value.specs.declared.cell.CellType.TheVariants as kind
 use Rattle.df_value.specs.Cells.{fits_type}
-use Rattle.df_value.specs.Rows.{row_fits, row_eq, cell_at}
-use Rattle.df_value.specs.Schemas.{type_in, position_of, doubled_after}
+use Rattle.df_value.specs.Rows.{row_fits, rows_fit, row_eq, cell_at}
+use Rattle.df_value.specs.Schemas.{type_in, position_of}
 use Rattle.df_plan.specs.Groups.{key_of, keys_of, group_of, distinct_after}
 use Rattle.df_plan.specs.declared.table.Table.{Table}
-use Rattle.df_plan.specs.Meaning.{rows_fit, key_column, aggregate_column, aggregate_of, places_of, grouped_columns, grouped, grouped_rows, group_row, frame_from, frames_fit, table_step, table_of}
+use Rattle.df_plan.specs.Meaning.{key_column, aggregate_column, aggregate_of, places_of, grouped_columns, grouped, grouped_rows, group_row, frame_from, frames_fit, table_step, table_of}
 use Rattle.df_plan.specs.Checks.{Columns, Checked, then_checked, group_checked, frame_checked, check_step, columns_of, checked}
 use Rattle.df_plan.specs.declared.plan.Agg.{Agg}
 use Rattle.df_plan.specs.declared.plan.Agg.TheVariants as agg
@@ -207,3 +206,9 @@ pub table_fits :
     (schemas : List Columns) (frames : List Rows) → IsTrue (frames_fit schemas frames) → (p : Plan) (cs : Columns) →
     checked p schemas ≡ Ok cs → IsTrue (rows_fit cs (table_of p schemas frames).rows)
 table_fits schemas frames fit p cs h = (plan_has_rows schemas frames fit p cs (checked_columns p schemas cs h)).1
+
+-- and its table has the columns of that schema
+pub table_columns :
+    (schemas : List Columns) (frames : List Rows) → IsTrue (frames_fit schemas frames) → (p : Plan) (cs : Columns) →
+    checked p schemas ≡ Ok cs → (table_of p schemas frames).columns ≡ cs
+table_columns schemas frames fit p cs h = (plan_has_rows schemas frames fit p cs (checked_columns p schemas cs h)).0

@@ -1,5 +1,6 @@
 -- What an aggregate takes of the cells of a group, as the Polars Python reference has it: `sum` skips
--- nulls and is 0 over none. That a sum is a whole number without bound is this project's own.
+-- nulls and is 0 over none. That a sum of 64-bit numbers is kept in 128 bits, where it never wraps, is this
+-- project's own.
 use Rattle.std.specs.Prelude.{ℕ, ℤ, pos, ◌+ℤ◌, List, Option, Some, None, map, fold}
 use Rattle.df_value.specs.declared.cell.Cell.{Cell}
 use Rattle.df_value.specs.declared.cell.Cell.TheVariants as cell

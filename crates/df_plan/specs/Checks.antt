@@ -1,5 +1,5 @@
--- The check of a plan: the columns of its result, or the first fault, for the operators of the Polars
--- Python reference over the types that this project allows them.
+-- The check of a plan: the columns of its result, or the first fault. Which types an operator takes and which
+-- it gives are this project's own choice among those of the Polars Python reference.
 use Rattle.std.specs.Prelude.{◌≡◌, ◌≢◌, ◌+◌, ℕ, List, [], ◌∷◌, ◌++◌, Option, Some, None, Result, Ok, Err, MatchResult, length, nat_lt, slice_get, if◌then◌else◌}
 use Rattle.df_value.specs.declared.cell.CellType.{CellType}
 use Rattle.df_value.specs.declared.cell.CellType.TheVariants as kind
@@ -25,13 +25,13 @@ abbrev pub then_checked : Checked → (Columns → Checked) → Checked
 then_checked (Ok columns) next = next columns
 then_checked (Err f) next = Err f
 
--- a key may have every type but Frac
+-- the type of a key: its column must be there, and may have every type but Frac
 abbrev pub key_type : List ℕ → Option CellType → Result CellType PlanFault
 key_type name None = Err (fault.Expr (expr.NoColumn name))
 key_type name (Some kind.Frac) = Err (fault.WrongType name)
 key_type name (Some t) = Ok t
 
--- the sum of an Int column is Wide
+-- the type of a sum: its column must be there and Int, and then the sum is Wide
 abbrev pub sum_type : List ℕ → Option CellType → Result CellType PlanFault
 sum_type name None = Err (fault.Expr (expr.NoColumn name))
 sum_type name (Some kind.Int) = Ok kind.Wide
@@ -57,7 +57,8 @@ aggregates_after columns out [] = Ok out
 aggregates_after columns out (a ∷ as') =
     with_type (aggregate_type columns a.1) (λ t. aggregates_after columns (out ++ (a.0, t) ∷ []) as')
 
--- columns whose first doubled name, if there is one, is given: it is refused, then more than 32 are
+-- columns whose first doubled name, if there is one, is given: that name is refused first, then a list of
+-- columns that is empty or has more than 32
 abbrev pub settled_at : Columns → Option (List ℕ) → Checked
 settled_at columns (Some name) = Err (fault.DoubledName name)
 settled_at [] None = Err fault.EmptyList

@@ -1,12 +1,11 @@
--- The table that a plan means over frames: each operator of the Polars Python reference on plain lists
--- of rows, taken from the whole table of its input.
+-- The table that a plan means over frames: a scan, and `group_by` with `maintain_order=True` of the Polars
+-- Python reference, on plain lists of rows, taken from the whole table of its input.
 use Rattle.std.specs.Prelude.{ℕ, pos, List, [], ◌∷◌, ◌++◌, Option, Some, None, Bool, true, false, ◌&&◌, length, map, slice_get, unwrap_or}
-use Rattle.std.specs.List.{list_all}
 use Rattle.df_value.specs.declared.cell.Cell.{Cell}
 use Rattle.df_value.specs.declared.cell.Cell.TheVariants as cell
 use Rattle.df_value.specs.declared.cell.CellType.{CellType}
 use Rattle.df_value.specs.declared.cell.CellType.TheVariants as kind
-use Rattle.df_value.specs.Rows.{row_fits}
+use Rattle.df_value.specs.Rows.{rows_fit}
 use Rattle.df_value.specs.Schemas.{position_of, type_in}
 use Rattle.df_plan.specs.Groups.{keys_of, group_of}
 use Rattle.df_plan.specs.Aggregates.{cells_of, sum_of}
@@ -64,10 +63,6 @@ table_step schemas frames (Plan-F.GroupBy t keys aggs) = grouped t keys aggs
 -- the table that a plan means over frames of these schemas and rows
 abbrev pub table_of : Plan → List (List (List ℕ × CellType)) → List (List (List Cell)) → Table
 table_of p schemas frames = fold-Plan Table (table_step schemas frames) p
-
--- whether all rows fit
-abbrev pub rows_fit : List (List ℕ × CellType) → List (List Cell) → Bool
-rows_fit columns rows = list_all (row_fits columns) rows
 
 -- whether there is one list of rows for each schema, and all of them fit it
 abbrev pub frames_fit : List (List (List ℕ × CellType)) → List (List (List Cell)) → Bool

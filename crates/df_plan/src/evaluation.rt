@@ -1,6 +1,7 @@
 //! The plain evaluation of a plan, over whole tables.
 ghost use Rattle.std.specs.Prelude.{◌≡◌, IfOk, IsTrue, map, slice_get};
-ghost use Rattle.df_plan.specs.Meaning.{table_of, frame_from, frames_fit, rows_fit, grouped, grouped_columns as columns_of_groups, group_row as row_of_group, aggregate_of, type_of_aggregate, places_of as places_at, key_column};
+ghost use Rattle.df_value.specs.Rows.{rows_fit};
+ghost use Rattle.df_plan.specs.Meaning.{table_of, frame_from, frames_fit, grouped, grouped_columns as columns_of_groups, group_row as row_of_group, aggregate_of, type_of_aggregate, places_of as places_at, key_column};
 
 use crate::aggregates::sum_of;
 use crate::checked::CheckedPlan;
@@ -24,6 +25,8 @@ pub fn evaluate(
     // Where there is a table for each frame, and its rows fit, the rows of the result fit too.
     ensures fit { IsTrue (frames_fit plan.now.frames frames.now) →
         IfOk result (λ rows. IsTrue (rows_fit plan.now.schema rows)) }
+    ensures columns { IsTrue (frames_fit plan.now.frames frames.now) →
+        IfOk result (λ _. (table_of plan.now.plan plan.now.frames frames.now).columns ≡ plan.now.schema) }
 {
     let table = table_of_plan(alloc, plan.plan(), plan.frames().as_slice(), frames)?;
     Ok(table.rows)

@@ -121,6 +121,8 @@ fn faults_come_in_order(rt: HostRuntime) -> Result<(), Fail> {
     }
     let plan = CheckedPlan::new(alloc, deep(alloc, 11)?, frames.as_slice())?;
     assert_eq!(rt; plan.schema().columns().len(), 1);
+    assert_eq!(rt; plan.frames().len(), 1);
+    assert!(rt; *plan.plan() == deep(alloc, 11)?);
     assert!(rt; plan == plan.copy(alloc)?);
     Ok(())
 }

@@ -8,11 +8,11 @@ use Rattle.std.proofs.lemmas.List.FromFn.{length-enumerate_from, get_or-enumerat
 use Rattle.std.proofs.Math.ListN.{get_or-map}
 use Rattle.df_value.specs.declared.cell.Cell.{Cell}
 use Rattle.df_value.specs.declared.cell.CellType.{CellType}
-use Rattle.df_text.specs.Printed.{cell_at, cell_text, column_texts, column_width, column_widths, escaped_text, padded, width_of}
+use Rattle.df_text.specs.Printed.{cell_or_null, cell_text, column_texts, column_width, column_widths, escaped_text, padded, width_of}
 use Rattle.df_text.proofs.SpaceFacts.{width-padded}
 
 pub width_turn : (at : ℕ) (name : List ℕ) (rows : List (List Cell)) (i : ℕ) (d : List Cell) (old new : ℕ) → i < length rows → old ≡ column_width at name (take i rows)
-    → new ≡ max old (width_of (cell_text (cell_at at (get_or rows i d)))) → new ≡ column_width at name (take (i + 1) rows)
+    → new ≡ max old (width_of (cell_text (cell_or_null at (get_or rows i d)))) → new ≡ column_width at name (take (i + 1) rows)
 width_turn at name rows i d old new h inv e = rw (e, inv, take_more rows i d h) (simp (map-append, fold-append))
 
 fold_above : (a : ℕ) (xs : List ℕ) → a ≤ fold max a xs
@@ -37,9 +37,9 @@ filled_all ts w utf8 e = λ k d h left.
     width-padded left w (get_or ts k d) (utf8 k d h) (omega (arith, b, e))
 
 -- the texts of a column are UTF-8 where its name and its cells are
-pub column_utf8 : (at : ℕ) (name : List ℕ) (rows : List (List Cell)) → IsUtf8 (escaped_text name) → All (λ row. IsUtf8 (cell_text (cell_at at row))) rows → All IsUtf8 (column_texts at name rows)
+pub column_utf8 : (at : ℕ) (name : List ℕ) (rows : List (List Cell)) → IsUtf8 (escaped_text name) → All (λ row. IsUtf8 (cell_text (cell_or_null at row))) rows → All IsUtf8 (column_texts at name rows)
 column_utf8 at name rows h all =
-    All-cons IsUtf8 (escaped_text name) (map (λ row. cell_text (cell_at at row)) rows) h (All-map IsUtf8 (λ (row : List Cell). cell_text (cell_at at row)) rows all)
+    All-cons IsUtf8 (escaped_text name) (map (λ row. cell_text (cell_or_null at row)) rows) h (All-map IsUtf8 (λ (row : List Cell). cell_text (cell_or_null at row)) rows all)
 
 -- the columns with their places, one more
 places_more : {X : Type 0} (f : ℕ × (List ℕ × CellType) → X) (columns : List (List ℕ × CellType)) (i : ℕ) (d : List ℕ × CellType) → i < length columns

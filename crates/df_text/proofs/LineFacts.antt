@@ -8,7 +8,7 @@ use Rattle.std.proofs.lemmas.List.FromFn.{map-range_with_len_more}
 use Rattle.std.proofs.Math.ListN.{get_or-map}
 use Rattle.df_value.specs.declared.cell.Cell.{Cell}
 use Rattle.df_value.specs.declared.cell.CellType.{CellType}
-use Rattle.df_text.specs.Printed.{cell_at, cell_text, gap, is_left, padded, padded_texts, printed_line, row_texts}
+use Rattle.df_text.specs.Printed.{cell_or_null, cell_text, gap, is_left, padded, padded_texts, printed_line, row_texts}
 
 abbrev joined : List (List ℕ) → List ℕ
 joined ts = join_by (λ t. t) (codes "  ") ts
@@ -65,8 +65,8 @@ line_end cs ws ts i init out new e f h inv n =
     let all = take_all i (padded_texts cs ws (bytes_of ts)) (omega arith) in
     rw (n, inv, all, append_assoc) refl
 
-pub row_turn : (row : List Cell) (at : ℕ) (s : String Global) (old new : List (String Global)) → map string_bytes old ≡ row_texts at row → string_bytes s ≡ cell_text (cell_at at row) → new ≡ old ++ s ∷ []
+pub row_turn : (row : List Cell) (at : ℕ) (s : String Global) (old new : List (String Global)) → map string_bytes old ≡ row_texts at row → string_bytes s ≡ cell_text (cell_or_null at row) → new ≡ old ++ s ∷ []
     → map string_bytes new ≡ row_texts (at + 1) row
 row_turn row at s old new inv e n =
     let z : 0 + at ≡ at = omega arith in
-    rw (n, map-append, inv, e, map-range_with_len_more (λ (at : ℕ). cell_text (cell_at at row)) 0 at at z) refl
+    rw (n, map-append, inv, e, map-range_with_len_more (λ (at : ℕ). cell_text (cell_or_null at row)) 0 at at z) refl

@@ -1,5 +1,5 @@
--- Printed tables: the lines of a table in columns, whose widths are those of Unicode's East Asian Width
--- (UAX 11) as the crate unicode_width counts them.
+-- Printed tables: the lines of a table in columns. How wide a text is in a terminal the crate unicode_width says,
+-- by Unicode's East Asian Width (UAX 11), emoji sequences and combining characters.
 use Rattle.std.specs.Prelude.{◌+◌, ◌-◌, ◌==◌, ◌||◌, ◌/◌, ◌%◌, ℕ, Bool, true, false, nat_lt, max, List, [], ◌∷◌, ◌++◌, length, map, fold, slice_get, unwrap_or, replicate, codes, decimal, chars, encode_utf8, flat_map, if◌then◌else◌}
 use Rattle.std.specs.Fmt.{signed_decimal}
 use Rattle.std.specs.List.{enumerate_from, join_by, range_with_len}
@@ -32,14 +32,14 @@ cell_text (cell.Bool false) = codes "false"
 cell_text (cell.Frac f) = signed_decimal f.0 ++ (codes "/" ++ signed_decimal f.1)
 
 -- the cell of a row at a place, null where the row is shorter
-abbrev pub cell_at : ℕ → List Cell → Cell
-cell_at at row = unwrap_or (slice_get row at) cell.Null
+abbrev pub cell_or_null : ℕ → List Cell → Cell
+cell_or_null at row = unwrap_or (slice_get row at) cell.Null
 
 -- the texts of a column from top to bottom: its name and its cells
 abbrev pub column_texts : ℕ → List ℕ → List (List Cell) → List (List ℕ)
-column_texts at name rows = escaped_text name ∷ map (λ row. cell_text (cell_at at row)) rows
+column_texts at name rows = escaped_text name ∷ map (λ row. cell_text (cell_or_null at row)) rows
 
--- how many columns of a terminal a text takes
+-- how wide a text is in a terminal, where characters of ambiguous width are narrow
 abbrev pub width_of : List ℕ → ℕ
 width_of text = str_width false (chars text)
 
@@ -83,7 +83,7 @@ header_texts columns = map (λ c. escaped_text c.0) columns
 
 -- the texts of the line of a row, in a table of so many columns
 abbrev pub row_texts : ℕ → List Cell → List (List ℕ)
-row_texts columns row = map (λ at. cell_text (cell_at at row)) (range_with_len 0 columns)
+row_texts columns row = map (λ at. cell_text (cell_or_null at row)) (range_with_len 0 columns)
 
 -- the title: the table's name with its numbers of rows and of columns
 abbrev pub title : List ℕ → ℕ → ℕ → List ℕ

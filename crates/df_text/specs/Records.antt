@@ -1,5 +1,6 @@
 -- What a CSV file says under a schema: of each record the fields of the schema's columns, or the first fault.
--- The records are those that the crate csv defines for commas, double quotes and the line ends of RFC 4180.
+-- The records are those that the crate csv defines for commas and double quotes (RFC 4180, and beside its line
+-- ends a lone CR or LF); blank lines are passed over.
 use Rattle.std.specs.Prelude.{◌≡◌, ◌≢◌, ◌+◌, ◌≤◌, ◌==◌, ℕ, not, nat_lt, List, [], ◌∷◌, ◌++◌, length, map, Option, Some, None, unwrap_or, Result, Ok, Err, All, ⊤, if◌then◌else◌}
 use Rattle.std.specs.Str.{is_utf8}
 use Rattle.csv.specs.Reading.{default_config, records}

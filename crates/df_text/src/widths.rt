@@ -1,6 +1,6 @@
 //! Cells as they are printed, and how wide their columns are.
 ghost use Rattle.std.specs.Prelude.{◌≡◌, All, Bool, IfOk, IsUtf8, max, string_bytes};
-ghost use Rattle.df_text.specs.Printed.{cell_at, cell_text, column_texts, column_width, padded, width_of};
+ghost use Rattle.df_text.specs.Printed.{cell_or_null, cell_text, column_texts, column_width, padded, width_of};
 
 use crate::escapes::escape;
 use df_value::{Cell, Row, Text};
@@ -28,7 +28,7 @@ pub fn print_cell(alloc: Global, cell: &Cell) -> Result<String, AllocError>
 
 /// The cell of a row at a place as it is printed; a cell that is missing prints as null.
 pub fn print_cell_at(alloc: Global, at: usize, row: &Row) -> Result<String, AllocError>
-    ensures { IfOk result (λ s. string_bytes s ≡ cell_text (cell_at at row.now)) }
+    ensures { IfOk result (λ s. string_bytes s ≡ cell_text (cell_or_null at row.now)) }
 {
     match row.get(at) {
         Some(cell) => print_cell(alloc, cell),
@@ -38,8 +38,8 @@ pub fn print_cell_at(alloc: Global, at: usize, row: &Row) -> Result<String, Allo
 
 // How many columns of a terminal the cell at a place takes, or this width, where it is greater.
 fn widened(alloc: Global, width: usize, at: usize, row: &Row) -> Result<usize, AllocError>
-    ensures greater { IfOk result (λ w. w ≡ max width (width_of (cell_text (cell_at at row.now)))) }
-    ensures utf8 { IfOk result (λ _. IsUtf8 (cell_text (cell_at at row.now))) }
+    ensures greater { IfOk result (λ w. w ≡ max width (width_of (cell_text (cell_or_null at row.now)))) }
+    ensures utf8 { IfOk result (λ _. IsUtf8 (cell_text (cell_or_null at row.now))) }
 {
     let text = print_cell_at(alloc, at, row)?;
     Ok(width.max(text.as_str().width()))

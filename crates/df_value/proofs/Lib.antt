@@ -1,1 +1,2 @@
 pub mod RowEq
+pub mod Fitting

@@ -4,7 +4,7 @@ use Rattle.df_value.specs.declared.cell.Cell.{Cell}
 use Rattle.df_value.specs.contracts.cell.CellPartialEq.TheImpl.{ghosts}
 use Rattle.df_value.specs.contracts.cell.CellExact.TheImpl.Laws.{decides-law}
 
--- the derived test of two cells
+-- whether two cells are the same (that it decides this is the lemma below)
 abbrev pub cell_eq : Cell → Cell → Bool
 cell_eq a b = ghosts.eq a b
 

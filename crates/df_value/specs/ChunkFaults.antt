@@ -1,5 +1,5 @@
 -- Why rows are no chunk.
-use Rattle.std.specs.Prelude.{◌+◌, ◌^◌, ℕ, List, length, Option, Some, None, not, position, option_map, nat_lt, if◌then◌else◌}
+use Rattle.std.specs.Prelude.{◌+◌, ℕ, List, length, Option, Some, not, position, option_map, nat_lt, if◌then◌else◌}
 use Rattle.df_value.specs.declared.cell.Cell.{Cell}
 use Rattle.df_value.specs.declared.cell.CellType.{CellType}
 use Rattle.df_value.specs.declared.chunk.ChunkFault.{ChunkFault}

@@ -1,8 +1,8 @@
 -- Chunks: rows of a frame, numbered from a first number on.
-use Rattle.std.specs.Prelude.{◌≡◌, ◌+◌, ◌≤◌, ◌^◌, ℕ, List, None, length, not, position}
+use Rattle.std.specs.Prelude.{◌≡◌, ◌+◌, ◌≤◌, ℕ, List, IsTrue, length}
 use Rattle.df_value.specs.declared.cell.Cell.{Cell}
 use Rattle.df_value.specs.declared.cell.CellType.{CellType}
-use Rattle.df_value.specs.Rows.{row_fits}
+use Rattle.df_value.specs.Rows.{rows_fit}
 
 -- what callers see of a chunk
 pub record ChunkParts : Type 0 where
@@ -10,11 +10,11 @@ pub record ChunkParts : Type 0 where
   pub first : ℕ
   pub rows : List (List Cell)
 
--- what a chunk is: few enough rows, whose numbers lie below 2^32, and of which none does not fit
+-- what a chunk is: few enough rows, whose numbers lie below 2^32, and all of which fit the schema
 pub record IsChunk (schema : List (List ℕ × CellType)) (first : ℕ) (rows : List (List Cell)) : Type 0 where
   pub short : length rows ≤ 65536
   pub numbered : first + length rows ≤ 4294967296
-  pub fitting : position (λ r. not (row_fits schema r)) rows ≡ None
+  pub fitting : IsTrue (rows_fit schema rows)
 
 -- the chunk is made of these parts
 pub record MakesChunk (schema : List (List ℕ × CellType)) (first : ℕ) (rows : List (List Cell)) (made : ChunkParts) : Type 0 where

@@ -1,6 +1,6 @@
 //! Chunks: rows of a frame with their numbers.
-ghost use Rattle.std.specs.Prelude.{◌≡◌, ◌≢◌, ◌↔◌, ◌+◌, ◌≤◌, ◌^◌, None, Some, MatchResult, length, not, position};
-ghost use Rattle.df_value.specs.Rows.{row_fits};
+ghost use Rattle.std.specs.Prelude.{◌≡◌, ◌≢◌, ◌↔◌, ◌+◌, ◌≤◌, ◌^◌, None, Some, IfNone, IsTrue, MatchResult, length, not, position};
+ghost use Rattle.df_value.specs.Rows.{row_fits, rows_fit};
 ghost use Rattle.df_value.specs.ChunkFaults.{chunk_fault};
 
 use crate::cell::Row;
@@ -157,6 +157,13 @@ impl Chunk {
 
 /// The least index of a row that does not fit the schema.
 fn first_unlike(schema: &Schema, rows: &[Row]) -> Option<usize>
+    ensures value { result ≡ position (λ r. not (row_fits schema.now r)) rows.now }
+    ensures none { IfNone result (IsTrue (rows_fit schema.now rows.now)) }
+{
+    unlike_at(schema, rows)
+}
+
+fn unlike_at(schema: &Schema, rows: &[Row]) -> Option<usize>
     ensures { result ≡ position (λ r. not (row_fits schema.now r)) rows.now }
 {
     rows.iter().position(|r| !schema.fits(r))

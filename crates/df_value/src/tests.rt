@@ -1,6 +1,7 @@
 //! Worked rows, and each public call once with ample memory.
 use crate::{
-    Cell, CellType, Chunk, ChunkFault, Duplicate, Frac, List, Row, Schema, SchemaFault, Text, same,
+    Cell, CellType, Chunk, ChunkFault, Duplicate, Frac, List, Row, Schema, SchemaFault, Text,
+    doubled, place_of, same, type_of,
 };
 use std::alloc::{AllocError, Global};
 use std::test::Fail;
@@ -38,6 +39,11 @@ fn schemas(rt: HostRuntime) -> Result<(), Fail> {
     assert_eq!(rt; schema.position(&Text::from_str(alloc, "b")?), Some(1));
     assert!(rt; schema.type_of(&Text::from_str(alloc, "b")?) == Some(CellType::Wide));
     assert!(rt; !schema.is_base());
+    let named = schema.columns().as_slice();
+    let last = Text::from_str(alloc, "b")?;
+    assert_eq!(rt; place_of(&last, named), Some(1));
+    assert!(rt; type_of(&last, named) == Some(CellType::Wide));
+    assert!(rt; doubled(named).is_none());
     assert!(rt; same(&schema, &schema.copy(alloc)?));
     Ok(())
 }
@@ -54,6 +60,9 @@ fn chunks(rt: HostRuntime) -> Result<(), Fail> {
     };
     assert_eq!(rt; chunk.first(), 4_294_967_295);
     assert_eq!(rt; chunk.rows().len(), 1);
+    assert!(rt; !chunk.rows().is_empty());
+    assert!(rt; schema.fits(&int_row(alloc, 5)?));
+    assert!(rt; Cell::Int(5).fits(CellType::Int) && !Cell::Int(5).fits(CellType::Wide));
     assert!(rt; same(chunk.schema(), &schema));
     assert_eq!(rt; chunk.into_rows().len(), 1);
     let two = List::from_vec(vec![in alloc; int_row(alloc, 5)?, int_row(alloc, 6)?]?);

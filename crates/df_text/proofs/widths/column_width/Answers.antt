@@ -2,7 +2,7 @@ use Rattle.std.proofs.Common.{List, IsUtf8}
 use Rattle.std.proofs.lemmas.List.{take_all}
 use Rattle.std.proofs.lemmas.List.Elements.{All-more}
 use Rattle.std.proofs.lemmas.Str.{IsUtf8-string_bytes}
-use Rattle.df_text.specs.Printed.{cell_at, cell_text, column_texts}
+use Rattle.df_text.specs.Printed.{cell_or_null, cell_text, column_texts}
 use Rattle.df_text.proofs.ColumnFacts.{column_utf8, filled_all, width_turn}
 use Rattle.df_value.specs.declared.cell.Cell.{Cell}
 use Rattle.df_text.proofs.widths.column_width.Goals as goal
@@ -21,5 +21,5 @@ loop-row-preserved c =
     let item = c.row-item.result in
     record {
       width = width_turn c.args.at c.args.name.now rows i item c.loop-row.width c.in_ok-width.width c.loop-row-test.true c.loop-row.invariant.width (rw (← c.row-item.is) c.in_ok-width.ensures.greater);
-      utf8 = All-more (λ (row : List Cell). IsUtf8 (cell_text (cell_at c.args.at row))) rows i item c.loop-row-test.true c.loop-row.invariant.utf8 (rw (← c.row-item.is) c.in_ok-width.ensures.utf8);
+      utf8 = All-more (λ (row : List Cell). IsUtf8 (cell_text (cell_or_null c.args.at row))) rows i item c.loop-row-test.true c.loop-row.invariant.utf8 (rw (← c.row-item.is) c.in_ok-width.ensures.utf8);
     }

@@ -1,0 +1,64 @@
+#!/usr/bin/env bash
+# Runs a program over a document with each allocation, read and write refused in turn:
+# refusals.sh PROGRAM DOCUMENT, where DOCUMENT.stdout is its whole output and DOCUMENT.status, if it is there,
+# the status that goes with it. A refused allocation ends in
+# `dfviews: memory` or leaves the output as it is; a refused read is V10 and a refused write `write`, with
+# nothing or a prefix of the output written. Prints what went otherwise, and ends with a count.
+set -u
+program=$1
+document=$2
+want=$document.stdout
+want_status=$(cat "$document.status" 2> /dev/null || echo 0)
+here=$(cd "$(dirname "$0")" && pwd)
+work=$(mktemp -d)
+trap 'rm -rf "$work"' EXIT
+${CC:-cc} -O1 -shared -fPIC -o "$work/failing.so" "$here/failing.c" || exit 2
+
+# Runs the program with these variables set; the status, output and error go to files.
+run() {
+  env LD_PRELOAD="$work/failing.so" "$@" "$program" < "$document" > "$work/out" 2> "$work/err"
+  status=$?
+}
+
+whole() { [ "$status" -eq "$want_status" ] && cmp -s "$work/out" "$want" && [ ! -s "$work/err" ]; }
+
+# The fault of this text, with at most a prefix of the output written.
+faulted() {
+  [ "$status" -eq 2 ] && [ "$(cat "$work/err")" = "dfviews: $1" ] &&
+    cmp -s "$work/out" <(head -c "$(stat -c %s "$work/out")" "$want")
+}
+
+wrong=0
+other() {
+  echo "otherwise at $1: status $status, $(cat "$work/err")"
+  wrong=$((wrong + 1))
+}
+
+run COUNTS="$work/counts"
+whole || other "no refusal"
+read -r allocs reads writes < "$work/counts"
+for n in $(seq 1 "$allocs"); do
+  run FAIL_ALLOC="$n"
+  whole || { faulted memory && [ ! -s "$work/out" ]; } || other "allocation $n"
+done
+for n in $(seq 1 "$reads"); do
+  run FAIL_READ="$n"
+  { faulted V10 && [ ! -s "$work/out" ]; } || other "read $n"
+done
+for n in $(seq 1 "$writes"); do
+  run FAIL_WRITE="$n"
+  faulted write || other "write $n"
+done
+run SHORT=1 COUNTS="$work/counts"
+whole || other "short reads and writes"
+read -r _ reads writes < "$work/counts"
+for n in $(seq 1 "$reads"); do
+  run SHORT=1 FAIL_READ="$n"
+  { faulted V10 && [ ! -s "$work/out" ]; } || other "short read $n"
+done
+for n in $(seq 1 "$writes"); do
+  run SHORT=1 FAIL_WRITE="$n"
+  faulted write || other "short write $n"
+done
+echo "$document: $allocs allocations, $reads reads and $writes writes refused in turn, $wrong otherwise"
+[ "$wrong" -eq 0 ]
