@@ -140,6 +140,6 @@ ComesFromBytes fault.ReadFault = ⊥
 ComesFromBytes fault.TooLarge = ⊥
 ComesFromBytes fault.Write = ⊥
 
--- The call answers what is wanted, unless memory was refused.
+-- The call answers what is wanted, unless it answers that memory was refused.
 abbrev pub Answers : {A : Type 0} → Result A RunFault → Result A RunFault → Type 0
 Answers want result = MatchResult result (λ x. want ≡ Ok x) (λ f. ComesFromBytes f × (f ≢ fault.Memory → want ≡ Err f))

@@ -98,6 +98,6 @@ levels p = fold-Plan ℕ levels_step p
 abbrev pub checked : Plan → List Columns → Checked
 checked p frames = if nat_lt 12 (levels p) then Err fault.TooDeep else columns_of p frames
 
--- The call answers what is wanted, unless memory was refused.
+-- The call answers what is wanted, unless it answers that memory was refused.
 abbrev pub Answers : {T : Type 0} → Result T PlanFault → Result T PlanFault → Type 0
 Answers want result = MatchResult result (λ x. want ≡ Ok x) (λ f. f ≢ fault.Memory → want ≡ Err f)

@@ -36,7 +36,8 @@ pub record ViewEntries : Type 0 where
   pub source : List ℕ
   pub steps : List Data
 
--- the two keys that must be there, perhaps `steps`, and no other, each with a value of its kind
+-- the two keys that must be there, perhaps `steps`, and no other, each with a value of its kind, at most 64 steps
+-- (a fault in any of these is the same one)
 abbrev pub entries_of_view : Place → Members → Result ViewEntries ViewsFault
 entries_of_view at ms =
     if keys_pass is_view_key ms then
@@ -108,7 +109,7 @@ document_of bytes =
     then_read (frames_of tables.frames) (λ frames. then_read (views_of frames tables.views) (λ views.
     Ok (record { frames = frames; views = views })))))
 
--- what every document that is read keeps to: few frames and views, columns of base types, and plans that
+-- among what every document that is read keeps to: few frames and views, columns of base types, and plans that
 -- read no frame but the document's
 pub record IsDocument (v : Views) : Type 0 where
   pub few_frames : length v.frames ≤ 8

@@ -3,7 +3,7 @@ use Rattle.std.specs.Prelude.{◌≡◌, ◌≢◌, List, [], ◌∷◌, ◌++�
 use Rattle.df_text.specs.declared.views_fault.ViewsFault.{ViewsFault}
 use Rattle.df_text.specs.declared.views_fault.ViewsFault.TheVariants as fault
 
--- the call answers what is wanted, unless memory was refused
+-- the call answers what is wanted, unless it answers that memory was refused
 abbrev pub Answers : {A : Type 0} → Result A ViewsFault → Result A ViewsFault → Type 0
 Answers want result = MatchResult result (λ x. want ≡ Ok x) (λ f. f ≢ fault.Memory → want ≡ Err f)
 
@@ -17,7 +17,7 @@ abbrev pub read_each : {D A : Type 0} → (D → Result A ViewsFault) → List D
 read_each read [] = Ok []
 read_each read (d ∷ ds) = then_read (read d) (λ x. then_read (read_each read ds) (λ xs. Ok (x ∷ xs)))
 
--- what a list says whose items look back at those before them: these come first, and then what is left of the list
+-- the items read so far, followed by what the rest of the list says; each reading sees all items before its own
 abbrev pub read_after : {D A : Type 0} → (List A → D → Result A ViewsFault) → List A → List D → Result (List A) ViewsFault
 read_after read before [] = Ok before
 read_after read before (d ∷ ds) = then_read (read before d) (λ x. read_after read (before ++ x ∷ []) ds)

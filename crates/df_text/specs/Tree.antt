@@ -19,11 +19,11 @@ parsed None = Err fault.NotToml
 abbrev pub tree_of : List ℕ → Result Members ViewsFault
 tree_of bytes = if is_utf8 bytes then parsed (parse_document bytes) else Err fault.NotToml
 
--- the table is the tree, unless memory was refused
+-- the table is the tree, unless the answer is that memory was refused
 abbrev pub GivesTable : Result Members ViewsFault → Result (BTreeMap (String Global) Value) ViewsFault → Type 0
 GivesTable want result = MatchResult result (λ t. want ≡ Ok (table_view t)) (λ f. f ≢ fault.Memory → want ≡ Err f)
 
--- whether each key is one of these
+-- whether each key passes the test
 unfoldable pub keys_pass : (List ℕ → Bool) → Members → Bool
 keys_pass p no_members = true
 keys_pass p (member k d ms) = p k && keys_pass p ms

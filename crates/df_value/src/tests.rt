@@ -1,80 +1,105 @@
 //! Worked rows, and each public call once with ample memory.
 use crate::{
-    Cell, CellType, Chunk, ChunkFault, Duplicate, Frac, List, Row, Schema, SchemaFault, Text,
-    doubled, place_of, same, type_of,
+    Cell, CellType, Chunk, ChunkFault, Duplicate, Frac, List, RefusedRows, Row, Schema,
+    SchemaFault, Text, doubled, place_of, same, type_of,
 };
 use std::alloc::{AllocError, Global};
 use std::test::Fail;
 
-fn columns(
-    alloc: Global,
-    names: &[&str],
-    kind: CellType,
-) -> Result<List<(Text, CellType)>, AllocError> {
+fn columns(alloc: Global, names: &[&str]) -> Result<List<(Text, CellType)>, AllocError> {
     let mut columns = Vec::new(alloc);
     for name in names {
-        columns.push((Text::from_str(alloc, name)?, kind))?;
+        columns.push((Text::from_str(alloc, name)?, CellType::Int))?;
     }
     Ok(List::from_vec(columns))
 }
 
-fn int_row(alloc: Global, n: i64) -> Result<Row, AllocError> {
-    Ok(List::from_vec(vec![in alloc; Cell::Int(n)]?))
+fn schema_fault(alloc: Global, names: &[&str]) -> Result<Option<SchemaFault>, AllocError> {
+    match Schema::new(columns(alloc, names)?) {
+        Ok(_) => Ok(None),
+        Err(fault) => Ok(Some(fault)),
+    }
 }
 
 #[test]
-fn schemas(rt: HostRuntime) -> Result<(), Fail> {
+fn schema_faults(rt: HostRuntime) -> Result<(), Fail> {
     let alloc = rt.alloc();
-    let none = columns(alloc, &[], CellType::Int)?;
-    assert!(rt; matches!(Schema::new(none), Err(SchemaFault::NoColumns)));
-    let mut wide = Vec::new(alloc);
-    for _ in 0..33 {
-        wide.push((Text::from_str(alloc, "same")?, CellType::Int))?;
-    }
-    assert!(rt; matches!(Schema::new(List::from_vec(wide)), Err(SchemaFault::TooWide)));
-    let twice = columns(alloc, &["a", "a"], CellType::Int)?;
-    assert!(rt; matches!(Schema::new(twice), Err(SchemaFault::DoubledName)));
-    let schema = Schema::new(columns(alloc, &["a", "b"], CellType::Wide)?)?;
-    assert_eq!(rt; schema.columns().len(), 2);
-    assert_eq!(rt; schema.position(&Text::from_str(alloc, "b")?), Some(1));
-    assert!(rt; schema.type_of(&Text::from_str(alloc, "b")?) == Some(CellType::Wide));
-    assert!(rt; !schema.is_base());
-    let named = schema.columns().as_slice();
+    assert!(rt; schema_fault(alloc, &[])? == Some(SchemaFault::NoColumns));
+    assert!(rt; schema_fault(alloc, &["same"; 33])? == Some(SchemaFault::TooWide));
+    assert!(rt; schema_fault(alloc, &["a", "a"])? == Some(SchemaFault::DoubledName));
+    assert!(rt; schema_fault(alloc, &["a", "b"])?.is_none());
+    Ok(())
+}
+
+#[test]
+fn schema_parts(rt: HostRuntime) -> Result<(), Fail> {
+    let alloc = rt.alloc();
+    let schema = Schema::new(columns(alloc, &["a", "b"])?)?;
     let last = Text::from_str(alloc, "b")?;
-    assert_eq!(rt; place_of(&last, named), Some(1));
-    assert!(rt; type_of(&last, named) == Some(CellType::Wide));
-    assert!(rt; doubled(named).is_none());
+    assert!(rt; schema.position(&last) == Some(1));
+    assert!(rt; schema.type_of(&last) == Some(CellType::Int));
+    assert!(rt; schema.is_base());
     assert!(rt; same(&schema, &schema.copy(alloc)?));
     Ok(())
 }
 
 #[test]
-fn chunks(rt: HostRuntime) -> Result<(), Fail> {
+fn columns_by_name(rt: HostRuntime) -> Result<(), Fail> {
     let alloc = rt.alloc();
-    let schema = Schema::new(columns(alloc, &["x"], CellType::Int)?)?;
-    assert!(rt; schema.is_base());
-    let one = List::from_vec(vec![in alloc; int_row(alloc, 5)?]?);
-    let Ok(chunk) = Chunk::new(alloc, &schema, 4_294_967_295, one) else {
+    let columns = columns(alloc, &["a", "b", "a"])?;
+    let name = Text::from_str(alloc, "a")?;
+    assert!(rt; doubled(columns.as_slice()) == Some(&name));
+    assert!(rt; place_of(&name, columns.as_slice()) == Some(0));
+    assert!(rt; type_of(&name, columns.as_slice()) == Some(CellType::Int));
+    Ok(())
+}
+
+// Rows of one column: the numbers, and then a cell that may fit the column or not.
+fn rows(alloc: Global, numbers: &[i64], last: Option<Cell>) -> Result<List<Row>, AllocError> {
+    let mut rows = Vec::new(alloc);
+    for n in numbers {
+        rows.push(List::from_vec(vec![in alloc; Cell::Int(*n)]?))?;
+    }
+    if let Some(cell) = last {
+        rows.push(List::from_vec(vec![in alloc; cell]?))?;
+    }
+    Ok(List::from_vec(rows))
+}
+
+fn chunk(
+    alloc: Global,
+    first: u32,
+    numbers: &[i64],
+    last: Option<Cell>,
+) -> Result<Result<Chunk, RefusedRows>, Fail> {
+    let schema = Schema::new(columns(alloc, &["x"])?)?;
+    let rows = rows(alloc, numbers, last)?;
+    Ok(Chunk::new(alloc, &schema, first, rows))
+}
+
+#[test]
+fn chunk_of_the_last_number(rt: HostRuntime) -> Result<(), Fail> {
+    let Ok(chunk) = chunk(rt.alloc(), 4_294_967_295, &[5], None)? else {
         assert!(rt; false);
         return Ok(());
     };
-    assert_eq!(rt; chunk.first(), 4_294_967_295);
-    assert_eq!(rt; chunk.rows().len(), 1);
-    assert!(rt; !chunk.rows().is_empty());
-    assert!(rt; schema.fits(&int_row(alloc, 5)?));
-    assert!(rt; Cell::Int(5).fits(CellType::Int) && !Cell::Int(5).fits(CellType::Wide));
-    assert!(rt; same(chunk.schema(), &schema));
-    assert_eq!(rt; chunk.into_rows().len(), 1);
-    let two = List::from_vec(vec![in alloc; int_row(alloc, 5)?, int_row(alloc, 6)?]?);
-    let Err(refused) = Chunk::new(alloc, &schema, 4_294_967_295, two) else {
+    assert!(rt; chunk.first() == 4_294_967_295);
+    assert!(rt; chunk.schema().columns().len() == 1);
+    assert!(rt; chunk.rows().len() == 1);
+    assert!(rt; chunk.into_rows().len() == 1);
+    Ok(())
+}
+
+#[test]
+fn chunk_faults(rt: HostRuntime) -> Result<(), Fail> {
+    let alloc = rt.alloc();
+    let Err(refused) = chunk(alloc, 4_294_967_295, &[5, 6], None)? else {
         assert!(rt; false);
         return Ok(());
     };
     assert!(rt; refused.fault == ChunkFault::NumberTooLarge);
-    assert_eq!(rt; refused.rows.len(), 2);
-    let wrong = List::from_vec(vec![in alloc; Cell::Bool(true)]?);
-    let rows = List::from_vec(vec![in alloc; int_row(alloc, 5)?, wrong]?);
-    let Err(refused) = Chunk::new(alloc, &schema, 0, rows) else {
+    assert!(rt; refused.rows.len() == 2);
+    let Err(refused) = chunk(alloc, 0, &[5], Some(Cell::Bool(true)))? else {
         assert!(rt; false);
         return Ok(());
     };
@@ -82,9 +107,7 @@ fn chunks(rt: HostRuntime) -> Result<(), Fail> {
     Ok(())
 }
 
-#[test]
-fn cells(rt: HostRuntime) -> Result<(), Fail> {
-    let alloc = rt.alloc();
+fn cells(alloc: Global) -> Result<Row, AllocError> {
     let cells = vec![in alloc;
         Cell::Null,
         Cell::Int(-7),
@@ -93,14 +116,34 @@ fn cells(rt: HostRuntime) -> Result<(), Fail> {
         Cell::Bool(true),
         Cell::Frac(Frac::new(7, 2)),
     ]?;
-    let row: Row = List::from_vec(cells);
-    assert!(rt; same(&row, &row.copy(alloc)?));
-    assert!(rt; row == row.copy(alloc)?);
-    assert!(rt; row.get(1) != row.get(2));
-    assert_eq!(rt; row.get(6).is_none(), true);
-    let text = Text::from_str(alloc, "é")?;
-    assert_eq!(rt; text.len(), 2);
-    assert_eq!(rt; text.as_str(), "é");
+    Ok(List::from_vec(cells))
+}
+
+#[test]
+fn rows_are_copied(rt: HostRuntime) -> Result<(), Fail> {
+    let alloc = rt.alloc();
+    let row = cells(alloc)?;
+    let copy = row.copy(alloc)?;
+    assert!(rt; row == copy);
+    assert!(rt; row.get(1) != copy.get(2));
+    assert!(rt; row.get(6).is_none() && !row.is_empty());
+    Ok(())
+}
+
+#[test]
+fn cells_fit_types(rt: HostRuntime) {
+    assert!(rt; Cell::Int(5).fits(CellType::Int));
+    assert!(rt; !Cell::Int(5).fits(CellType::Wide));
+    assert!(rt; Cell::Null.fits(CellType::Frac));
+    let mean = Frac::new(7, 2);
+    assert!(rt; mean.sum() == 7 && mean.count() == 2);
+}
+
+#[test]
+fn texts(rt: HostRuntime) -> Result<(), Fail> {
+    let text = Text::from_str(rt.alloc(), "é")?;
+    assert!(rt; text.len() == 2);
+    assert!(rt; text.as_str() == "é");
     assert!(rt; !text.is_empty());
     assert!(rt; Text::from_string(text.into_string()).as_str() == "é");
     Ok(())
