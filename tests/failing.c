@@ -3,13 +3,21 @@
 //
 // FAIL_ALLOC, FAIL_READ, FAIL_WRITE: the number of the call that fails, from 1. SHORT: reads and writes of
 // several bytes move one. COUNTS: a file that gets the numbers of these calls at the end.
-#include <errno.h>
-#include <fcntl.h>
-#include <stddef.h>
-#include <stdio.h>
-#include <stdlib.h>
-#include <sys/syscall.h>
-#include <unistd.h>
+//
+// It stands on no header, so that the toolchain's own compiler is enough: the numbers are those of Linux on
+// x86-64.
+
+typedef __SIZE_TYPE__ size_t;
+typedef long ssize_t;
+
+enum { CALL_READ = 0, CALL_WRITE = 1, NO_MEMORY = 12, INPUT_OUTPUT = 5, WRITE_CREATE_EMPTY = 01 | 0100 | 01000 };
+
+extern char *getenv(const char *name);
+extern long atol(const char *text);
+extern int snprintf(char *line, size_t size, const char *format, ...);
+extern int open(const char *path, int flags, ...);
+extern long syscall(long number, ...);
+extern int *__errno_location(void);
 
 extern void *__libc_malloc(size_t size);
 extern void *__libc_calloc(size_t count, size_t size);
@@ -26,43 +34,43 @@ static long number(const char *name) {
 static int refused(long *calls, const char *name) { return ++*calls == number(name); }
 
 void *malloc(size_t size) {
-    return refused(&allocs, "FAIL_ALLOC") ? NULL : __libc_malloc(size);
+    return refused(&allocs, "FAIL_ALLOC") ? 0 : __libc_malloc(size);
 }
 
 void *calloc(size_t count, size_t size) {
-    return refused(&allocs, "FAIL_ALLOC") ? NULL : __libc_calloc(count, size);
+    return refused(&allocs, "FAIL_ALLOC") ? 0 : __libc_calloc(count, size);
 }
 
 void *realloc(void *block, size_t size) {
-    return refused(&allocs, "FAIL_ALLOC") ? NULL : __libc_realloc(block, size);
+    return refused(&allocs, "FAIL_ALLOC") ? 0 : __libc_realloc(block, size);
 }
 
 void *aligned_alloc(size_t align, size_t size) {
-    return refused(&allocs, "FAIL_ALLOC") ? NULL : __libc_memalign(align, size);
+    return refused(&allocs, "FAIL_ALLOC") ? 0 : __libc_memalign(align, size);
 }
 
 int posix_memalign(void **block, size_t align, size_t size) {
-    if (refused(&allocs, "FAIL_ALLOC")) return ENOMEM;
+    if (refused(&allocs, "FAIL_ALLOC")) return NO_MEMORY;
     *block = __libc_memalign(align, size);
-    return *block ? 0 : ENOMEM;
+    return *block ? 0 : NO_MEMORY;
 }
 
 static size_t moved(size_t size) { return number("SHORT") && size > 1 ? 1 : size; }
 
 ssize_t read(int file, void *bytes, size_t size) {
     if (file == 0 && refused(&reads, "FAIL_READ")) {
-        errno = EIO;
+        *__errno_location() = INPUT_OUTPUT;
         return -1;
     }
-    return syscall(SYS_read, file, bytes, file == 0 ? moved(size) : size);
+    return syscall(CALL_READ, file, bytes, file == 0 ? moved(size) : size);
 }
 
 ssize_t write(int file, const void *bytes, size_t size) {
     if (file == 1 && refused(&writes, "FAIL_WRITE")) {
-        errno = EIO;
+        *__errno_location() = INPUT_OUTPUT;
         return -1;
     }
-    return syscall(SYS_write, file, bytes, file == 1 ? moved(size) : size);
+    return syscall(CALL_WRITE, file, bytes, file == 1 ? moved(size) : size);
 }
 
 __attribute__((destructor)) static void count(void) {
@@ -70,6 +78,6 @@ __attribute__((destructor)) static void count(void) {
     if (!path) return;
     char line[80];
     int length = snprintf(line, sizeof line, "%ld %ld %ld\n", allocs, reads, writes);
-    int file = open(path, O_WRONLY | O_CREAT | O_TRUNC, 0600);
-    if (file >= 0) syscall(SYS_write, file, line, (size_t)length);
+    int file = open(path, WRITE_CREATE_EMPTY, 0600);
+    if (file >= 0) syscall(CALL_WRITE, file, line, (size_t)length);
 }

@@ -12,7 +12,8 @@ want_status=$(cat "$document.status" 2> /dev/null || echo 0)
 here=$(cd "$(dirname "$0")" && pwd)
 work=$(mktemp -d)
 trap 'rm -rf "$work"' EXIT
-${CC:-cc} -O1 -shared -fPIC -o "$work/failing.so" "$here/failing.c" || exit 2
+compiler=${CC:-$(command -v cc || echo "$(dirname "$(rt doc)")/toolchain/bin/clang")}
+"$compiler" -O1 -shared -fPIC -nostdlib -o "$work/failing.so" "$here/failing.c" || exit 2
 
 # Runs the program with these variables set; the status, output and error go to files.
 run() {
