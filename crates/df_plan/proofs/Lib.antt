@@ -3,3 +3,4 @@ pub mod Keys
 pub mod Partition
 pub mod Found
 pub mod Sound
+pub mod Least

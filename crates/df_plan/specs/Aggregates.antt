@@ -1,25 +1,76 @@
--- What an aggregate takes of the cells of a group, as the Polars Python reference has it: `sum` skips
--- nulls and is 0 over none. That a sum of 64-bit numbers is kept in 128 bits, where it never wraps, is this
--- project's own.
-use Rattle.std.specs.Prelude.{ℕ, ℤ, pos, ◌+ℤ◌, List, Option, Some, None, map, fold}
+-- What an aggregate takes of the cells of a group, as the Polars Python reference has `len`, `count`, `sum`, `min`,
+-- `max`, `first`, `last`, `n_unique` and `mean` with their null rules. This project's own choice: a sum of 64-bit
+-- integers is kept in 128 bits, where it never wraps, and a mean is the pair of that sum and the count.
+use Rattle.std.specs.Prelude.{ℕ, ℤ, Bool, true, false, zero, suc, pos, ◌-◌, ◌+ℤ◌, List, [], ◌∷◌, Option, Some, None, not, filter, find, length, map, fold, slice_get, unwrap_or}
+use Rattle.std.specs.List.{list_all}
+use Rattle.std.specs.Ordering.{is_lt, is_gt}
 use Rattle.df_value.specs.declared.cell.Cell.{Cell}
 use Rattle.df_value.specs.declared.cell.Cell.TheVariants as cell
+use Rattle.df_value.specs.CellOrder.{cell_cmp}
 use Rattle.df_value.specs.Rows.{cell_at}
+use Rattle.df_expr.specs.Value.{is_null}
+use Rattle.df_plan.specs.Groups.{keys_of}
 
 -- the cells of the rows at a place
 abbrev pub cells_of : Option ℕ → List (List Cell) → List Cell
 cells_of place rows = map (cell_at place) rows
 
--- the number of an Int cell
-abbrev pub int_of : Cell → Option ℤ
-int_of (cell.Int n) = Some n
-int_of _ = None
+-- the cells that are not null
+abbrev pub present : List Cell → List Cell
+present cells = filter (λ c. not (is_null c)) cells
+
+-- the number of cells that are not null
+abbrev pub count_of : List Cell → ℕ
+count_of cells = length (present cells)
+
+-- what a cell adds to a sum: an Int its number, a true 1, a false 0
+abbrev pub number_of : Cell → Option ℤ
+number_of (cell.Int n) = Some n
+number_of (cell.Bool true) = Some (pos 1)
+number_of (cell.Bool false) = Some (pos 0)
+number_of _ = None
 
 -- a sum and a further number, if there is one
 abbrev pub added : ℤ → Option ℤ → ℤ
 added sum None = sum
 added sum (Some n) = sum +ℤ n
 
--- the sum of the Int cells among these
+-- the sum of the Int cells among these, or the number of trues
 abbrev pub sum_of : List Cell → ℤ
-sum_of cells = fold (λ sum c. added sum (int_of c)) (pos 0) cells
+sum_of cells = fold (λ sum c. added sum (number_of c)) (pos 0) cells
+
+-- no cell of the list is below this one
+abbrev pub is_least : List Cell → Cell → Bool
+is_least cells c = list_all (λ d. not (is_lt (cell_cmp d c))) cells
+
+-- no cell of the list is above this one
+abbrev pub is_greatest : List Cell → Cell → Bool
+is_greatest cells c = list_all (λ d. not (is_gt (cell_cmp d c))) cells
+
+-- the cell that is not null and that no other is below; null where all are null
+abbrev pub min_of : List Cell → Cell
+min_of cells = unwrap_or (find (is_least (present cells)) (present cells)) cell.Null
+
+-- the cell that is not null and that no other is above; null where all are null
+abbrev pub max_of : List Cell → Cell
+max_of cells = unwrap_or (find (is_greatest (present cells)) (present cells)) cell.Null
+
+-- the first and the last cell, a null one too
+abbrev pub first_of : List Cell → Cell
+first_of cells = unwrap_or (slice_get cells 0) cell.Null
+
+abbrev pub last_of : List Cell → Cell
+last_of cells = unwrap_or (slice_get cells (length cells - 1)) cell.Null
+
+-- a sum over a count, null over none; it is never reduced
+abbrev pub mean_at : ℤ → ℕ → Cell
+mean_at sum zero = cell.Null
+mean_at sum (suc n) = cell.Frac (sum, pos (suc n))
+
+-- the mean of the Int cells among these
+abbrev pub mean_of : List Cell → Cell
+mean_of cells = mean_at (sum_of cells) (count_of cells)
+
+-- the number of distinct cells at a place, null being one: as many as a grouping by that column has keys
+abbrev pub n_unique_of : Option ℕ → List (List Cell) → ℕ
+n_unique_of place rows = length (keys_of (place ∷ []) rows)

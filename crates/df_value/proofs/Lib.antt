@@ -1,3 +1,4 @@
 pub mod RowEq
 pub mod Fitting
 pub mod Ordered
+pub mod CellOrders

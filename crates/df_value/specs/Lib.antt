@@ -2,6 +2,7 @@ pub mod Exactly
 pub mod Cells
 pub mod CellEq
 pub mod Order
+pub mod CellOrder
 pub mod Rows
 pub mod Schemas
 pub mod SchemaFaults

@@ -22,7 +22,7 @@ pub enum CellType {
 }
 
 /// One value of a table.
-#[derive(Debug, PartialEq, Eq, Hash, Drop)]
+#[derive(Debug, PartialEq, Eq, PartialOrd, Ord, Hash, Drop)]
 pub enum Cell {
     Null,
     Int(i64),
