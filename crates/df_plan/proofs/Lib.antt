@@ -4,3 +4,5 @@ pub mod Partition
 pub mod Found
 pub mod Sound
 pub mod Least
+pub mod Ends
+pub mod AggregatesFit

@@ -10,6 +10,8 @@ use Rattle.df_value.specs.CellOrder.{cell_cmp}
 use Rattle.df_value.specs.Rows.{cell_at}
 use Rattle.df_expr.specs.Value.{is_null}
 use Rattle.df_plan.specs.Groups.{keys_of}
+use Rattle.df_plan.specs.declared.extremes.End.{End}
+use Rattle.df_plan.specs.declared.extremes.End.TheVariants as end
 
 -- the cells of the rows at a place
 abbrev pub cells_of : Option ℕ → List (List Cell) → List Cell
@@ -39,21 +41,23 @@ added sum (Some n) = sum +ℤ n
 abbrev pub sum_of : List Cell → ℤ
 sum_of cells = fold (λ sum c. added sum (number_of c)) (pos 0) cells
 
--- no cell of the list is below this one
-abbrev pub is_least : List Cell → Cell → Bool
-is_least cells c = list_all (λ d. not (is_lt (cell_cmp d c))) cells
+-- whether a cell lies below another, or above it
+abbrev pub beyond : End → Cell → Cell → Bool
+beyond end.Least a b = is_lt (cell_cmp a b)
+beyond end.Greatest a b = is_gt (cell_cmp a b)
 
--- no cell of the list is above this one
-abbrev pub is_greatest : List Cell → Cell → Bool
-is_greatest cells c = list_all (λ d. not (is_gt (cell_cmp d c))) cells
+-- whether no cell of a list lies beyond this one
+abbrev pub is_extreme : End → List Cell → Cell → Bool
+is_extreme e cells c = list_all (λ d. not (beyond e d c)) cells
 
--- the cell that is not null and that no other is below; null where all are null
-abbrev pub min_of : List Cell → Cell
-min_of cells = unwrap_or (find (is_least (present cells)) (present cells)) cell.Null
+-- the cell among these that none lies beyond
+abbrev pub extreme_in : End → List Cell → Option Cell
+extreme_in e cells = find (is_extreme e cells) cells
 
--- the cell that is not null and that no other is above; null where all are null
-abbrev pub max_of : List Cell → Cell
-max_of cells = unwrap_or (find (is_greatest (present cells)) (present cells)) cell.Null
+-- of the cells that are not null, the least or the greatest: the one that no other is below, or none above; null
+-- where all are null
+abbrev pub extreme_of : End → List Cell → Cell
+extreme_of e cells = unwrap_or (extreme_in e (present cells)) cell.Null
 
 -- the first and the last cell, a null one too
 abbrev pub first_of : List Cell → Cell

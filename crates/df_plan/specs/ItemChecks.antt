@@ -10,7 +10,7 @@ use Rattle.df_expr.specs.Typing.{Typed, names_column, checked as checked_expr}
 use Rattle.df_plan.specs.declared.fault.PlanFault.{PlanFault}
 use Rattle.df_plan.specs.declared.fault.PlanFault.TheVariants as fault
 use Rattle.df_plan.specs.declared.plan.Agg.{Agg}
-use Rattle.df_plan.specs.declared.plan.Agg.TheVariants as agg
+use Rattle.df_plan.specs.AggregateTypes.{column_taken, type_given}
 
 -- names and types
 abbrev pub Columns : Type 0
@@ -39,15 +39,23 @@ key_type name None = Err (fault.Expr (expr.NoColumn name))
 key_type name (Some kind.Frac) = Err (fault.WrongType name)
 key_type name (Some t) = Ok t
 
--- the type of a sum: its column must be there and Int, and then the sum is Wide
-abbrev pub sum_type : List ℕ → Option CellType → Kind
-sum_type name None = Err (fault.Expr (expr.NoColumn name))
-sum_type name (Some kind.Int) = Ok kind.Wide
-sum_type name (Some t) = Err (fault.WrongType name)
+-- a type, or a refusal of the column
+abbrev pub given_type : List ℕ → Option CellType → Kind
+given_type name None = Err (fault.WrongType name)
+given_type name (Some t) = Ok t
 
+-- the type of an aggregate of a column, which must be there and of a type that the aggregate takes
+abbrev pub taken_type : List ℕ → Agg → Option CellType → Kind
+taken_type name a None = Err (fault.Expr (expr.NoColumn name))
+taken_type name a (Some t) = given_type name (type_given a t)
+
+abbrev pub type_of_column : Columns → Agg → Option (List ℕ) → Kind
+type_of_column columns a None = Ok kind.Int
+type_of_column columns a (Some name) = taken_type name a (type_in name columns)
+
+-- the type of an aggregate
 abbrev pub aggregate_type : Columns → Agg → Kind
-aggregate_type columns agg.Len = Ok kind.Int
-aggregate_type columns (agg.Sum name) = sum_type name (type_in name columns)
+aggregate_type columns a = type_of_column columns a (column_taken a)
 
 -- an expression's fault is a plan's fault
 abbrev pub of_expr : Typed → Kind

@@ -4,5 +4,7 @@ pub mod Checks
 pub mod CheckedParts
 pub mod Groups
 pub mod Aggregates
+pub mod AggregateTypes
+pub mod Running
 pub mod RowWise
 pub mod Meaning

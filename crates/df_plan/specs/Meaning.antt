@@ -9,8 +9,10 @@ use Rattle.df_value.specs.Rows.{rows_fit}
 use Rattle.df_value.specs.Schemas.{position_of, type_in}
 use Rattle.df_expr.specs.declared.expr.Expr.{Expr}
 use Rattle.df_plan.specs.Groups.{keys_of, group_of}
-use Rattle.df_plan.specs.Aggregates.{cells_of, sum_of}
+use Rattle.df_plan.specs.AggregateTypes.{column_taken, type_given}
+use Rattle.df_plan.specs.Aggregates.{cells_of, count_of, sum_of, extreme_of, first_of, last_of, n_unique_of, mean_of}
 use Rattle.df_plan.specs.RowWise.{item_column, filtered, selected_row, added_row, added_columns}
+use Rattle.df_plan.specs.declared.extremes.End.TheVariants as end
 use Rattle.df_plan.specs.declared.plan.Agg.{Agg}
 use Rattle.df_plan.specs.declared.plan.Agg.TheVariants as agg
 use Rattle.df_plan.specs.declared.plan.Plan.{Plan, fold-Plan}
@@ -20,11 +22,26 @@ use Rattle.df_plan.specs.declared.table.Table.{Table}
 -- an aggregate of the rows of a group
 abbrev pub aggregate_of : List (List ℕ × CellType) → List (List Cell) → Agg → Cell
 aggregate_of columns rows agg.Len = cell.Int (pos (length rows))
+aggregate_of columns rows (agg.Count name) = cell.Int (pos (count_of (cells_of (position_of name columns) rows)))
 aggregate_of columns rows (agg.Sum name) = cell.Wide (sum_of (cells_of (position_of name columns) rows))
+aggregate_of columns rows (agg.Min name) = extreme_of end.Least (cells_of (position_of name columns) rows)
+aggregate_of columns rows (agg.Max name) = extreme_of end.Greatest (cells_of (position_of name columns) rows)
+aggregate_of columns rows (agg.First name) = first_of (cells_of (position_of name columns) rows)
+aggregate_of columns rows (agg.Last name) = last_of (cells_of (position_of name columns) rows)
+aggregate_of columns rows (agg.NUnique name) = cell.Int (pos (n_unique_of (position_of name columns) rows))
+aggregate_of columns rows (agg.Mean name) = mean_of (cells_of (position_of name columns) rows)
 
-abbrev pub type_of_aggregate : Agg → CellType
-type_of_aggregate agg.Len = kind.Int
-type_of_aggregate (agg.Sum name) = kind.Wide
+-- the type of a column, Int where there is none
+abbrev pub type_at : List (List ℕ × CellType) → List ℕ → CellType
+type_at columns name = unwrap_or (type_in name columns) kind.Int
+
+abbrev pub type_of_taken : List (List ℕ × CellType) → Agg → Option (List ℕ) → CellType
+type_of_taken columns a None = kind.Int
+type_of_taken columns a (Some name) = unwrap_or (type_given a (type_at columns name)) kind.Int
+
+-- the type of an aggregate, where it checks
+abbrev pub type_of_aggregate : List (List ℕ × CellType) → Agg → CellType
+type_of_aggregate columns a = type_of_taken columns a (column_taken a)
 
 -- the key, and after it the aggregates of its group
 abbrev pub group_row :
@@ -32,16 +49,16 @@ abbrev pub group_row :
 group_row columns places aggs rows key = key ++ map (λ a. aggregate_of columns (group_of places rows key) a.1) aggs
 
 abbrev pub key_column : List (List ℕ × CellType) → List ℕ → List ℕ × CellType
-key_column columns name = (name, unwrap_or (type_in name columns) kind.Int)
+key_column columns name = (name, type_at columns name)
 
-abbrev pub aggregate_column : List ℕ × Agg → List ℕ × CellType
-aggregate_column a = (a.0, type_of_aggregate a.1)
+abbrev pub aggregate_column : List (List ℕ × CellType) → List ℕ × Agg → List ℕ × CellType
+aggregate_column columns a = (a.0, type_of_aggregate columns a.1)
 
 abbrev pub places_of : List (List ℕ × CellType) → List (List ℕ) → List (Option ℕ)
 places_of columns names = map (λ name. position_of name columns) names
 
 abbrev pub grouped_columns : List (List ℕ × CellType) → List (List ℕ) → List (List ℕ × Agg) → List (List ℕ × CellType)
-grouped_columns columns keys aggs = map (key_column columns) keys ++ map aggregate_column aggs
+grouped_columns columns keys aggs = map (key_column columns) keys ++ map (aggregate_column columns) aggs
 
 -- a row for each key, in the order in which the keys first appear
 abbrev pub grouped_rows : Table → List (List ℕ) → List (List ℕ × Agg) → List (List Cell)

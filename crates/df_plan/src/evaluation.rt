@@ -1,9 +1,9 @@
 //! The plain evaluation of a plan, over whole tables.
 ghost use Rattle.std.specs.Prelude.{◌≡◌, IfOk, IsTrue, map, slice_get};
 ghost use Rattle.df_value.specs.Rows.{rows_fit};
-ghost use Rattle.df_plan.specs.Meaning.{table_of, frame_from, frames_fit, grouped, grouped_columns as columns_of_groups, group_row as row_of_group, aggregate_of, type_of_aggregate, places_of as places_at, key_column};
+ghost use Rattle.df_plan.specs.Meaning.{table_of, frame_from, frames_fit, grouped, grouped_columns as columns_of_groups, group_row as row_of_group, type_of_aggregate, places_of as places_at, type_at as type_at_name};
 
-use crate::aggregates::sum_of;
+use crate::aggregates::aggregate;
 use crate::checked::CheckedPlan;
 use crate::groups::{group_of, keys_of};
 use crate::plan::{Agg, Plan};
@@ -123,26 +123,26 @@ fn grouped_columns(
 {
     let mut out = Vec::new(alloc);
     for name in keys {
-        out.push((name.copy(alloc)?, type_of_key(columns, name)))?;
+        out.push((name.copy(alloc)?, type_at(columns, name)))?;
     }
     for agg in aggs {
-        out.push((agg.0.copy(alloc)?, type_of_agg(&agg.1)))?;
+        out.push((agg.0.copy(alloc)?, type_of_agg(columns, &agg.1)))?;
     }
     Ok(List::from_vec(out))
 }
 
-fn type_of_key(columns: &List<(Text, CellType)>, name: &Text) -> CellType
-    ensures { (name.now, result) ≡ key_column columns.now name.now }
+fn type_at(columns: &List<(Text, CellType)>, name: &Text) -> CellType
+    ensures { result ≡ type_at_name columns.now name.now }
 {
     type_of(name, columns.as_slice()).unwrap_or(CellType::Int)
 }
 
-fn type_of_agg(agg: &Agg) -> CellType
-    ensures { result ≡ type_of_aggregate agg.now }
+fn type_of_agg(columns: &List<(Text, CellType)>, agg: &Agg) -> CellType
+    ensures { result ≡ type_of_aggregate columns.now agg.now }
 {
-    match agg {
-        Agg::Len => CellType::Int,
-        Agg::Sum(_) => CellType::Wide,
+    match agg.column() {
+        Some(name) => agg.type_of(type_at(columns, name)).unwrap_or(CellType::Int),
+        None => CellType::Int,
     }
 }
 
@@ -178,16 +178,7 @@ fn group_row(
     let group = group_of(alloc, places, table.rows.as_slice(), key)?;
     let mut row = key.copy(alloc)?.into_vec();
     for agg in aggs {
-        row.push(aggregate(&table.columns, group.as_slice(), &agg.1))?;
+        row.push(aggregate(alloc, table.columns.as_slice(), group.as_slice(), &agg.1)?)?;
     }
     Ok(List::from_vec(row))
-}
-
-fn aggregate(columns: &List<(Text, CellType)>, group: &[Row], agg: &Agg) -> Cell
-    ensures { result ≡ aggregate_of columns.now group.now agg.now }
-{
-    match agg {
-        Agg::Len => Cell::Int(group.len() as i64),
-        Agg::Sum(name) => Cell::Wide(sum_of(place_of(name, columns.as_slice()), group)),
-    }
 }

@@ -56,7 +56,8 @@ fn key_of(alloc: Global, places: &[Option<usize>], row: &Row) -> Result<Row, All
     Ok(List::from_vec(key))
 }
 
-fn copy_at(alloc: Global, place: Option<usize>, row: &Row) -> Result<Cell, AllocError>
+/// A copy of the cell at a place, null where there is none.
+pub fn copy_at(alloc: Global, place: Option<usize>, row: &Row) -> Result<Cell, AllocError>
     ensures { IfOk result (λ c. c ≡ cell_at place row.now) }
 {
     let Some(place) = place else {

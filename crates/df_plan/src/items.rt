@@ -2,7 +2,7 @@
 ghost use Rattle.std.specs.Prelude.{◌≡◌};
 ghost use Rattle.df_value.specs.Schemas.{type_in};
 ghost use Rattle.df_plan.specs.Checks.{Answers};
-ghost use Rattle.df_plan.specs.ItemChecks.{Column, Columns as ColumnList, key_type as type_of_key, aggregate_type as type_of_aggregate, expr_type as type_of_expr, output_type as type_of_output, checked_key, checked_aggregate, checked_output, checked_added, each_after};
+ghost use Rattle.df_plan.specs.ItemChecks.{Column, Columns as ColumnList, key_type as type_of_key, aggregate_type as type_of_aggregate, given_type as type_or_refusal, expr_type as type_of_expr, output_type as type_of_output, checked_key, checked_aggregate, checked_output, checked_added, each_after};
 
 use crate::fault::PlanFault;
 use crate::plan::Agg;
@@ -115,13 +115,21 @@ fn key_type(alloc: Global, input: &Schema, name: &Text) -> Result<CellType, Plan
 fn aggregate_type(alloc: Global, input: &Schema, agg: &Agg) -> Result<CellType, PlanFault>
     ensures { Answers (type_of_aggregate input.now agg.now) result }
 {
-    let Agg::Sum(name) = agg else {
+    let Some(name) = agg.column() else {
         return Ok(CellType::Int);
     };
     match input.type_of(name) {
-        Some(CellType::Int) => Ok(CellType::Wide),
-        Some(_) => Err(PlanFault::WrongType(name.copy(alloc)?)),
+        Some(kind) => given_type(alloc, name, agg.type_of(kind)),
         None => Err(PlanFault::Expr(ExprFault::NoColumn(name.copy(alloc)?))),
+    }
+}
+
+fn given_type(alloc: Global, name: &Text, given: Option<CellType>) -> Result<CellType, PlanFault>
+    ensures { Answers (type_or_refusal name.now given) result }
+{
+    match given {
+        Some(kind) => Ok(kind),
+        None => Err(PlanFault::WrongType(name.copy(alloc)?)),
     }
 }
 

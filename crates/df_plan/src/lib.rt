@@ -10,6 +10,7 @@ mod aggregates;
 mod checked;
 mod checks;
 mod evaluation;
+mod extremes;
 mod fault;
 mod groups;
 mod items;

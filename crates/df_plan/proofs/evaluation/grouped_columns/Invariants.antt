@@ -7,4 +7,4 @@ invariant-loop-name l = l.out.items ≡ map (key_column l.columns) (take l.name-
 
 abbrev pub invariant-loop-agg : goal.invariant-loop-agg
 invariant-loop-agg l =
-    l.out.items ≡ map (key_column l.columns) l.keys ++ map aggregate_column (take l.agg-index l.aggs)
+    l.out.items ≡ map (key_column l.columns) l.keys ++ map (aggregate_column l.columns) (take l.agg-index l.aggs)

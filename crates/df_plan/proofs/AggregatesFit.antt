@@ -1,0 +1,164 @@
+-- An aggregate of rows that fit has the type that its check found.
+use Rattle.std.proofs.Common.{◌≡◌, ℕ, zero, suc, Bool, true, false, cond, List, [], ◌∷◌, length, map, filter, refl, sym, ap, subst, ◌∙◌, arith}
+use Rattle.std.specs.Prelude.{IsTrue, ℤ, pos, Option, Some, None, Ok, Err, ◌&&◌, ◌-◌, not, find, slice_get, unwrap_or}
+use Rattle.std.specs.List.{list_all}
+use Rattle.std.proofs.lemmas.Grind.{common_steps}
+use Rattle.df_value.specs.declared.cell.Cell.{Cell}
+use Rattle.df_value.specs.declared.cell.Cell.TheVariants as cell
+use Rattle.df_value.specs.declared.cell.CellType.{CellType}
+use Rattle.df_value.specs.declared.cell.CellType.TheVariants as kind
+use Rattle.df_value.specs.Cells.{fits_type}
+use Rattle.df_value.specs.Rows.{cell_at, row_fits, rows_fit}
+use Rattle.df_value.specs.Schemas.{type_in, position_of}
+use Rattle.df_expr.specs.Typing.{column_type}
+use Rattle.df_expr.specs.Value.{is_null}
+use Rattle.df_expr.proofs.Sound.{column_fits}
+use Rattle.df_plan.specs.declared.extremes.End.{End}
+use Rattle.df_plan.specs.declared.extremes.End.TheVariants as end
+use Rattle.df_plan.specs.declared.plan.Agg.{Agg}
+use Rattle.df_plan.specs.declared.plan.Agg.TheVariants as agg
+use Rattle.df_plan.specs.Aggregates.{cells_of, present, count_of, sum_of, is_extreme, extreme_of, first_of, last_of, mean_at, mean_of}
+use Rattle.df_plan.specs.AggregateTypes.{column_taken, type_given}
+use Rattle.df_plan.specs.ItemChecks.{Columns, Kind, aggregate_type, type_of_column, taken_type, given_type}
+use Rattle.df_plan.specs.Meaning.{aggregate_of, type_of_aggregate, type_of_taken, type_at}
+
+abbrev Rows : Type 0
+Rows = List (List Cell)
+
+first_true : (a b : Bool) → IsTrue (a && b) → IsTrue a
+first_true true b h = refl
+first_true false b h = cc
+
+second_true : (a b : Bool) → IsTrue (a && b) → IsTrue b
+second_true true b h = h
+second_true false b h = cc
+
+both_true : (a b : Bool) → IsTrue a → IsTrue b → IsTrue (a && b)
+both_true true b e h = h
+both_true false b e h = cc
+
+-- the cells of a column are null or of its type
+cells_fit :
+    (columns : Columns) (name : List ℕ) (t : CellType) → type_in name columns ≡ Some t → (rows : Rows) →
+    IsTrue (rows_fit columns rows) → IsTrue (list_all (fits_type t) (cells_of (position_of name columns) rows))
+cells_fit columns name t is [] h = refl
+cells_fit columns name t is (r ∷ rs) h =
+    both_true (fits_type t (cell_at (position_of name columns) r)) _
+    (column_fits columns r (first_true (row_fits columns r) (rows_fit columns rs) h) name t (ap (column_type name) is))
+    (cells_fit columns name t is rs (second_true (row_fits columns r) (rows_fit columns rs) h))
+
+kept_fit : (q : Cell → Bool) (c : Cell) (b : Bool) (cs kept : List Cell) → IsTrue (q c && list_all q cs) → IsTrue (list_all q kept) →
+    IsTrue (list_all q (cond b (c ∷ kept) kept))
+kept_fit q c true cs kept h k = both_true (q c) (list_all q kept) (first_true (q c) (list_all q cs) h) k
+kept_fit q c false cs kept h k = k
+
+filter_fits : (q p : Cell → Bool) (cs : List Cell) → IsTrue (list_all q cs) → IsTrue (list_all q (filter p cs))
+filter_fits q p [] h = refl
+filter_fits q p (c ∷ cs) h = kept_fit q c (p c) cs (filter p cs) h (filter_fits q p cs (second_true (q c) (list_all q cs) h))
+
+chosen_fits : (q : Cell → Bool) (b : Bool) (c : Cell) (o : Option Cell) → IsTrue (q c) → IsTrue (q (unwrap_or o cell.Null)) →
+    IsTrue (q (unwrap_or (cond b (Some c) o) cell.Null))
+chosen_fits q true c o h k = h
+chosen_fits q false c o h k = k
+
+find_fits : (q p : Cell → Bool) (cs : List Cell) → IsTrue (q cell.Null) → IsTrue (list_all q cs) → IsTrue (q (unwrap_or (find p cs) cell.Null))
+find_fits q p [] null h = null
+find_fits q p (c ∷ cs) null h =
+    chosen_fits q (p c) c (find p cs) (first_true (q c) (list_all q cs) h) (find_fits q p cs null (second_true (q c) (list_all q cs) h))
+
+at_fits : (q : Cell → Bool) (cs : List Cell) (i : ℕ) → IsTrue (q cell.Null) → IsTrue (list_all q cs) → IsTrue (q (unwrap_or (slice_get cs i) cell.Null))
+at_fits q [] i null h = null
+at_fits q (c ∷ cs) zero null h = first_true (q c) (list_all q cs) h
+at_fits q (c ∷ cs) (suc i) null h = at_fits q cs i null (second_true (q c) (list_all q cs) h)
+
+null_fits : (t : CellType) → IsTrue (fits_type t cell.Null)
+null_fits t = refl
+
+extreme_fits : (e : End) (t : CellType) (cs : List Cell) → IsTrue (list_all (fits_type t) cs) → IsTrue (fits_type t (extreme_of e cs))
+extreme_fits e t cs h =
+    find_fits (fits_type t) (is_extreme e (present cs)) (present cs) refl (filter_fits (fits_type t) (λ c. not (is_null c)) cs h)
+
+mean_fits : (s : ℤ) (n : ℕ) → IsTrue (fits_type kind.Frac (mean_at s n))
+mean_fits s zero = refl
+mean_fits s (suc n) = refl
+
+-- what is known of the type of an aggregate's result
+is_type : (k u : CellType) (c : Cell) → k ≡ u → IsTrue (fits_type k c) → IsTrue (fits_type u c)
+is_type k u c e h = subst (λ z. IsTrue (fits_type z c)) e h
+
+min_type : (name : List ℕ) (t u : CellType) → type_given (agg.Min name) t ≡ Some u → t ≡ u
+min_type name t u h = grind (arith, common_steps)
+
+max_type : (name : List ℕ) (t u : CellType) → type_given (agg.Max name) t ≡ Some u → t ≡ u
+max_type name t u h = grind (arith, common_steps)
+
+sum_type : (name : List ℕ) (t u : CellType) → type_given (agg.Sum name) t ≡ Some u → kind.Wide ≡ u
+sum_type name t u h = grind (arith, common_steps)
+
+n_unique_type : (name : List ℕ) (t u : CellType) → type_given (agg.NUnique name) t ≡ Some u → kind.Int ≡ u
+n_unique_type name t u h = grind (arith, common_steps)
+
+mean_type : (name : List ℕ) (t u : CellType) → type_given (agg.Mean name) t ≡ Some u → kind.Frac ≡ u
+mean_type name t u h = grind (arith, common_steps)
+
+-- the aggregate of a column of type t, where its type is u
+given_fits :
+    (columns : Columns) (rows : Rows) (name : List ℕ) (t : CellType) → type_in name columns ≡ Some t →
+    IsTrue (rows_fit columns rows) → (a : Agg) → column_taken a ≡ Some name → (u : CellType) → type_given a t ≡ Some u →
+    IsTrue (fits_type u (aggregate_of columns rows a))
+given_fits columns rows name t is fit agg.Len taken u given = cc
+given_fits columns rows name t is fit (agg.Count c) taken u given =
+    let e : kind.Int ≡ u = cc in is_type kind.Int u (aggregate_of columns rows (agg.Count c)) e refl
+given_fits columns rows name t is fit (agg.Sum c) taken u given = is_type kind.Wide u (aggregate_of columns rows (agg.Sum c)) (sum_type c t u given) refl
+given_fits columns rows name t is fit (agg.Min c) taken u given =
+    let named : c ≡ name = cc in
+    is_type t u (aggregate_of columns rows (agg.Min c)) (min_type c t u given) (extreme_fits end.Least t (cells_of (position_of c columns) rows) (cells_fit columns c t (ap (λ n. type_in n columns) named ∙ is) rows fit))
+given_fits columns rows name t is fit (agg.Max c) taken u given =
+    let named : c ≡ name = cc in
+    is_type t u (aggregate_of columns rows (agg.Max c)) (max_type c t u given) (extreme_fits end.Greatest t (cells_of (position_of c columns) rows) (cells_fit columns c t (ap (λ n. type_in n columns) named ∙ is) rows fit))
+given_fits columns rows name t is fit (agg.First c) taken u given =
+    let named : c ≡ name = cc in
+    let e : t ≡ u = cc in
+    is_type t u (first_of (cells_of (position_of c columns) rows)) e (at_fits (fits_type t) (cells_of (position_of c columns) rows) 0 refl (cells_fit columns c t (ap (λ n. type_in n columns) named ∙ is) rows fit))
+given_fits columns rows name t is fit (agg.Last c) taken u given =
+    let named : c ≡ name = cc in
+    let e : t ≡ u = cc in
+    let cells = cells_of (position_of c columns) rows in
+    is_type t u (last_of cells) e (at_fits (fits_type t) cells (length cells - 1) refl (cells_fit columns c t (ap (λ n. type_in n columns) named ∙ is) rows fit))
+given_fits columns rows name t is fit (agg.NUnique c) taken u given = is_type kind.Int u (aggregate_of columns rows (agg.NUnique c)) (n_unique_type c t u given) refl
+given_fits columns rows name t is fit (agg.Mean c) taken u given =
+    is_type kind.Frac u (aggregate_of columns rows (agg.Mean c)) (mean_type c t u given) (mean_fits (sum_of (cells_of (position_of c columns) rows)) (count_of (cells_of (position_of c columns) rows)))
+
+given_found : (name : List ℕ) (o : Option CellType) (u : CellType) → given_type name o ≡ Ok u → o ≡ Some u
+given_found name None u h = cc
+given_found name (Some t) u h = cc
+
+given_is :
+    (columns : Columns) (rows : Rows) → IsTrue (rows_fit columns rows) → (a : Agg) (name : List ℕ) → column_taken a ≡ Some name →
+    (o : Option CellType) → type_in name columns ≡ o → (u : CellType) → taken_type name a o ≡ Ok u →
+    (u ≡ unwrap_or (type_given a (unwrap_or o kind.Int)) kind.Int) × IsTrue (fits_type u (aggregate_of columns rows a))
+given_is columns rows fit a name taken None is u h = cc
+given_is columns rows fit a name taken (Some t) is u h =
+    let found = given_found name (type_given a t) u h in
+    (rw found refl, given_fits columns rows name t is fit a taken u found)
+
+taken_is :
+    (columns : Columns) (rows : Rows) → IsTrue (rows_fit columns rows) → (a : Agg) (o : Option (List ℕ)) → column_taken a ≡ o →
+    (u : CellType) → type_of_column columns a o ≡ Ok u →
+    (u ≡ type_of_taken columns a o) × IsTrue (fits_type u (aggregate_of columns rows a))
+taken_is columns rows fit agg.Len None is u h = let e : kind.Int ≡ u = cc in (sym e, is_type kind.Int u (cell.Int (pos (length rows))) e refl)
+taken_is columns rows fit (agg.Count c) None is u h = cc
+taken_is columns rows fit (agg.Sum c) None is u h = cc
+taken_is columns rows fit (agg.Min c) None is u h = cc
+taken_is columns rows fit (agg.Max c) None is u h = cc
+taken_is columns rows fit (agg.First c) None is u h = cc
+taken_is columns rows fit (agg.Last c) None is u h = cc
+taken_is columns rows fit (agg.NUnique c) None is u h = cc
+taken_is columns rows fit (agg.Mean c) None is u h = cc
+taken_is columns rows fit a (Some name) is u h = given_is columns rows fit a name is (type_in name columns) refl u h
+
+-- where an aggregate checks, its type is the one in the result's columns, and its value fits it
+pub aggregate_fits :
+    (columns : Columns) (rows : Rows) → IsTrue (rows_fit columns rows) → (a : Agg) (u : CellType) → aggregate_type columns a ≡ Ok u →
+    (u ≡ type_of_aggregate columns a) × IsTrue (fits_type u (aggregate_of columns rows a))
+aggregate_fits columns rows fit a u h = taken_is columns rows fit a (column_taken a) refl u h
