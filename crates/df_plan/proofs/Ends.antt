@@ -1,6 +1,7 @@
 -- The cell that a loop picks is the one that no other lies beyond.
 use Rattle.std.proofs.Common.{◌≡◌, ℕ, Bool, true, false, cond, List, [], ◌∷◌, refl, sym, ap, ◌∙◌}
-use Rattle.std.specs.Prelude.{Option, Some, None}
+use Rattle.std.specs.Prelude.{◌≢◌, ◌&&◌, Option, Some, None, find, not}
+use Rattle.std.specs.List.{list_all}
 use Rattle.std.specs.Ordering.{is_lt, is_gt, ordering_reverse}
 use Rattle.std.specs.Cmp.{IsTotalOrder}
 use Rattle.std.specs.declared.cmp.Ordering.{Ordering}
@@ -11,7 +12,7 @@ use Rattle.df_value.specs.CellOrder.{cell_cmp, cell_cmp_total}
 use Rattle.df_value.proofs.CellOrders.{exact}
 use Rattle.df_plan.specs.declared.extremes.End.{End}
 use Rattle.df_plan.specs.declared.extremes.End.TheVariants as end
-use Rattle.df_plan.specs.Aggregates.{beyond, extreme_in, present}
+use Rattle.df_plan.specs.Aggregates.{beyond, is_extreme, extreme_in, present}
 use Rattle.df_plan.specs.Running.{picked_after}
 use Rattle.df_plan.proofs.Least.{IsStrict, least_after, least_found}
 
@@ -86,3 +87,51 @@ picked_is e (cell.Wide n ∷ cs) = first e (cell.Wide n) cs
 picked_is e (cell.Text t ∷ cs) = first e (cell.Text t) cs
 picked_is e (cell.Bool b ∷ cs) = first e (cell.Bool b) cs
 picked_is e (cell.Frac f ∷ cs) = first e (cell.Frac f) cs
+
+holds_at : (p : Cell → Bool) (a x : Cell) (xs : List Cell) (b : Bool) → p x ≡ b → cond b (Some x) (find p xs) ≡ Some a →
+    (find p xs ≡ Some a → p a ≡ true) → p a ≡ true
+holds_at p a x xs true e h later = let same : x ≡ a = cc in ap p (sym same) ∙ e
+holds_at p a x xs false e h later = later h
+
+-- what a search finds has the property
+found_holds : (p : Cell → Bool) (xs : List Cell) (a : Cell) → find p xs ≡ Some a → p a ≡ true
+found_holds p [] a h = cc
+found_holds p (x ∷ xs) a h = holds_at p a x xs (p x) refl h (found_holds p xs a)
+
+passes_at : (q p : Cell → Bool) (a x : Cell) (xs : List Cell) (b : Bool) → cond b (Some x) (find p xs) ≡ Some a →
+    q x ≡ true → (find p xs ≡ Some a → q a ≡ true) → q a ≡ true
+passes_at q p a x xs true h here later = let same : x ≡ a = cc in ap q (sym same) ∙ here
+passes_at q p a x xs false h here later = later h
+
+first_true : (a b : Bool) → (a && b) ≡ true → a ≡ true
+first_true true b h = refl
+first_true false b h = cc
+
+second_true : (a b : Bool) → (a && b) ≡ true → b ≡ true
+second_true true b h = h
+second_true false b h = cc
+
+-- and is one of the list, so that it has what all of the list have
+found_passes : (q p : Cell → Bool) (xs : List Cell) (a : Cell) → list_all q xs ≡ true → find p xs ≡ Some a → q a ≡ true
+found_passes q p [] a all h = cc
+found_passes q p (x ∷ xs) a all h =
+    passes_at q p a x xs (p x) h (first_true (q x) (list_all q xs) all)
+    (found_passes q p xs a (second_true (q x) (list_all q xs) all))
+
+not_less : (o r : Ordering) → r ≡ ordering_reverse o → not (is_lt o) ≡ true → r ≢ ordering.Greater
+not_less ordering.Less r e h g = cc
+not_less ordering.Equal r e h g = cc
+not_less ordering.Greater r e h g = cc
+
+-- the least is not above the greatest
+pub in_order :
+    (cells : List Cell) (a b : Cell) → extreme_in end.Least cells ≡ Some a → extreme_in end.Greatest cells ≡ Some b →
+    cell_cmp a b ≢ ordering.Greater
+in_order cells a b h k =
+    let lowest : is_extreme end.Least cells a ≡ true = found_holds (is_extreme end.Least cells) cells a h in
+    let not_below : not (is_lt (cell_cmp b a)) ≡ true = found_passes (λ d. not (is_lt (cell_cmp d a))) (is_extreme end.Greatest cells) cells b lowest k in
+    not_less (cell_cmp b a) (cell_cmp a b) (cell_cmp_total.antisymm a b) not_below
+
+pub none_present : (e : End) (cells : List Cell) → extreme_in e cells ≡ None → cells ≡ []
+none_present e [] h = refl
+none_present e (c ∷ cs) h = let found = least_found (beyond e) (strict e) c cs in cc

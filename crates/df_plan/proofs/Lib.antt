@@ -6,3 +6,4 @@ pub mod Sound
 pub mod Least
 pub mod Ends
 pub mod AggregatesFit
+pub mod GroupSums

@@ -78,3 +78,7 @@ mean_of cells = mean_at (sum_of cells) (count_of cells)
 -- the number of distinct cells at a place, null being one: as many as a grouping by that column has keys
 abbrev pub n_unique_of : Option ℕ → List (List Cell) → ℕ
 n_unique_of place rows = length (keys_of (place ∷ []) rows)
+
+-- the sum of whole numbers
+abbrev pub total : List ℤ → ℤ
+total ns = fold (λ a b. a +ℤ b) (pos 0) ns

@@ -1,7 +1,8 @@
 //! Aggregates of the rows of a group.
-ghost use Rattle.std.specs.Prelude.{◌≡◌, ◌≤◌, ◌∷◌, ◌-◌, ◌^◌, [], pos, ◌+ℤ◌, ◌≤ℤ◌, IfOk, length, option_map, slice_get, unwrap_or};
+ghost use Rattle.std.specs.Prelude.{◌≡◌, ◌≤◌, ◌+◌, ◌∷◌, ◌-◌, ◌^◌, [], pos, ◌+ℤ◌, ◌≤ℤ◌, IfOk, filter, length, option_map, slice_get, unwrap_or};
 ghost use Rattle.df_value.specs.declared.cell.Cell.TheVariants as cell;
 ghost use Rattle.df_value.specs.Rows.{cell_at};
+ghost use Rattle.df_expr.specs.Value.{is_null};
 ghost use Rattle.df_plan.specs.Aggregates.{cells_of, present, count_of as count_of_cells, sum_of as sum_of_cells, first_of as first_of_cells, last_of as last_of_cells, mean_at, mean_of as mean_of_cells, extreme_of as extreme_of_cells, n_unique_of as n_unique_at, number_of, added};
 ghost use Rattle.df_plan.specs.AggregateTypes.{column_taken, type_given};
 ghost use Rattle.df_plan.specs.Meaning.{aggregate_of};
@@ -36,6 +37,16 @@ pub fn aggregate(
 
 /// The number of cells of the rows at a place that are not null.
 pub fn count_of(place: Option<usize>, rows: &[Row]) -> usize
+    ensures value { result ≡ count_of_cells (cells_of place rows.now) }
+    ensures within { result ≤ length rows.now }
+
+    // With the number of nulls it is the number of rows.
+    ensures with_nulls { result + length (filter is_null (cells_of place rows.now)) ≡ length rows.now }
+{
+    count_present(place, rows)
+}
+
+fn count_present(place: Option<usize>, rows: &[Row]) -> usize
     ensures value { result ≡ count_of_cells (cells_of place rows.now) }
     ensures within { result ≤ length rows.now }
 {

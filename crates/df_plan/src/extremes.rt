@@ -1,10 +1,12 @@
 //! The least and the greatest cell of a group.
-ghost use Rattle.std.specs.Prelude.{◌≡◌, None, cond, option_map};
+ghost use Rattle.std.specs.Prelude.{◌≡◌, ◌≢◌, [], IfSome, IfNone, Some, None, cond, option_map};
+ghost use Rattle.df_value.specs.CellOrder.{cell_cmp};
 ghost use Rattle.df_value.specs.Rows.{cell_at};
 ghost use Rattle.df_plan.specs.Aggregates.{beyond, cells_of, extreme_in, present};
 ghost use Rattle.df_plan.specs.Running.{picked as picked_cell, picked_after, present_of};
 
 use df_value::{Cell, Row};
+use std::cmp::Ordering;
 
 /// An end of an order.
 #[derive(Clone, Copy, Debug, PartialEq, Eq)]
@@ -19,6 +21,22 @@ pub fn extreme_of<'a>(end: End, place: Option<usize>, rows: &'a [Row]) -> Option
     ensures { option_map (λ c. c.now) result ≡ extreme_in end (present (cells_of place rows.now)) }
 {
     running_extreme(end, place, rows)
+}
+
+/// The least and the greatest cell of the rows at a place that are not null; none where all are null.
+pub fn extremes_of<'a>(place: Option<usize>, rows: &'a [Row]) -> Option<(&'a Cell, &'a Cell)>
+    ensures least { IfSome result (λ p. extreme_in End.Least (present (cells_of place rows.now)) ≡ Some p.0.now) }
+    ensures greatest { IfSome result (λ p. extreme_in End.Greatest (present (cells_of place rows.now)) ≡ Some p.1.now) }
+    ensures in_order { IfSome result (λ p. cell_cmp p.0.now p.1.now ≢ Ordering.Greater) }
+    ensures none { IfNone result (present (cells_of place rows.now) ≡ []) }
+{
+    match extreme_of(End::Least, place, rows) {
+        Some(least) => match extreme_of(End::Greatest, place, rows) {
+            Some(greatest) => Some((least, greatest)),
+            None => None,
+        },
+        None => None,
+    }
 }
 
 fn running_extreme<'a>(end: End, place: Option<usize>, rows: &'a [Row]) -> Option<&'a Cell>

@@ -18,13 +18,17 @@ mod placed;
 mod plan;
 mod row_wise;
 mod table;
+mod totals;
 
 pub use checked::CheckedPlan;
 pub use checks::MOST_LEVELS;
 pub use evaluation::evaluate;
+pub use aggregates::{count_of, mean_of, sum_of};
+pub use extremes::{End, extreme_of, extremes_of};
 pub use fault::PlanFault;
 pub use groups::{group_lengths, group_of, keys_of};
 pub use plan::{Agg, Plan};
+pub use totals::group_sums;
 pub use row_wise::{added_row, filtered, selected_row};
 
 #[cfg(test)]

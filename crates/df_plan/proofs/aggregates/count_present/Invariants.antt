@@ -1,6 +1,6 @@
 use Rattle.std.proofs.Common.{◌≡◌, ◌≤◌, take}
 use Rattle.df_plan.specs.Aggregates.{cells_of, count_of}
-use Rattle.df_plan.proofs.aggregates.count_of.Given as goal
+use Rattle.df_plan.proofs.aggregates.count_present.Given as goal
 
 abbrev pub invariant-loop-row : goal.invariant-loop-row
 invariant-loop-row l = record {
