@@ -1,7 +1,12 @@
 pub mod Choices
 pub mod Keys
 pub mod Partition
+pub mod Beside
+pub mod PlacedFacts
+pub mod RowWiseLaws
+pub mod ItemKinds
 pub mod Found
+pub mod RowWiseSound
 pub mod Sound
 pub mod Least
 pub mod Ends
