@@ -1,6 +1,6 @@
 -- An aggregate of rows that fit has the type that its check found.
-use Rattle.std.proofs.Common.{◌≡◌, ℕ, zero, suc, Bool, true, false, cond, List, [], ◌∷◌, length, map, filter, refl, sym, ap, subst, ◌∙◌, arith}
-use Rattle.std.specs.Prelude.{IsTrue, ℤ, pos, Option, Some, None, Ok, Err, ◌&&◌, ◌-◌, not, find, slice_get, unwrap_or}
+use Rattle.std.proofs.Common.{◌≡◌, ℕ, zero, suc, Bool, true, false, cond, List, [], ◌∷◌, length, filter, refl, sym, ap, subst, ◌∙◌, arith}
+use Rattle.std.specs.Prelude.{IsTrue, ℤ, pos, Option, Some, None, Ok, ◌&&◌, ◌-◌, not, find, slice_get, unwrap_or}
 use Rattle.std.specs.List.{list_all}
 use Rattle.std.proofs.lemmas.Grind.{common_steps}
 use Rattle.df_value.specs.declared.cell.Cell.{Cell}
@@ -17,10 +17,10 @@ use Rattle.df_plan.specs.declared.extremes.End.{End}
 use Rattle.df_plan.specs.declared.extremes.End.TheVariants as end
 use Rattle.df_plan.specs.declared.plan.Agg.{Agg}
 use Rattle.df_plan.specs.declared.plan.Agg.TheVariants as agg
-use Rattle.df_plan.specs.Aggregates.{cells_of, present, count_of, sum_of, is_extreme, extreme_of, first_of, last_of, mean_at, mean_of}
+use Rattle.df_plan.specs.Aggregates.{cells_of, present, count_of, sum_of, is_extreme, extreme_of, first_of, last_of, mean_at}
 use Rattle.df_plan.specs.AggregateTypes.{column_taken, type_given}
-use Rattle.df_plan.specs.ItemChecks.{Columns, Kind, aggregate_type, type_of_column, taken_type, given_type}
-use Rattle.df_plan.specs.Meaning.{aggregate_of, type_of_aggregate, type_of_taken, type_at}
+use Rattle.df_plan.specs.ItemChecks.{Columns, aggregate_type, type_of_column, taken_type, given_type}
+use Rattle.df_plan.specs.Meaning.{aggregate_of, type_of_aggregate, type_of_taken}
 
 abbrev Rows : Type 0
 Rows = List (List Cell)

@@ -9,13 +9,13 @@ use Rattle.df_expr.specs.declared.expr.Expr.{Expr}
 use Rattle.df_plan.specs.Meaning.{key_column, aggregate_column, type_of_aggregate, grouped_columns}
 use Rattle.df_plan.specs.Placed.{placed}
 use Rattle.df_plan.specs.RowWise.{item_column, added_columns}
-use Rattle.df_plan.specs.ItemChecks.{Columns, Checked, Kind, Column, key_type, sum_type, aggregate_type, checked_key, checked_aggregate, checked_output, checked_added, with_column, each_after}
+use Rattle.df_plan.specs.ItemChecks.{Columns, Checked, Kind, Column, key_type, aggregate_type, checked_key, checked_aggregate, checked_output, checked_added, with_column, each_after}
 use Rattle.df_plan.specs.Checks.{settled, settled_at, put_checked, filter_checked, select_checked, with_checked, group_checked, then_checked, checked, columns_of}
 use Rattle.df_plan.specs.declared.fault.PlanFault.{PlanFault}
 use Rattle.df_plan.specs.declared.fault.PlanFault.TheVariants as fault
 use Rattle.df_plan.specs.declared.plan.Agg.{Agg}
-use Rattle.df_plan.specs.declared.plan.Agg.TheVariants as agg
 use Rattle.df_plan.specs.declared.plan.Plan.{Plan}
+use Rattle.df_plan.proofs.AggregatesFit.{aggregate_fits}
 use Rattle.df_plan.proofs.ItemKinds.{HasKind, output_found, added_found, named_ok}
 
 pub then_ok :
@@ -65,24 +65,17 @@ key_found columns name c h =
     let is : type_in name columns ≡ Some typed.0 = key_is name (type_in name columns) typed.0 typed.1.0 in
     (typed.1.1 ∙ ap (λ (u : Option CellType). (name, unwrap_or u kind.Int)) (sym is), (typed.0, is))
 
-sum_is : (name : List ℕ) (o : Option CellType) (t : CellType) → sum_type name o ≡ Ok t → t ≡ kind.Wide
-sum_is name None t h = cc
-sum_is name (Some kind.Int) t h = cc
-sum_is name (Some kind.Wide) t h = cc
-sum_is name (Some kind.Text) t h = cc
-sum_is name (Some kind.Bool) t h = cc
-sum_is name (Some kind.Frac) t h = cc
-
-aggregate_is : (columns : Columns) (a : Agg) (t : CellType) → aggregate_type columns a ≡ Ok t → t ≡ type_of_aggregate a
-aggregate_is columns agg.Len t h = cc
-aggregate_is columns (agg.Sum name) t h = sum_is name (type_in name columns) t h
+-- an aggregate takes its column's type
+abbrev pub IsTaken : Columns → List ℕ × Agg → Type 0
+IsTaken columns a = (t : CellType) × (aggregate_type columns a.1 ≡ Ok t)
 
 aggregate_found :
     (columns : Columns) (a : List ℕ × Agg) (c : List ℕ × CellType) → checked_aggregate columns a ≡ Ok c →
-    (c ≡ aggregate_column a) × Unit {0}
+    (c ≡ aggregate_column columns a) × IsTaken columns a
 aggregate_found columns a c h =
     let typed = named_ok a.0 (aggregate_type columns a.1) c h in
-    (typed.1.1 ∙ ap (λ (t : CellType). (a.0, t)) (aggregate_is columns a.1 typed.0 typed.1.0), tt)
+    let is : typed.0 ≡ type_of_aggregate columns a.1 = (aggregate_fits columns [] refl a.1 typed.0 typed.1.0).0 in
+    (typed.1.1 ∙ ap (λ (t : CellType). (a.0, t)) is, (typed.0, typed.1.0))
 
 chosen : (b : Bool) (cs o : Columns) (f : PlanFault) → cond {A = Checked} b (Err f) (Ok cs) ≡ Ok o → o ≡ cs
 chosen true cs o f h = cc
@@ -122,15 +115,15 @@ with_found columns items cs h =
 
 pub group_found :
     (columns : Columns) (keys : List (List ℕ)) (aggs : List (List ℕ × Agg)) (cs : Columns) →
-    group_checked columns keys aggs ≡ Ok cs → (cs ≡ grouped_columns columns keys aggs) × AllByRecursion (IsColumn columns) keys
+    group_checked columns keys aggs ≡ Ok cs → (cs ≡ grouped_columns columns keys aggs) × (AllByRecursion (IsColumn columns) keys × AllByRecursion (IsTaken columns) aggs)
 group_found columns [] aggs cs h = cc
 group_found columns (k ∷ ks) aggs cs h =
     let first = then_ok (each_after (checked_key columns) [] (k ∷ ks)) (λ out. then_checked (each_after (checked_aggregate columns) out aggs) settled) cs h in
     let second = then_ok (each_after (checked_aggregate columns) first.0 aggs) settled cs first.1.1 in
     let of_keys = each_found (checked_key columns) (key_column columns) (IsColumn columns) (key_found columns) [] (k ∷ ks) first.0 first.1.0 in
-    let of_aggregates = each_found (checked_aggregate columns) aggregate_column (λ a. Unit {0}) (aggregate_found columns) first.0 aggs second.0 second.1.0 in
+    let of_aggregates = each_found (checked_aggregate columns) (aggregate_column columns) (IsTaken columns) (aggregate_found columns) first.0 aggs second.0 second.1.0 in
     let of_all = settled_is_at second.0 (doubled_after [] second.0) cs second.1.1 in
-    (of_all ∙ (of_aggregates.0 ∙ ap (λ (o : Columns). o ++ map aggregate_column aggs) of_keys.0), of_keys.1)
+    (of_all ∙ (of_aggregates.0 ∙ ap (λ (o : Columns). o ++ map (aggregate_column columns) aggs) of_keys.0), (of_keys.1, of_aggregates.1))
 
 deep : (b : Bool) (c : Checked) (cs : Columns) (f : PlanFault) → cond {A = Checked} b (Err f) c ≡ Ok cs → c ≡ Ok cs
 deep true c cs f h = cc

@@ -1,5 +1,5 @@
 -- The sums of the groups of rows, over distinct keys among which each row's key stands, add up to the sum of all rows.
-use Rattle.std.proofs.Common.{◌≡◌, ℕ, ◌<◌, ◌+◌, Bool, true, false, suc, ◌||◌, ◌∙◌, cond, List, [], ◌∷◌, length, get_or, map, filter, refl, ap, sym, subst, arith, Option}
+use Rattle.std.proofs.Common.{◌≡◌, ℕ, ◌<◌, Bool, true, false, suc, ◌||◌, ◌∙◌, cond, List, [], ◌∷◌, length, get_or, map, filter, refl, ap, sym, subst, arith, Option}
 use Rattle.std.specs.Prelude.{ℤ, pos, ◌+ℤ◌, fold, Some, None}
 use Rattle.std.specs.List.{list_any, IsDistinct, AllByRecursion}
 use Rattle.std.proofs.lemmas.Map.Keys.{IsDistinct-head, IsDistinct-tail}
@@ -100,7 +100,7 @@ whole place f ks (r ∷ rs) d h =
     let first : List Cell → ℤ = λ k. cond (row_eq (f r) k) (worth place r) (pos 0) in
     let later : List Cell → ℤ = λ k. sum_over (worth place) (filter (λ r. row_eq (f r) k) rs) in
     let parts = alike (λ k. sum_over (worth place) (filter (λ r. row_eq (f r) k) (r ∷ rs))) (λ k. first k +ℤ later k)
-      (λ k. kept place (row_eq (f r) k) r (filter (λ r. row_eq (f r) k) rs)) ks in
+    (λ k. kept place (row_eq (f r) k) r (filter (λ r. row_eq (f r) k) rs)) ks in
     let sums = both first later ks in
     let one : sum_over first ks ≡ worth place r = once (worth place r) (f r) ks d (h 0 r (omega arith)) in
     let rest : sum_over later ks ≡ sum_over (worth place) rs = whole place f ks rs d (λ k e l. h (suc k) e (omega arith)) in
@@ -113,7 +113,7 @@ group_sums_total places place rows =
     let keys = keys_of places rows in
     let all = total_from (λ k. sum_of (cells_of place (group_of places rows k))) (pos 0) keys in
     let groups = alike (λ k. sum_of (cells_of place (group_of places rows k)))
-      (λ k. sum_over (worth place) (group_of places rows k)) (λ k. sum_is place (group_of places rows k)) keys in
+    (λ k. sum_over (worth place) (group_of places rows k)) (λ k. sum_is place (group_of places rows k)) keys in
     let sums = whole place (key_of places) keys rows (keys_of-IsDistinct places rows) (found_after (key_of places) [] rows) in
     let rows_sum = sum_is place rows in
     omega (arith, ints)

@@ -1,6 +1,6 @@
 -- A running least of cells is the cell of the list that none is below, and so with greatest, for each strict order.
-use Rattle.std.proofs.Common.{◌≡◌, ◌≢◌, ℕ, zero, suc, Bool, true, false, cond, List, [], ◌∷◌, refl, sym, ap, subst, ◌∙◌}
-use Rattle.std.specs.Prelude.{Option, Some, None, IsTrue, not, ◌&&◌, find, slice_get}
+use Rattle.std.proofs.Common.{◌≡◌, ℕ, zero, suc, Bool, true, false, cond, List, [], ◌∷◌, refl, sym, ap, subst, ◌∙◌}
+use Rattle.std.specs.Prelude.{Some, not, ◌&&◌, find, slice_get}
 use Rattle.std.specs.List.{list_all}
 use Rattle.std.proofs.lemmas.Bool.{false≢true}
 use Rattle.df_value.specs.declared.cell.Cell.{Cell}
@@ -67,7 +67,7 @@ lowest_after below strict l (c ∷ cs) =
     let later : (not (below next m) && rest) ≡ true = lowest_after below strict next cs in
     let both = kept below strict l c m (below c l) refl (not_true (below next m) (first_of (not (below next m)) rest later)) in
     both_of (not (below l m)) (not (below c m) && rest) (not_false (below l m) both.0)
-      (both_of (not (below c m)) rest (not_false (below c m) both.1) (second_of (not (below next m)) rest later))
+    (both_of (not (below c m)) rest (not_false (below c m) both.1) (second_of (not (below next m)) rest later))
 
 place :
     (l c m : Cell) (cs : List Cell) (b : Bool) → (k : ℕ) × (slice_get (cond b c l ∷ cs) k ≡ Some m) →
@@ -117,5 +117,5 @@ least_found below strict l cs =
     let low : is_lowest below (l ∷ cs) m ≡ true = lowest_after below strict l cs in
     found (is_lowest below (l ∷ cs)) m (l ∷ cs) at.0 at.1 low
     (λ c j here lowest. strict.apart c m
-      (not_true (below c m) (all_at (λ d. not (below d m)) (l ∷ cs) j c low here))
-      (not_true (below m c) (all_at (λ d. not (below d c)) (l ∷ cs) at.0 m lowest at.1)))
+    (not_true (below c m) (all_at (λ d. not (below d m)) (l ∷ cs) j c low here))
+    (not_true (below m c) (all_at (λ d. not (below d c)) (l ∷ cs) at.0 m lowest at.1)))

@@ -23,13 +23,13 @@ use Rattle.df_plan.proofs.ItemKinds.{HasKind}
 use Rattle.df_plan.specs.ItemChecks.{Columns, Checked, expr_type}
 use Rattle.df_plan.specs.Checks.{then_checked, filter_checked, select_checked, with_checked, group_checked, frame_checked, check_step, columns_of, checked}
 use Rattle.df_plan.specs.declared.plan.Agg.{Agg}
-use Rattle.df_plan.specs.declared.plan.Agg.TheVariants as agg
 use Rattle.df_plan.specs.declared.plan.Plan.{Plan}
 use Rattle.df_plan.specs.declared.plan.Plan.TheOpen.{Plan-F}
 use Rattle.df_plan.specs.declared.plan.Plan.TheFolds.{fold-roll-Plan, ind-Plan, map-Plan}
 use Rattle.df_plan.specs.declared.plan.Plan.TheViews.{roll-Plan}
 use Rattle.df_plan.proofs.Choices.{either}
-use Rattle.df_plan.proofs.Found.{IsColumn, then_ok, filter_found, select_found, with_found, group_found, checked_columns}
+use Rattle.df_plan.proofs.AggregatesFit.{aggregate_fits}
+use Rattle.df_plan.proofs.Found.{IsTaken, IsColumn, then_ok, filter_found, select_found, with_found, group_found, checked_columns}
 use Rattle.df_plan.proofs.RowWiseSound.{first_of_two, second_of_two, both_true, map_all, filter_all, selected_fit, added_fit}
 
 abbrev Rows : Type 0
@@ -89,16 +89,20 @@ key_fits columns row fits (name ∷ names) h =
     (key_fits_at (type_in name columns) h.0.0 _ h.0.1 (column_fits columns row fits name h.0.0 h.0.1))
     (key_fits columns row fits names h.1)
 
-aggregate_fits : (columns : Columns) (rows : Rows) (a : Agg) → IsTrue (fits_type (aggregate_column ([], a)).1 (aggregate_of columns rows a))
-aggregate_fits columns rows agg.Len = refl
-aggregate_fits columns rows (agg.Sum name) = refl
+aggregate_fits_column :
+    (columns : Columns) (rows : Rows) → IsTrue (rows_fit columns rows) → (a : List ℕ × Agg) → IsTaken columns a →
+    IsTrue (fits_type (aggregate_column columns a).1 (aggregate_of columns rows a.1))
+aggregate_fits_column columns rows fit a taken =
+    let is = aggregate_fits columns rows fit a.1 taken.0 taken.1 in
+    subst (λ (t : CellType). IsTrue (fits_type t (aggregate_of columns rows a.1))) is.0 is.1
 
 aggregates_fit :
-    (columns : Columns) (rows : Rows) (aggs : List (List ℕ × Agg)) →
-    IsTrue (row_fits (map aggregate_column aggs) (map (λ a. aggregate_of columns rows a.1) aggs))
-aggregates_fit columns rows [] = refl
-aggregates_fit columns rows (a ∷ as') =
-    both_true (fits_type (aggregate_column a).1 (aggregate_of columns rows a.1)) _ (aggregate_fits columns rows a.1) (aggregates_fit columns rows as')
+    (columns : Columns) (rows : Rows) → IsTrue (rows_fit columns rows) → (aggs : List (List ℕ × Agg)) → AllByRecursion (IsTaken columns) aggs →
+    IsTrue (row_fits (map (aggregate_column columns) aggs) (map (λ a. aggregate_of columns rows a.1) aggs))
+aggregates_fit columns rows fit [] h = refl
+aggregates_fit columns rows fit (a ∷ as') h =
+    both_true (fits_type (aggregate_column columns a).1 (aggregate_of columns rows a.1)) _
+    (aggregate_fits_column columns rows fit a h.0) (aggregates_fit columns rows fit as' h.1)
 
 -- what holds of all rows holds of the distinct ones
 distinct_all :
@@ -114,9 +118,9 @@ distinct_all p seen (r ∷ rs) h k =
 
 -- the rows of a group-by fit its columns
 pub groups_fit :
-    (t : Table) (keys : List (List ℕ)) (aggs : List (List ℕ × Agg)) → AllByRecursion (IsColumn t.columns) keys → IsTrue (rows_fit t.columns t.rows) →
-    IsTrue (rows_fit (grouped_columns t.columns keys aggs) (grouped_rows t keys aggs))
-groups_fit t keys aggs named fit =
+    (t : Table) (keys : List (List ℕ)) (aggs : List (List ℕ × Agg)) → AllByRecursion (IsColumn t.columns) keys → AllByRecursion (IsTaken t.columns) aggs →
+    IsTrue (rows_fit t.columns t.rows) → IsTrue (rows_fit (grouped_columns t.columns keys aggs) (grouped_rows t keys aggs))
+groups_fit t keys aggs named taken fit =
     let places = places_of t.columns keys in
     let key_columns = map (key_column t.columns) keys in
     let of_rows : IsTrue (list_all (row_fits key_columns) (map (key_of places) t.rows)) =
@@ -124,7 +128,8 @@ groups_fit t keys aggs named fit =
     let of_keys : IsTrue (list_all (row_fits key_columns) (keys_of places t.rows)) =
     distinct_all (row_fits key_columns) [] (map (key_of places) t.rows) refl of_rows in
     map_all (row_fits key_columns) (row_fits (grouped_columns t.columns keys aggs)) (group_row t.columns places aggs t.rows)
-    (λ k h. fits_both key_columns (map aggregate_column aggs) k _ h (aggregates_fit t.columns (group_of places t.rows k) aggs))
+    (λ k h. fits_both key_columns (map (aggregate_column t.columns) aggs) k _ h
+    (aggregates_fit t.columns (group_of places t.rows k) (filter_all (row_fits t.columns) (λ r. row_eq (key_of places r) k) t.rows fit) aggs taken))
     (keys_of places t.rows) of_keys
 
 -- what holds of a table whose columns a check found
@@ -138,10 +143,11 @@ group_has_rows c t keys aggs of_input cs h =
     let input = then_ok c (λ columns. group_checked columns keys aggs) cs h in
     let has = of_input input.0 input.1.0 in
     let found = group_found input.0 keys aggs cs input.1.1 in
-    let named = subst (λ (columns : Columns). AllByRecursion (IsColumn columns) keys) (sym has.0) found.1 in
+    let named = subst (λ (columns : Columns). AllByRecursion (IsColumn columns) keys) (sym has.0) found.1.0 in
+    let taken = subst (λ (columns : Columns). AllByRecursion (IsTaken columns) aggs) (sym has.0) found.1.1 in
     let is : grouped_columns t.columns keys aggs ≡ cs = ap (λ (columns : Columns). grouped_columns columns keys aggs) has.0 ∙ sym found.0 in
     let fit = subst (λ (columns : Columns). IsTrue (rows_fit columns t.rows)) (sym has.0) has.1 in
-    (is, subst (λ (columns : Columns). IsTrue (rows_fit columns (grouped_rows t keys aggs))) is (groups_fit t keys aggs named fit))
+    (is, subst (λ (columns : Columns). IsTrue (rows_fit columns (grouped_rows t keys aggs))) is (groups_fit t keys aggs named taken fit))
 
 filter_has_rows :
     (c : Checked) (t : Table) (p : Expr) → HasRows c t →

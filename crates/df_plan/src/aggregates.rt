@@ -119,12 +119,7 @@ fn mean(sum: i128, count: usize) -> Cell
     }
 }
 
-fn extreme(
-    alloc: Global,
-    end: End,
-    place: Option<usize>,
-    rows: &[Row],
-) -> Result<Cell, AllocError>
+fn extreme(alloc: Global, end: End, place: Option<usize>, rows: &[Row]) -> Result<Cell, AllocError>
     ensures { IfOk result (λ c. c ≡ extreme_of_cells end (cells_of place rows.now)) }
 {
     match extreme_of(end, place, rows) {

@@ -62,7 +62,11 @@ fn picked<'a>(end: End, so_far: Option<&'a Cell>, next: Option<&'a Cell>) -> Opt
 fn further<'a>(end: End, so_far: &'a Cell, next: &'a Cell) -> &'a Cell
     ensures { result.now ≡ cond (beyond end next.now so_far.now) next.now so_far.now }
 {
-    if is_beyond(end, next, so_far) { next } else { so_far }
+    if is_beyond(end, next, so_far) {
+        next
+    } else {
+        so_far
+    }
 }
 
 fn is_beyond(end: End, a: &Cell, b: &Cell) -> bool

@@ -20,16 +20,16 @@ mod row_wise;
 mod table;
 mod totals;
 
+pub use aggregates::{count_of, mean_of, sum_of};
 pub use checked::CheckedPlan;
 pub use checks::MOST_LEVELS;
 pub use evaluation::evaluate;
-pub use aggregates::{count_of, mean_of, sum_of};
 pub use extremes::{End, extreme_of, extremes_of};
 pub use fault::PlanFault;
 pub use groups::{group_lengths, group_of, keys_of};
 pub use plan::{Agg, Plan};
-pub use totals::group_sums;
 pub use row_wise::{added_row, filtered, selected_row};
+pub use totals::group_sums;
 
 #[cfg(test)]
 mod tests;
