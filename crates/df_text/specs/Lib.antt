@@ -1,12 +1,6 @@
 pub mod Document
-pub mod Fields
 pub mod Frames
-pub mod Header
-pub mod Printed
 pub mod Reading
-pub mod Records
-pub mod Rows
 pub mod Scans
 pub mod Steps
 pub mod Tree
-pub mod Typed
