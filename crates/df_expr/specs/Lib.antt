@@ -1,1 +1,4 @@
+pub mod Arithmetic
+pub mod Logic
+pub mod Value
 pub mod Typing

@@ -4,13 +4,22 @@
 //! its levels in specs/Typing.antt, and the arms of `type_of` and `is_within` (typing.rt).
 #![tactic(auto)]
 
+mod arithmetic;
+mod evaluation;
 mod expr;
 mod fault;
+mod logic;
+mod meter;
+mod operators;
 mod typing;
 
-pub use expr::Expr;
+pub use evaluation::{eval, value};
+pub use expr::{ArithOp, CompareOp, Expr};
 pub use fault::ExprFault;
-pub use typing::{MOST_LEVELS, check};
+pub use logic::{kleene_and, kleene_not, kleene_or};
+pub use meter::Meter;
+pub use operators::{arith, comparison, eq_missing};
+pub use typing::{MOST_LEVELS, check, names_column};
 
 #[cfg(test)]
 mod tests;

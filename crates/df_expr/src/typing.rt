@@ -1,11 +1,11 @@
 //! The type of an expression.
-ghost use Rattle.std.specs.Prelude.{◌≤◌, ◌↔◌, IsTrue};
+ghost use Rattle.std.specs.Prelude.{◌≡◌, ◌≤◌, ◌↔◌, IsTrue};
 ghost use Rattle.df_value.specs.Schemas.{type_in};
-ghost use Rattle.df_expr.specs.Typing.{type_of as type_of_expr, column_type as type_of_column, levels, checked, Answers};
+ghost use Rattle.df_expr.specs.Typing.{type_of as type_of_expr, column_type as type_of_column, literal_type as type_of_literal, arith_type as type_of_arith, ordered_type as type_of_ordered, compare_type as type_of_comparison, truth_type as type_of_truth, truths_type as type_of_truths, names_column as column_named, levels, checked, Answers};
 
 use crate::expr::Expr;
 use crate::fault::ExprFault;
-use df_value::{CellType, Duplicate, Schema, Text};
+use df_value::{Cell, CellType, Duplicate, Schema, Text};
 use std::alloc::Global;
 
 /// The most levels of an expression: the nodes on its longest path.
@@ -25,6 +25,22 @@ pub fn check(alloc: Global, expr: &Expr, schema: &Schema) -> Result<CellType, Ex
     type_of(alloc, expr, schema)
 }
 
+/// Whether a column stands in an expression; if none does, its value is the same in every row.
+pub fn names_column(expr: &Expr) -> bool
+    ensures { result ≡ column_named expr.now }
+{
+    match expr {
+        Expr::Column(_) => true,
+        Expr::Literal(_, _) => false,
+        Expr::Not(a) | Expr::IsNull(a) | Expr::IsNotNull(a) => names_column(a.get()),
+        Expr::Arith(_, a, b) => names_column(a.get()) || names_column(b.get()),
+        Expr::Compare(_, a, b) => names_column(a.get()) || names_column(b.get()),
+        Expr::EqMissing(a, b) | Expr::And(a, b) | Expr::Or(a, b) | Expr::FillNull(a, b) => {
+            names_column(a.get()) || names_column(b.get())
+        }
+    }
+}
+
 // Whether an expression has at most so many levels.
 fn is_within(expr: &Expr, most: u32) -> bool
     ensures { IsTrue result ↔ (levels expr.now ≤ most) }
@@ -32,8 +48,15 @@ fn is_within(expr: &Expr, most: u32) -> bool
     if most == 0 {
         return false;
     }
+    let below = most - 1;
     match expr {
-        Expr::Column(_) => true,
+        Expr::Column(_) | Expr::Literal(_, _) => true,
+        Expr::Not(a) | Expr::IsNull(a) | Expr::IsNotNull(a) => is_within(a.get(), below),
+        Expr::Arith(_, a, b) => is_within(a.get(), below) && is_within(b.get(), below),
+        Expr::Compare(_, a, b) => is_within(a.get(), below) && is_within(b.get(), below),
+        Expr::EqMissing(a, b) | Expr::And(a, b) | Expr::Or(a, b) | Expr::FillNull(a, b) => {
+            is_within(a.get(), below) && is_within(b.get(), below)
+        }
     }
 }
 
@@ -42,6 +65,37 @@ fn type_of(alloc: Global, expr: &Expr, schema: &Schema) -> Result<CellType, Expr
 {
     match expr {
         Expr::Column(name) => column_type(alloc, name, schema),
+        Expr::Literal(cell, kind) => literal_type(cell, *kind),
+        Expr::Arith(_, a, b) => {
+            let a = type_of(alloc, a.get(), schema)?;
+            let b = type_of(alloc, b.get(), schema)?;
+            arith_type(a, b)
+        }
+        Expr::Compare(_, a, b) => {
+            let a = type_of(alloc, a.get(), schema)?;
+            let b = type_of(alloc, b.get(), schema)?;
+            compare_type(a, b)
+        }
+        Expr::EqMissing(a, b) => {
+            let a = type_of(alloc, a.get(), schema)?;
+            let b = type_of(alloc, b.get(), schema)?;
+            compare_type(a, b)
+        }
+        Expr::And(a, b) | Expr::Or(a, b) => {
+            let a = type_of(alloc, a.get(), schema)?;
+            let b = type_of(alloc, b.get(), schema)?;
+            truths_type(a, b)
+        }
+        Expr::Not(a) => truth_type(type_of(alloc, a.get(), schema)?),
+        Expr::IsNull(a) | Expr::IsNotNull(a) => {
+            type_of(alloc, a.get(), schema)?;
+            Ok(CellType::Bool)
+        }
+        Expr::FillNull(a, b) => {
+            let a = type_of(alloc, a.get(), schema)?;
+            let b = type_of(alloc, b.get(), schema)?;
+            ordered_type(a, b)
+        }
     }
 }
 
@@ -55,4 +109,58 @@ fn column_type(alloc: Global, name: &Text, schema: &Schema) -> Result<CellType, 
             Err(_) => Err(ExprFault::Memory),
         },
     }
+}
+
+fn literal_type(cell: &Cell, kind: CellType) -> Result<CellType, ExprFault>
+    ensures { result ≡ type_of_literal cell.now kind }
+{
+    match (cell, kind) {
+        (Cell::Null, CellType::Int | CellType::Text | CellType::Bool) => Ok(kind),
+        (Cell::Int(_), CellType::Int) => Ok(kind),
+        (Cell::Text(_), CellType::Text) => Ok(kind),
+        (Cell::Bool(_), CellType::Bool) => Ok(kind),
+        _ => Err(ExprFault::WrongType),
+    }
+}
+
+fn arith_type(a: CellType, b: CellType) -> Result<CellType, ExprFault>
+    ensures { result ≡ type_of_arith a b }
+{
+    match (a, b) {
+        (CellType::Int, CellType::Int) => Ok(CellType::Int),
+        _ => Err(ExprFault::WrongType),
+    }
+}
+
+fn ordered_type(a: CellType, b: CellType) -> Result<CellType, ExprFault>
+    ensures { result ≡ type_of_ordered a b }
+{
+    if a == b && a != CellType::Frac {
+        Ok(a)
+    } else {
+        Err(ExprFault::WrongType)
+    }
+}
+
+fn compare_type(a: CellType, b: CellType) -> Result<CellType, ExprFault>
+    ensures { result ≡ type_of_comparison a b }
+{
+    ordered_type(a, b)?;
+    Ok(CellType::Bool)
+}
+
+fn truth_type(a: CellType) -> Result<CellType, ExprFault>
+    ensures { result ≡ type_of_truth a }
+{
+    match a {
+        CellType::Bool => Ok(CellType::Bool),
+        _ => Err(ExprFault::WrongType),
+    }
+}
+
+fn truths_type(a: CellType, b: CellType) -> Result<CellType, ExprFault>
+    ensures { result ≡ type_of_truths a b }
+{
+    truth_type(a)?;
+    truth_type(b)
 }

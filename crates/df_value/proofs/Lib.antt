@@ -1,2 +1,3 @@
 pub mod RowEq
 pub mod Fitting
+pub mod Ordered

@@ -15,3 +15,8 @@ fits_type kind.Text (cell.Text t) = true
 fits_type kind.Bool (cell.Bool b) = true
 fits_type kind.Frac (cell.Frac f) = true
 fits_type t _ = false
+
+-- whether a cell is a text, so that a copy of it takes memory
+abbrev pub is_text : Cell → Bool
+is_text (cell.Text t) = true
+is_text _ = false

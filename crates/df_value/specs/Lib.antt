@@ -1,6 +1,7 @@
 pub mod Exactly
 pub mod Cells
 pub mod CellEq
+pub mod Order
 pub mod Rows
 pub mod Schemas
 pub mod SchemaFaults

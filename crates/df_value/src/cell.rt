@@ -1,6 +1,6 @@
 //! Cells and rows.
-ghost use Rattle.std.specs.Prelude.{◌≡◌};
-ghost use Rattle.df_value.specs.Cells.{fits_type};
+ghost use Rattle.std.specs.Prelude.{◌≡◌, IfOk, IsOk, IsTrue, not};
+ghost use Rattle.df_value.specs.Cells.{fits_type, is_text};
 
 use crate::frac::Frac;
 use crate::list::List;
@@ -50,6 +50,21 @@ impl Cell {
             _ => false,
         }
     }
+
+    /// An equal cell. Only a text takes memory.
+    pub fn duplicate(&self, alloc: Global) -> Result<Cell, AllocError>
+        ensures value { IfOk result (λ c. c ≡ self.now) }
+        ensures free { IsTrue (not (is_text self.now)) → IsOk result }
+    {
+        match self {
+            Cell::Null => Ok(Cell::Null),
+            Cell::Int(n) => Ok(Cell::Int(*n)),
+            Cell::Wide(n) => Ok(Cell::Wide(*n)),
+            Cell::Text(t) => Ok(Cell::Text(t.copy(alloc)?)),
+            Cell::Bool(b) => Ok(Cell::Bool(*b)),
+            Cell::Frac(f) => Ok(Cell::Frac(*f)),
+        }
+    }
 }
 
 impl Exact for CellType {
@@ -72,13 +87,6 @@ impl Duplicate for CellType {
 
 impl Duplicate for Cell {
     fn copy(&self, alloc: Global) -> Result<Cell, AllocError> {
-        match self {
-            Cell::Null => Ok(Cell::Null),
-            Cell::Int(n) => Ok(Cell::Int(*n)),
-            Cell::Wide(n) => Ok(Cell::Wide(*n)),
-            Cell::Text(t) => Ok(Cell::Text(t.copy(alloc)?)),
-            Cell::Bool(b) => Ok(Cell::Bool(*b)),
-            Cell::Frac(f) => Ok(Cell::Frac(*f)),
-        }
+        self.duplicate(alloc)
     }
 }

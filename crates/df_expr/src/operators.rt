@@ -1,0 +1,58 @@
+//! Arithmetic, comparison and equality of cells.
+ghost use Rattle.std.specs.Prelude.{◌≡◌, ◌↔◌, IsTrue, Option};
+ghost use Rattle.df_value.specs.declared.cell.Cell.{Cell as AnyCell};
+ghost use Rattle.df_value.specs.declared.cell.Cell.TheVariants as cell;
+ghost use Rattle.df_value.specs.CellEq.{cell_eq};
+ghost use Rattle.df_value.specs.Order.{order_of};
+ghost use Rattle.df_expr.specs.Value.{arith_of, compare_of, holds};
+
+use crate::expr::{ArithOp, CompareOp};
+use df_value::{Cell, compare};
+use std::cmp::Ordering;
+
+/// The result of two Int cells, wrapped at 64 bits; null where a cell is null or no Int.
+pub fn arith(op: ArithOp, a: &Cell, b: &Cell) -> Cell
+    ensures value { result ≡ arith_of op a.now b.now }
+    ensures null_spreads { (arith_of op cell.Null b.now ≡ cell.Null) × (arith_of op a.now cell.Null ≡ cell.Null) }
+{
+    match (a, b) {
+        (Cell::Int(a), Cell::Int(b)) => Cell::Int(op.apply(*a, *b)),
+        _ => Cell::Null,
+    }
+}
+
+/// Whether the comparison holds, a Bool; null where a cell is null or the two do not compare.
+pub fn comparison(op: CompareOp, a: &Cell, b: &Cell) -> Cell
+    ensures value { result ≡ compare_of op (order_of a.now b.now) }
+    ensures null_spreads { (compare_of op (order_of cell.Null b.now) ≡ cell.Null)
+        × (compare_of op (order_of a.now cell.Null) ≡ cell.Null) }
+{
+    match compare(a, b) {
+        Some(order) => Cell::Bool(is_met(op, order)),
+        None => Cell::Null,
+    }
+}
+
+fn is_met(op: CompareOp, order: Ordering) -> bool
+    ensures { result ≡ holds op order }
+{
+    match op {
+        CompareOp::Eq => order.is_eq(),
+        CompareOp::Ne => order.is_ne(),
+        CompareOp::Lt => order.is_lt(),
+        CompareOp::Le => order.is_le(),
+        CompareOp::Gt => order.is_gt(),
+        CompareOp::Ge => order.is_ge(),
+    }
+}
+
+/// Whether two cells are one and the same, null like any other.
+pub fn eq_missing(a: &Cell, b: &Cell) -> bool
+    ensures value { result ≡ cell_eq a.now b.now }
+    ensures exact { IsTrue result ↔ (a.now ≡ b.now) }
+    ensures reflexive { IsTrue (cell_eq a.now a.now) }
+    ensures symmetric { cell_eq a.now b.now ≡ cell_eq b.now a.now }
+    ensures transitive { (c : AnyCell) → IsTrue (cell_eq a.now b.now) → IsTrue (cell_eq b.now c) → IsTrue (cell_eq a.now c) }
+{
+    *a == *b
+}

@@ -1,0 +1,29 @@
+//! The order of cells.
+ghost use Rattle.std.specs.Prelude.{◌≡◌, ◌↔◌, Some, IsTrue, is_some};
+ghost use Rattle.df_value.specs.Order.{order_of};
+
+use crate::cell::Cell;
+use std::cmp::Ordering;
+
+/// How two cells compare that have one type, are not null and not of type Frac: numbers by size, texts
+/// by their UTF-8 bytes, false before true.
+pub fn order(a: &Cell, b: &Cell) -> Ordering
+    requires { IsTrue (is_some (order_of a.now b.now)) }
+    ensures value { Some result ≡ order_of a.now b.now }
+    ensures same { (result ≡ Ordering.Equal) ↔ (a.now ≡ b.now) }
+{
+    compare(a, b).unwrap()
+}
+
+/// As [`order`], and none where a cell is null or of type Frac, or the two have different types.
+pub fn compare(a: &Cell, b: &Cell) -> Option<Ordering>
+    ensures { result ≡ order_of a.now b.now }
+{
+    match (a, b) {
+        (Cell::Int(a), Cell::Int(b)) => Some(a.cmp(b)),
+        (Cell::Wide(a), Cell::Wide(b)) => Some(a.cmp(b)),
+        (Cell::Text(a), Cell::Text(b)) => Some(a.as_str().cmp(b.as_str())),
+        (Cell::Bool(a), Cell::Bool(b)) => Some(a.cmp(b)),
+        _ => None,
+    }
+}
