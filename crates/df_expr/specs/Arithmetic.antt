@@ -1,5 +1,5 @@
 -- Arithmetic on 64-bit integers, as the Polars Python reference has it for Int64: what does not fit is wrapped.
-use Rattle.std.specs.Prelude.{◌≡◌, ◌^◌, ℤ, pos, negsuc, ◌+ℤ◌, ◌-ℤ◌, ◌*ℤ◌, ◌≤ℤ◌, ◌<ℤ◌}
+use Rattle.std.specs.Prelude.{◌≡◌, ◌*◌, ◌^◌, ℕ, ℤ, pos, ◌+ℤ◌, ◌-ℤ◌, ◌*ℤ◌, ◌≤ℤ◌, ◌<ℤ◌}
 use Rattle.std.specs.Int.{w64, int_wrap}
 use Rattle.df_expr.specs.declared.expr.ArithOp.{ArithOp}
 use Rattle.df_expr.specs.declared.expr.ArithOp.TheVariants as arith
@@ -14,9 +14,11 @@ whole arith.Mul a b = a *ℤ b
 abbrev pub wrapped : ℤ → ℤ
 wrapped z = int_wrap w64 z
 
--- a number is the 64-bit integer that equals z modulo 2^64
+-- a number is the 64-bit integer that equals z modulo 2^64: the two are the same once 2^64 is added to each often
+-- enough
 pub record IsWrapped (z n : ℤ) : Type 0 where
-  pub least : (pos 0 -ℤ pos (2 ^ 63)) ≤ℤ n
+  pub least : pos 0 ≤ℤ (n +ℤ pos (2 ^ 63))
   pub most : n <ℤ pos (2 ^ 63)
-  pub times : ℤ
-  pub equal : n ≡ z +ℤ (times *ℤ pos (2 ^ 64))
+  pub times : ℕ
+  pub times_of_z : ℕ
+  pub equal : n +ℤ pos (times * 2 ^ 64) ≡ z +ℤ pos (times_of_z * 2 ^ 64)

@@ -1,0 +1,5 @@
+use Rattle.df_expr.proofs.Sound.{value_fits}
+use Rattle.df_expr.proofs.evaluation.eval.Goals as goal
+
+pub returns-clause-typed : goal.returns-clause-typed
+returns-clause-typed c = λ fits. value_fits c.args.schema.now c.args.row.now fits c.args.expr.now
