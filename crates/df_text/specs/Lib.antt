@@ -1,4 +1,5 @@
 pub mod Document
+pub mod Expressions
 pub mod Frames
 pub mod Reading
 pub mod Scans

@@ -6,6 +6,7 @@
 #![tactic(auto)]
 
 mod document;
+mod expressions;
 mod frames;
 mod tree;
 mod view_steps;
