@@ -1,3 +1,4 @@
+pub mod FormFacts
 pub mod ReadFacts
 pub mod Sound
 pub mod TreeFacts

@@ -45,13 +45,13 @@ form_of_word at w =
     else if bytes_eq w (codes "fill_null") then Ok (form.Binary binary.FillNull)
     else Err (fault.Word at)
 
--- a word with its operand
+-- the expression of a word before one operand
 abbrev pub unary_of : UnaryWord → Expr → Expr
 unary_of unary.Not a = expr.Not a
 unary_of unary.IsNull a = expr.IsNull a
 unary_of unary.IsNotNull a = expr.IsNotNull a
 
--- a word with its operands, the left one first
+-- the expression of a word before two operands
 abbrev pub binary_of : BinaryWord → Expr → Expr → Expr
 binary_of (binary.Arith op) a b = expr.Arith op a b
 binary_of (binary.Compare op) a b = expr.Compare op a b
@@ -60,12 +60,26 @@ binary_of binary.And a b = expr.And a b
 binary_of binary.Or a b = expr.Or a b
 binary_of binary.FillNull a b = expr.FillNull a b
 
--- the column of a name, and the null literal of the type that a word names
+-- a word and what its operand says
+abbrev pub with_operand : UnaryWord → Result Expr ViewsFault → Result Expr ViewsFault
+with_operand op a = then_read a (λ x. Ok (unary_of op x))
+
+-- a word and what its operands say, the left one first
+abbrev pub with_operands : BinaryWord → Result Expr ViewsFault → Result Expr ViewsFault → Result Expr ViewsFault
+with_operands op a b = then_read a (λ x. then_read b (λ y. Ok (binary_of op x y)))
+
+-- the column of a name
 abbrev pub column_of : Place → Data → Result Expr ViewsFault
 column_of at name = then_read (text_in at name) (λ n. Ok (expr.Column n))
 
+-- the null literal of the type that a word names
 abbrev pub null_of : Place → Data → Result Expr ViewsFault
 null_of at word = then_read (text_in at word) (λ w. then_read (type_of_word at w) (λ t. Ok (expr.Literal cell.Null t)))
+
+-- what the first item of an array names
+abbrev pub word_of : Place → Items → Result ExprWord ViewsFault
+word_of at no_items = Err (fault.Shape at)
+word_of at (item word ds) = then_read (text_in at word) (form_of_word at)
 
 abbrev mutual
   -- what a value says as an expression
@@ -73,19 +87,13 @@ abbrev mutual
   expr_of at (integer n) = Ok (expr.Literal (cell.Int n) kind.Int)
   expr_of at (boolean b) = Ok (expr.Literal (cell.Bool b) kind.Bool)
   expr_of at (string s) = Ok (expr.Literal (cell.Text s) kind.Text)
-  expr_of at (array ds) = form_of at ds
+  expr_of at (array ds) = then_read (word_of at ds) (λ word. form_of at word ds)
   expr_of at _ = Err (fault.Shape at)
 
-  -- what the items of an array say
-  pub form_of : Place → Items → Result Expr ViewsFault
-  form_of at no_items = Err (fault.Shape at)
-  form_of at (item d ds) = then_read (text_in at d) (λ w. then_read (form_of_word at w) (λ word. formed at word ds))
-
-  -- a word with the items after it
-  pub formed : Place → ExprWord → Items → Result Expr ViewsFault
-  formed at form.Column (item name no_items) = column_of at name
-  formed at form.Null (item word no_items) = null_of at word
-  formed at (form.Unary op) (item a no_items) = then_read (expr_of at a) (λ x. Ok (unary_of op x))
-  formed at (form.Binary op) (item a (item b no_items)) =
-      then_read (expr_of at a) (λ x. then_read (expr_of at b) (λ y. Ok (binary_of op x y)))
-  formed at _ _ = Err (fault.Shape at)
+  -- what the items of an array say, the first of which names this form
+  pub form_of : Place → ExprWord → Items → Result Expr ViewsFault
+  form_of at form.Column (item word (item name no_items)) = column_of at name
+  form_of at form.Null (item word (item t no_items)) = null_of at t
+  form_of at (form.Unary op) (item word (item a no_items)) = with_operand op (expr_of at a)
+  form_of at (form.Binary op) (item word (item a (item b no_items))) = with_operands op (expr_of at a) (expr_of at b)
+  form_of at _ _ = Err (fault.Shape at)

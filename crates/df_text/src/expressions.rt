@@ -1,8 +1,8 @@
 //! The expressions of a view.
-ghost use Rattle.std.specs.Prelude.{◌≡◌, IfOk, map, codes};
+ghost use Rattle.std.specs.Prelude.{◌≡◌, map, codes};
 ghost use Rattle.toml.specs.View.{items_of, view};
 ghost use Rattle.df_text.specs.Reading.{Answers};
-ghost use Rattle.df_text.specs.Expressions.{form_of_word, unary_of, binary_of, column_of, null_of, expr_of, form_of, formed};
+ghost use Rattle.df_text.specs.Expressions.{form_of_word, unary_of, binary_of, with_operand, with_operands, column_of, null_of, word_of, expr_of, form_of};
 
 use crate::document::Place;
 use crate::frames::type_named;
@@ -10,7 +10,7 @@ use crate::tree::text_in;
 use crate::views_fault::ViewsFault;
 use df_expr::{ArithOp, CompareOp, Expr};
 use df_value::{Boxed, Cell, CellType, Text};
-use std::alloc::{AllocError, Global};
+use std::alloc::Global;
 use toml::Value;
 
 /// What the word of an expression stands for.
@@ -53,47 +53,77 @@ pub fn read_expr(alloc: Global, place: Place, value: &Value) -> Result<Expr, Vie
             let text = Text::from_str(alloc, text.as_str())?;
             Ok(Expr::Literal(Cell::Text(text), CellType::Text))
         }
-        Value::Array(items) => read_form(alloc, place, items.as_slice()),
+        Value::Array(items) => {
+            let word = word_in(place, items.as_slice())?;
+            read_form(alloc, place, word, items.as_slice())
+        }
         _ => Err(ViewsFault::Shape(place)),
     }
 }
 
-/// The expression that the items of an array say: a word, and then its operands.
+/// The expression of an array whose first item names this form.
 #[cycle(expressions)]
-fn read_form(alloc: Global, place: Place, items: &[Value]) -> Result<Expr, ViewsFault>
-    ensures { Answers (form_of place (items_of (map view items.now))) result }
-{
-    match items {
-        [word, operands @ ..] => {
-            let word = form_named(place, text_in(place, word)?)?;
-            read_operands(alloc, place, word, operands)
-        }
-        [] => Err(ViewsFault::Shape(place)),
-    }
-}
-
-/// The expression of a word, with the items after it.
-#[cycle(expressions)]
-fn read_operands(
+fn read_form(
     alloc: Global,
     place: Place,
     word: ExprWord,
-    operands: &[Value],
+    items: &[Value],
 ) -> Result<Expr, ViewsFault>
-    ensures { Answers (formed place word (items_of (map view operands.now))) result }
+    ensures { Answers (form_of place word (items_of (map view items.now))) result }
 {
-    match (word, operands) {
-        (ExprWord::Column, [name]) => read_column(alloc, place, name),
-        (ExprWord::Null, [kind]) => read_null(place, kind),
-        (ExprWord::Unary(word), [a]) => unary(alloc, word, read_expr(alloc, place, a)?),
-        (ExprWord::Binary(word), [a, b]) => {
-            let a = read_expr(alloc, place, a)?;
-            match read_expr(alloc, place, b) {
-                Ok(b) => binary(alloc, word, a, b),
-                Err(fault) => Err(fault),
-            }
-        }
+    match (word, items) {
+        (ExprWord::Column, [_word, name]) => read_column(alloc, place, name),
+        (ExprWord::Null, [_word, kind]) => read_null(place, kind),
+        (ExprWord::Unary(op), [_word, a]) => read_unary(alloc, place, op, a),
+        (ExprWord::Binary(op), [_word, a, b]) => match read_boxed(alloc, place, a) {
+            Ok(a) => read_binary(alloc, place, b, op, a),
+            Err(fault) => Err(fault),
+        },
         _ => Err(ViewsFault::Shape(place)),
+    }
+}
+
+/// A word and its operand.
+#[cycle(expressions)]
+fn read_unary(alloc: Global, place: Place, op: UnaryWord, a: &Value) -> Result<Expr, ViewsFault>
+    ensures { Answers (with_operand op (expr_of place (view a.now))) result }
+{
+    Ok(unary(op, read_boxed(alloc, place, a)?))
+}
+
+/// A word and its operands, the left one of which is read. The right one stands before it, since by its
+/// depth the recursion ends.
+#[cycle(expressions)]
+fn read_binary(
+    alloc: Global,
+    place: Place,
+    b: &Value,
+    op: BinaryWord,
+    a: Boxed<Expr>,
+) -> Result<Expr, ViewsFault>
+    ensures { Answers (with_operands op (Ok a) (expr_of place (view b.now))) result }
+{
+    match read_boxed(alloc, place, b) {
+        Ok(b) => Ok(binary(op, a, b)),
+        Err(fault) => Err(fault),
+    }
+}
+
+/// An operand, where an expression keeps it.
+#[cycle(expressions)]
+fn read_boxed(alloc: Global, place: Place, value: &Value) -> Result<Boxed<Expr>, ViewsFault>
+    ensures { Answers (expr_of place (view value.now)) result }
+{
+    Ok(Boxed::new(alloc, read_expr(alloc, place, value)?)?)
+}
+
+/// What the first item of an array names.
+fn word_in(place: Place, items: &[Value]) -> Result<ExprWord, ViewsFault>
+    ensures { result ≡ word_of place (items_of (map view items.now)) }
+{
+    match items {
+        [word, ..] => form_named(place, text_in(place, word)?),
+        [] => Err(ViewsFault::Shape(place)),
     }
 }
 
@@ -140,40 +170,25 @@ fn read_null(place: Place, word: &Value) -> Result<Expr, ViewsFault>
     Ok(Expr::Literal(Cell::Null, kind))
 }
 
-/// A word with its operand.
-fn unary(alloc: Global, word: UnaryWord, a: Expr) -> Result<Expr, ViewsFault>
-    ensures { Answers (Ok (unary_of word a)) result }
+fn unary(op: UnaryWord, a: Boxed<Expr>) -> Expr
+    ensures { result ≡ unary_of op a }
 {
-    let a = Boxed::new(alloc, a)?;
-    match word {
-        UnaryWord::Not => Ok(Expr::Not(a)),
-        UnaryWord::IsNull => Ok(Expr::IsNull(a)),
-        UnaryWord::IsNotNull => Ok(Expr::IsNotNull(a)),
+    match op {
+        UnaryWord::Not => Expr::Not(a),
+        UnaryWord::IsNull => Expr::IsNull(a),
+        UnaryWord::IsNotNull => Expr::IsNotNull(a),
     }
 }
 
-/// A word with its operands.
-fn binary(alloc: Global, word: BinaryWord, a: Expr, b: Expr) -> Result<Expr, ViewsFault>
-    ensures { Answers (Ok (binary_of word a b)) result }
+fn binary(op: BinaryWord, a: Boxed<Expr>, b: Boxed<Expr>) -> Expr
+    ensures { result ≡ binary_of op a b }
 {
-    let (a, b) = boxed(alloc, a, b)?;
-    match word {
-        BinaryWord::Arith(op) => Ok(Expr::Arith(op, a, b)),
-        BinaryWord::Compare(op) => Ok(Expr::Compare(op, a, b)),
-        BinaryWord::EqMissing => Ok(Expr::EqMissing(a, b)),
-        BinaryWord::And => Ok(Expr::And(a, b)),
-        BinaryWord::Or => Ok(Expr::Or(a, b)),
-        BinaryWord::FillNull => Ok(Expr::FillNull(a, b)),
-    }
-}
-
-/// Two operands where an expression keeps them.
-fn boxed(alloc: Global, a: Expr, b: Expr) -> Result<(Boxed<Expr>, Boxed<Expr>), AllocError>
-    ensures { IfOk result (λ p. (p.0 ≡ a) × (p.1 ≡ b)) }
-{
-    let a = Boxed::new(alloc, a)?;
-    match Boxed::new(alloc, b) {
-        Ok(b) => Ok((a, b)),
-        Err(refused) => Err(refused),
+    match op {
+        BinaryWord::Arith(op) => Expr::Arith(op, a, b),
+        BinaryWord::Compare(op) => Expr::Compare(op, a, b),
+        BinaryWord::EqMissing => Expr::EqMissing(a, b),
+        BinaryWord::And => Expr::And(a, b),
+        BinaryWord::Or => Expr::Or(a, b),
+        BinaryWord::FillNull => Expr::FillNull(a, b),
     }
 }
