@@ -1,61 +1,22 @@
--- The check of a plan: the columns of its result, or the first fault. Which types an operator takes and which
--- it gives are this project's own choice among those of the Polars Python reference.
-use Rattle.std.specs.Prelude.{◌≡◌, ◌≢◌, ◌+◌, ℕ, List, [], ◌∷◌, ◌++◌, Option, Some, None, Result, Ok, Err, MatchResult, length, nat_lt, slice_get, if◌then◌else◌}
-use Rattle.df_value.specs.declared.cell.CellType.{CellType}
+-- The check of a plan: the columns of its result, or the first fault.
+use Rattle.std.specs.Prelude.{◌≡◌, ◌≢◌, ◌+◌, ℕ, List, [], Option, Some, None, Result, Ok, Err, MatchResult, length, nat_lt, slice_get, if◌then◌else◌}
 use Rattle.df_value.specs.declared.cell.CellType.TheVariants as kind
-use Rattle.df_value.specs.Schemas.{type_in, doubled_after}
+use Rattle.df_value.specs.Schemas.{doubled_after}
+use Rattle.df_expr.specs.declared.expr.Expr.{Expr}
 use Rattle.df_expr.specs.declared.fault.ExprFault.TheVariants as expr
 use Rattle.df_plan.specs.declared.fault.PlanFault.{PlanFault}
 use Rattle.df_plan.specs.declared.fault.PlanFault.TheVariants as fault
 use Rattle.df_plan.specs.declared.plan.Agg.{Agg}
-use Rattle.df_plan.specs.declared.plan.Agg.TheVariants as agg
 use Rattle.df_plan.specs.declared.plan.Plan.{Plan, fold-Plan}
 use Rattle.df_plan.specs.declared.plan.Plan.TheOpen.{Plan-F}
-
--- names and types
-abbrev pub Columns : Type 0
-Columns = List (List ℕ × CellType)
-
--- the columns of a result, or the first fault
-abbrev pub Checked : Type 0
-Checked = Result Columns PlanFault
+use Rattle.df_plan.specs.Placed.{placed}
+pub use Rattle.df_plan.specs.ItemChecks.{Columns, Checked}
+use Rattle.df_plan.specs.ItemChecks.{Kind, each_after, expr_type, checked_key, checked_aggregate, checked_output, checked_added}
 
 -- the next step's answer, or the fault
 abbrev pub then_checked : Checked → (Columns → Checked) → Checked
 then_checked (Ok columns) next = next columns
 then_checked (Err f) next = Err f
-
--- the type of a key: its column must be there, and may have every type but Frac
-abbrev pub key_type : List ℕ → Option CellType → Result CellType PlanFault
-key_type name None = Err (fault.Expr (expr.NoColumn name))
-key_type name (Some kind.Frac) = Err (fault.WrongType name)
-key_type name (Some t) = Ok t
-
--- the type of a sum: its column must be there and Int, and then the sum is Wide
-abbrev pub sum_type : List ℕ → Option CellType → Result CellType PlanFault
-sum_type name None = Err (fault.Expr (expr.NoColumn name))
-sum_type name (Some kind.Int) = Ok kind.Wide
-sum_type name (Some t) = Err (fault.WrongType name)
-
-abbrev pub aggregate_type : Columns → Agg → Result CellType PlanFault
-aggregate_type columns agg.Len = Ok kind.Int
-aggregate_type columns (agg.Sum name) = sum_type name (type_in name columns)
-
-abbrev pub with_type : Result CellType PlanFault → (CellType → Checked) → Checked
-with_type (Ok t) next = next t
-with_type (Err f) next = Err f
-
--- the columns that are made already, and after them the keys
-abbrev pub keys_after : Columns → Columns → List (List ℕ) → Checked
-keys_after columns out [] = Ok out
-keys_after columns out (name ∷ names) =
-    with_type (key_type name (type_in name columns)) (λ t. keys_after columns (out ++ (name, t) ∷ []) names)
-
--- the columns that are made already, and after them the outputs
-abbrev pub aggregates_after : Columns → Columns → List (List ℕ × Agg) → Checked
-aggregates_after columns out [] = Ok out
-aggregates_after columns out (a ∷ as') =
-    with_type (aggregate_type columns a.1) (λ t. aggregates_after columns (out ++ (a.0, t) ∷ []) as')
 
 -- columns whose first doubled name, if there is one, is given: that name is refused first, then a list of
 -- columns that is empty or has more than 32
@@ -67,11 +28,31 @@ settled_at columns None = if nat_lt 32 (length columns) then Err fault.TooWide e
 abbrev pub settled : Columns → Checked
 settled columns = settled_at columns (doubled_after [] columns)
 
+-- the columns of a filter are its input's, if the predicate's type is Bool
+abbrev pub filter_checked : Columns → Kind → Checked
+filter_checked columns (Ok kind.Bool) = Ok columns
+filter_checked columns (Ok t) = Err (fault.Expr expr.WrongType)
+filter_checked columns (Err f) = Err f
+
+-- the columns of a select: one for each item, checked in turn
+abbrev pub select_checked : Columns → List (List ℕ × Expr) → Checked
+select_checked columns [] = Err fault.EmptyList
+select_checked columns items = then_checked (each_after (checked_output columns) [] items) settled
+
+-- columns that are put among others: no two of them may have one name, and the result may not be too wide
+abbrev pub put_checked : Columns → Columns → Checked
+put_checked columns added = settled_at (placed columns added) (doubled_after [] added)
+
+-- the columns of a with_columns: the items', checked in turn, put among the input's
+abbrev pub with_checked : Columns → List (List ℕ × Expr) → Checked
+with_checked columns items = then_checked (each_after (checked_added columns) [] items) (put_checked columns)
+
 -- the columns of a group-by: its keys, each checked in turn, then its outputs
 abbrev pub group_checked : Columns → List (List ℕ) → List (List ℕ × Agg) → Checked
 group_checked columns [] aggs = Err fault.EmptyList
 group_checked columns keys aggs =
-    then_checked (keys_after columns [] keys) (λ out. then_checked (aggregates_after columns out aggs) settled)
+    then_checked (each_after (checked_key columns) [] keys)
+    (λ out. then_checked (each_after (checked_aggregate columns) out aggs) settled)
 
 abbrev pub frame_checked : ℕ → Option Columns → Checked
 frame_checked frame None = Err (fault.NoFrame frame)
@@ -80,6 +61,9 @@ frame_checked frame (Some columns) = Ok columns
 -- the check of one node, after that of its input
 abbrev pub check_step : List Columns → Plan-F Checked → Checked
 check_step frames (Plan-F.Scan frame) = frame_checked frame (slice_get frames frame)
+check_step frames (Plan-F.Filter input p) = then_checked input (λ columns. filter_checked columns (expr_type p columns))
+check_step frames (Plan-F.Select input items) = then_checked input (λ columns. select_checked columns items)
+check_step frames (Plan-F.WithColumns input items) = then_checked input (λ columns. with_checked columns items)
 check_step frames (Plan-F.GroupBy input keys aggs) = then_checked input (λ columns. group_checked columns keys aggs)
 
 -- the columns of a plan's result, or the first fault of a walk that visits inputs before their node
@@ -88,6 +72,9 @@ columns_of p frames = fold-Plan Checked (check_step frames) p
 
 abbrev pub levels_step : Plan-F ℕ → ℕ
 levels_step (Plan-F.Scan frame) = 1
+levels_step (Plan-F.Filter input p) = 1 + input
+levels_step (Plan-F.Select input items) = 1 + input
+levels_step (Plan-F.WithColumns input items) = 1 + input
 levels_step (Plan-F.GroupBy input keys aggs) = 1 + input
 
 -- the nodes on the longest path

@@ -1,5 +1,5 @@
--- The table that a plan means over frames: a scan, and `group_by` with `maintain_order=True` of the Polars
--- Python reference, on plain lists of rows, taken from the whole table of its input.
+-- The table that a plan means over frames: a scan, `filter`, `select`, `with_columns`, and `group_by` with
+-- `maintain_order=True` of the Polars Python reference, on plain lists of rows, taken from the whole table of the input.
 use Rattle.std.specs.Prelude.{ℕ, pos, List, [], ◌∷◌, ◌++◌, Option, Some, None, Bool, true, false, ◌&&◌, length, map, slice_get, unwrap_or}
 use Rattle.df_value.specs.declared.cell.Cell.{Cell}
 use Rattle.df_value.specs.declared.cell.Cell.TheVariants as cell
@@ -7,8 +7,10 @@ use Rattle.df_value.specs.declared.cell.CellType.{CellType}
 use Rattle.df_value.specs.declared.cell.CellType.TheVariants as kind
 use Rattle.df_value.specs.Rows.{rows_fit}
 use Rattle.df_value.specs.Schemas.{position_of, type_in}
+use Rattle.df_expr.specs.declared.expr.Expr.{Expr}
 use Rattle.df_plan.specs.Groups.{keys_of, group_of}
 use Rattle.df_plan.specs.Aggregates.{cells_of, sum_of}
+use Rattle.df_plan.specs.RowWise.{item_column, filtered, selected_row, added_row, added_columns}
 use Rattle.df_plan.specs.declared.plan.Agg.{Agg}
 use Rattle.df_plan.specs.declared.plan.Agg.TheVariants as agg
 use Rattle.df_plan.specs.declared.plan.Plan.{Plan, fold-Plan}
@@ -49,6 +51,19 @@ grouped_rows t keys aggs =
 abbrev pub grouped : Table → List (List ℕ) → List (List ℕ × Agg) → Table
 grouped t keys aggs = record { columns = grouped_columns t.columns keys aggs; rows = grouped_rows t keys aggs }
 
+-- the rows whose predicate is true
+abbrev pub filter_table : Table → Expr → Table
+filter_table t p = record { columns = t.columns; rows = filtered t.columns p t.rows }
+
+-- a column for each item
+abbrev pub select_table : Table → List (List ℕ × Expr) → Table
+select_table t items =
+    record { columns = map (item_column t.columns) items; rows = map (selected_row t.columns items) t.rows }
+
+-- the items' columns put among the input's
+abbrev pub with_table : Table → List (List ℕ × Expr) → Table
+with_table t items = record { columns = added_columns t.columns items; rows = map (added_row t.columns items) t.rows }
+
 -- the columns and rows of a frame, empty where either is missing
 abbrev pub frame_from : Option (List (List ℕ × CellType)) → Option (List (List Cell)) → Table
 frame_from None rows = record { columns = []; rows = [] }
@@ -58,6 +73,9 @@ frame_from (Some columns) (Some rows) = record { columns = columns; rows = rows 
 -- the table of one node, from that of its input
 abbrev pub table_step : List (List (List ℕ × CellType)) → List (List (List Cell)) → Plan-F Table → Table
 table_step schemas frames (Plan-F.Scan frame) = frame_from (slice_get schemas frame) (slice_get frames frame)
+table_step schemas frames (Plan-F.Filter t p) = filter_table t p
+table_step schemas frames (Plan-F.Select t items) = select_table t items
+table_step schemas frames (Plan-F.WithColumns t items) = with_table t items
 table_step schemas frames (Plan-F.GroupBy t keys aggs) = grouped t keys aggs
 
 -- the table that a plan means over frames of these schemas and rows

@@ -1,19 +1,19 @@
 //! The check of a plan.
-ghost use Rattle.std.specs.Prelude.{◌≡◌, ◌≢◌, ◌≤◌, ◌↔◌, [], IsTrue, None, slice_get};
-ghost use Rattle.df_value.specs.Schemas.{type_in, doubled_after};
-ghost use Rattle.df_plan.specs.Checks.{checked, columns_of, levels, keys_after, aggregates_after, settled as settled_columns, settled_at, group_checked, frame_checked, key_type as type_of_key, aggregate_type as type_of_aggregate, Answers};
+ghost use Rattle.std.specs.Prelude.{◌≡◌, ◌≤◌, ◌↔◌, [], IsTrue, None, slice_get};
+ghost use Rattle.df_value.specs.Schemas.{doubled_after};
+ghost use Rattle.df_plan.specs.Checks.{checked, columns_of, levels, settled as settled_columns, settled_at, filter_checked, select_checked, with_checked, put_checked, group_checked, frame_checked, Answers};
+ghost use Rattle.df_plan.specs.ItemChecks.{expr_type as type_of_expr};
 
 use crate::fault::PlanFault;
+use crate::items::{Added, Aggregates, Columns, Keys, Outputs, check_each, expr_type};
+use crate::placed::placed;
 use crate::plan::{Agg, Plan};
-use df_expr::ExprFault;
+use df_expr::{Expr, ExprFault};
 use df_value::{CellType, Duplicate, List, Schema, SchemaFault, Text, doubled};
 use std::alloc::Global;
 
 /// The most levels of a plan: the nodes on its longest path.
 pub const MOST_LEVELS: u32 = 12;
-
-/// Columns before they are found to be a schema.
-type Columns = List<(Text, CellType)>;
 
 /// The schema of a plan's result over frames of these schemas, or the first fault.
 pub fn check(alloc: Global, plan: &Plan, frames: &[Schema]) -> Result<Schema, PlanFault>
@@ -34,6 +34,9 @@ fn is_within(plan: &Plan, most: u32) -> bool
     }
     match plan {
         Plan::Scan(_) => true,
+        Plan::Filter(input, _) | Plan::Select(input, _) | Plan::WithColumns(input, _) => {
+            is_within(input.get(), most - 1)
+        }
         Plan::GroupBy(input, _, _) => is_within(input.get(), most - 1),
     }
 }
@@ -43,6 +46,18 @@ fn check_node(alloc: Global, plan: &Plan, frames: &[Schema]) -> Result<Schema, P
 {
     match plan {
         Plan::Scan(frame) => copy_schema(alloc, frames, *frame),
+        Plan::Filter(input, predicate) => {
+            let columns = check_node(alloc, input.get(), frames)?;
+            check_filter(alloc, columns, predicate)
+        }
+        Plan::Select(input, items) => {
+            let columns = check_node(alloc, input.get(), frames)?;
+            check_select(alloc, &columns, items.as_slice())
+        }
+        Plan::WithColumns(input, items) => {
+            let columns = check_node(alloc, input.get(), frames)?;
+            check_added(alloc, &columns, items.as_slice())
+        }
         Plan::GroupBy(input, keys, aggs) => {
             let columns = check_node(alloc, input.get(), frames)?;
             check_groups(alloc, &columns, keys.as_slice(), aggs.as_slice())
@@ -59,6 +74,35 @@ fn copy_schema(alloc: Global, frames: &[Schema], frame: usize) -> Result<Schema,
     }
 }
 
+fn check_filter(alloc: Global, input: Schema, predicate: &Expr) -> Result<Schema, PlanFault>
+    ensures { Answers (filter_checked input (type_of_expr predicate.now input)) result }
+{
+    match expr_type(alloc, &input, predicate) {
+        Ok(CellType::Bool) => Ok(input),
+        Ok(_) => Err(PlanFault::Expr(ExprFault::WrongType)),
+        Err(fault) => Err(fault),
+    }
+}
+
+fn check_select(alloc: Global, input: &Schema, items: &[(Text, Expr)]) -> Result<Schema, PlanFault>
+    ensures { Answers (select_checked input.now items.now) result }
+{
+    if items.is_empty() {
+        return Err(PlanFault::EmptyList);
+    }
+    let out = List::from_vec(Vec::new(alloc));
+    let out = check_each::<(Text, Expr), Outputs>(alloc, input, out, items)?;
+    settled(alloc, out)
+}
+
+fn check_added(alloc: Global, input: &Schema, items: &[(Text, Expr)]) -> Result<Schema, PlanFault>
+    ensures { Answers (with_checked input.now items.now) result }
+{
+    let out = List::from_vec(Vec::new(alloc));
+    let added = check_each::<(Text, Expr), Added>(alloc, input, out, items)?;
+    put(alloc, input, &added)
+}
+
 fn check_groups(
     alloc: Global,
     input: &Schema,
@@ -70,59 +114,21 @@ fn check_groups(
     if keys.is_empty() {
         return Err(PlanFault::EmptyList);
     }
-    let out = check_keys(alloc, input, keys)?;
-    let out = check_aggregates(alloc, input, out, aggs)?;
+    let out = List::from_vec(Vec::new(alloc));
+    let out = check_each::<Text, Keys>(alloc, input, out, keys)?;
+    let out = check_each::<(Text, Agg), Aggregates>(alloc, input, out, aggs)?;
     settled(alloc, out)
 }
 
-fn check_keys(alloc: Global, input: &Schema, keys: &[Text]) -> Result<Columns, PlanFault>
-    ensures { Answers (keys_after input.now [] keys.now) result }
+// The schema of a table with columns put among its own.
+fn put(alloc: Global, input: &Schema, added: &Columns) -> Result<Schema, PlanFault>
+    ensures { Answers (put_checked input.now added.now) result }
 {
-    let mut out = Vec::new(alloc);
-    for name in keys {
-        let kind = key_type(alloc, input, name)?;
-        out.push((name.copy(alloc)?, kind))?;
+    if let Some(name) = doubled(added.as_slice()) {
+        return Err(PlanFault::DoubledName(name.copy(alloc)?));
     }
-    Ok(List::from_vec(out))
-}
-
-fn key_type(alloc: Global, input: &Schema, name: &Text) -> Result<CellType, PlanFault>
-    ensures { Answers (type_of_key name.now (type_in name.now input.now)) result }
-{
-    match input.type_of(name) {
-        Some(CellType::Frac) => Err(PlanFault::WrongType(name.copy(alloc)?)),
-        Some(kind) => Ok(kind),
-        None => Err(PlanFault::Expr(ExprFault::NoColumn(name.copy(alloc)?))),
-    }
-}
-
-fn check_aggregates(
-    alloc: Global,
-    input: &Schema,
-    out: Columns,
-    aggs: &[(Text, Agg)],
-) -> Result<Columns, PlanFault>
-    ensures { Answers (aggregates_after input.now out aggs.now) result }
-{
-    let mut out = out.into_vec();
-    for agg in aggs {
-        let kind = aggregate_type(alloc, input, &agg.1)?;
-        out.push((agg.0.copy(alloc)?, kind))?;
-    }
-    Ok(List::from_vec(out))
-}
-
-fn aggregate_type(alloc: Global, input: &Schema, agg: &Agg) -> Result<CellType, PlanFault>
-    ensures { Answers (type_of_aggregate input.now agg.now) result }
-{
-    let Agg::Sum(name) = agg else {
-        return Ok(CellType::Int);
-    };
-    match input.type_of(name) {
-        Some(CellType::Int) => Ok(CellType::Wide),
-        Some(_) => Err(PlanFault::WrongType(name.copy(alloc)?)),
-        None => Err(PlanFault::Expr(ExprFault::NoColumn(name.copy(alloc)?))),
-    }
+    let columns = placed(alloc, input.columns().as_slice(), added.as_slice())?;
+    schema_of(columns)
 }
 
 // The schema of these columns: no name may stand twice, and then they may not be too many.

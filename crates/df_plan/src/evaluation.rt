@@ -7,6 +7,7 @@ use crate::aggregates::sum_of;
 use crate::checked::CheckedPlan;
 use crate::groups::{group_of, keys_of};
 use crate::plan::{Agg, Plan};
+use crate::row_wise::{filter_table, select_table, with_table};
 use crate::table::Table;
 use df_value::{Cell, CellType, Duplicate, List, Row, Schema, Text, place_of, type_of};
 use std::alloc::{AllocError, Global};
@@ -42,6 +43,18 @@ fn table_of_plan(
 {
     match plan {
         Plan::Scan(frame) => copy_frame(alloc, schemas, frames, *frame),
+        Plan::Filter(input, predicate) => {
+            let input = table_of_plan(alloc, input.get(), schemas, frames)?;
+            filter_table(alloc, &input, predicate)
+        }
+        Plan::Select(input, items) => {
+            let input = table_of_plan(alloc, input.get(), schemas, frames)?;
+            select_table(alloc, &input, items.as_slice())
+        }
+        Plan::WithColumns(input, items) => {
+            let input = table_of_plan(alloc, input.get(), schemas, frames)?;
+            with_table(alloc, &input, items.as_slice())
+        }
         Plan::GroupBy(input, keys, aggs) => {
             let input = table_of_plan(alloc, input.get(), schemas, frames)?;
             group_by(alloc, &input, keys.as_slice(), aggs.as_slice())

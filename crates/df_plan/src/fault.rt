@@ -22,12 +22,15 @@ pub enum PlanFault {
     /// More than 12 levels.
     #[error("more than 12 levels")]
     TooDeep,
-    /// A group-by without keys.
+    /// A select without items, or a group-by without keys.
     #[error("an empty list")]
     EmptyList,
     /// A result of more than 32 columns.
     #[error("more than 32 columns")]
     TooWide,
+    /// The expression of this output of a select names no column.
+    #[error("no column in the expression of {0:?}")]
+    ConstantColumn(Text),
     /// This column has a type that is not taken where it stands.
     #[error("a column of the wrong type: {0:?}")]
     WrongType(Text),

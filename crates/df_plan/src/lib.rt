@@ -12,7 +12,10 @@ mod checks;
 mod evaluation;
 mod fault;
 mod groups;
+mod items;
+mod placed;
 mod plan;
+mod row_wise;
 mod table;
 
 pub use checked::CheckedPlan;
@@ -21,6 +24,7 @@ pub use evaluation::evaluate;
 pub use fault::PlanFault;
 pub use groups::{group_lengths, group_of, keys_of};
 pub use plan::{Agg, Plan};
+pub use row_wise::{added_row, filtered, selected_row};
 
 #[cfg(test)]
 mod tests;

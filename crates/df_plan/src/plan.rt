@@ -1,6 +1,7 @@
 //! The forms of a plan.
-ghost use Rattle.std.specs.Prelude.{◌≡◌, ◌↔◌, IsTrue};
+ghost use Rattle.std.specs.Prelude.{◌≡◌, ◌↔◌, IfOk, IsTrue};
 
+use df_expr::Expr;
 use df_value::{Boxed, Duplicate, Exact, List, Text, same};
 use std::alloc::{AllocError, Global};
 
@@ -18,6 +19,14 @@ pub enum Agg {
 pub enum Plan {
     /// The frame of this index.
     Scan(usize),
+    /// The input's rows for which the expression, a Bool, is true. Null drops the row.
+    Filter(Boxed<Plan>, Expr),
+    /// A column for each item, of its name and with the values of its expression, which names a column.
+    Select(Boxed<Plan>, List<(Text, Expr)>),
+    /// The input's columns, each replaced in its place by the item of its name, and after them the items
+    /// of new names. Every expression sees the input's row, and one that names no column has its value in
+    /// every row.
+    WithColumns(Boxed<Plan>, List<(Text, Expr)>),
     /// The input's groups of equal cells in the key columns, by the first appearance of their keys. Each
     /// gives a row: the key's cells, then the aggregates under their output names. Null equals null in
     /// keys.
@@ -68,17 +77,30 @@ impl Exact for Plan {
 }
 
 impl Duplicate for Plan {
+    #[cycle(copying)]
     fn copy(&self, alloc: Global) -> Result<Plan, AllocError> {
         match self {
             Plan::Scan(frame) => Ok(Plan::Scan(*frame)),
+            Plan::Filter(input, e) => Ok(Plan::Filter(copy_of(alloc, input)?, e.copy(alloc)?)),
+            Plan::Select(input, items) => {
+                Ok(Plan::Select(copy_of(alloc, input)?, items.copy(alloc)?))
+            }
+            Plan::WithColumns(input, items) => {
+                Ok(Plan::WithColumns(copy_of(alloc, input)?, items.copy(alloc)?))
+            }
             Plan::GroupBy(input, keys, aggs) => {
-                let input = Boxed::new(alloc, input.get().copy(alloc)?)?;
-                let keys = keys.copy(alloc)?;
-                let aggs = aggs.copy(alloc)?;
-                Ok(Plan::GroupBy(input, keys, aggs))
+                let input = copy_of(alloc, input)?;
+                Ok(Plan::GroupBy(input, keys.copy(alloc)?, aggs.copy(alloc)?))
             }
         }
     }
+}
+
+#[cycle(copying)]
+fn copy_of(alloc: Global, plan: &Boxed<Plan>) -> Result<Boxed<Plan>, AllocError>
+    ensures { IfOk result (λ r. r ≡ plan.now) }
+{
+    Ok(Boxed::new(alloc, plan.get().copy(alloc)?)?)
 }
 
 /// Whether two plans are one and the same.
@@ -87,6 +109,11 @@ fn same_plan(a: &Plan, b: &Plan) -> bool
 {
     match (a, b) {
         (Plan::Scan(f), Plan::Scan(g)) => *f == *g,
+        (Plan::Filter(x, p), Plan::Filter(y, q)) => same_plan(x.get(), y.get()) && same(p, q),
+        (Plan::Select(x, items), Plan::Select(y, others))
+        | (Plan::WithColumns(x, items), Plan::WithColumns(y, others)) => {
+            same_plan(x.get(), y.get()) && same(items, others)
+        }
         (Plan::GroupBy(x, keys, aggs), Plan::GroupBy(y, other_keys, other_aggs)) => {
             same_plan(x.get(), y.get()) && same(keys, other_keys) && same(aggs, other_aggs)
         }

@@ -1,0 +1,88 @@
+-- What an item of a node's list gives: a column, or the fault of its check. Which types an operator takes and which
+-- it gives are this project's own choice among those of the Polars Python reference.
+use Rattle.std.specs.Prelude.{ℕ, List, [], ◌∷◌, ◌++◌, Option, Some, None, Result, Ok, Err, if◌then◌else◌}
+use Rattle.df_value.specs.declared.cell.CellType.{CellType}
+use Rattle.df_value.specs.declared.cell.CellType.TheVariants as kind
+use Rattle.df_value.specs.Schemas.{type_in}
+use Rattle.df_expr.specs.declared.fault.ExprFault.TheVariants as expr
+use Rattle.df_expr.specs.declared.expr.Expr.{Expr}
+use Rattle.df_expr.specs.Typing.{Typed, names_column, checked as checked_expr}
+use Rattle.df_plan.specs.declared.fault.PlanFault.{PlanFault}
+use Rattle.df_plan.specs.declared.fault.PlanFault.TheVariants as fault
+use Rattle.df_plan.specs.declared.plan.Agg.{Agg}
+use Rattle.df_plan.specs.declared.plan.Agg.TheVariants as agg
+
+-- names and types
+abbrev pub Columns : Type 0
+Columns = List (List ℕ × CellType)
+
+-- the columns of a result, or the first fault
+abbrev pub Checked : Type 0
+Checked = Result Columns PlanFault
+
+-- a type, or why there is none
+abbrev pub Kind : Type 0
+Kind = Result CellType PlanFault
+
+-- the column of one item, or why it is refused
+abbrev pub Column : Type 0
+Column = Result (List ℕ × CellType) PlanFault
+
+-- a column of this name, if it has a type
+abbrev pub named : List ℕ → Kind → Column
+named name (Ok t) = Ok (name, t)
+named name (Err f) = Err f
+
+-- the type of a key: its column must be there, and may have every type but Frac
+abbrev pub key_type : List ℕ → Option CellType → Kind
+key_type name None = Err (fault.Expr (expr.NoColumn name))
+key_type name (Some kind.Frac) = Err (fault.WrongType name)
+key_type name (Some t) = Ok t
+
+-- the type of a sum: its column must be there and Int, and then the sum is Wide
+abbrev pub sum_type : List ℕ → Option CellType → Kind
+sum_type name None = Err (fault.Expr (expr.NoColumn name))
+sum_type name (Some kind.Int) = Ok kind.Wide
+sum_type name (Some t) = Err (fault.WrongType name)
+
+abbrev pub aggregate_type : Columns → Agg → Kind
+aggregate_type columns agg.Len = Ok kind.Int
+aggregate_type columns (agg.Sum name) = sum_type name (type_in name columns)
+
+-- an expression's fault is a plan's fault
+abbrev pub of_expr : Typed → Kind
+of_expr (Ok t) = Ok t
+of_expr (Err f) = Err (fault.Expr f)
+
+abbrev pub expr_type : Expr → Columns → Kind
+expr_type e columns = of_expr (checked_expr e columns)
+
+-- an expression that names no column would say nothing of how many rows it has
+abbrev pub output_type : List ℕ → Expr → Kind → Kind
+output_type name e (Ok t) = if names_column e then Ok t else Err (fault.ConstantColumn name)
+output_type name e (Err f) = Err f
+
+-- a key of a group-by
+abbrev pub checked_key : Columns → List ℕ → Column
+checked_key columns name = named name (key_type name (type_in name columns))
+
+-- an output of a group-by
+abbrev pub checked_aggregate : Columns → List ℕ × Agg → Column
+checked_aggregate columns a = named a.0 (aggregate_type columns a.1)
+
+-- an output of a select
+abbrev pub checked_output : Columns → List ℕ × Expr → Column
+checked_output columns i = named i.0 (output_type i.0 i.1 (expr_type i.1 columns))
+
+-- a column that is put among those of the input
+abbrev pub checked_added : Columns → List ℕ × Expr → Column
+checked_added columns i = named i.0 (expr_type i.1 columns)
+
+abbrev pub with_column : Column → (List ℕ × CellType → Checked) → Checked
+with_column (Ok c) next = next c
+with_column (Err f) next = Err f
+
+-- the columns that are made already, and after them that of each item in turn; or the first item's fault
+abbrev pub each_after : {T : Type 0} → (T → Column) → Columns → List T → Checked
+each_after column out [] = Ok out
+each_after column out (x ∷ xs) = with_column (column x) (λ c. each_after column (out ++ c ∷ []) xs)

@@ -1,0 +1,137 @@
+//! The check of the items of a node's list: what column each gives.
+ghost use Rattle.std.specs.Prelude.{◌≡◌};
+ghost use Rattle.df_value.specs.Schemas.{type_in};
+ghost use Rattle.df_plan.specs.Checks.{Answers};
+ghost use Rattle.df_plan.specs.ItemChecks.{Column, Columns as ColumnList, key_type as type_of_key, aggregate_type as type_of_aggregate, expr_type as type_of_expr, output_type as type_of_output, checked_key, checked_aggregate, checked_output, checked_added, each_after};
+
+use crate::fault::PlanFault;
+use crate::plan::Agg;
+use df_expr::{Expr, ExprFault, check, names_column};
+use df_value::{CellType, Duplicate, List, Schema, Text};
+use std::alloc::Global;
+
+/// Columns before they are found to be a schema.
+pub type Columns = List<(Text, CellType)>;
+
+/// What a node wants of an item of its list.
+pub trait ColumnOf<T> {
+    /// The column that the item gives over an input of these columns.
+    ghost column_of: { ColumnList → T → Column };
+
+    /// The column that the item gives, or its first fault.
+    fn column(alloc: Global, input: &Schema, item: &T) -> Result<(Text, CellType), PlanFault>
+        ensures { Answers (column_of input.now item.now) result };
+}
+
+/// The keys of a group-by.
+pub struct Keys;
+
+/// The outputs of a group-by.
+pub struct Aggregates;
+
+/// The items of a select.
+pub struct Outputs;
+
+/// The items of a with_columns.
+pub struct Added;
+
+impl ColumnOf<Text> for Keys {
+    ghost column_of = { checked_key };
+
+    fn column(alloc: Global, input: &Schema, name: &Text) -> Result<(Text, CellType), PlanFault> {
+        let kind = key_type(alloc, input, name)?;
+        Ok((name.copy(alloc)?, kind))
+    }
+}
+
+impl ColumnOf<(Text, Agg)> for Aggregates {
+    ghost column_of = { checked_aggregate };
+
+    fn column(
+        alloc: Global,
+        input: &Schema,
+        item: &(Text, Agg),
+    ) -> Result<(Text, CellType), PlanFault> {
+        let kind = aggregate_type(alloc, input, &item.1)?;
+        Ok((item.0.copy(alloc)?, kind))
+    }
+}
+
+impl ColumnOf<(Text, Expr)> for Outputs {
+    ghost column_of = { checked_output };
+
+    fn column(
+        alloc: Global,
+        input: &Schema,
+        item: &(Text, Expr),
+    ) -> Result<(Text, CellType), PlanFault> {
+        let kind = expr_type(alloc, input, &item.1)?;
+        if !names_column(&item.1) {
+            return Err(PlanFault::ConstantColumn(item.0.copy(alloc)?));
+        }
+        Ok((item.0.copy(alloc)?, kind))
+    }
+}
+
+impl ColumnOf<(Text, Expr)> for Added {
+    ghost column_of = { checked_added };
+
+    fn column(
+        alloc: Global,
+        input: &Schema,
+        item: &(Text, Expr),
+    ) -> Result<(Text, CellType), PlanFault> {
+        let kind = expr_type(alloc, input, &item.1)?;
+        Ok((item.0.copy(alloc)?, kind))
+    }
+}
+
+/// The columns that are made already, and after them that of each item; or the first item's fault.
+pub fn check_each<T, N: ColumnOf<T>>(
+    alloc: Global,
+    input: &Schema,
+    out: Columns,
+    items: &[T],
+) -> Result<Columns, PlanFault>
+    ensures { Answers (each_after (N.column_of input.now) out items.now) result }
+{
+    let mut out = out.into_vec();
+    for item in items {
+        out.push(N::column(alloc, input, item)?)?;
+    }
+    Ok(List::from_vec(out))
+}
+
+fn key_type(alloc: Global, input: &Schema, name: &Text) -> Result<CellType, PlanFault>
+    ensures { Answers (type_of_key name.now (type_in name.now input.now)) result }
+{
+    match input.type_of(name) {
+        Some(CellType::Frac) => Err(PlanFault::WrongType(name.copy(alloc)?)),
+        Some(kind) => Ok(kind),
+        None => Err(PlanFault::Expr(ExprFault::NoColumn(name.copy(alloc)?))),
+    }
+}
+
+fn aggregate_type(alloc: Global, input: &Schema, agg: &Agg) -> Result<CellType, PlanFault>
+    ensures { Answers (type_of_aggregate input.now agg.now) result }
+{
+    let Agg::Sum(name) = agg else {
+        return Ok(CellType::Int);
+    };
+    match input.type_of(name) {
+        Some(CellType::Int) => Ok(CellType::Wide),
+        Some(_) => Err(PlanFault::WrongType(name.copy(alloc)?)),
+        None => Err(PlanFault::Expr(ExprFault::NoColumn(name.copy(alloc)?))),
+    }
+}
+
+/// The type of an expression in a plan.
+pub fn expr_type(alloc: Global, input: &Schema, expr: &Expr) -> Result<CellType, PlanFault>
+    ensures { Answers (type_of_expr expr.now input.now) result }
+{
+    match check(alloc, expr, input) {
+        Ok(kind) => Ok(kind),
+        Err(ExprFault::Memory) => Err(PlanFault::Memory),
+        Err(fault) => Err(PlanFault::Expr(fault)),
+    }
+}
