@@ -8,6 +8,7 @@
 mod document;
 mod expressions;
 mod frames;
+mod row_wise_steps;
 mod tree;
 mod view_steps;
 mod views;
