@@ -1,8 +1,13 @@
 //! Text in and text out: the view document here, CSV files and printed tables in crates of their own.
 //!
 //! [`read_views`] reads the TOML document that names frames and views. What `df_csv` and `df_print`
-//! offer is offered here too, so that the code above names this crate alone. A new step of a view is a
-//! variant of `StepWord` with its arm in view_steps.rt.
+//! offer is offered here too, so that the code above names this crate alone.
+//!
+//! To add a step of a view: a variant of `StepWord` with its arms in `step_named` and `apply_step`
+//! (view_steps.rt, specs/Steps.antt), and that it reads no other frames in proofs/Sound.antt; the steps
+//! that make each row of one row are in row_wise_steps.rt. To add an operator of expressions: a variant of
+//! `UnaryWord` or `BinaryWord` with its arms in `form_named` and in `unary` or `binary` (expressions.rt,
+//! specs/Expressions.antt); one of another form is a variant of `ExprWord` with its arm in `read_form`.
 #![tactic(auto)]
 
 mod document;
@@ -23,6 +28,8 @@ pub use document::{FrameSource, FrameSpec, Place, ViewSpec, Views};
 pub use views::read_views;
 pub use views_fault::ViewsFault;
 
+#[cfg(test)]
+mod tests_expressions;
 #[cfg(test)]
 mod tests_steps;
 #[cfg(test)]
