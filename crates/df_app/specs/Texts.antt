@@ -55,6 +55,7 @@ plan_text (plan.DoubledName name) = named (codes "P3") name
 plan_text plan.TooDeep = codes "P5"
 plan_text plan.EmptyList = codes "P7"
 plan_text plan.TooWide = codes "P8"
+plan_text (plan.ConstantColumn name) = named (codes "P9") name
 plan_text (plan.WrongType name) = named (codes "P10") name
 plan_text plan.Memory = codes "memory"
 
