@@ -8,11 +8,11 @@ use Rattle.df_value.specs.declared.chunk.Made.TheVariants as made
 use Rattle.df_plan.specs.CheckedParts.{CheckedParts}
 use Rattle.df_plan.specs.Checks.{Columns, Checked, checked}
 use Rattle.df_plan.specs.Meaning.{table_of}
+use Rattle.df_csv.specs.Records.{Rows as Records, records_of}
+use Rattle.df_csv.specs.Typed.{pieces_of}
+use Rattle.df_csv.specs.declared.csv_fault.CsvFault.{CsvFault}
+use Rattle.df_print.specs.Printed.{printed, escaped_text}
 use Rattle.df_text.specs.Document.{document_of}
-use Rattle.df_text.specs.Printed.{printed, escaped_text}
-use Rattle.df_text.specs.Records.{Rows as Records, records_of}
-use Rattle.df_text.specs.Typed.{pieces_of}
-use Rattle.df_text.specs.declared.csv_fault.CsvFault.{CsvFault}
 use Rattle.df_text.specs.declared.document.FrameSource.{FrameSource}
 use Rattle.df_text.specs.declared.document.FrameSource.TheVariants as source
 use Rattle.df_text.specs.declared.document.FrameSpec.{FrameSpec}

@@ -6,9 +6,9 @@ use Rattle.df_expr.specs.declared.fault.ExprFault.{ExprFault}
 use Rattle.df_expr.specs.declared.fault.ExprFault.TheVariants as expr
 use Rattle.df_plan.specs.declared.fault.PlanFault.{PlanFault}
 use Rattle.df_plan.specs.declared.fault.PlanFault.TheVariants as plan
-use Rattle.df_text.specs.Printed.{escaped_text}
-use Rattle.df_text.specs.declared.csv_fault.CsvFault.{CsvFault}
-use Rattle.df_text.specs.declared.csv_fault.CsvFault.TheVariants as csv
+use Rattle.df_csv.specs.declared.csv_fault.CsvFault.{CsvFault}
+use Rattle.df_csv.specs.declared.csv_fault.CsvFault.TheVariants as csv
+use Rattle.df_print.specs.Printed.{escaped_text}
 use Rattle.df_text.specs.declared.document.Place.{Place}
 use Rattle.df_text.specs.declared.document.Place.TheVariants as place
 use Rattle.df_text.specs.declared.views_fault.ViewsFault.{ViewsFault}
@@ -55,6 +55,7 @@ plan_text (plan.DoubledName name) = named (codes "P3") name
 plan_text plan.TooDeep = codes "P5"
 plan_text plan.EmptyList = codes "P7"
 plan_text plan.TooWide = codes "P8"
+plan_text (plan.ConstantColumn name) = named (codes "P9") name
 plan_text (plan.WrongType name) = named (codes "P10") name
 plan_text plan.Memory = codes "memory"
 

@@ -125,6 +125,7 @@ fn plan_text(alloc: Global, fault: &PlanFault) -> Result<String, AllocError>
         PlanFault::TooDeep => String::from_str(alloc, "P5"),
         PlanFault::EmptyList => String::from_str(alloc, "P7"),
         PlanFault::TooWide => String::from_str(alloc, "P8"),
+        PlanFault::ConstantColumn(name) => named(alloc, "P9", name),
         PlanFault::WrongType(name) => named(alloc, "P10", name),
         PlanFault::Memory => String::from_str(alloc, "memory"),
     }

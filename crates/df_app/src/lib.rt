@@ -16,3 +16,5 @@ pub use running::{MOST_BYTES_OF_DOCUMENT, run};
 
 #[cfg(test)]
 mod tests;
+#[cfg(test)]
+mod tests_steps;

@@ -1,8 +1,8 @@
 //! The frames of a document in pieces: chunks of rows, or bad cells.
 ghost use Rattle.std.specs.Prelude.{◌≡◌, ◌++◌, ◌≤◌, [], IfOk, OnOk, length, map};
 ghost use Rattle.std.specs.List.{list_all};
-ghost use Rattle.df_text.specs.Records.{IsRecords};
-ghost use Rattle.df_text.specs.Typed.{pieces_of};
+ghost use Rattle.df_csv.specs.Records.{IsRecords};
+ghost use Rattle.df_csv.specs.Typed.{pieces_of};
 ghost use Rattle.df_app.specs.Output.{Answers, each_after, pieces_in, csv_of as csv_at, good_rows, is_good as is_good_piece, outcome_of, rows_of as rows_at};
 
 use crate::fault::RunFault;

@@ -23,7 +23,7 @@ fn sales(alloc: Global, csv: &str) -> Result<String, Fail> {
     Ok(format!(in alloc; "{SALES}text = \"\"\"\n{csv}\"\"\"\n{BY_REGION}")?)
 }
 
-fn writes(
+pub fn writes(
     rt: &impl Abort,
     alloc: Global,
     document: &str,
@@ -42,7 +42,7 @@ fn writes(
     Ok(())
 }
 
-fn fails(rt: &impl Abort, alloc: Global, document: &str, want: &str) -> Result<(), Fail> {
+pub fn fails(rt: &impl Abort, alloc: Global, document: &str, want: &str) -> Result<(), Fail> {
     let mut input = document.as_bytes();
     let mut output = Vec::new(alloc);
     let Err(fault) = run(alloc, &mut input, 1000, &mut output) else {
@@ -181,7 +181,7 @@ fn faults_of_documents(rt: HostRuntime) -> Result<(), Fail> {
 }
 
 // So many copies of a text, each with its number in the place of `#`.
-fn repeated(alloc: Global, n: usize, before: &str, after: &str) -> Result<String, Fail> {
+pub fn repeated(alloc: Global, n: usize, before: &str, after: &str) -> Result<String, Fail> {
     let mut text = String::new(alloc);
     for i in 0..n {
         let number = i.to_string(alloc)?;

@@ -11,7 +11,8 @@ use Rattle.df_value.specs.declared.cell.CellType.{CellType}
 use Rattle.df_value.specs.declared.cell.CellType.TheVariants as kind
 use Rattle.df_value.specs.declared.schema.SchemaFault.{SchemaFault}
 use Rattle.df_value.specs.SchemaFaults.{schema_fault}
-use Rattle.df_plan.specs.declared.plan.Plan.{Plan, Scan, GroupBy, the_lemmas}
+use Rattle.df_plan.specs.declared.plan.Plan.{Plan, Scan, Filter, Select, WithColumns, GroupBy, the_lemmas}
+use Rattle.df_expr.specs.declared.expr.Expr.{Expr}
 use Rattle.df_plan.specs.declared.plan.Agg.{Agg}
 use Rattle.df_text.specs.declared.document.FrameSpec.{FrameSpec}
 use Rattle.df_text.specs.declared.document.ViewSpec.{ViewSpec}
@@ -22,8 +23,10 @@ use Rattle.df_text.specs.declared.view_steps.StepWord.TheVariants as step_word
 use Rattle.df_text.specs.declared.views_fault.ViewsFault.{ViewsFault}
 use Rattle.df_text.specs.declared.views_fault.ViewsFault.TheVariants as fault
 use Rattle.df_text.specs.Reading.{read_each}
-use Rattle.df_text.specs.Tree.{keys_pass, text_in, array_in, table_in, first_in, pair_in, tree_of}
+use Rattle.df_text.specs.Tree.{keys_pass, text_in, array_in, table_in, first_in, only_in, pair_in, tree_of}
 use Rattle.df_text.specs.Frames.{column_of, type_of_word, entries_of_frame, unless_fault, schema_of, new_name, frame_of, frames_of}
+use Rattle.df_text.specs.Expressions.{expr_of}
+use Rattle.df_text.specs.RowWiseSteps.{item_of}
 use Rattle.df_text.specs.Steps.{aggregate_of, applied, step_of, step_of_word, steps_after}
 use Rattle.df_text.specs.Scans.{scans_below}
 use Rattle.df_text.specs.Document.{IsDocument, is_top_key, at_most, document_of, entries_of_view, found_frame, frame_named, new_view_name, tables_at, tables_of, view_of, views_of}
@@ -58,6 +61,15 @@ frame_base before d =
     let all = given (λ cs. All (λ (c : List ℕ × CellType). passes c ≡ true) cs) (read_each (column_of at) entries.columns) columns each are in
     rw (← kept_columns (length before) columns schema (schema_fault columns) same) (list_all-from_AllPass passes columns all))))))
 
+scans-Filter : (n : ℕ) (p : Plan) (e : Expr) → scans_below n (Filter p e) ≡ scans_below n p
+scans-Filter n p e = search (rules, the_lemmas)
+
+scans-Select : (n : ℕ) (p : Plan) (items : List (List ℕ × Expr)) → scans_below n (Select p items) ≡ scans_below n p
+scans-Select n p items = search (rules, the_lemmas)
+
+scans-WithColumns : (n : ℕ) (p : Plan) (items : List (List ℕ × Expr)) → scans_below n (WithColumns p items) ≡ scans_below n p
+scans-WithColumns n p items = search (rules, the_lemmas)
+
 scans-GroupBy : (n : ℕ) (p : Plan) (keys : List (List ℕ)) (aggs : List (List ℕ × Agg)) → scans_below n (GroupBy p keys aggs) ≡ scans_below n p
 scans-GroupBy n p keys aggs = search (rules, the_lemmas)
 
@@ -65,6 +77,12 @@ scans-Scan : (n i : ℕ) → scans_below n (Scan i) ≡ nat_lt i n
 scans-Scan n i = search (rules, the_lemmas)
 
 applied_scans : (n : ℕ) (at : Place) (word : StepWord) (input : Plan) (ds : List Data) → scans_below n input ≡ true → IfOk (applied at word input ds) (λ p. scans_below n p ≡ true)
+applied_scans n at step_word.Filter input ds h =
+    then_gives _ (only_in at ds) _ (λ d _. then_gives _ (expr_of at d) _ (λ e _. scans-Filter n input e ∙ h))
+applied_scans n at step_word.Select input ds h =
+    then_gives _ (read_each (item_of at) ds) _ (λ items _. scans-Select n input items ∙ h)
+applied_scans n at step_word.WithColumns input ds h =
+    then_gives _ (read_each (item_of at) ds) _ (λ items _. scans-WithColumns n input items ∙ h)
 applied_scans n at step_word.GroupBy input ds h =
     then_gives _ (first_in at ds) _ (λ k _. then_gives _ (array_in at k.0) _ (λ ks _.
     then_gives _ (read_each (text_in at) ks) _ (λ keys _. then_gives _ (read_each (aggregate_of at) k.1) _ (λ aggregates _.

@@ -1,12 +1,8 @@
 pub mod Document
-pub mod Fields
+pub mod Expressions
 pub mod Frames
-pub mod Header
-pub mod Printed
 pub mod Reading
-pub mod Records
-pub mod Rows
+pub mod RowWiseSteps
 pub mod Scans
 pub mod Steps
 pub mod Tree
-pub mod Typed

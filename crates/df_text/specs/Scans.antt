@@ -5,6 +5,9 @@ use Rattle.df_plan.specs.declared.plan.Plan.TheOpen.{Plan-F}
 
 abbrev pub scans_step : ℕ → Plan-F Bool → Bool
 scans_step n (Plan-F.Scan frame) = nat_lt frame n
+scans_step n (Plan-F.Filter input predicate) = input
+scans_step n (Plan-F.Select input items) = input
+scans_step n (Plan-F.WithColumns input items) = input
 scans_step n (Plan-F.GroupBy input keys aggregates) = input
 
 -- whether each frame that a plan reads has an index below this number

@@ -15,6 +15,7 @@ use Rattle.df_text.specs.declared.views_fault.ViewsFault.{ViewsFault}
 use Rattle.df_text.specs.declared.views_fault.ViewsFault.TheVariants as fault
 use Rattle.df_text.specs.Reading.{then_read, read_each}
 use Rattle.df_text.specs.Tree.{text_in, array_in, first_in, only_in, none_in}
+use Rattle.df_text.specs.RowWiseSteps.{filter_of, select_of, with_columns_of}
 
 -- the aggregate that a word names
 abbrev pub agg_of_word : Place → List ℕ → Result AggWord ViewsFault
@@ -39,18 +40,26 @@ aggregate_of at d =
 
 -- the step that a word names
 abbrev pub step_of_word : Place → List ℕ → Result StepWord ViewsFault
-step_of_word at w = if bytes_eq w (codes "group_by") then Ok step_word.GroupBy else Err (fault.Word at)
+step_of_word at w =
+    if bytes_eq w (codes "filter") then Ok step_word.Filter
+    else if bytes_eq w (codes "select") then Ok step_word.Select
+    else if bytes_eq w (codes "with_columns") then Ok step_word.WithColumns
+    else if bytes_eq w (codes "group_by") then Ok step_word.GroupBy
+    else Err (fault.Word at)
 
 -- an array of key names, and then any number of aggregates
-abbrev pub group_by : Place → Plan → List Data → Result Plan ViewsFault
-group_by at input ds =
+abbrev pub group_by_of : Place → Plan → List Data → Result Plan ViewsFault
+group_by_of at input ds =
     then_read (first_in at ds) (λ k. then_read (array_in at k.0) (λ ks.
     then_read (read_each (text_in at) ks) (λ keys. then_read (read_each (aggregate_of at) k.1) (λ aggregates.
     Ok (plan.GroupBy input keys aggregates)))))
 
 -- a step of this word, with the items after the word
 abbrev pub applied : Place → StepWord → Plan → List Data → Result Plan ViewsFault
-applied at step_word.GroupBy input ds = group_by at input ds
+applied at step_word.Filter input ds = filter_of at input ds
+applied at step_word.Select input ds = select_of at input ds
+applied at step_word.WithColumns input ds = with_columns_of at input ds
+applied at step_word.GroupBy input ds = group_by_of at input ds
 
 -- the plan after a step
 abbrev pub step_of : Place → Plan → Data → Result Plan ViewsFault

@@ -120,7 +120,7 @@ fn read_column(alloc: Global, place: Place, value: &Value) -> Result<(Text, Cell
 }
 
 /// The type that a word names.
-fn type_named(place: Place, word: &str) -> Result<CellType, ViewsFault>
+pub fn type_named(place: Place, word: &str) -> Result<CellType, ViewsFault>
     ensures { result ≡ type_of_word place word.now }
 {
     match word {

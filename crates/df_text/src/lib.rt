@@ -1,44 +1,35 @@
-//! Text in and text out: view documents, CSV files, printed tables, and the reading and writing of bytes.
+//! Text in and text out: the view document here, CSV files and printed tables in crates of their own.
 //!
-//! [`read_views`] reads the TOML document that names frames and views, [`parse_records`] and
-//! [`read_records`] the records of a CSV file, [`type_chunk`] makes chunks of them, and [`print_table`]
-//! prints a table. A new step of a view is a variant of `StepWord` with its arm in view_steps.rt.
+//! [`read_views`] reads the TOML document that names frames and views. What `df_csv` and `df_print`
+//! offer is offered here too, so that the code above names this crate alone.
+//!
+//! To add a step of a view: a variant of `StepWord` with its arms in `step_named` and `apply_step`
+//! (view_steps.rt, specs/Steps.antt), and that it reads no other frames in proofs/Sound.antt; the steps
+//! that make each row of one row are in row_wise_steps.rt. To add an operator of expressions: a variant of
+//! `UnaryWord` or `BinaryWord` with its arms in `form_named` and in `unary` or `binary` (expressions.rt,
+//! specs/Expressions.antt); one of another form is a variant of `ExprWord` with its arm in `read_form`.
 #![tactic(auto)]
 
-mod csv_fault;
-mod csv_header;
-mod csv_rows;
 mod document;
-mod escapes;
-mod fields;
+mod expressions;
 mod frames;
-mod io;
-mod pieces;
-mod printing;
-mod records;
+mod row_wise_steps;
 mod tree;
-mod typed;
 mod view_steps;
 mod views;
 mod views_fault;
-mod widths;
 
-pub use csv_fault::CsvFault;
+pub use df_csv::{
+    CsvFault, MOST_BYTES_OF_FILE, ReadLimitedFault, Records, count_pieces, parse_records,
+    read_limited, read_records, type_chunk, type_piece,
+};
+pub use df_print::{WriteFault, column_width, escape, print_table, write_text};
 pub use document::{FrameSource, FrameSpec, Place, ViewSpec, Views};
-pub use escapes::escape;
-pub use io::{ReadLimitedFault, WriteFault, read_limited, write_text};
-pub use pieces::{count_pieces, type_piece};
-pub use printing::print_table;
-pub use records::{MOST_BYTES_OF_FILE, Records, parse_records, read_records};
-pub use typed::type_chunk;
 pub use views::read_views;
 pub use views_fault::ViewsFault;
-pub use widths::column_width;
 
 #[cfg(test)]
-mod tests_printing;
-#[cfg(test)]
-mod tests_records;
+mod tests_expressions;
 #[cfg(test)]
 mod tests_steps;
 #[cfg(test)]

@@ -6,7 +6,7 @@ use std::alloc::{AllocError, Global};
 use std::test::Fail;
 
 // A frame `t` of an Int column `x`, and a view `v` over it with one step.
-fn with_step(alloc: Global, step: &str) -> Result<String, AllocError> {
+pub fn with_step(alloc: Global, step: &str) -> Result<String, AllocError> {
     let mut text = String::new(alloc);
     text.push_str("frame = [{name='t',columns=[['x','Int']],text='x'}]\n")?;
     text.push_str("view = [{name='v',from='t',steps=[")?;

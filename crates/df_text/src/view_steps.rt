@@ -3,9 +3,10 @@ ghost use Rattle.std.specs.Prelude.{◌≡◌, map, codes};
 ghost use Rattle.toml.specs.View.{view};
 ghost use Rattle.df_text.specs.Reading.{Answers, read_each};
 ghost use Rattle.df_text.specs.Tree.{text_in as text_of};
-ghost use Rattle.df_text.specs.Steps.{agg_of_word, output_of, aggregate_of, step_of_word, group_by as group_by_of, applied, step_of, steps_after};
+ghost use Rattle.df_text.specs.Steps.{agg_of_word, output_of, aggregate_of, step_of_word, group_by_of, applied, step_of, steps_after};
 
 use crate::document::Place;
+use crate::row_wise_steps::{filter, select, with_columns};
 use crate::tree::{array_in, first_in, none_in, only_in, text_in};
 use crate::views_fault::ViewsFault;
 use df_plan::{Agg, Plan};
@@ -15,6 +16,9 @@ use toml::Value;
 
 /// What the word of a step stands for.
 pub enum StepWord {
+    Filter,
+    Select,
+    WithColumns,
     GroupBy,
 }
 
@@ -46,6 +50,9 @@ fn apply_step(alloc: Global, place: Place, input: Plan, step: &Value) -> Result<
 {
     let (word, rest) = first_in(place, array_in(place, step)?)?;
     match step_named(place, text_in(place, word)?)? {
+        StepWord::Filter => filter(alloc, place, input, rest),
+        StepWord::Select => select(alloc, place, input, rest),
+        StepWord::WithColumns => with_columns(alloc, place, input, rest),
         StepWord::GroupBy => group_by(alloc, place, input, rest),
     }
 }
@@ -55,6 +62,9 @@ fn step_named(place: Place, word: &str) -> Result<StepWord, ViewsFault>
     ensures { result ≡ step_of_word place word.now }
 {
     match word {
+        "filter" => Ok(StepWord::Filter),
+        "select" => Ok(StepWord::Select),
+        "with_columns" => Ok(StepWord::WithColumns),
         "group_by" => Ok(StepWord::GroupBy),
         _ => Err(ViewsFault::Word(place)),
     }

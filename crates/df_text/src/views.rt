@@ -50,15 +50,20 @@ struct ViewEntries<'a> {
 /// missing one is empty. A frame has the keys `name`, `text` (the CSV itself) and `columns`, an array of
 /// arrays of a name and one of the words `Int`, `Text`, `Bool`. A view has the keys `name`, `from` (a
 /// frame's name) and perhaps `steps`, an array of at most 64 steps, which are applied in order; without
-/// one the view is the frame. The step is `["group_by", [key, ..], [output, "len"], [output, "sum",
-/// column], ..]`. Whether a frame has the columns that a plan names is not asked here.
+/// one the view is the frame. Whether a frame has the columns that a plan names is not asked here.
+///
+/// The steps are `["filter", expression]`, `["select", [output, expression], ..]`, `["with_columns",
+/// [output, expression], ..]` and `["group_by", [key, ..], [output, "len"], [output, "sum", column], ..]`.
+/// An expression is an integer, a Boolean or a text, which stands for itself; `["col", name]`; `["null",
+/// type]`; one of `~`, `is_null`, `is_not_null` before an expression; or one of `+`, `-`, `*`, `==`, `!=`,
+/// `<`, `<=`, `>`, `>=`, `&`, `|`, `eq_missing`, `fill_null` before two.
 ///
 /// Answered is the first fault in this order: `NotToml`; of the top `Shape`, `TooManyFrames` above 8,
 /// `TooManyViews` above 32; frame by frame `Shape` of its keys, column by column `Shape` before `Word`,
 /// then `Schema`, then `Doubled`; view by view `Shape` of its keys (also of more than 64 steps),
-/// `Doubled`, `NoFrame`, then step by step. Of a step comes its word (`Shape`, then `Word`), then the
-/// number of its items, then the items from left to right, each with its inside. Of an aggregate comes
-/// its word, then the number of its entries, its output and its column. `Memory` says that a growth was
+/// `Doubled`, `NoFrame`, then step by step. Of a step and of an expression comes the word (`Shape`, then
+/// `Word`), then the number of items, then the items from left to right, each with its inside. Of an
+/// aggregate comes its word, then the number of its entries, its output and its column. `Memory` says that a growth was
 /// refused, and can stand in the place of any other answer.
 pub fn read_views(alloc: Global, bytes: &[u8]) -> Result<Views, ViewsFault>
     ensures answer { Answers (document_of bytes.now) result }

@@ -1,7 +1,7 @@
 use Rattle.std.proofs.Common.{◌≡◌, ◌∙◌, length, add-one, arith}
 use Rattle.std.proofs.lemmas.List.{take_all}
 use Rattle.std.proofs.lemmas.List.FromFn.{length-map-range_with_len}
-use Rattle.df_text.specs.Typed.{piece_count, pieces_of}
+use Rattle.df_csv.specs.Typed.{piece_count, pieces_of}
 use Rattle.df_app.proofs.PlaceFacts.{take_more_at}
 use Rattle.df_app.proofs.pieces.pieces.Goals as goal
 

@@ -1,5 +1,5 @@
 use Rattle.std.proofs.Common.{◌≡◌, take}
-use Rattle.df_text.specs.Typed.{pieces_of}
+use Rattle.df_csv.specs.Typed.{pieces_of}
 use Rattle.df_app.proofs.pieces.pieces.Given as goal
 
 abbrev pub invariant-loop-n : goal.invariant-loop-n

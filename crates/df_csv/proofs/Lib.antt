@@ -1,0 +1,11 @@
+pub mod ChunkFacts
+pub mod CsvSteps
+pub mod FieldFacts
+pub mod Fuel
+pub mod HeaderFacts
+pub mod PieceFacts
+pub mod RowFacts
+pub mod SoundFacts
+pub mod TextFields
+pub mod TopFacts
+pub mod TypedWalks

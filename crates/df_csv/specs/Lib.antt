@@ -1,0 +1,5 @@
+pub mod Fields
+pub mod Header
+pub mod Records
+pub mod Rows
+pub mod Typed

@@ -1,0 +1,139 @@
+//! The header of a CSV file, and the marks before it.
+ghost use Rattle.std.specs.Prelude.{◌≡◌, ◌≢◌, None, [], MatchResult, IfOk, IsUtf8, map, position, unwrap_or};
+ghost use Rattle.std.specs.Option.{option_copied};
+ghost use Rattle.std.specs.Str.{bytes_eq};
+ghost use Rattle.csv.specs.Records.{AllText, field_at, fields_of};
+ghost use Rattle.df_csv.specs.Header.{count_named, doubled_column, header_fault, missing_column, place_of, starts_with_mark, without_marks};
+
+use crate::csv_fault::CsvFault;
+use csv::ByteRecord;
+use df_value::{CellType, Duplicate, Text};
+use std::alloc::{AllocError, Global};
+
+/// The text of these bytes.
+pub fn text_of(alloc: Global, bytes: &[u8]) -> Result<Text, AllocError>
+    requires { IsUtf8 bytes.now }
+    ensures { IfOk result (λ t. t ≡ bytes.now) }
+{
+    match str::from_utf8(bytes) {
+        Ok(text) => Text::from_str(alloc, text),
+        Err(_) => unreachable!(),
+    }
+}
+
+/// The field at this place, or an empty text where there is none.
+pub fn field_of(alloc: Global, row: &ByteRecord, place: usize) -> Result<Text, AllocError>
+    requires { AllText (fields_of row.now) }
+    ensures { IfOk result (λ t. t ≡ unwrap_or (field_at (fields_of row.now) place) []) }
+{
+    let field = row.get(place).unwrap_or(&[]);
+    text_of(alloc, field)
+}
+
+/// The fields of a record.
+#[tactic(auto, using(crate::proofs::HeaderFacts::take_field))]
+pub fn names_of(alloc: Global, row: &ByteRecord) -> Result<Vec<Text>, AllocError>
+    requires { AllText (fields_of row.now) }
+    ensures { IfOk result (λ v. v.items ≡ fields_of row.now) }
+{
+    let mut names = Vec::new(alloc);
+    for i in 0..row.len() {
+        names.push(field_of(alloc, row, i)?)?;
+    }
+    Ok(names)
+}
+
+/// How often a name stands in the header.
+fn count_in(header: &[Text], name: &Text) -> usize
+    ensures { result ≡ count_named header.now name.now }
+{
+    header.iter().filter(|h| **h == *name).count()
+}
+
+/// The first place of a name.
+fn find_in(header: &[Text], name: &Text) -> Option<usize>
+    ensures { result ≡ position (λ h. bytes_eq h name.now) header.now }
+{
+    header.iter().position(|h| *h == *name)
+}
+
+/// The first place of a name, or 0.
+fn place_in(header: &[Text], name: &Text) -> usize
+    ensures { result ≡ place_of header.now name.now }
+{
+    find_in(header, name).unwrap_or(0)
+}
+
+/// The places of the columns.
+fn all_places(
+    alloc: Global,
+    header: &[Text],
+    columns: &[(Text, CellType)],
+) -> Result<Vec<usize>, AllocError>
+    ensures { IfOk result (λ v. v.items ≡ map (λ c. place_of header.now c.0) columns.now) }
+{
+    columns
+        .iter()
+        .map(|c| place_in(header, &c.0))
+        .collect(alloc)
+}
+
+/// The first column whose name stands twice in the header.
+fn first_doubled<'a>(
+    header: &[Text],
+    columns: &'a [(Text, CellType)],
+) -> Option<&'a (Text, CellType)>
+    ensures { option_copied result ≡ doubled_column header.now columns.now }
+{
+    columns.iter().find(|c| count_in(header, &c.0) > 1)
+}
+
+/// The first column whose name does not stand in the header.
+fn first_missing<'a>(
+    header: &[Text],
+    columns: &'a [(Text, CellType)],
+) -> Option<&'a (Text, CellType)>
+    ensures { option_copied result ≡ missing_column header.now columns.now }
+{
+    columns.iter().find(|c| count_in(header, &c.0) == 0)
+}
+
+/// Where the columns stand, or what is wrong with the header.
+pub fn places_of(
+    alloc: Global,
+    header: &[Text],
+    columns: &[(Text, CellType)],
+) -> Result<Vec<usize>, CsvFault>
+    ensures { MatchResult result
+        (λ v. (header_fault columns.now header.now ≡ None) × (v.items ≡ map (λ c. place_of header.now c.0) columns.now))
+        (λ e. e ≢ CsvFault.Memory → header_fault columns.now header.now ≡ Some e) }
+{
+    if let Some(column) = first_doubled(header, columns) {
+        return Err(CsvFault::DoubledHeader(column.0.copy(alloc)?));
+    }
+    if let Some(column) = first_missing(header, columns) {
+        return Err(CsvFault::MissingColumn(column.0.copy(alloc)?));
+    }
+    match all_places(alloc, header, columns) {
+        Ok(places) => Ok(places),
+        Err(_) => Err(CsvFault::Memory),
+    }
+}
+
+/// Whether a text begins with a mark.
+fn is_marked(text: &[u8]) -> bool
+    ensures { result ≡ starts_with_mark text.now }
+{
+    text.len() >= 3 && text[0] == 0xEF && text[1] == 0xBB && text[2] == 0xBF
+}
+
+/// A text without the marks at its start.
+pub fn skip_marks(bytes: &[u8]) -> &[u8]
+    ensures { result.now ≡ without_marks bytes.now }
+{
+    let mut rest = bytes;
+    while is_marked(rest) {
+        rest = &rest[3..];
+    }
+    rest
+}

@@ -1,0 +1,42 @@
+//! The fields of a CSV file as cells.
+ghost use Rattle.std.specs.Prelude.{◌≡◌, IfOk};
+ghost use Rattle.df_csv.specs.Fields.{bool_in, cell_in, int_in};
+
+use df_value::{Cell, CellType, Duplicate, Text};
+use std::alloc::{AllocError, Global};
+
+/// The integer that a text writes.
+fn int_of(text: &str) -> Option<i64>
+    ensures { result ≡ int_in text.now }
+{
+    text.parse::<i64>().ok()
+}
+
+/// The Boolean that a text names.
+fn bool_of(text: &str) -> Option<bool>
+    ensures { result ≡ bool_in text.now }
+{
+    if text.eq_ignore_ascii_case("true") {
+        return Some(true);
+    }
+    if text.eq_ignore_ascii_case("false") {
+        return Some(false);
+    }
+    None
+}
+
+/// The cell of a field in a column of this type: null where it is empty, and `None` where it is no
+/// value of the type.
+pub fn cell_of(alloc: Global, kind: CellType, field: &Text) -> Result<Option<Cell>, AllocError>
+    ensures { IfOk result (λ cell. cell ≡ cell_in kind field.now) }
+{
+    if field.is_empty() {
+        return Ok(Some(Cell::Null));
+    }
+    match kind {
+        CellType::Int => Ok(int_of(field.as_str()).map(Cell::Int)),
+        CellType::Bool => Ok(bool_of(field.as_str()).map(Cell::Bool)),
+        CellType::Text => Ok(Some(Cell::Text(field.copy(alloc)?))),
+        CellType::Wide | CellType::Frac => Ok(None),
+    }
+}

@@ -1,0 +1,126 @@
+//! The typed pieces of a CSV file.
+ghost use Rattle.std.specs.Prelude.{◌≡◌, ◌+◌, ◌<◌, ◌≤◌, ◌^◌, All, IfOk, None, drop, length, take};
+ghost use Rattle.df_value.specs.Chunks.{MakesChunk};
+ghost use Rattle.df_value.specs.ChunkFaults.{chunk_fault};
+ghost use Rattle.df_csv.specs.Records.{IsRecords};
+ghost use Rattle.df_csv.specs.Typed.{piece_of, row_of, rows_typed};
+
+use crate::fields::cell_of;
+use crate::records::Records;
+use df_value::{BadCell, CellType, Chunk, ChunkFault, List, Made, Row, Schema, Text};
+use std::alloc::{AllocError, Global};
+
+/// The row of a record, or the place of its first bad cell.
+#[derive(Debug, Drop)]
+pub enum TypedRow {
+    Good(Row),
+    Bad(usize),
+}
+
+/// The rows of records, or the first bad cell.
+#[derive(Debug, Drop)]
+pub enum TypedRows {
+    Good(List<Row>),
+    Bad(BadCell),
+}
+
+/// The row of a record.
+fn type_row(
+    alloc: Global,
+    columns: &[(Text, CellType)],
+    fields: &[Text],
+) -> Result<TypedRow, AllocError>
+    requires { length fields.now ≡ length columns.now }
+    ensures { IfOk result (λ row. row ≡ row_of columns.now fields.now) }
+{
+    let mut cells = Vec::with_capacity(alloc, columns.len())?;
+    for i in 0..columns.len() {
+        let Some(cell) = cell_of(alloc, columns[i].1, &fields[i])? else {
+            return Ok(TypedRow::Bad(i));
+        };
+        cells.push(cell)?;
+    }
+    Ok(TypedRow::Good(List::from_vec(cells)))
+}
+
+/// The rows of records, the first of which has this number.
+fn type_rows(
+    alloc: Global,
+    columns: &[(Text, CellType)],
+    records: &[List<Text>],
+    number: u64,
+) -> Result<TypedRows, AllocError>
+    requires even { All (λ r. length r ≡ length columns.now) records.now }
+    requires numbered { number + length records.now < 2 ^ 64 }
+    ensures { IfOk result (λ rows. rows ≡ rows_typed columns.now number records.now) }
+{
+    let mut rows = Vec::with_capacity(alloc, records.len())?;
+    for i in 0..records.len() {
+        match type_row(alloc, columns, records[i].as_slice())? {
+            TypedRow::Good(row) => rows.push(row)?,
+            TypedRow::Bad(column) => {
+                let number = number + i as u64;
+                return Ok(TypedRows::Bad(BadCell { number, column }));
+            }
+        }
+    }
+    Ok(TypedRows::Good(List::from_vec(rows)))
+}
+
+/// The chunk of rows of which it is known that they make one.
+fn chunk_of(
+    alloc: Global,
+    schema: &Schema,
+    first: u32,
+    rows: List<Row>,
+) -> Result<Chunk, AllocError>
+    requires { chunk_fault schema.now first rows ≡ None }
+    ensures { IfOk result (λ chunk. MakesChunk schema.now first rows chunk) }
+{
+    match Chunk::new(alloc, schema, first, rows) {
+        Ok(chunk) => Ok(chunk),
+        Err(refused) => match refused.fault {
+            ChunkFault::Memory => Err(AllocError),
+            _ => unreachable!(),
+        },
+    }
+}
+
+/// The `len` records behind the first `first`.
+fn part(records: &[List<Text>], first: usize, len: usize) -> &[List<Text>]
+    requires { first + len ≤ length records.now }
+    ensures { result.now ≡ take len (drop first records.now) }
+{
+    let rest = &records[first..];
+    &rest[..len]
+}
+
+/// The typed piece of the `len` records behind the first `first`: the chunk of their rows, whose first
+/// number is `first`, or their first bad cell, by record and then by column.
+///
+/// An empty field is null. An Int is an optional sign and decimal digits, within i64; a Bool is `true`
+/// or `false`, where ASCII case is ignored; a Text is any other field. Anything else is a bad cell. The
+/// number of a bad cell is its record's in the file, from 1. `Err` says that memory was refused.
+pub fn type_chunk(
+    alloc: Global,
+    records: &Records,
+    schema: &Schema,
+    first: u32,
+    len: usize,
+) -> Result<Made, AllocError>
+    requires sound { IsRecords (length schema.now) records.now }
+    requires within { first + len ≤ length records.now }
+    requires short { len ≤ 65536 }
+    ensures { IfOk result (λ made. made ≡ piece_of schema.now first (take len (drop first records.now))) }
+{
+    let records = part(records.rows().as_slice(), first as usize, len);
+    match type_rows(
+        alloc,
+        schema.columns().as_slice(),
+        records,
+        first as u64 + 1,
+    )? {
+        TypedRows::Good(rows) => Ok(Made::Good(chunk_of(alloc, schema, first, rows)?)),
+        TypedRows::Bad(cell) => Ok(Made::Bad(cell)),
+    }
+}

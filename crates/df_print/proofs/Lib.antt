@@ -1,0 +1,5 @@
+pub mod ColumnFacts
+pub mod Known
+pub mod LineFacts
+pub mod SpaceFacts
+pub mod TableFacts

@@ -1,0 +1,155 @@
+//! Printed tables.
+ghost use Rattle.std.specs.Prelude.{◌≡◌, ◌++◌, codes, length, map, vec_len, IfOk, OnOk, string_bytes};
+ghost use Rattle.df_print.specs.Printed.{column_widths, gap, header_texts, is_left, padded, printed, printed_line, row_texts, title};
+
+use crate::escapes::escape;
+use crate::widths::{column_width, print_cell_at};
+use df_value::{CellType, Row, Schema, Text};
+use std::alloc::{AllocError, Global};
+use unicode_width::UnicodeWidthStr;
+
+/// A table as it is printed, in UTF-8: the title `name (R x C)` with the numbers of rows and columns, a
+/// line of the columns' names and one line for each row, each line ended by a newline.
+///
+/// Two spaces stand between two columns. Each name and cell is filled with spaces up to its column's
+/// width ([`column_width`]): at its right in a column of texts, else at its left. Null prints as `null`,
+/// whole numbers in decimal, a mean as its sum, `/` and its count. A row's cells beyond the schema's
+/// columns are passed over, and cells that are missing print as null.
+pub fn print_table(
+    alloc: Global,
+    name: &Text,
+    schema: &Schema,
+    rows: &[Row],
+) -> Result<Vec<u8>, AllocError>
+    ensures { IfOk result (λ v. v.items ≡ printed name.now schema.now rows.now) }
+{
+    let columns = schema.columns().as_slice();
+    let widths = print_widths(alloc, columns, rows)?;
+    let header = print_header(alloc, columns)?;
+    let mut out = print_title(alloc, name, columns.len(), rows.len())?;
+    push_line(&mut out, columns, widths.as_slice(), header.as_slice())?;
+    for row in rows {
+        push_row(alloc, &mut out, columns, widths.as_slice(), row)?;
+    }
+    Ok(out)
+}
+
+fn print_title(
+    alloc: Global,
+    name: &Text,
+    columns: usize,
+    rows: usize,
+) -> Result<Vec<u8>, AllocError>
+    ensures { IfOk result (λ v. v.items ≡ title name.now columns rows) }
+{
+    let mut out = escape(alloc, name.as_str())?;
+    let size = format!(in alloc; " ({rows} x {columns})\n")?;
+    out.push_str(size.as_str())?;
+    Ok(out.into_bytes())
+}
+
+fn print_widths(
+    alloc: Global,
+    columns: &[(Text, CellType)],
+    rows: &[Row],
+) -> Result<Vec<usize>, AllocError>
+    ensures widths { IfOk result (λ v. v.items ≡ column_widths columns.now rows.now) }
+    ensures len { IfOk result (λ v. length v.items ≡ length columns.now) }
+{
+    let mut widths = Vec::with_capacity(alloc, columns.len())?;
+    for i in 0..columns.len() {
+        widths.push(column_width(alloc, i, &columns[i].0, rows)?)?;
+    }
+    Ok(widths)
+}
+
+fn print_header(alloc: Global, columns: &[(Text, CellType)]) -> Result<Vec<String>, AllocError>
+    ensures texts { IfOk result (λ v. map string_bytes v.items ≡ header_texts columns.now) }
+    ensures len { IfOk result (λ v. length v.items ≡ length columns.now) }
+{
+    let mut texts = Vec::with_capacity(alloc, columns.len())?;
+    for column in columns {
+        texts.push(escape(alloc, column.0.as_str())?)?;
+    }
+    Ok(texts)
+}
+
+fn print_row(alloc: Global, columns: usize, row: &Row) -> Result<Vec<String>, AllocError>
+    ensures texts { IfOk result (λ v. map string_bytes v.items ≡ row_texts columns row.now) }
+    ensures len { IfOk result (λ v. length v.items ≡ columns) }
+{
+    let mut texts = Vec::with_capacity(alloc, columns)?;
+    for at in 0..columns {
+        texts.push(print_cell_at(alloc, at, row)?)?;
+    }
+    Ok(texts)
+}
+
+// Appends a text, filled to a width.
+fn push_padded(out: &mut Vec<u8>, left: bool, width: usize, text: &str) -> Result<(), AllocError>
+    ensures { OnOk result (out.new.items ≡ out.old.items ++ padded left width text.now) }
+{
+    let fill = width.saturating_sub(text.width());
+    if left {
+        out.extend_from_slice(text.as_bytes())?;
+    }
+    for _ in 0..fill {
+        out.push(b' ')?;
+    }
+    if !left {
+        out.extend_from_slice(text.as_bytes())?;
+    }
+    Ok(())
+}
+
+// Appends the space before a cell.
+fn push_gap(out: &mut Vec<u8>, first: bool) -> Result<(), AllocError>
+    ensures { OnOk result (out.new.items ≡ out.old.items ++ gap first) }
+{
+    if !first {
+        out.extend_from_slice(b"  ")?;
+    }
+    Ok(())
+}
+
+fn is_text(kind: CellType) -> bool
+    ensures { result ≡ is_left kind }
+{
+    matches!(kind, CellType::Text)
+}
+
+// Appends a line: at each place the text there, filled to the width there.
+fn push_line(
+    out: &mut Vec<u8>,
+    columns: &[(Text, CellType)],
+    widths: &[usize],
+    texts: &[String],
+) -> Result<(), AllocError>
+    requires widths { length widths.now ≡ length columns.now }
+    requires texts { length texts.now ≡ length columns.now }
+    ensures { OnOk result (out.new.items ≡ out.old.items
+        ++ printed_line columns.now widths.now (map string_bytes texts.now)) }
+{
+    for i in 0..columns.len() {
+        push_gap(out, i == 0)?;
+        push_padded(out, is_text(columns[i].1), widths[i], texts[i].as_str())?;
+    }
+    out.push(b'\n')?;
+    Ok(())
+}
+
+// Appends the line of a row.
+fn push_row(
+    alloc: Global,
+    out: &mut Vec<u8>,
+    columns: &[(Text, CellType)],
+    widths: &[usize],
+    row: &Row,
+) -> Result<(), AllocError>
+    requires { length widths.now ≡ length columns.now }
+    ensures { OnOk result (out.new.items ≡ out.old.items
+        ++ printed_line columns.now widths.now (row_texts (length columns.now) row.now)) }
+{
+    let texts = print_row(alloc, columns.len(), row)?;
+    push_line(out, columns, widths, texts.as_slice())
+}

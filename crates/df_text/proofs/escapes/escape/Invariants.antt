@@ -1,6 +1,0 @@
-use Rattle.std.proofs.Common.{◌≡◌, string_bytes, flat_map}
-use Rattle.df_text.specs.Printed.{escaped_char}
-use Rattle.df_text.proofs.escapes.escape.Given as goal
-
-abbrev pub invariant-loop-c : goal.invariant-loop-c
-invariant-loop-c l = string_bytes l.out ≡ flat_map escaped_char l.yielded

@@ -1,6 +1,0 @@
-use Rattle.std.proofs.Common.{◌∙◌}
-use Rattle.df_text.proofs.FieldFacts.{int_read}
-use Rattle.df_text.proofs.fields.int_of.Goals as goal
-
-pub returns : goal.returns
-returns c = c.ok.ensures.value ∙ int_read c.args.text.now c.parse.result c.parse.ensures.value.0

@@ -1,7 +1,0 @@
-use Rattle.std.proofs.Common.{◌≡◌, drop}
-use Rattle.df_text.proofs.TypedWalks.{after_cells}
-use Rattle.df_text.specs.Typed.{row_from, row_of}
-use Rattle.df_text.proofs.typed.type_row.Given as goal
-
-abbrev pub invariant-loop-i : goal.invariant-loop-i
-invariant-loop-i l = row_of l.columns l.fields ≡ after_cells l.cells.items (row_from l.i (drop l.i l.columns) (drop l.i l.fields))

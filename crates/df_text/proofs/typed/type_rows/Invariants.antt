@@ -1,7 +1,0 @@
-use Rattle.std.proofs.Common.{◌≡◌, ◌+◌, drop}
-use Rattle.df_text.proofs.TypedWalks.{after_typed}
-use Rattle.df_text.specs.Typed.{rows_typed}
-use Rattle.df_text.proofs.typed.type_rows.Given as goal
-
-abbrev pub invariant-loop-i : goal.invariant-loop-i
-invariant-loop-i l = rows_typed l.columns l.number l.records ≡ after_typed l.rows.items (rows_typed l.columns (l.number + l.i) (drop l.i l.records))
