@@ -10,7 +10,7 @@ whole arith.Add a b = a +ℤ b
 whole arith.Sub a b = a -ℤ b
 whole arith.Mul a b = a *ℤ b
 
--- the 64-bit integer that is left of a whole number (that it is the one below is a clause of `ArithOp::apply`)
+-- a whole number wrapped at 64 bits; a clause of `ArithOp::apply` says that it is as `IsWrapped` says
 abbrev pub wrapped : ℤ → ℤ
 wrapped z = int_wrap w64 z
 

@@ -123,7 +123,8 @@ no_text_step schema (Expr-F.IsNull a) = a
 no_text_step schema (Expr-F.IsNotNull a) = a
 no_text_step schema (Expr-F.FillNull a b) = a && b
 
--- whether no column and no literal of an expression is a text, so that no node of it has type Text
+-- whether no column and no literal of an expression has type Text; then, where it checks, no node has, since the
+-- type of an operator is Int, Bool or that of an operand
 abbrev pub no_text : Expr → List (List ℕ × CellType) → Bool
 no_text e schema = fold-Expr Bool (no_text_step schema) e
 

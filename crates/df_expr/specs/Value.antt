@@ -1,6 +1,6 @@
 -- The value of an expression in a row, as the Polars Python reference evaluates arithmetic, comparisons,
 -- `eq_missing`, `&`, `|`, `~`, `is_null`, `is_not_null` and `fill_null`: null spreads where nothing else is
--- said. An operand of a type that the check refuses gives null.
+-- said. Operands of types that the check refuses have some value too, so that the definition is total.
 use Rattle.std.specs.Prelude.{ℕ, Bool, true, false, List, Option, Some, None, not}
 use Rattle.std.specs.Ordering.{is_lt, is_le, is_gt, is_ge, is_eq}
 use Rattle.std.specs.declared.cmp.Ordering.{Ordering}
@@ -19,7 +19,7 @@ use Rattle.df_expr.specs.declared.expr.CompareOp.TheVariants as compare
 use Rattle.df_expr.specs.declared.expr.Expr.{Expr, fold-Expr}
 use Rattle.df_expr.specs.declared.expr.Expr.TheOpen.{Expr-F}
 
--- the whole-number result, wrapped at 64 bits; null where an operand is null
+-- the whole-number result, wrapped at 64 bits; null where an operand is null or no Int
 abbrev pub arith_of : ArithOp → Cell → Cell → Cell
 arith_of op (cell.Int a) (cell.Int b) = cell.Int (wrapped (whole op a b))
 arith_of op _ _ = cell.Null
@@ -42,7 +42,7 @@ abbrev pub is_null : Cell → Bool
 is_null cell.Null = true
 is_null _ = false
 
--- what a cell says as a truth: none for null
+-- what a cell says as a truth: none for null, and for a cell that is no Bool
 abbrev pub truth_of : Cell → Option Bool
 truth_of (cell.Bool b) = Some b
 truth_of _ = None

@@ -9,7 +9,7 @@ impl ArithOp {
     pub fn apply(self, a: i64, b: i64) -> i64
         ensures value { result ≡ wrapped (whole self a b) }
 
-        // It is the one i64 that equals the whole-number result modulo 2^64.
+        // It equals the whole-number result modulo 2^64.
         ensures modulo { IsWrapped (whole self a b) result }
     {
         match self {

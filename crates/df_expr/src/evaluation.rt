@@ -15,7 +15,7 @@ use std::alloc::{AllocError, Global};
 
 /// The value of an expression in a row of a table with this schema. Counts one evaluation.
 ///
-/// Where the expression does not check against the schema, an operand of a wrong type gives null.
+/// An expression that does not check against the schema has some value too, which says nothing.
 pub fn eval(
     alloc: Global,
     expr: &Expr,
@@ -38,7 +38,8 @@ pub fn eval(
     value(alloc, expr, schema.columns().as_slice(), row)
 }
 
-/// As [`eval`], over columns that need not be a schema, and without a count.
+/// As [`eval`], over columns that need not be a schema, and without a count: for the plain evaluation of
+/// whole tables, which counts no work.
 pub fn value(
     alloc: Global,
     expr: &Expr,

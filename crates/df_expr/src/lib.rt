@@ -1,7 +1,10 @@
-//! Expressions over the cells of a row, and their check against a schema.
+//! Expressions over the cells of a row: their check against a schema and their value.
 //!
-//! To add a form: a variant of [`Expr`] with its arms in `copy` and `same_expr` (expr.rt), its type and
-//! its levels in specs/Typing.antt, and the arms of `type_of` and `is_within` (typing.rt).
+//! [`check`] gives the type of an [`Expr`] or its first fault, [`eval`] its value in a row, which is null or
+//! of that type. To add a form: a variant of [`Expr`] with its arms in `copy` and `same_expr` (expr.rt); its
+//! type, levels and leaves in specs/Typing.antt with the arms of `type_of`, `is_within` and `names_column`
+//! (typing.rt); its value in `value_step` (specs/Value.antt) and `value` (evaluation.rt); and that its value has
+//! its type in `step` (proofs/Sound.antt).
 #![tactic(auto)]
 
 mod arithmetic;

@@ -39,7 +39,7 @@ pub fn kleene_not(a: Option<bool>) -> Option<bool>
     a.map(|truth| !truth)
 }
 
-// What a cell says as a truth: none for null.
+// What a cell says as a truth: none for null, and for a cell that is no Bool.
 pub fn truth_of(cell: &Cell) -> Option<bool>
     ensures { result ≡ truth_of_cell cell.now }
 {

@@ -14,8 +14,9 @@ pub const MOST_LEVELS: u32 = 32;
 /// The type of an expression over the columns of a schema.
 ///
 /// Refused is first an expression of more than 32 levels. Then comes the first fault of a walk that
-/// visits operands from left to right and then their node: a column that the schema does not have, or
-/// operands of a wrong type. Memory is asked for only to name the missing column.
+/// visits operands from left to right and then their node: a column that the schema does not have, a
+/// literal of another type than stated or of type Wide or Frac, or operands of a wrong type. Memory is
+/// asked for only to name the missing column.
 pub fn check(alloc: Global, expr: &Expr, schema: &Schema) -> Result<CellType, ExprFault>
     ensures { Answers (checked expr.now schema.now) result }
 {
@@ -33,8 +34,9 @@ pub fn names_column(expr: &Expr) -> bool
         Expr::Column(_) => true,
         Expr::Literal(_, _) => false,
         Expr::Not(a) | Expr::IsNull(a) | Expr::IsNotNull(a) => names_column(a.get()),
-        Expr::Arith(_, a, b) => names_column(a.get()) || names_column(b.get()),
-        Expr::Compare(_, a, b) => names_column(a.get()) || names_column(b.get()),
+        Expr::Arith(_, a, b) | Expr::Compare(_, a, b) => {
+            names_column(a.get()) || names_column(b.get())
+        }
         Expr::EqMissing(a, b) | Expr::And(a, b) | Expr::Or(a, b) | Expr::FillNull(a, b) => {
             names_column(a.get()) || names_column(b.get())
         }
@@ -52,8 +54,9 @@ fn is_within(expr: &Expr, most: u32) -> bool
     match expr {
         Expr::Column(_) | Expr::Literal(_, _) => true,
         Expr::Not(a) | Expr::IsNull(a) | Expr::IsNotNull(a) => is_within(a.get(), below),
-        Expr::Arith(_, a, b) => is_within(a.get(), below) && is_within(b.get(), below),
-        Expr::Compare(_, a, b) => is_within(a.get(), below) && is_within(b.get(), below),
+        Expr::Arith(_, a, b) | Expr::Compare(_, a, b) => {
+            is_within(a.get(), below) && is_within(b.get(), below)
+        }
         Expr::EqMissing(a, b) | Expr::And(a, b) | Expr::Or(a, b) | Expr::FillNull(a, b) => {
             is_within(a.get(), below) && is_within(b.get(), below)
         }
@@ -71,12 +74,7 @@ fn type_of(alloc: Global, expr: &Expr, schema: &Schema) -> Result<CellType, Expr
             let b = type_of(alloc, b.get(), schema)?;
             arith_type(a, b)
         }
-        Expr::Compare(_, a, b) => {
-            let a = type_of(alloc, a.get(), schema)?;
-            let b = type_of(alloc, b.get(), schema)?;
-            compare_type(a, b)
-        }
-        Expr::EqMissing(a, b) => {
+        Expr::Compare(_, a, b) | Expr::EqMissing(a, b) => {
             let a = type_of(alloc, a.get(), schema)?;
             let b = type_of(alloc, b.get(), schema)?;
             compare_type(a, b)

@@ -1,21 +1,22 @@
--- What the check of a group-by finds: the columns that the group-by then has.
+-- What the check of a node finds: the columns that the node's table then has.
 use Rattle.std.proofs.Common.{◌≡◌, ℕ, ◌∙◌, Bool, true, false, cond, List, [], ◌∷◌, ◌++◌, length, map, refl, ap, sym, append_assoc, append-nil}
-use Rattle.std.specs.Prelude.{Ok, Err, Option, Some, None, Result, unwrap_or, nat_lt}
+use Rattle.std.specs.Prelude.{Ok, Err, Option, Some, None, unwrap_or, nat_lt}
+use Rattle.std.specs.List.{AllByRecursion}
 use Rattle.df_value.specs.declared.cell.CellType.{CellType}
 use Rattle.df_value.specs.declared.cell.CellType.TheVariants as kind
 use Rattle.df_value.specs.Schemas.{type_in, doubled_after}
+use Rattle.df_expr.specs.declared.expr.Expr.{Expr}
 use Rattle.df_plan.specs.Meaning.{key_column, aggregate_column, type_of_aggregate, grouped_columns}
-use Rattle.df_plan.specs.Checks.{Columns, Checked, key_type, sum_type, aggregate_type, with_type, keys_after, aggregates_after, settled, settled_at, group_checked, then_checked, checked, columns_of}
+use Rattle.df_plan.specs.Placed.{placed}
+use Rattle.df_plan.specs.RowWise.{item_column, added_columns}
+use Rattle.df_plan.specs.ItemChecks.{Columns, Checked, Kind, Column, key_type, sum_type, aggregate_type, checked_key, checked_aggregate, checked_output, checked_added, with_column, each_after}
+use Rattle.df_plan.specs.Checks.{settled, settled_at, put_checked, filter_checked, select_checked, with_checked, group_checked, then_checked, checked, columns_of}
 use Rattle.df_plan.specs.declared.fault.PlanFault.{PlanFault}
 use Rattle.df_plan.specs.declared.fault.PlanFault.TheVariants as fault
 use Rattle.df_plan.specs.declared.plan.Agg.{Agg}
 use Rattle.df_plan.specs.declared.plan.Agg.TheVariants as agg
 use Rattle.df_plan.specs.declared.plan.Plan.{Plan}
-
--- each key names a column
-abbrev pub AreColumns : Columns → List (List ℕ) → Type 0
-AreColumns columns [] = Unit {0}
-AreColumns columns (name ∷ names) = ((t : CellType) × (type_in name columns ≡ Some t)) × AreColumns columns names
+use Rattle.df_plan.proofs.ItemKinds.{HasKind, output_found, added_found, named_ok}
 
 pub then_ok :
     (c : Checked) (next : Columns → Checked) (cs : Columns) → then_checked c next ≡ Ok cs →
@@ -24,10 +25,29 @@ then_ok (Ok o) next cs h = (o, (refl, h))
 then_ok (Err f) next cs h = cc
 
 with_ok :
-    (r : Result CellType PlanFault) (next : CellType → Checked) (cs : Columns) → with_type r next ≡ Ok cs →
-    (t : CellType) × ((r ≡ Ok t) × (next t ≡ Ok cs))
-with_ok (Ok t) next cs h = (t, (refl, h))
+    (r : Column) (next : List ℕ × CellType → Checked) (cs : Columns) → with_column r next ≡ Ok cs →
+    (c : List ℕ × CellType) × ((r ≡ Ok c) × (next c ≡ Ok cs))
+with_ok (Ok c) next cs h = (c, (refl, h))
 with_ok (Err f) next cs h = cc
+
+-- each item gives the column that f gives, and P holds of it
+each_found :
+    {T : Type 0} (column : T → Column) (f : T → List ℕ × CellType) (P : T → Type 0) →
+    ((x : T) (c : List ℕ × CellType) → column x ≡ Ok c → (c ≡ f x) × P x) →
+    (out : Columns) (xs : List T) (o : Columns) → each_after column out xs ≡ Ok o → (o ≡ out ++ map f xs) × AllByRecursion P xs
+each_found column f P found out [] o h =
+    let same : o ≡ out = cc in
+    (same ∙ sym (append-nil out), tt)
+each_found column f P found out (x ∷ xs) o h =
+    let here = with_ok (column x) (λ c. each_after column (out ++ c ∷ []) xs) o h in
+    let is = found x here.0 here.1.0 in
+    let rest = each_found column f P found (out ++ here.0 ∷ []) xs o here.1.1 in
+    let joined : (out ++ here.0 ∷ []) ++ map f xs ≡ out ++ here.0 ∷ map f xs = simp append_assoc in
+    (rest.0 ∙ (joined ∙ ap (λ (c : List ℕ × CellType). out ++ c ∷ map f xs) is.0), (is.1, rest.1))
+
+-- a key names a column
+abbrev pub IsColumn : Columns → List ℕ → Type 0
+IsColumn columns name = (t : CellType) × (type_in name columns ≡ Some t)
 
 key_is : (name : List ℕ) (o : Option CellType) (t : CellType) → key_type name o ≡ Ok t → o ≡ Some t
 key_is name None t h = cc
@@ -37,19 +57,13 @@ key_is name (Some kind.Wide) t h = cc
 key_is name (Some kind.Text) t h = cc
 key_is name (Some kind.Bool) t h = cc
 
-keys_found :
-    (columns out : Columns) (names : List (List ℕ)) (o : Columns) → keys_after columns out names ≡ Ok o →
-    (o ≡ out ++ map (key_column columns) names) × AreColumns columns names
-keys_found columns out [] o h =
-    let same : o ≡ out = cc in
-    (same ∙ sym (append-nil out), tt)
-keys_found columns out (name ∷ names) o h =
-    let typed = with_ok (key_type name (type_in name columns)) (λ t. keys_after columns (out ++ (name, t) ∷ []) names) o h in
+key_found :
+    (columns : Columns) (name : List ℕ) (c : List ℕ × CellType) → checked_key columns name ≡ Ok c →
+    (c ≡ key_column columns name) × IsColumn columns name
+key_found columns name c h =
+    let typed = named_ok name (key_type name (type_in name columns)) c h in
     let is : type_in name columns ≡ Some typed.0 = key_is name (type_in name columns) typed.0 typed.1.0 in
-    let rest = keys_found columns (out ++ (name, typed.0) ∷ []) names o typed.1.1 in
-    let tail = map (key_column columns) names in
-    let joined : (out ++ (name, typed.0) ∷ []) ++ tail ≡ out ++ (name, typed.0) ∷ tail = simp append_assoc in
-    (rest.0 ∙ (joined ∙ ap (λ (u : Option CellType). out ++ (name, unwrap_or u kind.Int) ∷ tail) (sym is)), ((typed.0, is), rest.1))
+    (typed.1.1 ∙ ap (λ (u : Option CellType). (name, unwrap_or u kind.Int)) (sym is), (typed.0, is))
 
 sum_is : (name : List ℕ) (o : Option CellType) (t : CellType) → sum_type name o ≡ Ok t → t ≡ kind.Wide
 sum_is name None t h = cc
@@ -63,19 +77,12 @@ aggregate_is : (columns : Columns) (a : Agg) (t : CellType) → aggregate_type c
 aggregate_is columns agg.Len t h = cc
 aggregate_is columns (agg.Sum name) t h = sum_is name (type_in name columns) t h
 
-aggregates_found :
-    (columns out : Columns) (aggs : List (List ℕ × Agg)) (o : Columns) → aggregates_after columns out aggs ≡ Ok o →
-    o ≡ out ++ map aggregate_column aggs
-aggregates_found columns out [] o h =
-    let same : o ≡ out = cc in
-    same ∙ sym (append-nil out)
-aggregates_found columns out (a ∷ as') o h =
-    let typed = with_ok (aggregate_type columns a.1) (λ t. aggregates_after columns (out ++ (a.0, t) ∷ []) as') o h in
-    let is : typed.0 ≡ type_of_aggregate a.1 = aggregate_is columns a.1 typed.0 typed.1.0 in
-    let rest = aggregates_found columns (out ++ (a.0, typed.0) ∷ []) as' o typed.1.1 in
-    let tail = map aggregate_column as' in
-    let joined : (out ++ (a.0, typed.0) ∷ []) ++ tail ≡ out ++ (a.0, typed.0) ∷ tail = simp append_assoc in
-    rest ∙ (joined ∙ ap (λ (t : CellType). out ++ (a.0, t) ∷ tail) is)
+aggregate_found :
+    (columns : Columns) (a : List ℕ × Agg) (c : List ℕ × CellType) → checked_aggregate columns a ≡ Ok c →
+    (c ≡ aggregate_column a) × Unit {0}
+aggregate_found columns a c h =
+    let typed = named_ok a.0 (aggregate_type columns a.1) c h in
+    (typed.1.1 ∙ ap (λ (t : CellType). (a.0, t)) (aggregate_is columns a.1 typed.0 typed.1.0), tt)
 
 chosen : (b : Bool) (cs o : Columns) (f : PlanFault) → cond {A = Checked} b (Err f) (Ok cs) ≡ Ok o → o ≡ cs
 chosen true cs o f h = cc
@@ -86,17 +93,44 @@ settled_is_at cs (Some name) o h = cc
 settled_is_at [] None o h = cc
 settled_is_at (c ∷ cs) None o h = chosen (nat_lt 32 (length (c ∷ cs))) (c ∷ cs) o fault.TooWide h
 
+pub filter_found : (columns : Columns) (k : Kind) (cs : Columns) → filter_checked columns k ≡ Ok cs → cs ≡ columns
+filter_found columns (Ok kind.Bool) cs h = cc
+filter_found columns (Ok kind.Int) cs h = cc
+filter_found columns (Ok kind.Wide) cs h = cc
+filter_found columns (Ok kind.Text) cs h = cc
+filter_found columns (Ok kind.Frac) cs h = cc
+filter_found columns (Err f) cs h = cc
+
+pub select_found :
+    (columns : Columns) (items : List (List ℕ × Expr)) (cs : Columns) → select_checked columns items ≡ Ok cs →
+    (cs ≡ map (item_column columns) items) × AllByRecursion (HasKind columns) items
+select_found columns [] cs h = cc
+select_found columns (i ∷ items) cs h =
+    let first = then_ok (each_after (checked_output columns) [] (i ∷ items)) settled cs h in
+    let each = each_found (checked_output columns) (item_column columns) (HasKind columns) (output_found columns) [] (i ∷ items) first.0 first.1.0 in
+    let of_all = settled_is_at first.0 (doubled_after [] first.0) cs first.1.1 in
+    (of_all ∙ each.0, each.1)
+
+pub with_found :
+    (columns : Columns) (items : List (List ℕ × Expr)) (cs : Columns) → with_checked columns items ≡ Ok cs →
+    (cs ≡ added_columns columns items) × AllByRecursion (HasKind columns) items
+with_found columns items cs h =
+    let first = then_ok (each_after (checked_added columns) [] items) (put_checked columns) cs h in
+    let each = each_found (checked_added columns) (item_column columns) (HasKind columns) (added_found columns) [] items first.0 first.1.0 in
+    let of_all = settled_is_at (placed columns first.0) (doubled_after [] first.0) cs first.1.1 in
+    (of_all ∙ ap (λ (added : Columns). placed columns added) each.0, each.1)
+
 pub group_found :
     (columns : Columns) (keys : List (List ℕ)) (aggs : List (List ℕ × Agg)) (cs : Columns) →
-    group_checked columns keys aggs ≡ Ok cs → (cs ≡ grouped_columns columns keys aggs) × AreColumns columns keys
+    group_checked columns keys aggs ≡ Ok cs → (cs ≡ grouped_columns columns keys aggs) × AllByRecursion (IsColumn columns) keys
 group_found columns [] aggs cs h = cc
 group_found columns (k ∷ ks) aggs cs h =
-    let first = then_ok (keys_after columns [] (k ∷ ks)) (λ out. then_checked (aggregates_after columns out aggs) settled) cs h in
-    let second = then_ok (aggregates_after columns first.0 aggs) settled cs first.1.1 in
-    let of_keys = keys_found columns [] (k ∷ ks) first.0 first.1.0 in
-    let of_aggregates = aggregates_found columns first.0 aggs second.0 second.1.0 in
+    let first = then_ok (each_after (checked_key columns) [] (k ∷ ks)) (λ out. then_checked (each_after (checked_aggregate columns) out aggs) settled) cs h in
+    let second = then_ok (each_after (checked_aggregate columns) first.0 aggs) settled cs first.1.1 in
+    let of_keys = each_found (checked_key columns) (key_column columns) (IsColumn columns) (key_found columns) [] (k ∷ ks) first.0 first.1.0 in
+    let of_aggregates = each_found (checked_aggregate columns) aggregate_column (λ a. Unit {0}) (aggregate_found columns) first.0 aggs second.0 second.1.0 in
     let of_all = settled_is_at second.0 (doubled_after [] second.0) cs second.1.1 in
-    (of_all ∙ (of_aggregates ∙ ap (λ (o : Columns). o ++ map aggregate_column aggs) of_keys.0), of_keys.1)
+    (of_all ∙ (of_aggregates.0 ∙ ap (λ (o : Columns). o ++ map aggregate_column aggs) of_keys.0), of_keys.1)
 
 deep : (b : Bool) (c : Checked) (cs : Columns) (f : PlanFault) → cond {A = Checked} b (Err f) c ≡ Ok cs → c ≡ Ok cs
 deep true c cs f h = cc

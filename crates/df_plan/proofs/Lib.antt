@@ -1,5 +1,10 @@
 pub mod Choices
 pub mod Keys
 pub mod Partition
+pub mod Beside
+pub mod PlacedFacts
+pub mod RowWiseLaws
+pub mod ItemKinds
 pub mod Found
+pub mod RowWiseSound
 pub mod Sound

@@ -1,7 +1,7 @@
 -- The rows that a checked plan gives fit the schema that the check found.
-use Rattle.std.proofs.Common.{◌≡◌, ℕ, ◌<◌, ◌∙◌, Bool, true, false, zero, suc, List, [], ◌∷◌, ◌++◌, length, map, refl, ap, sym, subst, arith}
+use Rattle.std.proofs.Common.{◌≡◌, ℕ, ◌<◌, ◌∙◌, Bool, true, zero, suc, List, [], ◌∷◌, ◌++◌, length, map, refl, ap, sym, subst, arith}
 use Rattle.std.specs.Prelude.{IsTrue, Ok, Option, Some, None, ◌&&◌, option_map, slice_get, unwrap_or, nat_lt}
-use Rattle.std.specs.List.{list_any, list_all, position_or_len}
+use Rattle.std.specs.List.{list_any, list_all, position_or_len, AllByRecursion}
 use Rattle.std.specs.Str.{bytes_eq}
 use Rattle.std.proofs.lemmas.Grind.{common_steps}
 use Rattle.std.proofs.lemmas.List.Folds.{find_at, list_all-append}
@@ -16,8 +16,12 @@ use Rattle.df_value.specs.Rows.{row_fits, rows_fit, row_eq, cell_at}
 use Rattle.df_value.specs.Schemas.{type_in, position_of}
 use Rattle.df_plan.specs.Groups.{key_of, keys_of, group_of, distinct_after}
 use Rattle.df_plan.specs.declared.table.Table.{Table}
-use Rattle.df_plan.specs.Meaning.{key_column, aggregate_column, aggregate_of, places_of, grouped_columns, grouped, grouped_rows, group_row, frame_from, frames_fit, table_step, table_of}
-use Rattle.df_plan.specs.Checks.{Columns, Checked, then_checked, group_checked, frame_checked, check_step, columns_of, checked}
+use Rattle.df_plan.specs.Meaning.{key_column, aggregate_column, aggregate_of, places_of, grouped_columns, grouped, grouped_rows, group_row, filter_table, select_table, with_table, frame_from, frames_fit, table_step, table_of}
+use Rattle.df_plan.specs.RowWise.{item_column, keeps, filtered, selected_row, added_row, added_columns}
+use Rattle.df_expr.specs.declared.expr.Expr.{Expr}
+use Rattle.df_plan.proofs.ItemKinds.{HasKind}
+use Rattle.df_plan.specs.ItemChecks.{Columns, Checked, expr_type}
+use Rattle.df_plan.specs.Checks.{then_checked, filter_checked, select_checked, with_checked, group_checked, frame_checked, check_step, columns_of, checked}
 use Rattle.df_plan.specs.declared.plan.Agg.{Agg}
 use Rattle.df_plan.specs.declared.plan.Agg.TheVariants as agg
 use Rattle.df_plan.specs.declared.plan.Plan.{Plan}
@@ -25,22 +29,11 @@ use Rattle.df_plan.specs.declared.plan.Plan.TheOpen.{Plan-F}
 use Rattle.df_plan.specs.declared.plan.Plan.TheFolds.{fold-roll-Plan, ind-Plan, map-Plan}
 use Rattle.df_plan.specs.declared.plan.Plan.TheViews.{roll-Plan}
 use Rattle.df_plan.proofs.Choices.{either}
-use Rattle.df_plan.proofs.Found.{AreColumns, then_ok, group_found, checked_columns}
+use Rattle.df_plan.proofs.Found.{IsColumn, then_ok, filter_found, select_found, with_found, group_found, checked_columns}
+use Rattle.df_plan.proofs.RowWiseSound.{first_of_two, second_of_two, both_true, map_all, filter_all, selected_fit, added_fit}
 
 abbrev Rows : Type 0
 Rows = List (List Cell)
-
-first_of_two : (a b : Bool) → IsTrue (a && b) → IsTrue a
-first_of_two true b h = refl
-first_of_two false b h = cc
-
-second_of_two : (a b : Bool) → IsTrue (a && b) → IsTrue b
-second_of_two true b h = h
-second_of_two false b h = cc
-
-both_true : (a b : Bool) → IsTrue a → IsTrue b → IsTrue (a && b)
-both_true true b h k = k
-both_true false b h k = cc
 
 -- the cell beside a column fits its type
 cell_fits :
@@ -88,7 +81,7 @@ key_fits_at o t v e h = rw e h
 
 -- the key of a row that fits
 key_fits :
-    (columns : Columns) (row : List Cell) → IsTrue (row_fits columns row) → (names : List (List ℕ)) → AreColumns columns names →
+    (columns : Columns) (row : List Cell) → IsTrue (row_fits columns row) → (names : List (List ℕ)) → AllByRecursion (IsColumn columns) names →
     IsTrue (row_fits (map (key_column columns) names) (key_of (places_of columns names) row))
 key_fits columns row fits [] h = refl
 key_fits columns row fits (name ∷ names) h =
@@ -119,17 +112,9 @@ distinct_all p seen (r ∷ rs) h k =
     (list_all-append p seen (r ∷ []) ∙ both_true (list_all p seen) (p r && true) h (both_true (p r) true (first_of_two (p r) (list_all p rs) k) refl))
     (second_of_two (p r) (list_all p rs) k))
 
-map_all :
-    (p q : List Cell → Bool) (f : List Cell → List Cell) → ((r : List Cell) → IsTrue (p r) → IsTrue (q (f r))) →
-    (rs : Rows) → IsTrue (list_all p rs) → IsTrue (list_all q (map f rs))
-map_all p q f keeps [] h = refl
-map_all p q f keeps (r ∷ rs) h =
-    both_true (q (f r)) (list_all q (map f rs)) (keeps r (first_of_two (p r) (list_all p rs) h))
-    (map_all p q f keeps rs (second_of_two (p r) (list_all p rs) h))
-
 -- the rows of a group-by fit its columns
 pub groups_fit :
-    (t : Table) (keys : List (List ℕ)) (aggs : List (List ℕ × Agg)) → AreColumns t.columns keys → IsTrue (rows_fit t.columns t.rows) →
+    (t : Table) (keys : List (List ℕ)) (aggs : List (List ℕ × Agg)) → AllByRecursion (IsColumn t.columns) keys → IsTrue (rows_fit t.columns t.rows) →
     IsTrue (rows_fit (grouped_columns t.columns keys aggs) (grouped_rows t keys aggs))
 groups_fit t keys aggs named fit =
     let places = places_of t.columns keys in
@@ -153,10 +138,51 @@ group_has_rows c t keys aggs of_input cs h =
     let input = then_ok c (λ columns. group_checked columns keys aggs) cs h in
     let has = of_input input.0 input.1.0 in
     let found = group_found input.0 keys aggs cs input.1.1 in
-    let named = subst (λ (columns : Columns). AreColumns columns keys) (sym has.0) found.1 in
+    let named = subst (λ (columns : Columns). AllByRecursion (IsColumn columns) keys) (sym has.0) found.1 in
     let is : grouped_columns t.columns keys aggs ≡ cs = ap (λ (columns : Columns). grouped_columns columns keys aggs) has.0 ∙ sym found.0 in
     let fit = subst (λ (columns : Columns). IsTrue (rows_fit columns t.rows)) (sym has.0) has.1 in
     (is, subst (λ (columns : Columns). IsTrue (rows_fit columns (grouped_rows t keys aggs))) is (groups_fit t keys aggs named fit))
+
+filter_has_rows :
+    (c : Checked) (t : Table) (p : Expr) → HasRows c t →
+    HasRows (then_checked c (λ columns. filter_checked columns (expr_type p columns))) (filter_table t p)
+unfolding filter_table
+filter_has_rows c t p of_input cs h =
+    let input = then_ok c (λ columns. filter_checked columns (expr_type p columns)) cs h in
+    let has = of_input input.0 input.1.0 in
+    let is : input.0 ≡ cs = sym (filter_found input.0 (expr_type p input.0) cs input.1.1) in
+    let fit = filter_all (row_fits input.0) (keeps t.columns p) t.rows has.1 in
+    (has.0 ∙ is, subst (λ (columns : Columns). IsTrue (rows_fit columns (filtered t.columns p t.rows))) is fit)
+
+select_has_rows :
+    (c : Checked) (t : Table) (items : List (List ℕ × Expr)) → HasRows c t →
+    HasRows (then_checked c (λ columns. select_checked columns items)) (select_table t items)
+unfolding select_table
+select_has_rows c t items of_input cs h =
+    let input = then_ok c (λ columns. select_checked columns items) cs h in
+    let has = of_input input.0 input.1.0 in
+    let found = select_found input.0 items cs input.1.1 in
+    let typed = subst (λ (columns : Columns). AllByRecursion (HasKind columns) items) (sym has.0) found.1 in
+    let is : map (item_column t.columns) items ≡ cs = ap (λ (columns : Columns). map (item_column columns) items) has.0 ∙ sym found.0 in
+    let fit = subst (λ (columns : Columns). IsTrue (rows_fit columns t.rows)) (sym has.0) has.1 in
+    let rows = map_all (row_fits t.columns) (row_fits (map (item_column t.columns) items)) (selected_row t.columns items)
+    (λ r k. selected_fit t.columns r k items typed) t.rows fit in
+    (is, subst (λ (columns : Columns). IsTrue (rows_fit columns (map (selected_row t.columns items) t.rows))) is rows)
+
+with_has_rows :
+    (c : Checked) (t : Table) (items : List (List ℕ × Expr)) → HasRows c t →
+    HasRows (then_checked c (λ columns. with_checked columns items)) (with_table t items)
+unfolding with_table
+with_has_rows c t items of_input cs h =
+    let input = then_ok c (λ columns. with_checked columns items) cs h in
+    let has = of_input input.0 input.1.0 in
+    let found = with_found input.0 items cs input.1.1 in
+    let typed = subst (λ (columns : Columns). AllByRecursion (HasKind columns) items) (sym has.0) found.1 in
+    let is : added_columns t.columns items ≡ cs = ap (λ (columns : Columns). added_columns columns items) has.0 ∙ sym found.0 in
+    let fit = subst (λ (columns : Columns). IsTrue (rows_fit columns t.rows)) (sym has.0) has.1 in
+    let rows = map_all (row_fits t.columns) (row_fits (added_columns t.columns items)) (added_row t.columns items)
+    (λ r k. added_fit t.columns r k items typed) t.rows fit in
+    (is, subst (λ (columns : Columns). IsTrue (rows_fit columns (map (added_row t.columns items) t.rows))) is rows)
 
 -- where all frames fit their schemas, the frame of an index has rows that fit the schema there
 frame_rows :
@@ -190,6 +216,15 @@ step :
     HasRows (columns_of p schemas) (table_of p schemas frames)
 step schemas frames fit (Plan-F.Scan f) =
     rw (fold-roll-Plan Checked (check_step schemas), fold-roll-Plan Table (table_step schemas frames)) (scan_has_rows schemas frames fit f)
+step schemas frames fit (Plan-F.Filter a p) =
+    rw (fold-roll-Plan Checked (check_step schemas), fold-roll-Plan Table (table_step schemas frames))
+    (filter_has_rows (columns_of a.0 schemas) (table_of a.0 schemas frames) p a.1)
+step schemas frames fit (Plan-F.Select a items) =
+    rw (fold-roll-Plan Checked (check_step schemas), fold-roll-Plan Table (table_step schemas frames))
+    (select_has_rows (columns_of a.0 schemas) (table_of a.0 schemas frames) items a.1)
+step schemas frames fit (Plan-F.WithColumns a items) =
+    rw (fold-roll-Plan Checked (check_step schemas), fold-roll-Plan Table (table_step schemas frames))
+    (with_has_rows (columns_of a.0 schemas) (table_of a.0 schemas frames) items a.1)
 step schemas frames fit (Plan-F.GroupBy a keys aggs) =
     rw (fold-roll-Plan Checked (check_step schemas), fold-roll-Plan Table (table_step schemas frames))
     (group_has_rows (columns_of a.0 schemas) (table_of a.0 schemas frames) keys aggs a.1)

@@ -54,11 +54,12 @@ abbrev pub of_expr : Typed → Kind
 of_expr (Ok t) = Ok t
 of_expr (Err f) = Err (fault.Expr f)
 
-abbrev pub expr_type : Expr → Columns → Kind
+-- the type of an expression in a plan
+unfoldable pub expr_type : Expr → Columns → Kind
 expr_type e columns = of_expr (checked_expr e columns)
 
 -- an expression that names no column would say nothing of how many rows it has
-abbrev pub output_type : List ℕ → Expr → Kind → Kind
+unfoldable pub output_type : List ℕ → Expr → Kind → Kind
 output_type name e (Ok t) = if names_column e then Ok t else Err (fault.ConstantColumn name)
 output_type name e (Err f) = Err f
 

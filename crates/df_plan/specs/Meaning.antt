@@ -52,16 +52,16 @@ abbrev pub grouped : Table → List (List ℕ) → List (List ℕ × Agg) → Ta
 grouped t keys aggs = record { columns = grouped_columns t.columns keys aggs; rows = grouped_rows t keys aggs }
 
 -- the rows whose predicate is true
-abbrev pub filter_table : Table → Expr → Table
+unfoldable pub filter_table : Table → Expr → Table
 filter_table t p = record { columns = t.columns; rows = filtered t.columns p t.rows }
 
 -- a column for each item
-abbrev pub select_table : Table → List (List ℕ × Expr) → Table
+unfoldable pub select_table : Table → List (List ℕ × Expr) → Table
 select_table t items =
     record { columns = map (item_column t.columns) items; rows = map (selected_row t.columns items) t.rows }
 
 -- the items' columns put among the input's
-abbrev pub with_table : Table → List (List ℕ × Expr) → Table
+unfoldable pub with_table : Table → List (List ℕ × Expr) → Table
 with_table t items = record { columns = added_columns t.columns items; rows = map (added_row t.columns items) t.rows }
 
 -- the columns and rows of a frame, empty where either is missing

@@ -16,5 +16,5 @@ abbrev pub replaced : {T : Type 0} → List (List ℕ × T) → List ℕ × T �
 replaced added own = unwrap_or (find_name own.0 added) own
 
 -- each of one's own, replaced in its place by the added one of its name; then the added ones of new names, in order
-abbrev pub placed : {T : Type 0} → List (List ℕ × T) → List (List ℕ × T) → List (List ℕ × T)
+unfoldable pub placed : {T : Type 0} → List (List ℕ × T) → List (List ℕ × T) → List (List ℕ × T)
 placed own added = map (replaced added) own ++ filter (λ a. not (has_name a.0 own)) added

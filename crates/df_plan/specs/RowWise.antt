@@ -1,12 +1,12 @@
 -- Operators that look at one row at a time, as `filter`, `select` and `with_columns` of the Polars Python reference:
 -- every expression sees the input's row.
-use Rattle.std.specs.Prelude.{◌≡◌, ℕ, Bool, true, false, IsTrue, not, List, Option, filter, map, unwrap_or}
+use Rattle.std.specs.Prelude.{◌≡◌, ℕ, Bool, false, IsTrue, not, List, filter, map, unwrap_or}
 use Rattle.std.specs.List.{zip}
 use Rattle.df_value.specs.declared.cell.Cell.{Cell}
 use Rattle.df_value.specs.declared.cell.Cell.TheVariants as cell
 use Rattle.df_value.specs.declared.cell.CellType.{CellType}
 use Rattle.df_value.specs.declared.cell.CellType.TheVariants as kind
-use Rattle.df_value.specs.Rows.{cell_at, row_fits}
+use Rattle.df_value.specs.Rows.{cell_at}
 use Rattle.df_value.specs.Schemas.{position_of, type_in}
 use Rattle.df_expr.specs.declared.expr.Expr.{Expr, fold-Expr}
 use Rattle.df_expr.specs.declared.expr.Expr.TheOpen.{Expr-F}
@@ -37,7 +37,7 @@ is_true (cell.Bool b) = b
 is_true _ = false
 
 -- whether a row's predicate is true; null is not
-abbrev pub keeps : List (List ℕ × CellType) → Expr → List Cell → Bool
+unfoldable pub keeps : List (List ℕ × CellType) → Expr → List Cell → Bool
 keeps columns predicate row = is_true (value_of predicate columns row)
 
 -- the rows whose predicate is true, in their order
@@ -53,7 +53,7 @@ abbrev pub named_cells : List (List ℕ × CellType) → List Cell → List (Lis
 named_cells columns row = map (λ p. (p.0.0, p.1)) (zip columns row)
 
 -- a row in which the items' values are put among the cells as their columns are put among the columns
-abbrev pub added_row : List (List ℕ × CellType) → List (List ℕ × Expr) → List Cell → List Cell
+unfoldable pub added_row : List (List ℕ × CellType) → List (List ℕ × Expr) → List Cell → List Cell
 added_row columns items row = map (λ c. c.1) (placed (named_cells columns row) (map (item_cell columns row) items))
 
 -- the columns of such a row

@@ -91,8 +91,10 @@ fn check_select(alloc: Global, input: &Schema, items: &[(Text, Expr)]) -> Result
         return Err(PlanFault::EmptyList);
     }
     let out = List::from_vec(Vec::new(alloc));
-    let out = check_each::<(Text, Expr), Outputs>(alloc, input, out, items)?;
-    settled(alloc, out)
+    match check_each::<(Text, Expr), Outputs>(alloc, input, out, items) {
+        Ok(out) => settled(alloc, out),
+        Err(fault) => Err(fault),
+    }
 }
 
 fn check_added(alloc: Global, input: &Schema, items: &[(Text, Expr)]) -> Result<Schema, PlanFault>

@@ -60,6 +60,7 @@ impl ColumnOf<(Text, Agg)> for Aggregates {
 impl ColumnOf<(Text, Expr)> for Outputs {
     ghost column_of = { checked_output };
 
+    #[tactic(auto, unfolding(crate::specs::ItemChecks::output_type))]
     fn column(
         alloc: Global,
         input: &Schema,
@@ -126,6 +127,7 @@ fn aggregate_type(alloc: Global, input: &Schema, agg: &Agg) -> Result<CellType, 
 }
 
 /// The type of an expression in a plan.
+#[tactic(auto, unfolding(crate::specs::ItemChecks::expr_type))]
 pub fn expr_type(alloc: Global, input: &Schema, expr: &Expr) -> Result<CellType, PlanFault>
     ensures { Answers (type_of_expr expr.now input.now) result }
 {

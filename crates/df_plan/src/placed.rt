@@ -1,12 +1,14 @@
 //! Putting columns among others, by name.
 ghost use Rattle.std.specs.Prelude.{◌≡◌, ◌++◌, ◌∷◌, [], IfOk, OnOk, filter, map, not};
-ghost use Rattle.df_plan.specs.Placed.{has_name as name_stands, placed as placed_list, replaced};
+ghost use Rattle.std.specs.Option.{option_copied};
+ghost use Rattle.df_plan.specs.Placed.{find_name as found_name, has_name as name_stands, placed as placed_list, replaced};
 
 use df_value::{Duplicate, List, Text};
 use std::alloc::{AllocError, Global};
 
 /// Each of one's own, replaced in its place by the added one of its name; then the added ones of new
 /// names, in their order.
+#[tactic(auto, unfolding(crate::specs::Placed::placed))]
 pub fn placed<T: Duplicate>(
     alloc: Global,
     own: &[(Text, T)],
@@ -38,7 +40,13 @@ fn all_replaced<T: Duplicate>(
 fn replacement<'a, T>(own: &'a (Text, T), added: &'a [(Text, T)]) -> &'a (Text, T)
     ensures { result.now ≡ replaced added.now own.now }
 {
-    added.iter().find(|a| a.0 == own.0).unwrap_or(own)
+    find_name(&own.0, added).unwrap_or(own)
+}
+
+fn find_name<'a, T>(name: &Text, items: &'a [(Text, T)]) -> Option<&'a (Text, T)>
+    ensures { option_copied result ≡ found_name name.now items.now }
+{
+    items.iter().find(|item| item.0 == *name)
 }
 
 // Adds a copy of the item, if it has a new name.

@@ -13,6 +13,7 @@ use df_value::{Cell, CellType, Duplicate, List, Row, Text, type_of};
 use std::alloc::{AllocError, Global};
 
 /// The table with the rows whose predicate is true.
+#[tactic(auto, unfolding(crate::specs::Meaning::filter_table))]
 pub fn filter_table(alloc: Global, table: &Table, predicate: &Expr) -> Result<Table, AllocError>
     ensures { IfOk result (λ t. t ≡ table_filtered table.now predicate.now) }
 {
@@ -27,6 +28,7 @@ pub fn filter_table(alloc: Global, table: &Table, predicate: &Expr) -> Result<Ta
 }
 
 /// Copies of the rows whose predicate is true, in their order; a predicate that is null drops its row.
+#[tactic(auto, using(crate::proofs::RowWiseLaws::filtered_twice))]
 pub fn filtered(
     alloc: Global,
     columns: &[(Text, CellType)],
@@ -47,6 +49,7 @@ pub fn filtered(
 }
 
 // Adds a copy of the row, if its predicate is true.
+#[tactic(auto, unfolding(crate::specs::RowWise::keeps))]
 fn keep(
     alloc: Global,
     kept: &mut Vec<Row>,
@@ -73,6 +76,7 @@ fn is_true(cell: &Cell) -> bool
 }
 
 /// The table of the items' values.
+#[tactic(auto, unfolding(crate::specs::Meaning::select_table))]
 pub fn select_table(
     alloc: Global,
     table: &Table,
@@ -107,6 +111,7 @@ pub fn selected_row(
 }
 
 /// The table with the items' columns put among its own.
+#[tactic(auto, unfolding(crate::specs::Meaning::with_table))]
 pub fn with_table(alloc: Global, table: &Table, items: &[(Text, Expr)]) -> Result<Table, AllocError>
     ensures { IfOk result (λ t. t ≡ table_with table.now items.now) }
 {
@@ -132,6 +137,18 @@ pub fn added_row(
 
     // The columns that no item names keep their cells.
     ensures others { IsTrue (row_fits columns.now row.now) → IfOk result (KeepsOthers columns.now items.now row.now) }
+{
+    put_cells(alloc, columns, items, row)
+}
+
+#[tactic(auto, unfolding(crate::specs::RowWise::added_row))]
+fn put_cells(
+    alloc: Global,
+    columns: &[(Text, CellType)],
+    items: &[(Text, Expr)],
+    row: &Row,
+) -> Result<Row, AllocError>
+    ensures { IfOk result (λ r. r ≡ row_added columns.now items.now row.now) }
 {
     let own = named_cells(alloc, columns, row.as_slice())?;
     let values = item_cells(alloc, columns, items, row)?;

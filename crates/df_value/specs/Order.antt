@@ -1,5 +1,6 @@
 -- The order of cells, as the Polars Python reference sorts and compares them: numbers by size, strings by
--- their UTF-8 bytes, false before true. Means are not ordered, which is this project's own choice.
+-- their UTF-8 bytes, false before true. This project's own choice: sums and integers are types that do not
+-- compare with one another, and means are not ordered.
 use Rattle.std.specs.Prelude.{Option, Some, None}
 use Rattle.std.specs.Ordering.{nat_cmp, int_cmp, bool_cmp}
 use Rattle.std.specs.Cmp.Lexicographic.{slice_cmp}

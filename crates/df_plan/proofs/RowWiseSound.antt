@@ -1,0 +1,86 @@
+-- The rows that filter, select and with_columns give of rows that fit fit too.
+use Rattle.std.proofs.Common.{◌≡◌, ℕ, Bool, true, false, List, [], ◌∷◌, map, filter, refl}
+use Rattle.std.specs.Prelude.{IsTrue, ◌&&◌}
+use Rattle.std.specs.List.{list_all, AllByRecursion}
+use Rattle.df_value.specs.declared.cell.Cell.{Cell}
+use Rattle.df_value.specs.declared.cell.CellType.{CellType}
+use Rattle.df_value.specs.Cells.{fits_type}
+use Rattle.df_value.specs.Rows.{row_fits}
+use Rattle.df_expr.specs.declared.expr.Expr.{Expr}
+use Rattle.df_expr.specs.Value.{value_of}
+use Rattle.df_expr.proofs.Sound.{value_fits}
+use Rattle.df_plan.specs.ItemChecks.{Columns}
+use Rattle.df_plan.specs.Placed.{placed}
+use Rattle.df_plan.specs.RowWise.{kind_of, item_column, item_cell, selected_row, named_cells, added_row, added_columns}
+use Rattle.df_plan.proofs.Choices.{either}
+use Rattle.df_plan.proofs.Beside.{Beside, placed_beside}
+use Rattle.df_plan.proofs.ItemKinds.{HasKind}
+
+pub first_of_two : (a b : Bool) → IsTrue (a && b) → IsTrue a
+first_of_two true b h = refl
+first_of_two false b h = cc
+
+pub second_of_two : (a b : Bool) → IsTrue (a && b) → IsTrue b
+second_of_two true b h = h
+second_of_two false b h = cc
+
+pub both_true : (a b : Bool) → IsTrue a → IsTrue b → IsTrue (a && b)
+both_true true b h k = k
+both_true false b h k = cc
+
+pub map_all :
+    (p q : List Cell → Bool) (f : List Cell → List Cell) → ((r : List Cell) → IsTrue (p r) → IsTrue (q (f r))) →
+    (rs : List (List Cell)) → IsTrue (list_all p rs) → IsTrue (list_all q (map f rs))
+map_all p q f keeps [] h = refl
+map_all p q f keeps (r ∷ rs) h =
+    both_true (q (f r)) (list_all q (map f rs)) (keeps r (first_of_two (p r) (list_all p rs) h))
+    (map_all p q f keeps rs (second_of_two (p r) (list_all p rs) h))
+
+pub filter_all : (p q : List Cell → Bool) (rs : List (List Cell)) → IsTrue (list_all p rs) → IsTrue (list_all p (filter q rs))
+filter_all p q [] h = refl
+filter_all p q (r ∷ rs) h =
+    let rest = filter_all p q rs (second_of_two (p r) (list_all p rs) h) in
+    either (λ (l : List (List Cell)). IsTrue (list_all p l)) (q r) (r ∷ filter q rs) (filter q rs)
+    (both_true (p r) (list_all p (filter q rs)) (first_of_two (p r) (list_all p rs) h) rest) rest
+
+pub selected_fit :
+    (columns : Columns) (row : List Cell) → IsTrue (row_fits columns row) → (items : List (List ℕ × Expr)) →
+    AllByRecursion (HasKind columns) items → IsTrue (row_fits (map (item_column columns) items) (selected_row columns items row))
+selected_fit columns row fits [] typed = refl
+selected_fit columns row fits (i ∷ items) typed =
+    both_true (fits_type (kind_of i.1 columns) (value_of i.1 columns row)) (row_fits (map (item_column columns) items) (selected_row columns items row))
+    (value_fits columns row fits i.1 (kind_of i.1 columns) typed.0) (selected_fit columns row fits items typed.1)
+
+-- a cell stands beside a column of its name, whose type it fits
+abbrev FitsBeside : List ℕ × CellType → List ℕ × Cell → Type 0
+FitsBeside c v = (c.0 ≡ v.0) × IsTrue (fits_type c.1 v.1)
+
+fits_row : (columns : Columns) (cells : List (List ℕ × Cell)) → Beside FitsBeside columns cells → IsTrue (row_fits columns (map (λ v. v.1) cells))
+fits_row [] [] h = refl
+fits_row [] (v ∷ cells) h = absurd h
+fits_row (c ∷ columns) [] h = absurd h
+fits_row (c ∷ columns) (v ∷ cells) h =
+    both_true (fits_type c.1 v.1) (row_fits columns (map (λ v. v.1) cells)) h.0.1 (fits_row columns cells h.1)
+
+own_beside : (columns : Columns) (row : List Cell) → IsTrue (row_fits columns row) → Beside FitsBeside columns (named_cells columns row)
+own_beside [] [] h = tt
+own_beside [] (v ∷ row) h = tt
+own_beside (c ∷ columns) [] h = cc
+own_beside (c ∷ columns) (v ∷ row) h =
+    ((refl, first_of_two (fits_type c.1 v) (row_fits columns row) h), own_beside columns row (second_of_two (fits_type c.1 v) (row_fits columns row) h))
+
+items_beside :
+    (columns : Columns) (row : List Cell) → IsTrue (row_fits columns row) → (items : List (List ℕ × Expr)) →
+    AllByRecursion (HasKind columns) items → Beside FitsBeside (map (item_column columns) items) (map (item_cell columns row) items)
+items_beside columns row fits [] typed = tt
+items_beside columns row fits (i ∷ items) typed =
+    ((refl, value_fits columns row fits i.1 (kind_of i.1 columns) typed.0), items_beside columns row fits items typed.1)
+
+pub added_fit :
+    (columns : Columns) (row : List Cell) → IsTrue (row_fits columns row) → (items : List (List ℕ × Expr)) →
+    AllByRecursion (HasKind columns) items → IsTrue (row_fits (added_columns columns items) (added_row columns items row))
+unfolding added_row
+added_fit columns row fits items typed =
+    fits_row (added_columns columns items) (placed (named_cells columns row) (map (item_cell columns row) items))
+    (placed_beside FitsBeside (λ c v h. h.0) columns (named_cells columns row) (own_beside columns row fits)
+    (map (item_column columns) items) (map (item_cell columns row) items) (items_beside columns row fits items typed))
