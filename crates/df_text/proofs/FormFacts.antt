@@ -1,14 +1,12 @@
 -- An array of values beside the form that its first item names.
-use Rattle.std.proofs.Common.{◌≡◌, ◌≢◌, ◌<◌, ◌≤◌, ℕ, List, [], ◌∷◌, map, length, get_or, Ok, Err, Result, refl, sym, ap, arith}
+use Rattle.std.proofs.Common.{◌≡◌, ◌≢◌, ℕ, List, [], ◌∷◌, map, length, get_or, Err, refl, sym, ap, arith}
 use Rattle.toml.specs.View.{items_of, view}
 use Rattle.toml.specs.declared.value.Value.{Value}
-use Rattle.df_expr.specs.declared.expr.Expr.{Expr}
 use Rattle.df_text.specs.declared.document.Place.{Place}
 use Rattle.df_text.specs.declared.expressions.ExprWord.{ExprWord}
 use Rattle.df_text.specs.declared.expressions.ExprWord.TheVariants as form
 use Rattle.df_text.specs.declared.expressions.UnaryWord.{UnaryWord}
 use Rattle.df_text.specs.declared.expressions.BinaryWord.{BinaryWord}
-use Rattle.df_text.specs.declared.views_fault.ViewsFault.{ViewsFault}
 use Rattle.df_text.specs.declared.views_fault.ViewsFault.TheVariants as fault
 use Rattle.df_text.specs.Expressions.{expr_of, form_of, with_operand, with_operands}
 

@@ -170,6 +170,7 @@ fn read_null(place: Place, word: &Value) -> Result<Expr, ViewsFault>
     Ok(Expr::Literal(Cell::Null, kind))
 }
 
+/// The expression of a word before one operand.
 fn unary(op: UnaryWord, a: Boxed<Expr>) -> Expr
     ensures { result ≡ unary_of op a }
 {
@@ -180,6 +181,7 @@ fn unary(op: UnaryWord, a: Boxed<Expr>) -> Expr
     }
 }
 
+/// The expression of a word before two operands.
 fn binary(op: BinaryWord, a: Boxed<Expr>, b: Boxed<Expr>) -> Expr
     ensures { result ≡ binary_of op a b }
 {
