@@ -27,7 +27,8 @@ use Rattle.df_text.specs.Tree.{keys_pass, text_in, array_in, table_in, first_in,
 use Rattle.df_text.specs.Frames.{column_of, type_of_word, entries_of_frame, unless_fault, schema_of, new_name, frame_of, frames_of}
 use Rattle.df_text.specs.Expressions.{expr_of}
 use Rattle.df_text.specs.RowWiseSteps.{item_of}
-use Rattle.df_text.specs.Steps.{aggregate_of, applied, step_of, step_of_word, steps_after}
+use Rattle.df_text.specs.AggregateItems.{aggregate_of}
+use Rattle.df_text.specs.Steps.{applied, step_of, step_of_word, steps_after}
 use Rattle.df_text.specs.Scans.{scans_below}
 use Rattle.df_text.specs.Document.{IsDocument, is_top_key, at_most, document_of, entries_of_view, found_frame, frame_named, new_view_name, tables_at, tables_of, view_of, views_of}
 use Rattle.df_text.proofs.ReadFacts.{then_gives, if_gives, given, all_give, each_give, length_gives}

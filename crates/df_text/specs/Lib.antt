@@ -4,5 +4,6 @@ pub mod Frames
 pub mod Reading
 pub mod RowWiseSteps
 pub mod Scans
+pub mod AggregateItems
 pub mod Steps
 pub mod Tree

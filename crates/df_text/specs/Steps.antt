@@ -2,41 +2,17 @@
 use Rattle.std.specs.Prelude.{ℕ, List, [], ◌∷◌, codes, Result, Ok, Err, if◌then◌else◌}
 use Rattle.std.specs.Str.{bytes_eq}
 use Rattle.toml.specs.Data.{Data}
-use Rattle.df_plan.specs.declared.plan.Agg.{Agg}
-use Rattle.df_plan.specs.declared.plan.Agg.TheVariants as agg
 use Rattle.df_plan.specs.declared.plan.Plan.{Plan}
 use Rattle.df_plan.specs.declared.plan.Plan.TheVariants as plan
-use Rattle.df_text.specs.declared.view_steps.AggWord.{AggWord}
-use Rattle.df_text.specs.declared.view_steps.AggWord.TheVariants as agg_word
 use Rattle.df_text.specs.declared.view_steps.StepWord.{StepWord}
 use Rattle.df_text.specs.declared.view_steps.StepWord.TheVariants as step_word
 use Rattle.df_text.specs.declared.document.Place.{Place}
 use Rattle.df_text.specs.declared.views_fault.ViewsFault.{ViewsFault}
 use Rattle.df_text.specs.declared.views_fault.ViewsFault.TheVariants as fault
 use Rattle.df_text.specs.Reading.{then_read, read_each}
-use Rattle.df_text.specs.Tree.{text_in, array_in, first_in, only_in, none_in}
+use Rattle.df_text.specs.Tree.{text_in, array_in, first_in}
+use Rattle.df_text.specs.AggregateItems.{aggregate_of}
 use Rattle.df_text.specs.RowWiseSteps.{filter_of, select_of, with_columns_of}
-
--- the aggregate that a word names
-abbrev pub agg_of_word : Place → List ℕ → Result AggWord ViewsFault
-agg_of_word at w =
-    if bytes_eq w (codes "len") then Ok agg_word.Len
-    else if bytes_eq w (codes "sum") then Ok agg_word.Sum
-    else Err (fault.Word at)
-
--- an aggregate under its output's name, where these items stand after the word
-abbrev pub output_of : Place → AggWord → Data → List Data → Result (List ℕ × Agg) ViewsFault
-output_of at agg_word.Len output rest =
-    then_read (none_in at rest) (λ _. then_read (text_in at output) (λ name. Ok (name, agg.Len)))
-output_of at agg_word.Sum output rest =
-    then_read (only_in at rest) (λ c. then_read (text_in at output) (λ name.
-    then_read (text_in at c) (λ column. Ok (name, agg.Sum column))))
-
--- an array of an output's name, the word of an aggregate, and its column if the aggregate takes one
-abbrev pub aggregate_of : Place → Data → Result (List ℕ × Agg) ViewsFault
-aggregate_of at d =
-    then_read (array_in at d) (λ ds. then_read (first_in at ds) (λ o. then_read (first_in at o.1) (λ w.
-    then_read (text_in at w.0) (λ word. then_read (agg_of_word at word) (λ a. output_of at a o.0 w.1)))))
 
 -- the step that a word names
 abbrev pub step_of_word : Place → List ℕ → Result StepWord ViewsFault

@@ -5,11 +5,13 @@
 //!
 //! To add a step of a view: a variant of `StepWord` with its arms in `step_named` and `apply_step`
 //! (view_steps.rt, specs/Steps.antt), and that it reads no other frames in proofs/Sound.antt; the steps
-//! that make each row of one row are in row_wise_steps.rt. To add an operator of expressions: a variant of
+//! that make each row of one row are in row_wise_steps.rt. To add an aggregate: a variant of `ColumnWord`
+//! with its arms in `agg_named` and `column_agg` (aggregates.rt, specs/AggregateItems.antt). To add an operator of expressions: a variant of
 //! `UnaryWord` or `BinaryWord` with its arms in `form_named` and in `unary` or `binary` (expressions.rt,
 //! specs/Expressions.antt); one of another form is a variant of `ExprWord` with its arm in `read_form`.
 #![tactic(auto)]
 
+mod aggregates;
 mod document;
 mod expressions;
 mod frames;

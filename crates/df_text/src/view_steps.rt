@@ -3,13 +3,14 @@ ghost use Rattle.std.specs.Prelude.{◌≡◌, map, codes};
 ghost use Rattle.toml.specs.View.{view};
 ghost use Rattle.df_text.specs.Reading.{Answers, read_each};
 ghost use Rattle.df_text.specs.Tree.{text_in as text_of};
-ghost use Rattle.df_text.specs.Steps.{agg_of_word, output_of, aggregate_of, step_of_word, group_by_of, applied, step_of, steps_after};
+ghost use Rattle.df_text.specs.Steps.{step_of_word, group_by_of, applied, step_of, steps_after};
 
+use crate::aggregates::read_aggregates;
 use crate::document::Place;
 use crate::row_wise_steps::{filter, select, with_columns};
-use crate::tree::{array_in, first_in, none_in, only_in, text_in};
+use crate::tree::{array_in, first_in, text_in};
 use crate::views_fault::ViewsFault;
-use df_plan::{Agg, Plan};
+use df_plan::Plan;
 use df_value::{Boxed, List, Text};
 use std::alloc::Global;
 use toml::Value;
@@ -20,12 +21,6 @@ pub enum StepWord {
     Select,
     WithColumns,
     GroupBy,
-}
-
-/// What the word of an aggregate stands for.
-pub enum AggWord {
-    Len,
-    Sum,
 }
 
 /// The plan after these steps, which are applied in order.
@@ -90,67 +85,4 @@ fn read_names(alloc: Global, place: Place, values: &[Value]) -> Result<List<Text
         names.push(name)?;
     }
     Ok(List::from_vec(names))
-}
-
-/// The aggregates of a grouping, from left to right.
-fn read_aggregates(
-    alloc: Global,
-    place: Place,
-    values: &[Value],
-) -> Result<List<(Text, Agg)>, ViewsFault>
-    ensures { Answers (read_each (aggregate_of place) (map view values.now)) result }
-{
-    let mut aggregates = Vec::new(alloc);
-    for value in values {
-        let aggregate = read_aggregate(alloc, place, value)?;
-        aggregates.push(aggregate)?;
-    }
-    Ok(List::from_vec(aggregates))
-}
-
-/// An aggregate and the name of its output.
-fn read_aggregate(alloc: Global, place: Place, value: &Value) -> Result<(Text, Agg), ViewsFault>
-    ensures { Answers (aggregate_of place (view value.now)) result }
-{
-    let (output, rest) = first_in(place, array_in(place, value)?)?;
-    let (word, rest) = first_in(place, rest)?;
-    let word = agg_named(place, text_in(place, word)?)?;
-    read_output(alloc, place, word, output, rest)
-}
-
-/// The aggregate that a word names.
-fn agg_named(place: Place, word: &str) -> Result<AggWord, ViewsFault>
-    ensures { result ≡ agg_of_word place word.now }
-{
-    match word {
-        "len" => Ok(AggWord::Len),
-        "sum" => Ok(AggWord::Sum),
-        _ => Err(ViewsFault::Word(place)),
-    }
-}
-
-/// An aggregate of this word, with the items after the word.
-fn read_output(
-    alloc: Global,
-    place: Place,
-    word: AggWord,
-    output: &Value,
-    rest: &[Value],
-) -> Result<(Text, Agg), ViewsFault>
-    ensures { Answers (output_of place word (view output.now) (map view rest.now)) result }
-{
-    match word {
-        AggWord::Len => {
-            none_in(place, rest)?;
-            let output = text_in(place, output)?;
-            Ok((Text::from_str(alloc, output)?, Agg::Len))
-        }
-        AggWord::Sum => {
-            let column = only_in(place, rest)?;
-            let output = text_in(place, output)?;
-            let column = text_in(place, column)?;
-            let output = Text::from_str(alloc, output)?;
-            Ok((output, Agg::Sum(Text::from_str(alloc, column)?)))
-        }
-    }
 }

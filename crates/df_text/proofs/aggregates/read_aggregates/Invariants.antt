@@ -1,8 +1,8 @@
 use Rattle.std.proofs.Common.{◌≡◌, map, drop}
 use Rattle.toml.specs.View.{view}
 use Rattle.df_text.specs.Reading.{read_after, read_each}
-use Rattle.df_text.specs.Steps.{aggregate_of}
-use Rattle.df_text.proofs.view_steps.read_aggregates.Given as goal
+use Rattle.df_text.specs.AggregateItems.{aggregate_of}
+use Rattle.df_text.proofs.aggregates.read_aggregates.Given as goal
 
 abbrev pub invariant-loop-value : goal.invariant-loop-value
 invariant-loop-value l =

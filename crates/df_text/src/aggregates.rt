@@ -1,0 +1,118 @@
+//! The aggregates of a `group_by`.
+ghost use Rattle.std.specs.Prelude.{◌≡◌, map, codes};
+ghost use Rattle.toml.specs.View.{view};
+ghost use Rattle.df_text.specs.Reading.{Answers, read_each};
+ghost use Rattle.df_text.specs.AggregateItems.{agg_of_word, column_agg as agg_of_column, output_of, aggregate_of};
+
+use crate::document::Place;
+use crate::tree::{array_in, first_in, none_in, only_in, text_in};
+use crate::views_fault::ViewsFault;
+use df_plan::Agg;
+use df_value::{List, Text};
+use std::alloc::Global;
+use toml::Value;
+
+/// What the word of an aggregate stands for.
+#[derive(Clone, Copy)]
+pub enum AggWord {
+    Len,
+    Column(ColumnWord),
+}
+
+/// What the word of an aggregate of a column stands for.
+#[derive(Clone, Copy)]
+pub enum ColumnWord {
+    Count,
+    Sum,
+    Min,
+    Max,
+    First,
+    Last,
+    NUnique,
+    Mean,
+}
+
+/// The aggregates of a grouping, from left to right.
+pub fn read_aggregates(
+    alloc: Global,
+    place: Place,
+    values: &[Value],
+) -> Result<List<(Text, Agg)>, ViewsFault>
+    ensures { Answers (read_each (aggregate_of place) (map view values.now)) result }
+{
+    let mut aggregates = Vec::new(alloc);
+    for value in values {
+        let aggregate = read_aggregate(alloc, place, value)?;
+        aggregates.push(aggregate)?;
+    }
+    Ok(List::from_vec(aggregates))
+}
+
+/// An aggregate and the name of its output.
+fn read_aggregate(alloc: Global, place: Place, value: &Value) -> Result<(Text, Agg), ViewsFault>
+    ensures { Answers (aggregate_of place (view value.now)) result }
+{
+    let (output, rest) = first_in(place, array_in(place, value)?)?;
+    let (word, rest) = first_in(place, rest)?;
+    let word = agg_named(place, text_in(place, word)?)?;
+    read_output(alloc, place, word, output, rest)
+}
+
+/// The aggregate that a word names.
+fn agg_named(place: Place, word: &str) -> Result<AggWord, ViewsFault>
+    ensures { result ≡ agg_of_word place word.now }
+{
+    match word {
+        "len" => Ok(AggWord::Len),
+        "count" => Ok(AggWord::Column(ColumnWord::Count)),
+        "sum" => Ok(AggWord::Column(ColumnWord::Sum)),
+        "min" => Ok(AggWord::Column(ColumnWord::Min)),
+        "max" => Ok(AggWord::Column(ColumnWord::Max)),
+        "first" => Ok(AggWord::Column(ColumnWord::First)),
+        "last" => Ok(AggWord::Column(ColumnWord::Last)),
+        "n_unique" => Ok(AggWord::Column(ColumnWord::NUnique)),
+        "mean" => Ok(AggWord::Column(ColumnWord::Mean)),
+        _ => Err(ViewsFault::Word(place)),
+    }
+}
+
+/// An aggregate of this word, with the items after the word.
+fn read_output(
+    alloc: Global,
+    place: Place,
+    word: AggWord,
+    output: &Value,
+    rest: &[Value],
+) -> Result<(Text, Agg), ViewsFault>
+    ensures { Answers (output_of place word (view output.now) (map view rest.now)) result }
+{
+    match word {
+        AggWord::Len => {
+            none_in(place, rest)?;
+            let output = text_in(place, output)?;
+            Ok((Text::from_str(alloc, output)?, Agg::Len))
+        }
+        AggWord::Column(word) => {
+            let column = only_in(place, rest)?;
+            let output = text_in(place, output)?;
+            let column = text_in(place, column)?;
+            let output = Text::from_str(alloc, output)?;
+            Ok((output, column_agg(word, Text::from_str(alloc, column)?)))
+        }
+    }
+}
+
+fn column_agg(word: ColumnWord, column: Text) -> Agg
+    ensures { result ≡ agg_of_column word column }
+{
+    match word {
+        ColumnWord::Count => Agg::Count(column),
+        ColumnWord::Sum => Agg::Sum(column),
+        ColumnWord::Min => Agg::Min(column),
+        ColumnWord::Max => Agg::Max(column),
+        ColumnWord::First => Agg::First(column),
+        ColumnWord::Last => Agg::Last(column),
+        ColumnWord::NUnique => Agg::NUnique(column),
+        ColumnWord::Mean => Agg::Mean(column),
+    }
+}
