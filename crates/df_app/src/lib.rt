@@ -17,4 +17,6 @@ pub use running::{MOST_BYTES_OF_DOCUMENT, run};
 #[cfg(test)]
 mod tests;
 #[cfg(test)]
+mod tests_aggregates;
+#[cfg(test)]
 mod tests_steps;

@@ -34,7 +34,11 @@ fn filters(rt: HostRuntime) -> Result<(), Fail> {
             "[\"filter\", [\"null\", \"Bool\"]]",
             "v (0 x 1)\nx\n",
         ),
-        ("1\n\"\"\n", "[\"filter\", true]", "v (2 x 1)\n   x\n   1\nnull\n"),
+        (
+            "1\n\"\"\n",
+            "[\"filter\", true]",
+            "v (2 x 1)\n   x\n   1\nnull\n",
+        ),
     ];
     gives(&rt, rt.alloc(), &cases)
 }
@@ -100,9 +104,15 @@ fn faults_of_steps(rt: HostRuntime) -> Result<(), Fail> {
         ("[\"filter\", [\"null\", \"Wide\"]]", "V3 view 0"),
         ("[\"select\", [\"one\", 1]]", "v: P9 one"),
         ("[\"select\"]", "v: P7"),
-        ("[\"select\", [\"a\", [\"col\", \"x\"]], [\"a\", [\"col\", \"x\"]]]", "v: P3 a"),
+        (
+            "[\"select\", [\"a\", [\"col\", \"x\"]], [\"a\", [\"col\", \"x\"]]]",
+            "v: P3 a",
+        ),
         ("[\"filter\", 1]", "v: P2 E2"),
-        ("[\"filter\", [\"+\", \"t\", [\"col\", \"nosuch\"]]]", "v: P2 E1 nosuch"),
+        (
+            "[\"filter\", [\"+\", \"t\", [\"col\", \"nosuch\"]]]",
+            "v: P2 E1 nosuch",
+        ),
         ("[\"filter\", [\"~\", 1]]", "v: P2 E2"),
     ];
     for case in cases {
@@ -126,7 +136,13 @@ fn levels_of_expressions(rt: HostRuntime) -> Result<(), Fail> {
     let alloc = rt.alloc();
     fails(&rt, alloc, nested(alloc, 33)?.as_str(), "v: P2 E3")?;
     let most = nested(alloc, 32)?;
-    writes(&rt, alloc, most.as_str(), 1000, ("v (0 x 1)\nx\n", Outcome::Clean))
+    writes(
+        &rt,
+        alloc,
+        most.as_str(),
+        1000,
+        ("v (0 x 1)\nx\n", Outcome::Clean),
+    )
 }
 
 #[test]
@@ -134,10 +150,20 @@ fn steps_in_number(rt: HostRuntime) -> Result<(), Fail> {
     let alloc = rt.alloc();
     for case in [(65, "V2 view 0"), (64, "v: P5"), (12, "v: P5")] {
         let steps = "[\"filter\", true], ".repeat(alloc, case.0)?;
-        fails(&rt, alloc, document(alloc, "1\n", steps.as_str())?.as_str(), case.1)?;
+        fails(
+            &rt,
+            alloc,
+            document(alloc, "1\n", steps.as_str())?.as_str(),
+            case.1,
+        )?;
     }
     let items = repeated(alloc, 32, ", [\"c", "\", 1]")?;
     let items = items.as_str();
     let step = format!(in alloc; "[\"with_columns\"{items}]")?;
-    fails(&rt, alloc, document(alloc, "1\n", step.as_str())?.as_str(), "v: P8")
+    fails(
+        &rt,
+        alloc,
+        document(alloc, "1\n", step.as_str())?.as_str(),
+        "v: P8",
+    )
 }
