@@ -42,6 +42,17 @@ fn fault(alloc: Global, plan: Plan) -> Result<Option<PlanFault>, Fail> {
     Ok(CheckedPlan::new(alloc, plan, frames.as_slice()).err())
 }
 
+// What a plan gives over a frame of these numbers.
+fn results(alloc: Global, plan: Plan, numbers: &[i64]) -> Result<List<Row>, Fail> {
+    let plan = checked(alloc, plan)?;
+    results_of(alloc, &plan, numbers)
+}
+
+fn results_of(alloc: Global, plan: &CheckedPlan, numbers: &[i64]) -> Result<List<Row>, Fail> {
+    let frames = vec![in alloc; List::from_vec(rows(alloc, numbers)?)]?;
+    Ok(evaluate(alloc, plan, frames.as_slice())?)
+}
+
 fn is_sum(row: &Row, key: i64, total: i128) -> bool {
     match row.as_slice() {
         [Cell::Int(k), Cell::Wide(t)] => *k == key && *t == total,
@@ -52,10 +63,7 @@ fn is_sum(row: &Row, key: i64, total: i128) -> bool {
 #[test]
 fn evaluates(rt: HostRuntime) -> Result<(), Fail> {
     let alloc = rt.alloc();
-    let plan = checked(alloc, sums(alloc, 0)?)?;
-    let frame = List::from_vec(rows(alloc, &[5, -3, 5])?);
-    let frames = vec![in alloc; frame]?;
-    let out = evaluate(alloc, &plan, frames.as_slice())?;
+    let out = results(alloc, sums(alloc, 0)?, &[5, -3, 5])?;
     assert!(rt; out.len() == 2);
     let out = out.as_slice();
     assert!(rt; is_sum(&out[0], 5, 10));
@@ -127,13 +135,6 @@ fn scan(alloc: Global) -> Result<Boxed<Plan>, AllocError> {
     Ok(Boxed::new(alloc, Plan::Scan(0))?)
 }
 
-// What a plan gives over a frame of these numbers.
-fn evaluated(alloc: Global, plan: Plan, numbers: &[i64]) -> Result<List<Row>, Fail> {
-    let plan = checked(alloc, plan)?;
-    let frames = vec![in alloc; List::from_vec(rows(alloc, numbers)?)]?;
-    Ok(evaluate(alloc, &plan, frames.as_slice())?)
-}
-
 fn is_pair(row: &Row, a: i64, b: i64) -> bool {
     match row.as_slice() {
         [Cell::Int(x), Cell::Int(y)] => *x == a && *y == b,
@@ -145,7 +146,7 @@ fn is_pair(row: &Row, a: i64, b: i64) -> bool {
 fn null_predicate_drops_each_row(rt: HostRuntime) -> Result<(), Fail> {
     let alloc = rt.alloc();
     let null = Expr::Literal(Cell::Null, CellType::Bool);
-    let kept = evaluated(alloc, Plan::Filter(scan(alloc)?, null), &[1, 2, 3])?;
+    let kept = results(alloc, Plan::Filter(scan(alloc)?, null), &[1, 2, 3])?;
     assert!(rt; kept.is_empty());
     Ok(())
 }
@@ -154,7 +155,7 @@ fn null_predicate_drops_each_row(rt: HostRuntime) -> Result<(), Fail> {
 fn each_item_sees_the_input(rt: HostRuntime) -> Result<(), Fail> {
     let alloc = rt.alloc();
     let plan = Plan::WithColumns(scan(alloc)?, moved(alloc)?);
-    let out = evaluated(alloc, plan, &[1])?;
+    let out = results(alloc, plan, &[1])?;
     assert!(rt; out.len() == 1);
     assert!(rt; is_pair(&out.as_slice()[0], 2, 1));
     Ok(())
@@ -164,7 +165,7 @@ fn each_item_sees_the_input(rt: HostRuntime) -> Result<(), Fail> {
 fn literal_stands_in_every_row(rt: HostRuntime) -> Result<(), Fail> {
     let alloc = rt.alloc();
     let plan = Plan::WithColumns(scan(alloc)?, one(alloc)?);
-    let out = evaluated(alloc, plan, &[5, 6])?;
+    let out = results(alloc, plan, &[5, 6])?;
     assert!(rt; out.len() == 2);
     assert!(rt; is_pair(&out.as_slice()[0], 5, 1) && is_pair(&out.as_slice()[1], 6, 1));
     Ok(())
@@ -175,7 +176,7 @@ fn selects(rt: HostRuntime) -> Result<(), Fail> {
     let alloc = rt.alloc();
     let constant = fault(alloc, Plan::Select(scan(alloc)?, one(alloc)?))?;
     assert!(rt; matches!(constant, Some(PlanFault::ConstantColumn(_))));
-    let out = evaluated(alloc, Plan::Select(scan(alloc)?, moved(alloc)?), &[5])?;
+    let out = results(alloc, Plan::Select(scan(alloc)?, moved(alloc)?), &[5])?;
     assert!(rt; out.len() == 1 && is_pair(&out.as_slice()[0], 6, 5));
     Ok(())
 }
