@@ -1,9 +1,12 @@
 //! Plans: how a table is made of frames, with their check and their plain evaluation.
 //!
 //! To add an operator: a variant of [`Plan`] with its arms in `copy` and `same_plan` (plan.rt); its
-//! checks in `check_step` (specs/Checks.antt) and `check_node` (checks.rt); its meaning in `table_step`
-//! (specs/Meaning.antt) and its body in `table_of_plan` (evaluation.rt); that its rows fit in
-//! proofs/Sound.antt. To add an aggregate: a variant of [`Agg`] and the functions that match on it.
+//! checks and levels in specs/Checks.antt, `check_node` and `is_within` (checks.rt), and where it has a
+//! list of items what each gives (specs/ItemChecks.antt, items.rt); its meaning in `table_step`
+//! (specs/Meaning.antt; specs/RowWise.antt where it looks at one row at a time) and its body in
+//! `table_of_plan` (evaluation.rt, row_wise.rt); that its rows fit in `step` (proofs/Sound.antt). What
+//! puts columns among those of its input puts them by `placed` (placed.rt). To add an aggregate: a
+//! variant of [`Agg`] and the functions that match on it.
 #![tactic(auto)]
 
 mod aggregates;

@@ -1,5 +1,9 @@
 //! Each public call once with ample memory. Worked documents are tested in df_app.
-use crate::{Agg, CheckedPlan, Plan, PlanFault, evaluate, group_lengths, group_of, keys_of};
+use crate::{
+    Agg, CheckedPlan, Plan, PlanFault, added_row, evaluate, filtered, group_lengths, group_of,
+    keys_of, selected_row,
+};
+use df_expr::{ArithOp, Expr};
 use df_value::{Boxed, Cell, CellType, Duplicate, List, Row, Schema, Text};
 use std::alloc::{AllocError, Global};
 use std::test::Fail;
@@ -28,9 +32,25 @@ fn sums(alloc: Global, frame: usize) -> Result<Plan, AllocError> {
     Ok(Plan::GroupBy(input, List::from_vec(keys), List::from_vec(aggregates)))
 }
 
-fn checked(alloc: Global, frame: usize) -> Result<Result<CheckedPlan, PlanFault>, Fail> {
+fn checked(alloc: Global, plan: Plan) -> Result<CheckedPlan, Fail> {
     let frames = vec![in alloc; schema(alloc)?]?;
-    Ok(CheckedPlan::new(alloc, sums(alloc, frame)?, frames.as_slice()))
+    Ok(CheckedPlan::new(alloc, plan, frames.as_slice())?)
+}
+
+fn fault(alloc: Global, plan: Plan) -> Result<Option<PlanFault>, Fail> {
+    let frames = vec![in alloc; schema(alloc)?]?;
+    Ok(CheckedPlan::new(alloc, plan, frames.as_slice()).err())
+}
+
+// What a plan gives over a frame of these numbers.
+fn results(alloc: Global, plan: Plan, numbers: &[i64]) -> Result<List<Row>, Fail> {
+    let plan = checked(alloc, plan)?;
+    results_of(alloc, &plan, numbers)
+}
+
+fn results_of(alloc: Global, plan: &CheckedPlan, numbers: &[i64]) -> Result<List<Row>, Fail> {
+    let frames = vec![in alloc; List::from_vec(rows(alloc, numbers)?)]?;
+    Ok(evaluate(alloc, plan, frames.as_slice())?)
 }
 
 fn is_sum(row: &Row, key: i64, total: i128) -> bool {
@@ -43,10 +63,7 @@ fn is_sum(row: &Row, key: i64, total: i128) -> bool {
 #[test]
 fn evaluates(rt: HostRuntime) -> Result<(), Fail> {
     let alloc = rt.alloc();
-    let plan = checked(alloc, 0)??;
-    let frame = List::from_vec(rows(alloc, &[5, -3, 5])?);
-    let frames = vec![in alloc; frame]?;
-    let out = evaluate(alloc, &plan, frames.as_slice())?;
+    let out = results(alloc, sums(alloc, 0)?, &[5, -3, 5])?;
     assert!(rt; out.len() == 2);
     let out = out.as_slice();
     assert!(rt; is_sum(&out[0], 5, 10));
@@ -56,14 +73,15 @@ fn evaluates(rt: HostRuntime) -> Result<(), Fail> {
 
 #[test]
 fn names_a_frame_that_is_not_there(rt: HostRuntime) -> Result<(), Fail> {
-    assert!(rt; matches!(checked(rt.alloc(), 1)?, Err(PlanFault::NoFrame(1))));
+    let alloc = rt.alloc();
+    assert!(rt; matches!(fault(alloc, sums(alloc, 1)?)?, Some(PlanFault::NoFrame(1))));
     Ok(())
 }
 
 #[test]
 fn keeps_its_parts(rt: HostRuntime) -> Result<(), Fail> {
     let alloc = rt.alloc();
-    let plan = checked(alloc, 0)??;
+    let plan = checked(alloc, sums(alloc, 0)?)?;
     assert!(rt; *plan.plan() == sums(alloc, 0)?);
     assert!(rt; plan.frames().len() == 1);
     assert!(rt; plan.schema().columns().len() == 2);
@@ -81,5 +99,109 @@ fn groups(rt: HostRuntime) -> Result<(), Fail> {
     assert!(rt; group.len() == 2);
     let lengths = group_lengths(alloc, &[Some(0)], rows.as_slice())?;
     assert!(rt; lengths.as_slice() == [2, 1].as_slice());
+    Ok(())
+}
+
+fn column(alloc: Global, name: &str) -> Result<Expr, AllocError> {
+    Ok(Expr::Column(Text::from_str(alloc, name)?))
+}
+
+// The item of this name with the value x + n.
+fn more(alloc: Global, name: &str, n: i64) -> Result<(Text, Expr), AllocError> {
+    let x = Boxed::new(alloc, column(alloc, "x")?)?;
+    let n = Boxed::new(alloc, Expr::Literal(Cell::Int(n), CellType::Int))?;
+    Ok((
+        Text::from_str(alloc, name)?,
+        Expr::Arith(ArithOp::Add, x, n),
+    ))
+}
+
+// The item `one` with the value 1.
+fn one(alloc: Global) -> Result<List<(Text, Expr)>, AllocError> {
+    let one = Expr::Literal(Cell::Int(1), CellType::Int);
+    let items = vec![in alloc; (Text::from_str(alloc, "one")?, one)]?;
+    Ok(List::from_vec(items))
+}
+
+// The items x + 1, under the name of x, and x, under the new name y.
+fn moved(alloc: Global) -> Result<List<(Text, Expr)>, AllocError> {
+    let next = more(alloc, "x", 1)?;
+    let y = (Text::from_str(alloc, "y")?, column(alloc, "x")?);
+    let items = vec![in alloc; next, y]?;
+    Ok(List::from_vec(items))
+}
+
+fn scan(alloc: Global) -> Result<Boxed<Plan>, AllocError> {
+    Ok(Boxed::new(alloc, Plan::Scan(0))?)
+}
+
+fn is_pair(row: &Row, a: i64, b: i64) -> bool {
+    match row.as_slice() {
+        [Cell::Int(x), Cell::Int(y)] => *x == a && *y == b,
+        _ => false,
+    }
+}
+
+#[test]
+fn null_predicate_drops_each_row(rt: HostRuntime) -> Result<(), Fail> {
+    let alloc = rt.alloc();
+    let null = Expr::Literal(Cell::Null, CellType::Bool);
+    let kept = results(alloc, Plan::Filter(scan(alloc)?, null), &[1, 2, 3])?;
+    assert!(rt; kept.is_empty());
+    Ok(())
+}
+
+#[test]
+fn each_item_sees_the_input(rt: HostRuntime) -> Result<(), Fail> {
+    let alloc = rt.alloc();
+    let plan = Plan::WithColumns(scan(alloc)?, moved(alloc)?);
+    let out = results(alloc, plan, &[1])?;
+    assert!(rt; out.len() == 1);
+    assert!(rt; is_pair(&out.as_slice()[0], 2, 1));
+    Ok(())
+}
+
+#[test]
+fn literal_stands_in_every_row(rt: HostRuntime) -> Result<(), Fail> {
+    let alloc = rt.alloc();
+    let plan = Plan::WithColumns(scan(alloc)?, one(alloc)?);
+    let out = results(alloc, plan, &[5, 6])?;
+    assert!(rt; out.len() == 2);
+    assert!(rt; is_pair(&out.as_slice()[0], 5, 1) && is_pair(&out.as_slice()[1], 6, 1));
+    Ok(())
+}
+
+#[test]
+fn selects(rt: HostRuntime) -> Result<(), Fail> {
+    let alloc = rt.alloc();
+    let constant = fault(alloc, Plan::Select(scan(alloc)?, one(alloc)?))?;
+    assert!(rt; matches!(constant, Some(PlanFault::ConstantColumn(_))));
+    let out = results(alloc, Plan::Select(scan(alloc)?, moved(alloc)?), &[5])?;
+    assert!(rt; out.len() == 1 && is_pair(&out.as_slice()[0], 6, 5));
+    Ok(())
+}
+
+#[test]
+fn rows_alone(rt: HostRuntime) -> Result<(), Fail> {
+    let alloc = rt.alloc();
+    let schema = schema(alloc)?;
+    let columns = schema.columns().as_slice();
+    let row = List::from_vec(vec![in alloc; Cell::Int(5)]?);
+    let items = moved(alloc)?;
+    let selected = selected_row(alloc, columns, items.as_slice(), &row)?;
+    assert!(rt; is_pair(&selected, 6, 5));
+    let added = added_row(alloc, columns, items.as_slice(), &row)?;
+    assert!(rt; is_pair(&added, 6, 5));
+    Ok(())
+}
+
+#[test]
+fn keeps_true_rows(rt: HostRuntime) -> Result<(), Fail> {
+    let alloc = rt.alloc();
+    let schema = schema(alloc)?;
+    let rows = rows(alloc, &[5, 6])?;
+    let always = Expr::Literal(Cell::Bool(true), CellType::Bool);
+    let columns = schema.columns().as_slice();
+    assert!(rt; filtered(alloc, columns, &always, rows.as_slice())?.len() == 2);
     Ok(())
 }
