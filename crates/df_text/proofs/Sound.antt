@@ -28,7 +28,7 @@ use Rattle.df_text.specs.Frames.{column_of, type_of_word, entries_of_frame, unle
 use Rattle.df_text.specs.Expressions.{expr_of}
 use Rattle.df_text.specs.RowWiseSteps.{item_of}
 use Rattle.df_text.specs.AggregateItems.{aggregate_of}
-use Rattle.df_text.specs.Steps.{applied, step_of, step_of_word, steps_after}
+use Rattle.df_text.specs.Steps.{applied, step_in, step_of, steps_after}
 use Rattle.df_text.specs.Scans.{scans_below}
 use Rattle.df_text.specs.Document.{IsDocument, is_top_key, at_most, document_of, entries_of_view, found_frame, frame_named, new_view_name, tables_at, tables_of, view_of, views_of}
 use Rattle.df_text.proofs.ReadFacts.{then_gives, if_gives, given, all_give, each_give, length_gives}
@@ -90,9 +90,7 @@ applied_scans n at step_word.GroupBy input ds h =
     scans-GroupBy n input keys aggregates ∙ h))))
 
 step_scans : (n : ℕ) (at : Place) (input : Plan) (d : Data) → scans_below n input ≡ true → IfOk (step_of at input d) (λ p. scans_below n p ≡ true)
-step_scans n at input d h =
-    then_gives _ (array_in at d) _ (λ ds _. then_gives _ (first_in at ds) _ (λ s _. then_gives _ (text_in at s.0) _ (λ w _.
-    then_gives _ (step_of_word at w) _ (λ word _. applied_scans n at word input s.1 h))))
+step_scans n at input d h = then_gives _ (step_in at d) _ (λ s _. applied_scans n at s.0 input s.1 h)
 
 steps_scans : (n : ℕ) (at : Place) (input : Plan) (ds : List Data) → scans_below n input ≡ true → IfOk (steps_after at input ds) (λ p. scans_below n p ≡ true)
 steps_scans n at input [] h = h

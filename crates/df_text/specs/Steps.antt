@@ -37,11 +37,15 @@ applied at step_word.Select input ds = select_of at input ds
 applied at step_word.WithColumns input ds = with_columns_of at input ds
 applied at step_word.GroupBy input ds = group_by_of at input ds
 
+-- the step that a value names, with the items after its word
+abbrev pub step_in : Place → Data → Result (StepWord × List Data) ViewsFault
+step_in at d =
+    then_read (array_in at d) (λ ds. then_read (first_in at ds) (λ s. then_read (text_in at s.0) (λ w.
+    then_read (step_of_word at w) (λ word. Ok (word, s.1)))))
+
 -- the plan after a step
 abbrev pub step_of : Place → Plan → Data → Result Plan ViewsFault
-step_of at input d =
-    then_read (array_in at d) (λ ds. then_read (first_in at ds) (λ s. then_read (text_in at s.0) (λ w.
-    then_read (step_of_word at w) (λ word. applied at word input s.1))))
+step_of at input d = then_read (step_in at d) (λ s. applied at s.0 input s.1)
 
 -- the plan after all steps, in order
 abbrev pub steps_after : Place → Plan → List Data → Result Plan ViewsFault

@@ -3,7 +3,7 @@
 //! [`read_views`] reads the TOML document that names frames and views. What `df_csv` and `df_print`
 //! offer is offered here too, so that the code above names this crate alone.
 //!
-//! To add a step of a view: a variant of `StepWord` with its arms in `step_named` and `apply_step`
+//! To add a step of a view: a variant of `StepWord` with its arms in `step_named` and `apply`
 //! (view_steps.rt, specs/Steps.antt), and that it reads no other frames in proofs/Sound.antt; the steps
 //! that make each row of one row are in row_wise_steps.rt. To add an aggregate: a variant of `ColumnWord`
 //! with its arms in `agg_named` and `column_agg` (aggregates.rt, specs/AggregateItems.antt). To add an operator of expressions: a variant of

@@ -30,8 +30,8 @@ pub fn filter(alloc: Global, place: Place, input: Plan, items: &[Value]) -> Resu
 pub fn select(alloc: Global, place: Place, input: Plan, items: &[Value]) -> Result<Plan, ViewsFault>
     ensures { Answers (select_of place input (map view items.now)) result }
 {
-    let items = read_items(alloc, place, items)?;
-    Ok(Plan::Select(Boxed::new(alloc, input)?, items))
+    let input = Boxed::new(alloc, input)?;
+    Ok(Plan::Select(input, read_items(alloc, place, items)?))
 }
 
 /// Puts outputs into the table.
@@ -43,8 +43,8 @@ pub fn with_columns(
 ) -> Result<Plan, ViewsFault>
     ensures { Answers (with_columns_of place input (map view items.now)) result }
 {
-    let items = read_items(alloc, place, items)?;
-    Ok(Plan::WithColumns(Boxed::new(alloc, input)?, items))
+    let input = Boxed::new(alloc, input)?;
+    Ok(Plan::WithColumns(input, read_items(alloc, place, items)?))
 }
 
 /// The outputs of a step, from left to right.
