@@ -66,7 +66,7 @@ of_expr (Err f) = Err (fault.Expr f)
 unfoldable pub expr_type : Expr → Columns → Kind
 expr_type e columns = of_expr (checked_expr e columns)
 
--- an expression that names no column would say nothing of how many rows it has
+-- the type of a select's output: an expression that names no column is refused once it checks
 unfoldable pub output_type : List ℕ → Expr → Kind → Kind
 output_type name e (Ok t) = if names_column e then Ok t else Err (fault.ConstantColumn name)
 output_type name e (Err f) = Err f
@@ -87,6 +87,7 @@ checked_output columns i = named i.0 (output_type i.0 i.1 (expr_type i.1 columns
 abbrev pub checked_added : Columns → List ℕ × Expr → Column
 checked_added columns i = named i.0 (expr_type i.1 columns)
 
+-- the next step at a column, or the fault
 abbrev pub with_column : Column → (List ℕ × CellType → Checked) → Checked
 with_column (Ok c) next = next c
 with_column (Err f) next = Err f

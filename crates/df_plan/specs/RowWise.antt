@@ -13,6 +13,7 @@ use Rattle.df_expr.specs.declared.expr.Expr.TheOpen.{Expr-F}
 use Rattle.df_expr.specs.Value.{value_of}
 use Rattle.df_plan.specs.Placed.{has_name, placed}
 
+-- the type of one form, from the types of its operands
 abbrev pub kind_step : List (List ℕ × CellType) → Expr-F CellType → CellType
 kind_step columns (Expr-F.Column name) = unwrap_or (type_in name columns) kind.Int
 kind_step columns (Expr-F.Literal c k) = k
@@ -32,6 +33,7 @@ item_column columns i = (i.0, kind_of i.1 columns)
 abbrev pub item_cell : List (List ℕ × CellType) → List Cell → List ℕ × Expr → List ℕ × Cell
 item_cell columns row i = (i.0, value_of i.1 columns row)
 
+-- whether a cell is the truth "true"
 abbrev pub is_true : Cell → Bool
 is_true (cell.Bool b) = b
 is_true _ = false
