@@ -8,7 +8,7 @@ use Rattle.std.specs.declared.cmp.Ordering.TheVariants as ordering
 use Rattle.df_value.specs.declared.cell.Cell.{Cell}
 use Rattle.df_value.specs.declared.cell.Cell.TheVariants as cell
 use Rattle.df_value.specs.CellOrder.{cell_cmp, cell_cmp_total}
-use Rattle.df_value.proofs.CellOrders.{exact}
+use Rattle.df_value.proofs.CellOrders.{exact, to_itself}
 use Rattle.df_plan.specs.declared.extremes.End.{End}
 use Rattle.df_plan.specs.declared.extremes.End.TheVariants as end
 use Rattle.df_plan.specs.Aggregates.{beyond, is_extreme, extreme_in, present}
@@ -25,11 +25,6 @@ greater ordering.Less h = cc
 greater ordering.Equal h = cc
 greater ordering.Greater h = refl
 
-own : (o : Ordering) → o ≡ ordering_reverse o → o ≡ ordering.Equal
-own ordering.Less h = cc
-own ordering.Equal h = refl
-own ordering.Greater h = cc
-
 -- two orders of which neither is less, each being the other reversed, are equal
 neither : (o r : Ordering) → o ≡ ordering_reverse r → is_lt o ≡ false → is_lt r ≡ false → o ≡ ordering.Equal
 neither ordering.Less r e h k = cc
@@ -45,9 +40,6 @@ neither_more ordering.Less ordering.Less e h k = cc
 neither_more ordering.Less ordering.Equal e h k = cc
 neither_more ordering.Less ordering.Greater e h k = cc
 
-itself : (a : Cell) → cell_cmp a a ≡ ordering.Equal
-itself a = own (cell_cmp a a) (cell_cmp_total.antisymm a a)
-
 turned : (a b : Cell) → cell_cmp a b ≡ ordering.Greater → cell_cmp b a ≡ ordering.Less
 turned a b h = cell_cmp_total.antisymm b a ∙ ap ordering_reverse h
 
@@ -56,12 +48,12 @@ turned_back a b h = cell_cmp_total.antisymm a b ∙ ap ordering_reverse h
 
 pub strict : (e : End) → IsStrict (beyond e)
 strict end.Least = record {
-  irrefl = λ a. ap is_lt (itself a);
+  irrefl = λ a. ap is_lt (to_itself a);
   trans = λ a b c h k. ap is_lt (cell_cmp_total.trans a b c (less (cell_cmp a b) h) (less (cell_cmp b c) k));
   apart = λ a b h k. exact a b (neither (cell_cmp a b) (cell_cmp b a) (cell_cmp_total.antisymm a b) h k);
 }
 strict end.Greatest = record {
-  irrefl = λ a. ap is_gt (itself a);
+  irrefl = λ a. ap is_gt (to_itself a);
   trans = λ a b c h k. ap is_gt (turned_back a c (cell_cmp_total.trans c b a (turned b c (greater (cell_cmp b c) k)) (turned a b (greater (cell_cmp a b) h))));
   apart = λ a b h k. exact a b (neither_more (cell_cmp a b) (cell_cmp b a) (cell_cmp_total.antisymm a b) h k);
 }

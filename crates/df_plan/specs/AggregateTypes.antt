@@ -1,5 +1,5 @@
--- The column that an aggregate takes, and the type that it gives. Which types it takes, and that a sum is Wide and a
--- mean a Frac, is this project's own choice among those of the Polars Python reference.
+-- The column that an aggregate takes, and the type that it gives. Which types it takes, that counts are Ints, a sum Wide
+-- and a mean a Frac, is this project's own choice among those of the Polars Python reference.
 use Rattle.std.specs.Prelude.{ℕ, List, Option, Some, None}
 use Rattle.df_value.specs.declared.cell.CellType.{CellType}
 use Rattle.df_value.specs.declared.cell.CellType.TheVariants as kind

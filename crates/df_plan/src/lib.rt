@@ -6,7 +6,8 @@
 //! (specs/Meaning.antt; specs/RowWise.antt where it looks at one row at a time) and its body in
 //! `table_of_plan` (evaluation.rt, row_wise.rt); that its rows fit in `step` (proofs/Sound.antt). What
 //! puts columns among those of its input puts them by `placed` (placed.rt). To add an aggregate: a
-//! variant of [`Agg`] and the functions that match on it.
+//! variant of [`Agg`] with its arms in `copy` (plan.rt), in `column` and `type_of` (aggregates.rt,
+//! specs/AggregateTypes.antt) and in `aggregate` (specs/Meaning.antt), and its type in proofs/AggregatesFit.antt.
 #![tactic(auto)]
 
 mod aggregates;
@@ -36,3 +37,5 @@ pub use totals::group_sums;
 
 #[cfg(test)]
 mod tests;
+#[cfg(test)]
+mod tests_aggregates;

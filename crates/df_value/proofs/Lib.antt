@@ -1,4 +1,3 @@
 pub mod RowEq
 pub mod Fitting
-pub mod Ordered
 pub mod CellOrders

@@ -1,5 +1,6 @@
 //! The order of cells.
 ghost use Rattle.std.specs.Prelude.{◌≡◌, ◌↔◌, Some, IsTrue, is_some};
+ghost use Rattle.df_value.specs.CellOrder.{cell_cmp};
 ghost use Rattle.df_value.specs.Order.{order_of};
 
 use crate::cell::Cell;
@@ -11,6 +12,7 @@ pub fn order(a: &Cell, b: &Cell) -> Ordering
     requires { IsTrue (is_some (order_of a.now b.now)) }
     ensures value { Some result ≡ order_of a.now b.now }
     ensures same { (result ≡ Ordering.Equal) ↔ (a.now ≡ b.now) }
+    ensures agrees { cell_cmp a.now b.now ≡ result }
 {
     compare(a, b).unwrap()
 }

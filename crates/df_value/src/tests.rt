@@ -1,9 +1,10 @@
 //! Worked rows, and each public call once with ample memory.
 use crate::{
     Cell, CellType, Chunk, ChunkFault, Duplicate, Frac, List, RefusedRows, Row, Schema,
-    SchemaFault, Text, doubled, place_of, same, type_of,
+    SchemaFault, Text, compare, doubled, order, place_of, same, type_of,
 };
 use std::alloc::{AllocError, Global};
+use std::cmp::Ordering;
 use std::test::Fail;
 
 fn columns(alloc: Global, names: &[&str]) -> Result<List<(Text, CellType)>, AllocError> {
@@ -127,6 +128,28 @@ fn rows_are_copied(rt: HostRuntime) -> Result<(), Fail> {
     assert!(rt; row == copy);
     assert!(rt; row.get(1) != copy.get(2));
     assert!(rt; row.get(6).is_none() && !row.is_empty());
+    Ok(())
+}
+
+#[test]
+fn cells_compare(rt: HostRuntime) {
+    assert!(rt; order(&Cell::Int(-7), &Cell::Int(3)) == Ordering::Less);
+    assert!(rt; order(&Cell::Bool(true), &Cell::Bool(false)) == Ordering::Greater);
+    assert!(rt; order(&Cell::Wide(5), &Cell::Wide(5)) == Ordering::Equal);
+    assert!(rt; compare(&Cell::Int(1), &Cell::Wide(1)) == None);
+    assert!(rt; compare(&Cell::Null, &Cell::Null) == None);
+    assert!(rt; compare(&Cell::Frac(Frac::new(7, 2)), &Cell::Frac(Frac::new(7, 2))) == None);
+}
+
+#[test]
+fn texts_compare_by_bytes(rt: HostRuntime) -> Result<(), Fail> {
+    let alloc = rt.alloc();
+    for (a, b) in [("Z", "a"), ("z", "é"), ("a", "ab")] {
+        let a = Cell::Text(Text::from_str(alloc, a)?);
+        let b = Cell::Text(Text::from_str(alloc, b)?);
+        assert!(rt; order(&a, &b) == Ordering::Less);
+        assert!(rt; a.duplicate(alloc)? == a);
+    }
     Ok(())
 }
 
