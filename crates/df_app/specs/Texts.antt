@@ -52,6 +52,7 @@ abbrev pub plan_text : PlanFault → List ℕ
 plan_text (plan.NoFrame n) = codes "P1 " ++ decimal n
 plan_text (plan.Expr f) = expr_text f
 plan_text (plan.DoubledName name) = named (codes "P3") name
+plan_text plan.TooManyScans = codes "P4"
 plan_text plan.TooDeep = codes "P5"
 plan_text plan.EmptyList = codes "P7"
 plan_text plan.TooWide = codes "P8"

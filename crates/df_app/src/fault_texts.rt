@@ -122,6 +122,7 @@ fn plan_text(alloc: Global, fault: &PlanFault) -> Result<String, AllocError>
         PlanFault::NoFrame(n) => format!(in alloc; "P1 {n}"),
         PlanFault::Expr(fault) => expr_text(alloc, fault),
         PlanFault::DoubledName(name) => named(alloc, "P3", name),
+        PlanFault::TooManyScans => String::from_str(alloc, "P4"),
         PlanFault::TooDeep => String::from_str(alloc, "P5"),
         PlanFault::EmptyList => String::from_str(alloc, "P7"),
         PlanFault::TooWide => String::from_str(alloc, "P8"),

@@ -19,4 +19,6 @@ mod tests;
 #[cfg(test)]
 mod tests_aggregates;
 #[cfg(test)]
+mod tests_joins;
+#[cfg(test)]
 mod tests_steps;
