@@ -125,3 +125,11 @@ fn refused_types(rt: HostRuntime) -> Result<(), Fail> {
     }
     Ok(())
 }
+
+#[test]
+fn counts_beside_sums(rt: HostRuntime) -> Result<(), Fail> {
+    let document =
+        "[[frame]]\nname = \"sales\"\ncolumns = [[\"region\", \"Text\"], [\"qty\", \"Int\"]]\ntext = \"\"\"\nregion,qty\nnorth,3\nsouth,\nnorth,-1\n\"\"\"\n[[view]]\nname = \"v\"\nfrom = \"sales\"\nsteps = [[\"group_by\", [\"region\"], [\"n\", \"len\"], [\"total\", \"sum\", \"qty\"], [\"k\", \"count\", \"qty\"]]]\n";
+    let want = "v (2 x 4)\nregion  n  total  k\nnorth   2      2  2\nsouth   1      0  0\n";
+    writes(&rt, rt.alloc(), document, 1000, (want, Outcome::Clean))
+}
