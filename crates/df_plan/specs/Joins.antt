@@ -1,7 +1,7 @@
 -- Joins on columns of one name and type on both sides, as `join` of the Polars Python reference with `how` "inner" or
 -- "left" and `nulls_equal=False`: null keys match nothing, and a right name that stands on the left gets the suffix
 -- `_right`. That rows come in left order, and for one left row in right order, is this project's own choice.
-use Rattle.std.specs.Prelude.{◌≡◌, ◌≢◌, ◌≤◌, ℕ, Bool, true, false, ◌&&◌, not, List, [], ◌∷◌, ◌++◌, Option, codes, filter, map, max, length, if◌then◌else◌}
+use Rattle.std.specs.Prelude.{ℕ, Bool, ◌&&◌, not, List, [], ◌∷◌, ◌++◌, Option, codes, filter, map, max, length, if◌then◌else◌}
 use Rattle.std.specs.List.{list_any, flat_map}
 use Rattle.std.specs.Str.{bytes_eq}
 use Rattle.df_value.specs.declared.cell.Cell.{Cell}
@@ -69,7 +69,7 @@ sides_of left right keys = record {
 }
 
 -- the rows that one left row gives
-abbrev pub joined_row : How → Sides → Rows → List Cell → Rows
+unfoldable pub joined_row : How → Sides → Rows → List Cell → Rows
 joined_row h s rights left =
     put_beside h left (nulls_at s.rest) (map (key_of s.rest) (matches_of s.right (key_of s.left left) rights))
 
@@ -81,7 +81,11 @@ joined_rows h s lefts rights = flat_map (joined_row h s rights) lefts
 abbrev pub has_match : Sides → Rows → List Cell → Bool
 has_match s rights left = list_any (λ r. keys_match (key_of s.left left) (key_of s.right r)) rights
 
--- how many rows one left row gives
+-- how many matches a left row has
+abbrev pub match_count : Sides → Rows → List Cell → ℕ
+match_count s rights left = length (matches_of s.right (key_of s.left left) rights)
+
+-- how many rows a left row with so many matches gives
 abbrev pub joined_count : How → ℕ → ℕ
 joined_count how.Inner n = n
 joined_count how.Left n = max 1 n

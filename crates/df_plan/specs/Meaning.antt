@@ -84,7 +84,7 @@ unfoldable pub with_table : Table → List (List ℕ × Expr) → Table
 with_table t items = record { columns = added_columns t.columns items; rows = map (added_row t.columns items) t.rows }
 
 -- the rows of two tables whose keys match
-abbrev pub joined : Table → Table → How → List (List ℕ) → Table
+unfoldable pub joined : Table → Table → How → List (List ℕ) → Table
 joined left right h keys = record {
   columns = joined_columns left.columns right.columns keys;
   rows = joined_rows h (sides_of left.columns right.columns keys) left.rows right.rows;

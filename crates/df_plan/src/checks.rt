@@ -53,7 +53,7 @@ fn is_within(plan: &Plan, most: u32) -> bool
 
 // What is left of so many scans after those of a plan; none where it has more.
 fn scans_left(plan: &Plan, most: u32) -> Option<u32>
-    ensures { MatchOption result (λ left. scans plan.now + left ≡ most) (most < scans plan.now) }
+    ensures { MatchOption result (most < scans plan.now) (λ left. scans plan.now + left ≡ most) }
 {
     match plan {
         Plan::Scan(_) => most.checked_sub(1),

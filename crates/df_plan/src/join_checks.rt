@@ -47,26 +47,22 @@ fn doubled_key(keys: &[Text]) -> Option<&Text>
     ensures { option_copied result ≡ doubled_key_after [] keys.now }
 {
     for i in 0..keys.len() {
-        if has_key(&keys[..i], &keys[i]) {
-            return Some(&keys[i]);
+        let name = &keys[i];
+        if has_key(name, &keys[..i]) {
+            return Some(name);
         }
     }
     None
 }
 
-fn has_key(keys: &[Text], name: &Text) -> bool
+fn has_key(name: &Text, keys: &[Text]) -> bool
     ensures { result ≡ list_any (λ k. bytes_eq k name.now) keys.now }
 {
     keys.iter().any(|key| *key == *name)
 }
 
 // The first fault of the keys.
-fn check_keys(
-    alloc: Global,
-    left: &Schema,
-    right: &Schema,
-    keys: &[Text],
-) -> Result<(), PlanFault>
+fn check_keys(alloc: Global, left: &Schema, right: &Schema, keys: &[Text]) -> Result<(), PlanFault>
     ensures { MatchResult result
         (λ _. keys_fault left.now right.now keys.now ≡ None)
         (λ f. f ≢ PlanFault.Memory → keys_fault left.now right.now keys.now ≡ Some f) }

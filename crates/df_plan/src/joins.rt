@@ -14,6 +14,7 @@ use df_value::{Cell, Duplicate, List, Row, Text};
 use std::alloc::{AllocError, Global};
 
 /// The join of two tables.
+#[tactic(auto, unfolding(crate::specs::Meaning::joined))]
 pub fn join(
     alloc: Global,
     left: &Table,
@@ -23,9 +24,20 @@ pub fn join(
 ) -> Result<Table, AllocError>
     ensures { IfOk result (λ t. t ≡ table_joined left.now right.now how keys.now) }
 {
-    let sides = sides_of(alloc, left.columns.as_slice(), right.columns.as_slice(), keys)?;
+    let sides = sides_of(
+        alloc,
+        left.columns.as_slice(),
+        right.columns.as_slice(),
+        keys,
+    )?;
     let columns = joined_columns(alloc, &left.columns, right.columns.as_slice(), keys)?;
-    let rows = joined_rows(alloc, how, &sides, left.rows.as_slice(), right.rows.as_slice())?;
+    let rows = joined_rows(
+        alloc,
+        how,
+        &sides,
+        left.rows.as_slice(),
+        right.rows.as_slice(),
+    )?;
     Ok(Table { columns, rows })
 }
 
@@ -57,14 +69,12 @@ fn add_joined(
 ) -> Result<(), AllocError>
     ensures { OnOk result (rows.new.items ≡ rows.old.items ++ row_joined how sides.now rights.now left.now) }
 {
-    let made = joined_row(alloc, how, sides, left, rights)?;
-    for row in made {
-        rows.push(row)?;
-    }
-    Ok(())
+    let mut made = joined_row(alloc, how, sides, left, rights)?;
+    rows.append(&mut made)
 }
 
 /// The rows that one left row gives.
+#[tactic(auto, unfolding(crate::specs::Joins::joined_row))]
 pub fn joined_row(
     alloc: Global,
     how: How,
@@ -75,7 +85,13 @@ pub fn joined_row(
     ensures value { IfOk result (λ rows. rows.items ≡ row_joined how sides.now rights.now left.now) }
 {
     let key = key_of(alloc, sides.left.as_slice(), left)?;
-    let rests = matched_rests(alloc, sides.right.as_slice(), sides.rest.as_slice(), &key, rights)?;
+    let rests = matched_rests(
+        alloc,
+        sides.right.as_slice(),
+        sides.rest.as_slice(),
+        &key,
+        rights,
+    )?;
     put_beside(alloc, how, left, sides.rest.as_slice(), rests.as_slice())
 }
 
@@ -141,7 +157,7 @@ fn put_beside(
     match how {
         How::Left if rests.is_empty() => {
             let rest = nulls(alloc, places)?;
-            let row = row_beside(alloc, left, &rest)?;
+            let row = row_beside(alloc, left, rest.as_slice())?;
             Ok(vec![in alloc; row]?)
         }
         _ => each_beside(alloc, left, rests),
@@ -153,28 +169,24 @@ fn each_beside(alloc: Global, left: &Row, rests: &[Row]) -> Result<Vec<Row>, All
 {
     let mut rows = Vec::with_capacity(alloc, rests.len())?;
     for rest in rests {
-        rows.push(row_beside(alloc, left, rest)?)?;
+        rows.push(row_beside(alloc, left, rest.as_slice())?)?;
     }
     Ok(rows)
 }
 
-fn row_beside(alloc: Global, left: &Row, rest: &Row) -> Result<Row, AllocError>
+fn row_beside(alloc: Global, left: &Row, rest: &[Cell]) -> Result<Row, AllocError>
     ensures { IfOk result (λ row. row ≡ left.now ++ rest.now) }
 {
     let mut row = left.copy(alloc)?.into_vec();
-    for cell in rest.as_slice() {
+    for cell in rest {
         row.push(cell.copy(alloc)?)?;
     }
     Ok(List::from_vec(row))
 }
 
 // A null for each of these places.
-fn nulls(alloc: Global, places: &[Option<usize>]) -> Result<Row, AllocError>
-    ensures { IfOk result (λ row. row ≡ nulls_of places.now) }
+fn nulls(alloc: Global, places: &[Option<usize>]) -> Result<Vec<Cell>, AllocError>
+    ensures { IfOk result (λ cells. cells.items ≡ nulls_of places.now) }
 {
-    let mut row = Vec::with_capacity(alloc, places.len())?;
-    for _place in places {
-        row.push(Cell::Null)?;
-    }
-    Ok(List::from_vec(row))
+    places.iter().map(|_| Cell::Null).collect(alloc)
 }
