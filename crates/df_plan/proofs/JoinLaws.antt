@@ -1,5 +1,5 @@
 -- What a join is, in words of its sides: how many rows it has, where they begin, and when it drops none.
-use Rattle.std.proofs.Common.{◌≡◌, ℕ, ◌∙◌, Bool, true, false, cond, zero, suc, List, [], ◌∷◌, ◌++◌, length, take, map, filter, refl, ap, arith, All}
+use Rattle.std.proofs.Common.{◌≡◌, ℕ, ◌∙◌, ◌<◌, Bool, true, false, cond, zero, suc, List, [], ◌∷◌, ◌++◌, length, take, map, filter, refl, ap, arith, All}
 use Rattle.std.specs.Prelude.{◌||◌}
 use Rattle.std.specs.List.{list_any, sum_by}
 use Rattle.std.proofs.Math.Seq.{take-append_seam}
@@ -30,6 +30,16 @@ unfolding joined_row
 row_count h s rights l =
     let matches = matches_of s.right (key_of s.left l) rights in
     put_count h l (nulls_at s.rest) (map (key_of s.rest) matches) ∙ ap (joined_count h) (length-map matches (key_of s.rest))
+
+put_some : (h : How) (l nulls : List Cell) (rs : Rows) → h ≡ how.Left → 0 < length (put_beside h l nulls rs)
+put_some how.Inner l nulls rs e = cc
+put_some how.Left l nulls [] e = omega arith
+put_some how.Left l nulls (r ∷ rs) e = omega arith
+
+-- a left join keeps the row
+pub row_kept : (h : How) (s : Sides) (rights : Rows) (l : List Cell) → h ≡ how.Left → 0 < length (joined_row h s rights l)
+unfolding joined_row
+row_kept h s rights l e = put_some h l (nulls_at s.rest) (map (key_of s.rest) (matches_of s.right (key_of s.left l) rights)) e
 
 pub rows_count :
     (h : How) (s : Sides) (lefts rights : Rows) →

@@ -1,8 +1,8 @@
 //! Joins of plain tables.
-ghost use Rattle.std.specs.Prelude.{◌≡◌, ◌++◌, ◌∷◌, [], IfOk, OnOk, map};
-ghost use Rattle.std.specs.List.{list_any};
+ghost use Rattle.std.specs.Prelude.{◌≡◌, ◌<◌, ◌++◌, ◌∷◌, [], All, IfOk, OnOk, filter, length, map, take};
+ghost use Rattle.std.specs.List.{list_any, sum_by};
 ghost use Rattle.df_expr.specs.Value.{is_null as is_null_cell};
-ghost use Rattle.df_plan.specs.Joins.{joined_row as row_joined, joined_rows as rows_joined, keys_match as keys_matched, matches_of as matches_found, nulls_at as nulls_of, put_beside as rows_beside, sides_of as sides};
+ghost use Rattle.df_plan.specs.Joins.{has_match, joined_count, match_count, joined_row as row_joined, joined_rows as rows_joined, keys_match as keys_matched, matches_of as matches_found, nulls_at as nulls_of, put_beside as rows_beside, sides_of as sides};
 ghost use Rattle.df_plan.specs.Groups.{key_of as key_at};
 ghost use Rattle.df_plan.specs.Meaning.{joined as table_joined};
 
@@ -50,6 +50,26 @@ pub fn joined_rows(
     rights: &[Row],
 ) -> Result<List<Row>, AllocError>
     ensures value { IfOk result (λ rows. rows ≡ rows_joined how sides.now lefts.now rights.now) }
+
+    // Each left row gives its part.
+    ensures count { IfOk result (λ rows. length rows
+        ≡ sum_by (λ left. joined_count how (match_count sides.now rights.now left)) lefts.now) }
+
+    // An inner join is the left join of those left rows that have a match.
+    ensures inner_is_left { rows_joined How.Inner sides.now lefts.now rights.now
+        ≡ rows_joined How.Left sides.now (filter (has_match sides.now rights.now) lefts.now) rights.now }
+{
+    all_joined(alloc, how, sides, lefts, rights)
+}
+
+fn all_joined(
+    alloc: Global,
+    how: How,
+    sides: &Sides,
+    lefts: &[Row],
+    rights: &[Row],
+) -> Result<List<Row>, AllocError>
+    ensures { IfOk result (λ rows. rows ≡ rows_joined how sides.now lefts.now rights.now) }
 {
     let mut rows = Vec::new(alloc);
     for left in lefts {
@@ -73,8 +93,7 @@ fn add_joined(
     rows.append(&mut made)
 }
 
-/// The rows that one left row gives.
-#[tactic(auto, unfolding(crate::specs::Joins::joined_row))]
+/// The rows that one left row gives, in right order.
 pub fn joined_row(
     alloc: Global,
     how: How,
@@ -83,15 +102,29 @@ pub fn joined_row(
     rights: &[Row],
 ) -> Result<Vec<Row>, AllocError>
     ensures value { IfOk result (λ rows. rows.items ≡ row_joined how sides.now rights.now left.now) }
+
+    // One for each match, and in a left join at least one.
+    ensures count { IfOk result (λ rows. length rows.items ≡ joined_count how (match_count sides.now rights.now left.now)) }
+    ensures kept { how ≡ How.Left → IfOk result (λ rows. 0 < length rows.items) }
+
+    // Each begins with the left row.
+    ensures begins { IfOk result (λ rows. All (λ row. take (length left.now) row ≡ left.now) rows.items) }
+{
+    matched_row(alloc, how, sides, left, rights)
+}
+
+#[tactic(auto, unfolding(crate::specs::Joins::joined_row))]
+fn matched_row(
+    alloc: Global,
+    how: How,
+    sides: &Sides,
+    left: &Row,
+    rights: &[Row],
+) -> Result<Vec<Row>, AllocError>
+    ensures { IfOk result (λ rows. rows.items ≡ row_joined how sides.now rights.now left.now) }
 {
     let key = key_of(alloc, sides.left.as_slice(), left)?;
-    let rests = matched_rests(
-        alloc,
-        sides.right.as_slice(),
-        sides.rest.as_slice(),
-        &key,
-        rights,
-    )?;
+    let rests = matched_rests(alloc, sides.right.as_slice(), sides.rest.as_slice(), &key, rights)?;
     put_beside(alloc, how, left, sides.rest.as_slice(), rests.as_slice())
 }
 
