@@ -10,7 +10,9 @@ use Rattle.df_plan.specs.Meaning.{key_column, aggregate_column, type_of_aggregat
 use Rattle.df_plan.specs.Placed.{placed}
 use Rattle.df_plan.specs.RowWise.{item_column, added_columns}
 use Rattle.df_plan.specs.ItemChecks.{Columns, Checked, Kind, Column, key_type, aggregate_type, checked_key, checked_aggregate, checked_output, checked_added, with_column, each_after}
-use Rattle.df_plan.specs.Checks.{settled, settled_at, put_checked, filter_checked, select_checked, with_checked, group_checked, then_checked, checked, columns_of}
+use Rattle.df_plan.specs.Checks.{settled, settled_at, put_checked, filter_checked, select_checked, with_checked, group_checked, then_checked, checked, columns_of, levels, scans}
+use Rattle.df_plan.specs.JoinChecks.{join_checked, join_settled, fault_first, either_name, keys_fault, doubled_key_after}
+use Rattle.df_plan.specs.Joins.{joined_columns}
 use Rattle.df_plan.specs.declared.fault.PlanFault.{PlanFault}
 use Rattle.df_plan.specs.declared.fault.PlanFault.TheVariants as fault
 use Rattle.df_plan.specs.declared.plan.Agg.{Agg}
@@ -125,9 +127,29 @@ group_found columns (k ∷ ks) aggs cs h =
     let of_all = settled_is_at second.0 (doubled_after [] second.0) cs second.1.1 in
     (of_all ∙ (of_aggregates.0 ∙ ap (λ (o : Columns). o ++ map (aggregate_column columns) aggs) of_keys.0), (of_keys.1, of_aggregates.1))
 
+first_ok : (o : Option PlanFault) (c : Checked) (cs : Columns) → fault_first o c ≡ Ok cs → c ≡ Ok cs
+first_ok None c cs h = h
+first_ok (Some f) c cs h = cc
+
+neither_doubled :
+    (cs : Columns) (a b : Option (List ℕ)) (o : Columns) → settled_at cs (either_name a b) ≡ Ok o → (o ≡ cs) × (b ≡ None)
+neither_doubled cs (Some name) b o h = cc
+neither_doubled cs None (Some name) o h = cc
+neither_doubled cs None None o h = (settled_is_at cs None o h, refl)
+
+pub join_found :
+    (left right : Columns) (keys : List (List ℕ)) (cs : Columns) → join_checked left right keys ≡ Ok cs →
+    (cs ≡ joined_columns left right keys) × (doubled_after [] (joined_columns left right keys) ≡ None)
+join_found left right [] cs h = cc
+join_found left right (k ∷ ks) cs h =
+    let columns = joined_columns left right (k ∷ ks) in
+    neither_doubled columns (doubled_key_after [] (k ∷ ks)) (doubled_after [] columns) cs
+    (first_ok (keys_fault left right (k ∷ ks)) (join_settled columns (k ∷ ks)) cs h)
+
 deep : (b : Bool) (c : Checked) (cs : Columns) (f : PlanFault) → cond {A = Checked} b (Err f) c ≡ Ok cs → c ≡ Ok cs
 deep true c cs f h = cc
 deep false c cs f h = h
 
 pub checked_columns : (p : Plan) (frames : List Columns) (cs : Columns) → checked p frames ≡ Ok cs → columns_of p frames ≡ Ok cs
-checked_columns p frames cs h = deep _ (columns_of p frames) cs fault.TooDeep h
+checked_columns p frames cs h =
+    deep (nat_lt 3 (scans p)) (columns_of p frames) cs fault.TooManyScans (deep (nat_lt 12 (levels p)) _ cs fault.TooDeep h)

@@ -7,6 +7,9 @@ pub mod RowWiseLaws
 pub mod ItemKinds
 pub mod Found
 pub mod RowWiseSound
+pub mod ColumnsFit
+pub mod JoinSound
+pub mod JoinLaws
 pub mod Sound
 pub mod Least
 pub mod Ends

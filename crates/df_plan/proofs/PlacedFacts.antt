@@ -58,7 +58,7 @@ kept_own name added (o ∷ own) ys h k =
     (λ e. kept_own name added own ys h (or_later (bytes_eq o.0 name) (has_name name own) k e))
 
 -- no name stands twice, where the columns seen stand before the list
-abbrev Apart : Columns → Columns → Type 0
+abbrev pub Apart : Columns → Columns → Type 0
 Apart seen cs = doubled_after seen cs ≡ None
 
 apart_here : (b : Bool) (x : List ℕ) (o : Option (List ℕ)) → cond b (Some x) o ≡ None → (b ≡ false) × (o ≡ None)
@@ -69,7 +69,7 @@ apart_from : (b : Bool) (x : List ℕ) (o : Option (List ℕ)) → b ≡ false �
 apart_from true x o e h = cc
 apart_from false x o e h = h
 
-head_apart : (seen : Columns) (c : List ℕ × CellType) (cs : Columns) → Apart seen (c ∷ cs) → (has_name c.0 seen ≡ false) × Apart (seen ++ c ∷ []) cs
+pub head_apart : (seen : Columns) (c : List ℕ × CellType) (cs : Columns) → Apart seen (c ∷ cs) → (has_name c.0 seen ≡ false) × Apart (seen ++ c ∷ []) cs
 head_apart seen c cs h = apart_here (has_name c.0 seen) c.0 (doubled_after (seen ++ c ∷ []) cs) h
 
 cons_apart : (seen : Columns) (c : List ℕ × CellType) (cs : Columns) → has_name c.0 seen ≡ false → Apart (seen ++ c ∷ []) cs → Apart seen (c ∷ cs)
@@ -105,7 +105,7 @@ append_apart seen (x ∷ xs) ys h k =
     cons_apart seen x (xs ++ ys) here.0
     (append_apart (seen ++ x ∷ []) xs ys here.1 (subst (λ (s : Columns). Apart s ys) (sym joined) k))
 
-neither : (a b : Bool) → (a || b) ≡ false → (a ≡ false) × (b ≡ false)
+pub neither : (a b : Bool) → (a || b) ≡ false → (a ≡ false) × (b ≡ false)
 neither true b h = cc
 neither false b h = (refl, h)
 

@@ -1,79 +1,39 @@
 -- The rows that a checked plan gives fit the schema that the check found.
-use Rattle.std.proofs.Common.{◌≡◌, ℕ, ◌<◌, ◌∙◌, Bool, true, zero, suc, List, [], ◌∷◌, ◌++◌, length, map, refl, ap, sym, subst, arith}
-use Rattle.std.specs.Prelude.{IsTrue, Ok, Option, Some, None, ◌&&◌, option_map, slice_get, unwrap_or, nat_lt}
-use Rattle.std.specs.List.{list_any, list_all, position_or_len, AllByRecursion}
-use Rattle.std.specs.Str.{bytes_eq}
-use Rattle.std.proofs.lemmas.Grind.{common_steps}
-use Rattle.std.proofs.lemmas.List.Folds.{find_at, list_all-append}
-use Rattle.std.proofs.lemmas.Option.{slice_get_within}
-use Rattle.std.proofs.lemmas.Bool.Decides.{Decides-ltb}
+use Rattle.std.proofs.Common.{◌≡◌, ℕ, ◌∙◌, Bool, true, zero, suc, List, [], ◌∷◌, ◌++◌, map, refl, ap, sym, subst}
+use Rattle.std.specs.Prelude.{IsTrue, Ok, Option, Some, None, ◌&&◌, slice_get, unwrap_or}
+use Rattle.std.specs.List.{list_any, list_all, AllByRecursion}
+use Rattle.std.proofs.lemmas.List.Folds.{list_all-append}
 use Rattle.df_value.specs.declared.cell.Cell.{Cell}
-use Rattle.df_value.specs.declared.cell.Cell.TheVariants as cell
 use Rattle.df_value.specs.declared.cell.CellType.{CellType}
 use Rattle.df_value.specs.declared.cell.CellType.TheVariants as kind
 use Rattle.df_value.specs.Cells.{fits_type}
 use Rattle.df_value.specs.Rows.{row_fits, rows_fit, row_eq, cell_at}
-use Rattle.df_value.specs.Schemas.{type_in, position_of}
+use Rattle.df_value.specs.Schemas.{type_in, position_of, doubled_after}
 use Rattle.df_plan.specs.Groups.{key_of, keys_of, group_of, distinct_after}
 use Rattle.df_plan.specs.declared.table.Table.{Table}
-use Rattle.df_plan.specs.Meaning.{key_column, aggregate_column, aggregate_of, places_of, grouped_columns, grouped, grouped_rows, group_row, filter_table, select_table, with_table, frame_from, frames_fit, table_step, table_of}
+use Rattle.df_plan.specs.Meaning.{key_column, aggregate_column, aggregate_of, places_of, grouped_columns, grouped, grouped_rows, group_row, filter_table, select_table, with_table, joined, frame_from, frames_fit, table_step, table_of}
 use Rattle.df_plan.specs.RowWise.{item_column, keeps, filtered, selected_row, added_row, added_columns}
 use Rattle.df_expr.specs.declared.expr.Expr.{Expr}
 use Rattle.df_plan.proofs.ItemKinds.{HasKind}
 use Rattle.df_plan.specs.ItemChecks.{Columns, Checked, expr_type}
 use Rattle.df_plan.specs.Checks.{then_checked, filter_checked, select_checked, with_checked, group_checked, frame_checked, check_step, columns_of, checked}
+use Rattle.df_plan.specs.JoinChecks.{join_checked}
+use Rattle.df_plan.specs.Joins.{joined_columns, joined_rows, sides_of}
 use Rattle.df_plan.specs.declared.plan.Agg.{Agg}
+use Rattle.df_plan.specs.declared.plan.How.{How}
 use Rattle.df_plan.specs.declared.plan.Plan.{Plan}
 use Rattle.df_plan.specs.declared.plan.Plan.TheOpen.{Plan-F}
 use Rattle.df_plan.specs.declared.plan.Plan.TheFolds.{fold-roll-Plan, ind-Plan, map-Plan}
 use Rattle.df_plan.specs.declared.plan.Plan.TheViews.{roll-Plan}
 use Rattle.df_plan.proofs.Choices.{either}
+use Rattle.df_plan.proofs.ColumnsFit.{column_fits, fits_both}
+use Rattle.df_plan.proofs.JoinSound.{joined_fits}
 use Rattle.df_plan.proofs.AggregatesFit.{aggregate_fits}
-use Rattle.df_plan.proofs.Found.{IsTaken, IsColumn, then_ok, filter_found, select_found, with_found, group_found, checked_columns}
+use Rattle.df_plan.proofs.Found.{IsTaken, IsColumn, then_ok, filter_found, select_found, with_found, group_found, join_found, checked_columns}
 use Rattle.df_plan.proofs.RowWiseSound.{first_of_two, second_of_two, both_true, map_all, filter_all, selected_fit, added_fit}
 
 abbrev Rows : Type 0
 Rows = List (List Cell)
-
--- the cell beside a column fits its type
-cell_fits :
-    (columns : Columns) (row : List Cell) (i : ℕ) (c : List ℕ × CellType) →
-    IsTrue (row_fits columns row) → slice_get columns i ≡ Some c →
-    IsTrue (fits_type c.1 (unwrap_or (slice_get row i) cell.Null))
-cell_fits [] row i c fits h = cc
-cell_fits (d ∷ ds) [] i c fits h = cc
-cell_fits (d ∷ ds) (v ∷ vs) zero c fits h = grind (arith, common_steps)
-cell_fits (d ∷ ds) (v ∷ vs) (suc i) c fits h =
-    cell_fits ds vs i c (second_of_two (fits_type d.1 v) (row_fits ds vs) fits) h
-
-found_type :
-    (o : Option (List ℕ × CellType)) (t : CellType) → option_map (λ c. c.1) o ≡ Some t →
-    (c : List ℕ × CellType) × ((o ≡ Some c) × (c.1 ≡ t))
-found_type None t h = cc
-found_type (Some c) t h = (c, (refl, cc))
-
--- the cell of a column of a row that fits has the column's type
-pub column_fits :
-    (columns : Columns) (row : List Cell) → IsTrue (row_fits columns row) → (name : List ℕ) (t : CellType) →
-    type_in name columns ≡ Some t → IsTrue (fits_type t (cell_at (position_of name columns) row))
-column_fits columns row fits name t h =
-    let place = position_or_len (λ c. bytes_eq c.0 name) columns in
-    let found = found_type (slice_get columns place) t (simp find_at at h) in
-    let within : place < length columns = slice_get_within columns place found.0 found.1.0 in
-    let test : nat_lt place (length columns) ≡ true = (Decides-ltb place (length columns)).1 within in
-    let here : IsTrue (fits_type found.0.1 (unwrap_or (slice_get row place) cell.Null)) = cell_fits columns row place found.0 fits found.1.0 in
-    rw (test, ← found.1.1) here
-
--- two rows side by side fit two lists of columns side by side
-fits_both :
-    (cs ds : Columns) (v w : List Cell) → IsTrue (row_fits cs v) → IsTrue (row_fits ds w) →
-    IsTrue (row_fits (cs ++ ds) (v ++ w))
-fits_both [] ds [] w h k = k
-fits_both [] ds (x ∷ v) w h k = cc
-fits_both (c ∷ cs) ds [] w h k = cc
-fits_both (c ∷ cs) ds (x ∷ v) w h k =
-    both_true (fits_type c.1 x) (row_fits (cs ++ ds) (v ++ w)) (first_of_two (fits_type c.1 x) (row_fits cs v) h)
-    (fits_both cs ds v w (second_of_two (fits_type c.1 x) (row_fits cs v) h) k)
 
 key_fits_at :
     (o : Option CellType) (t : CellType) (v : Cell) → o ≡ Some t → IsTrue (fits_type t v) → IsTrue (fits_type (unwrap_or o kind.Int) v)
@@ -190,6 +150,25 @@ with_has_rows c t items of_input cs h =
     (λ r k. added_fit t.columns r k items typed) t.rows fit in
     (is, subst (λ (columns : Columns). IsTrue (rows_fit columns (map (added_row t.columns items) t.rows))) is rows)
 
+join_has_rows :
+    (c d : Checked) (t u : Table) (how : How) (keys : List (List ℕ)) → HasRows c t → HasRows d u →
+    HasRows (then_checked c (λ ls. then_checked d (λ rs. join_checked ls rs keys))) (joined t u how keys)
+unfolding joined
+join_has_rows c d t u how keys of_left of_right cs h =
+    let first = then_ok c (λ ls. then_checked d (λ rs. join_checked ls rs keys)) cs h in
+    let second = then_ok d (λ rs. join_checked first.0 rs keys) cs first.1.1 in
+    let l = of_left first.0 first.1.0 in
+    let r = of_right second.0 second.1.0 in
+    let found = join_found first.0 second.0 keys cs second.1.1 in
+    let same : joined_columns t.columns u.columns keys ≡ joined_columns first.0 second.0 keys =
+    ap (λ (ls : Columns). joined_columns ls u.columns keys) l.0 ∙ ap (λ (rs : Columns). joined_columns first.0 rs keys) r.0 in
+    let is : joined_columns t.columns u.columns keys ≡ cs = same ∙ sym found.0 in
+    let apart : doubled_after [] (joined_columns t.columns u.columns keys) ≡ None = ap (λ (o : Columns). doubled_after [] o) same ∙ found.1 in
+    let left_fit = subst (λ (columns : Columns). IsTrue (rows_fit columns t.rows)) (sym l.0) l.1 in
+    let right_fit = subst (λ (columns : Columns). IsTrue (rows_fit columns u.rows)) (sym r.0) r.1 in
+    let rows = joined_fits how t.columns u.columns keys t.rows u.rows apart left_fit right_fit in
+    (is, subst (λ (columns : Columns). IsTrue (rows_fit columns (joined_rows how (sides_of t.columns u.columns keys) t.rows u.rows))) is rows)
+
 -- where all frames fit their schemas, the frame of an index has rows that fit the schema there
 frame_rows :
     (schemas : List Columns) (frames : List Rows) → IsTrue (frames_fit schemas frames) → (f : ℕ) (cs : Columns) →
@@ -234,6 +213,9 @@ step schemas frames fit (Plan-F.WithColumns a items) =
 step schemas frames fit (Plan-F.GroupBy a keys aggs) =
     rw (fold-roll-Plan Checked (check_step schemas), fold-roll-Plan Table (table_step schemas frames))
     (group_has_rows (columns_of a.0 schemas) (table_of a.0 schemas frames) keys aggs a.1)
+step schemas frames fit (Plan-F.Join a b how keys) =
+    rw (fold-roll-Plan Checked (check_step schemas), fold-roll-Plan Table (table_step schemas frames))
+    (join_has_rows (columns_of a.0 schemas) (columns_of b.0 schemas) (table_of a.0 schemas frames) (table_of b.0 schemas frames) how keys a.1 b.1)
 
 plan_has_rows :
     (schemas : List Columns) (frames : List Rows) → IsTrue (frames_fit schemas frames) → (p : Plan) →
