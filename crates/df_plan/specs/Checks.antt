@@ -1,5 +1,5 @@
 -- The check of a plan: the columns of its result, or the first fault.
-use Rattle.std.specs.Prelude.{◌≡◌, ◌≢◌, ◌+◌, ℕ, List, [], Option, Some, None, Result, Ok, Err, MatchResult, length, nat_lt, slice_get, if◌then◌else◌}
+use Rattle.std.specs.Prelude.{◌≡◌, ◌≢◌, ◌+◌, ℕ, List, [], Option, Some, None, Result, Ok, Err, MatchResult, max, nat_lt, slice_get, if◌then◌else◌}
 use Rattle.df_value.specs.declared.cell.CellType.TheVariants as kind
 use Rattle.df_value.specs.Schemas.{doubled_after}
 use Rattle.df_expr.specs.declared.expr.Expr.{Expr}
@@ -11,19 +11,14 @@ use Rattle.df_plan.specs.declared.plan.Plan.{Plan, fold-Plan}
 use Rattle.df_plan.specs.declared.plan.Plan.TheOpen.{Plan-F}
 use Rattle.df_plan.specs.Placed.{placed}
 pub use Rattle.df_plan.specs.ItemChecks.{Columns, Checked}
+pub use Rattle.df_plan.specs.Settled.{settled_at}
+use Rattle.df_plan.specs.JoinChecks.{join_checked}
 use Rattle.df_plan.specs.ItemChecks.{Kind, each_after, expr_type, checked_key, checked_aggregate, checked_output, checked_added}
 
 -- the next step's answer, or the fault
 abbrev pub then_checked : Checked → (Columns → Checked) → Checked
 then_checked (Ok columns) next = next columns
 then_checked (Err f) next = Err f
-
--- columns whose first doubled name, if there is one, is given: that name is refused first, then a list of
--- columns that is empty or has more than 32
-abbrev pub settled_at : Columns → Option (List ℕ) → Checked
-settled_at columns (Some name) = Err (fault.DoubledName name)
-settled_at [] None = Err fault.EmptyList
-settled_at columns None = if nat_lt 32 (length columns) then Err fault.TooWide else Ok columns
 
 abbrev pub settled : Columns → Checked
 settled columns = settled_at columns (doubled_after [] columns)
@@ -65,6 +60,8 @@ check_step frames (Plan-F.Filter input p) = then_checked input (λ columns. filt
 check_step frames (Plan-F.Select input items) = then_checked input (λ columns. select_checked columns items)
 check_step frames (Plan-F.WithColumns input items) = then_checked input (λ columns. with_checked columns items)
 check_step frames (Plan-F.GroupBy input keys aggs) = then_checked input (λ columns. group_checked columns keys aggs)
+check_step frames (Plan-F.Join left right h keys) =
+    then_checked left (λ ls. then_checked right (λ rs. join_checked ls rs keys))
 
 -- the columns of a plan's result, or the first fault of a walk that visits inputs before their node
 abbrev pub columns_of : Plan → List Columns → Checked
@@ -76,14 +73,30 @@ levels_step (Plan-F.Filter input p) = 1 + input
 levels_step (Plan-F.Select input items) = 1 + input
 levels_step (Plan-F.WithColumns input items) = 1 + input
 levels_step (Plan-F.GroupBy input keys aggs) = 1 + input
+levels_step (Plan-F.Join left right h keys) = 1 + max left right
 
 -- the nodes on the longest path
 abbrev pub levels : Plan → ℕ
 levels p = fold-Plan ℕ levels_step p
 
--- the answer of a check: too many levels come before all else
+abbrev pub scans_step : Plan-F ℕ → ℕ
+scans_step (Plan-F.Scan frame) = 1
+scans_step (Plan-F.Filter input p) = input
+scans_step (Plan-F.Select input items) = input
+scans_step (Plan-F.WithColumns input items) = input
+scans_step (Plan-F.GroupBy input keys aggs) = input
+scans_step (Plan-F.Join left right h keys) = left + right
+
+-- the scans, which are the leaves
+abbrev pub scans : Plan → ℕ
+scans p = fold-Plan ℕ scans_step p
+
+-- the answer of a check: too many levels come before all else, and then too many scans
 abbrev pub checked : Plan → List Columns → Checked
-checked p frames = if nat_lt 12 (levels p) then Err fault.TooDeep else columns_of p frames
+checked p frames =
+    if nat_lt 12 (levels p) then Err fault.TooDeep
+    else if nat_lt 3 (scans p) then Err fault.TooManyScans
+    else columns_of p frames
 
 -- The call answers what is wanted, unless it answers that memory was refused.
 abbrev pub Answers : {T : Type 0} → Result T PlanFault → Result T PlanFault → Type 0

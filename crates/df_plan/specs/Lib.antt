@@ -1,5 +1,6 @@
 pub mod ItemChecks
 pub mod Placed
+pub mod Settled
 pub mod Checks
 pub mod CheckedParts
 pub mod Groups
@@ -8,3 +9,5 @@ pub mod AggregateTypes
 pub mod Running
 pub mod RowWise
 pub mod Meaning
+pub mod Joins
+pub mod JoinChecks

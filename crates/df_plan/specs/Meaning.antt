@@ -1,4 +1,4 @@
--- The table that a plan means over frames: a scan, `filter`, `select`, `with_columns`, and `group_by` with
+-- The table that a plan means over frames: a scan, `filter`, `select`, `with_columns`, `join`, and `group_by` with
 -- `maintain_order=True` of the Polars Python reference, on plain lists of rows, taken from the whole table of the input.
 use Rattle.std.specs.Prelude.{ℕ, pos, List, [], ◌∷◌, ◌++◌, Option, Some, None, Bool, true, false, ◌&&◌, length, map, slice_get, unwrap_or}
 use Rattle.df_value.specs.declared.cell.Cell.{Cell}
@@ -13,8 +13,10 @@ use Rattle.df_plan.specs.AggregateTypes.{column_taken, type_given}
 use Rattle.df_plan.specs.Aggregates.{cells_of, count_of, sum_of, extreme_of, first_of, last_of, n_unique_of, mean_of}
 use Rattle.df_plan.specs.RowWise.{item_column, filtered, selected_row, added_row, added_columns}
 use Rattle.df_plan.specs.declared.extremes.End.TheVariants as end
+use Rattle.df_plan.specs.Joins.{joined_columns, joined_rows, sides_of}
 use Rattle.df_plan.specs.declared.plan.Agg.{Agg}
 use Rattle.df_plan.specs.declared.plan.Agg.TheVariants as agg
+use Rattle.df_plan.specs.declared.plan.How.{How}
 use Rattle.df_plan.specs.declared.plan.Plan.{Plan, fold-Plan}
 use Rattle.df_plan.specs.declared.plan.Plan.TheOpen.{Plan-F}
 use Rattle.df_plan.specs.declared.table.Table.{Table}
@@ -81,6 +83,13 @@ select_table t items =
 unfoldable pub with_table : Table → List (List ℕ × Expr) → Table
 with_table t items = record { columns = added_columns t.columns items; rows = map (added_row t.columns items) t.rows }
 
+-- the rows of two tables whose keys match
+abbrev pub joined : Table → Table → How → List (List ℕ) → Table
+joined left right h keys = record {
+  columns = joined_columns left.columns right.columns keys;
+  rows = joined_rows h (sides_of left.columns right.columns keys) left.rows right.rows;
+}
+
 -- the columns and rows of a frame, empty where either is missing
 abbrev pub frame_from : Option (List (List ℕ × CellType)) → Option (List (List Cell)) → Table
 frame_from None rows = record { columns = []; rows = [] }
@@ -94,6 +103,7 @@ table_step schemas frames (Plan-F.Filter t p) = filter_table t p
 table_step schemas frames (Plan-F.Select t items) = select_table t items
 table_step schemas frames (Plan-F.WithColumns t items) = with_table t items
 table_step schemas frames (Plan-F.GroupBy t keys aggs) = grouped t keys aggs
+table_step schemas frames (Plan-F.Join left right h keys) = joined left right h keys
 
 -- the table that a plan means over frames of these schemas and rows
 abbrev pub table_of : Plan → List (List (List ℕ × CellType)) → List (List (List Cell)) → Table

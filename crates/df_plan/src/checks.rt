@@ -1,11 +1,12 @@
 //! The check of a plan.
-ghost use Rattle.std.specs.Prelude.{◌≡◌, ◌≤◌, ◌↔◌, [], IsTrue, None, slice_get};
+ghost use Rattle.std.specs.Prelude.{◌≡◌, ◌+◌, ◌<◌, ◌≤◌, ◌↔◌, [], IsTrue, MatchOption, None, slice_get};
 ghost use Rattle.df_value.specs.Schemas.{doubled_after};
-ghost use Rattle.df_plan.specs.Checks.{checked, columns_of, levels, settled as settled_columns, settled_at, filter_checked, select_checked, with_checked, put_checked, group_checked, frame_checked, Answers};
+ghost use Rattle.df_plan.specs.Checks.{checked, columns_of, levels, scans, settled as settled_columns, settled_at, filter_checked, select_checked, with_checked, put_checked, group_checked, frame_checked, Answers};
 ghost use Rattle.df_plan.specs.ItemChecks.{expr_type as type_of_expr};
 
 use crate::fault::PlanFault;
 use crate::items::{Added, Aggregates, Columns, Keys, Outputs, check_each, expr_type};
+use crate::join_checks::check_join;
 use crate::placed::placed;
 use crate::plan::{Agg, Plan};
 use df_expr::{Expr, ExprFault};
@@ -15,12 +16,18 @@ use std::alloc::Global;
 /// The most levels of a plan: the nodes on its longest path.
 pub const MOST_LEVELS: u32 = 12;
 
+/// The most scans of a plan.
+pub const MOST_SCANS: u32 = 3;
+
 /// The schema of a plan's result over frames of these schemas, or the first fault.
 pub fn check(alloc: Global, plan: &Plan, frames: &[Schema]) -> Result<Schema, PlanFault>
     ensures { Answers (checked plan.now frames.now) result }
 {
     if !is_within(plan, MOST_LEVELS) {
         return Err(PlanFault::TooDeep);
+    }
+    if scans_left(plan, MOST_SCANS).is_none() {
+        return Err(PlanFault::TooManyScans);
     }
     check_node(alloc, plan, frames)
 }
@@ -38,6 +45,26 @@ fn is_within(plan: &Plan, most: u32) -> bool
             is_within(input.get(), most - 1)
         }
         Plan::GroupBy(input, _, _) => is_within(input.get(), most - 1),
+        Plan::Join(left, right, _, _) => {
+            is_within(left.get(), most - 1) && is_within(right.get(), most - 1)
+        }
+    }
+}
+
+// What is left of so many scans after those of a plan; none where it has more.
+fn scans_left(plan: &Plan, most: u32) -> Option<u32>
+    ensures { MatchOption result (λ left. scans plan.now + left ≡ most) (most < scans plan.now) }
+{
+    match plan {
+        Plan::Scan(_) => most.checked_sub(1),
+        Plan::Filter(input, _) | Plan::Select(input, _) | Plan::WithColumns(input, _) => {
+            scans_left(input.get(), most)
+        }
+        Plan::GroupBy(input, _, _) => scans_left(input.get(), most),
+        Plan::Join(left, right, _, _) => {
+            let rest = scans_left(left.get(), most)?;
+            scans_left(right.get(), rest)
+        }
     }
 }
 
@@ -61,6 +88,13 @@ fn check_node(alloc: Global, plan: &Plan, frames: &[Schema]) -> Result<Schema, P
         Plan::GroupBy(input, keys, aggs) => {
             let columns = check_node(alloc, input.get(), frames)?;
             check_groups(alloc, &columns, keys.as_slice(), aggs.as_slice())
+        }
+        Plan::Join(left, right, _, keys) => {
+            let left = check_node(alloc, left.get(), frames)?;
+            match check_node(alloc, right.get(), frames) {
+                Ok(right) => check_join(alloc, &left, &right, keys.as_slice()),
+                Err(fault) => Err(fault),
+            }
         }
     }
 }
@@ -133,8 +167,8 @@ fn put(alloc: Global, input: &Schema, added: &Columns) -> Result<Schema, PlanFau
     schema_of(columns)
 }
 
-// The schema of these columns: no name may stand twice, and then they may not be too many.
-fn settled(alloc: Global, columns: Columns) -> Result<Schema, PlanFault>
+/// The schema of these columns: no name may stand twice, and then they may not be too many.
+pub fn settled(alloc: Global, columns: Columns) -> Result<Schema, PlanFault>
     ensures { Answers (settled_columns columns) result }
 {
     if let Some(name) = doubled(columns.as_slice()) {

@@ -6,6 +6,7 @@ ghost use Rattle.df_plan.specs.Meaning.{table_of, frame_from, frames_fit, groupe
 use crate::aggregates::aggregate;
 use crate::checked::CheckedPlan;
 use crate::groups::{group_of, keys_of};
+use crate::joins::join;
 use crate::plan::{Agg, Plan};
 use crate::row_wise::{filter_table, select_table, with_table};
 use crate::table::Table;
@@ -58,6 +59,13 @@ fn table_of_plan(
         Plan::GroupBy(input, keys, aggs) => {
             let input = table_of_plan(alloc, input.get(), schemas, frames)?;
             group_by(alloc, &input, keys.as_slice(), aggs.as_slice())
+        }
+        Plan::Join(left, right, how, keys) => {
+            let left = table_of_plan(alloc, left.get(), schemas, frames)?;
+            match table_of_plan(alloc, right.get(), schemas, frames) {
+                Ok(right) => join(alloc, &left, &right, *how, keys.as_slice()),
+                Err(refused) => Err(refused),
+            }
         }
     }
 }

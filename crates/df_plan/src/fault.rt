@@ -19,6 +19,9 @@ pub enum PlanFault {
     /// This name would stand twice among the columns of a result.
     #[error("a name stands twice: {0:?}")]
     DoubledName(Text),
+    /// More than 3 scans.
+    #[error("more than 3 scans")]
+    TooManyScans,
     /// More than 12 levels.
     #[error("more than 12 levels")]
     TooDeep,

@@ -46,7 +46,7 @@ fn stands_in(key: &Row, keys: &[Row]) -> bool
 }
 
 /// The cells of a row at these places.
-fn key_of(alloc: Global, places: &[Option<usize>], row: &Row) -> Result<Row, AllocError>
+pub fn key_of(alloc: Global, places: &[Option<usize>], row: &Row) -> Result<Row, AllocError>
     ensures { IfOk result (λ k. k ≡ key_at places.now row.now) }
 {
     let mut key = Vec::with_capacity(alloc, places.len())?;

@@ -17,6 +17,9 @@ mod extremes;
 mod fault;
 mod groups;
 mod items;
+mod join_checks;
+mod join_columns;
+mod joins;
 mod placed;
 mod plan;
 mod row_wise;
@@ -30,7 +33,7 @@ pub use evaluation::evaluate;
 pub use extremes::{End, extreme_of, extremes_of};
 pub use fault::PlanFault;
 pub use groups::{group_lengths, group_of, keys_of};
-pub use plan::{Agg, Plan};
+pub use plan::{Agg, How, Plan};
 pub use row_wise::{added_row, filtered, selected_row};
 pub use totals::group_sums;
 

@@ -64,7 +64,8 @@ fn push_new<T: Duplicate>(
     Ok(())
 }
 
-fn has_name<T>(name: &Text, items: &[(Text, T)]) -> bool
+/// Whether one of the items has this name.
+pub fn has_name<T>(name: &Text, items: &[(Text, T)]) -> bool
     ensures { result ≡ name_stands name.now items.now }
 {
     items.iter().any(|item| item.0 == *name)

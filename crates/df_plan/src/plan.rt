@@ -29,6 +29,15 @@ pub enum Agg {
     Mean(Text),
 }
 
+/// Which left rows a join keeps.
+#[derive(Clone, Copy, Debug, PartialEq, Eq, Hash)]
+pub enum How {
+    /// Those that have a match.
+    Inner,
+    /// All; one without a match stands once, beside nulls.
+    Left,
+}
+
 /// How a table is made of frames.
 #[derive(Debug, Drop)]
 pub enum Plan {
@@ -46,6 +55,11 @@ pub enum Plan {
     /// gives a row: the key's cells, then the aggregates under their output names. Null equals null in
     /// keys.
     GroupBy(Boxed<Plan>, List<Text>, List<(Text, Agg)>),
+    /// Each row of the first input beside each row of the second that has the same cells in the key
+    /// columns, none of them null: in the first's order, and for one of its rows in the second's. The
+    /// second's columns come last, without its keys; a name that stands in the first gets the suffix
+    /// `_right`.
+    Join(Boxed<Plan>, Boxed<Plan>, How, List<Text>),
 }
 
 impl Exact for Agg {
@@ -114,6 +128,11 @@ impl Duplicate for Plan {
                 let input = copy_of(alloc, input)?;
                 Ok(Plan::GroupBy(input, keys.copy(alloc)?, aggs.copy(alloc)?))
             }
+            Plan::Join(left, right, how, keys) => {
+                let left = copy_of(alloc, left)?;
+                let right = copy_of(alloc, right)?;
+                Ok(Plan::Join(left, right, *how, keys.copy(alloc)?))
+            }
         }
     }
 }
@@ -138,6 +157,12 @@ fn same_plan(a: &Plan, b: &Plan) -> bool
         }
         (Plan::GroupBy(x, keys, aggs), Plan::GroupBy(y, other_keys, other_aggs)) => {
             same_plan(x.get(), y.get()) && same(keys, other_keys) && same(aggs, other_aggs)
+        }
+        (Plan::Join(x, z, how, keys), Plan::Join(y, w, other_how, other_keys)) => {
+            same_plan(x.get(), y.get())
+                && same_plan(z.get(), w.get())
+                && *how == *other_how
+                && same(keys, other_keys)
         }
         _ => false,
     }

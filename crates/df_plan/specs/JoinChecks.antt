@@ -1,0 +1,62 @@
+-- The check of a join: the columns of its result, or the first fault.
+use Rattle.std.specs.Prelude.{ℕ, List, [], ◌∷◌, ◌++◌, Option, Some, None, Result, Ok, Err, if◌then◌else◌}
+use Rattle.std.specs.List.{list_any}
+use Rattle.std.specs.Str.{bytes_eq}
+use Rattle.df_value.specs.declared.cell.CellType.{CellType}
+use Rattle.df_value.specs.declared.cell.CellType.TheVariants as kind
+use Rattle.df_value.specs.Schemas.{type_in, doubled_after}
+use Rattle.df_expr.specs.declared.fault.ExprFault.TheVariants as expr
+use Rattle.df_plan.specs.declared.fault.PlanFault.{PlanFault}
+use Rattle.df_plan.specs.declared.fault.PlanFault.TheVariants as fault
+use Rattle.df_plan.specs.ItemChecks.{Columns, Checked, Kind}
+use Rattle.df_plan.specs.Settled.{settled_at}
+use Rattle.df_plan.specs.Joins.{joined_columns}
+
+-- the type of a key: its column must be there on the left and on the right, of one type, which may be every one but
+-- Frac
+abbrev pub join_key_type : List ℕ → Option CellType → Option CellType → Kind
+join_key_type name None right = Err (fault.Expr (expr.NoColumn name))
+join_key_type name (Some t) None = Err (fault.Expr (expr.NoColumn name))
+join_key_type name (Some kind.Int) (Some kind.Int) = Ok kind.Int
+join_key_type name (Some kind.Wide) (Some kind.Wide) = Ok kind.Wide
+join_key_type name (Some kind.Text) (Some kind.Text) = Ok kind.Text
+join_key_type name (Some kind.Bool) (Some kind.Bool) = Ok kind.Bool
+join_key_type name (Some t) (Some u) = Err (fault.WrongType name)
+
+abbrev pub join_key : Columns → Columns → List ℕ → Kind
+join_key left right name = join_key_type name (type_in name left) (type_in name right)
+
+abbrev pub fault_or : Kind → Option PlanFault → Option PlanFault
+fault_or (Ok t) later = later
+fault_or (Err f) later = Some f
+
+-- the first fault of the keys, in their order
+abbrev pub keys_fault : Columns → Columns → List (List ℕ) → Option PlanFault
+keys_fault left right [] = None
+keys_fault left right (k ∷ ks) = fault_or (join_key left right k) (keys_fault left right ks)
+
+-- the first key that stands earlier, where these keys were seen
+abbrev pub doubled_key_after : List (List ℕ) → List (List ℕ) → Option (List ℕ)
+doubled_key_after seen [] = None
+doubled_key_after seen (k ∷ ks) =
+    if list_any (λ s. bytes_eq s k) seen then Some k else doubled_key_after (seen ++ k ∷ []) ks
+
+-- of two names that stand twice, the first one
+abbrev pub either_name : Option (List ℕ) → Option (List ℕ) → Option (List ℕ)
+either_name None second = second
+either_name (Some name) second = Some name
+
+-- the columns of a join whose keys are sound
+abbrev pub join_settled : Columns → List (List ℕ) → Checked
+join_settled columns keys = settled_at columns (either_name (doubled_key_after [] keys) (doubled_after [] columns))
+
+abbrev pub fault_first : Option PlanFault → Checked → Checked
+fault_first None checked = checked
+fault_first (Some f) checked = Err f
+
+-- no keys are refused first, then the first key that is not sound, then the first key that stands earlier, then the
+-- first name of the result that stands earlier, then a result that is too wide
+abbrev pub join_checked : Columns → Columns → List (List ℕ) → Checked
+join_checked left right [] = Err fault.EmptyList
+join_checked left right keys =
+    fault_first (keys_fault left right keys) (join_settled (joined_columns left right keys) keys)

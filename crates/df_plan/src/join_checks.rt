@@ -1,0 +1,94 @@
+//! The check of a join.
+ghost use Rattle.std.specs.Prelude.{◌≡◌, ◌≢◌, [], MatchResult, None, Some, Ok, Err};
+ghost use Rattle.std.specs.List.{list_any};
+ghost use Rattle.std.specs.Option.{option_copied};
+ghost use Rattle.std.specs.Str.{bytes_eq};
+ghost use Rattle.df_value.specs.Schemas.{type_in};
+ghost use Rattle.df_plan.specs.Checks.{Answers};
+ghost use Rattle.df_plan.specs.JoinChecks.{join_checked, join_settled, join_key_type, keys_fault, doubled_key_after};
+
+use crate::checks::settled;
+use crate::fault::PlanFault;
+use crate::items::Columns;
+use crate::join_columns::joined_columns;
+use df_expr::ExprFault;
+use df_value::{CellType, Duplicate, Schema, Text};
+use std::alloc::Global;
+
+/// The schema of a join of tables of these schemas, or its first fault.
+pub fn check_join(
+    alloc: Global,
+    left: &Schema,
+    right: &Schema,
+    keys: &[Text],
+) -> Result<Schema, PlanFault>
+    ensures { Answers (join_checked left.now right.now keys.now) result }
+{
+    if keys.is_empty() {
+        return Err(PlanFault::EmptyList);
+    }
+    check_keys(alloc, left, right, keys)?;
+    let columns = joined_columns(alloc, left.columns(), right.columns().as_slice(), keys)?;
+    settled_join(alloc, columns, keys)
+}
+
+// The schema of these columns of a join by these keys.
+fn settled_join(alloc: Global, columns: Columns, keys: &[Text]) -> Result<Schema, PlanFault>
+    ensures { Answers (join_settled columns keys.now) result }
+{
+    match doubled_key(keys) {
+        Some(name) => Err(PlanFault::DoubledName(name.copy(alloc)?)),
+        None => settled(alloc, columns),
+    }
+}
+
+// The first key that stands earlier.
+fn doubled_key(keys: &[Text]) -> Option<&Text>
+    ensures { option_copied result ≡ doubled_key_after [] keys.now }
+{
+    for i in 0..keys.len() {
+        if has_key(&keys[..i], &keys[i]) {
+            return Some(&keys[i]);
+        }
+    }
+    None
+}
+
+fn has_key(keys: &[Text], name: &Text) -> bool
+    ensures { result ≡ list_any (λ k. bytes_eq k name.now) keys.now }
+{
+    keys.iter().any(|key| *key == *name)
+}
+
+// The first fault of the keys.
+fn check_keys(
+    alloc: Global,
+    left: &Schema,
+    right: &Schema,
+    keys: &[Text],
+) -> Result<(), PlanFault>
+    ensures { MatchResult result
+        (λ _. keys_fault left.now right.now keys.now ≡ None)
+        (λ f. f ≢ PlanFault.Memory → keys_fault left.now right.now keys.now ≡ Some f) }
+{
+    for name in keys {
+        key_type(alloc, name, left.type_of(name), right.type_of(name))?;
+    }
+    Ok(())
+}
+
+fn key_type(
+    alloc: Global,
+    name: &Text,
+    left: Option<CellType>,
+    right: Option<CellType>,
+) -> Result<CellType, PlanFault>
+    ensures { Answers (join_key_type name.now left right) result }
+{
+    match (left, right) {
+        (Some(CellType::Frac), Some(_)) => Err(PlanFault::WrongType(name.copy(alloc)?)),
+        (Some(kind), Some(other)) if kind == other => Ok(kind),
+        (Some(_), Some(_)) => Err(PlanFault::WrongType(name.copy(alloc)?)),
+        _ => Err(PlanFault::Expr(ExprFault::NoColumn(name.copy(alloc)?))),
+    }
+}
