@@ -1,3 +1,4 @@
+pub mod Depths
 pub mod FormFacts
 pub mod ReadFacts
 pub mod Sound

@@ -4,6 +4,7 @@ use Rattle.std.specs.List.{All, list_any, list_all}
 use Rattle.std.specs.Str.{bytes_eq}
 use Rattle.toml.specs.Data.{Data, table, Members, get_member}
 use Rattle.df_value.specs.Schemas.{is_base}
+use Rattle.df_plan.specs.declared.plan.Plan.TheVariants as plan
 use Rattle.df_text.specs.declared.document.FrameSpec.{FrameSpec}
 use Rattle.df_text.specs.declared.document.ViewSpec.{ViewSpec}
 use Rattle.df_text.specs.declared.document.Views.{Views}
@@ -12,10 +13,10 @@ use Rattle.df_text.specs.declared.document.Place.TheVariants as place
 use Rattle.df_text.specs.declared.views_fault.ViewsFault.{ViewsFault}
 use Rattle.df_text.specs.declared.views_fault.ViewsFault.TheVariants as fault
 use Rattle.df_text.specs.Reading.{then_read, read_after}
-use Rattle.df_text.specs.Tree.{tree_of, keys_pass, value_at, text_in, array_in, table_in}
+use Rattle.df_text.specs.Tree.{tree_of, keys_pass, value_at, text_in, table_in}
 use Rattle.df_text.specs.Frames.{frames_of}
-use Rattle.df_text.specs.Sources.{array_or_none, source_at}
-use Rattle.df_text.specs.Steps.{plan_from}
+use Rattle.df_text.specs.Sources.{array_or_none, source_at, frame_named}
+use Rattle.df_text.specs.Steps.{steps_at}
 use Rattle.df_text.specs.Scans.{scans_below}
 
 abbrev pub is_view_key : List ℕ → Bool
@@ -44,7 +45,9 @@ view_of frames before d =
     let at = place.View (length before) in
     then_read (table_in at d) (λ ms. then_read (entries_of_view at ms) (λ entries.
     then_read (new_view_name at entries.name before) (λ name.
-    then_read (plan_from at frames entries.source ms) (λ p. Ok (record { name = name; plan = p })))))
+    then_read (frame_named at entries.source frames) (λ index.
+    then_read (steps_at at frames (plan.Scan index) ms) (λ p.
+    Ok (record { name = name; plan = p }))))))
 
 abbrev pub views_of : List FrameSpec → List Data → Result (List ViewSpec) ViewsFault
 views_of frames ds = read_after (view_of frames) [] ds

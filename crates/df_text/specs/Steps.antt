@@ -82,12 +82,9 @@ abbrev mutual
   -- the plan of a right side: a frame's name, or a table that begins with a frame
   pub side_of : Place → List FrameSpec → Data → Result Plan ViewsFault
   side_of at frames (string name) = then_read (frame_named at name frames) (λ i. Ok (plan.Scan i))
-  side_of at frames (table ms) = then_read (only_source_at at ms) (λ source. plan_from at frames source ms)
+  side_of at frames (table ms) =
+      then_read (only_source_at at ms) (λ source. then_read (frame_named at source frames) (λ i. steps_at at frames (plan.Scan i) ms))
   side_of at frames _ = Err (fault.Shape at)
-
-  -- the plan that begins with the frame of this name, and goes on with the steps of this table
-  pub plan_from : Place → List FrameSpec → List ℕ → Members → Result Plan ViewsFault
-  plan_from at frames source ms = then_read (frame_named at source frames) (λ i. steps_at at frames (plan.Scan i) ms)
 
   -- the plan after the steps at the key `steps`; without that key it is the plan before
   pub steps_at : Place → List FrameSpec → Plan → Members → Result Plan ViewsFault

@@ -62,7 +62,11 @@ fn is_source_key(key: &str) -> bool
 }
 
 /// The items of the array at a key; a missing one is empty.
-pub fn array_or_none<'a>(place: Place, table: &'a Table, key: &str) -> Result<&'a [Value], ViewsFault>
+pub fn array_or_none<'a>(
+    place: Place,
+    table: &'a Table,
+    key: &str,
+) -> Result<&'a [Value], ViewsFault>
     ensures { MatchResult result
         (λ vs. array_or_none_of place (get_member key.now (table_view table.now)) ≡ Ok (map view vs.now))
         (λ f. array_or_none_of place (get_member key.now (table_view table.now)) ≡ Err f) }
@@ -84,7 +88,7 @@ pub fn frame_of_name(place: Place, name: &str, frames: &[FrameSpec]) -> Result<u
 }
 
 fn place_of_name(name: &str, frames: &[FrameSpec]) -> Option<usize>
-    ensures { result ≡ position (λ f. bytes_eq f.name name) frames.now }
+    ensures { result ≡ position (λ f. bytes_eq f.name name.now) frames.now }
 {
     frames.iter().position(|f| f.name.as_str() == name)
 }

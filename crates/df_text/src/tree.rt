@@ -104,10 +104,7 @@ pub fn pair_in(place: Place, items: &[Value]) -> Result<(&Value, &Value), ViewsF
 }
 
 /// The three items of an array of three.
-pub fn triple_in(
-    place: Place,
-    items: &[Value],
-) -> Result<(&Value, &Value, &Value), ViewsFault>
+pub fn triple_in(place: Place, items: &[Value]) -> Result<(&Value, &Value, &Value), ViewsFault>
     ensures { MatchResult result
         (λ t. triple_of place (map view items.now) ≡ Ok (view t.0.now, view t.1.now, view t.2.now))
         (λ f. triple_of place (map view items.now) ≡ Err f) }

@@ -4,13 +4,13 @@ ghost use Rattle.toml.specs.View.{items_of, table_view, view};
 ghost use Rattle.df_text.specs.declared.view_steps.StepWord.TheVariants.{Join};
 ghost use Rattle.df_text.specs.Reading.{Answers, read_each};
 ghost use Rattle.df_text.specs.Tree.{text_in as text_of};
-ghost use Rattle.df_text.specs.Steps.{step_of_word, group_by_of, kind_of_word, kind_and_keys as kind_and_keys_of, step_in as step_in_data, steps_after, step_of, applied, side_of, plan_from};
+ghost use Rattle.df_text.specs.Steps.{step_of_word, group_by_of, kind_of_word, kind_and_keys as kind_and_keys_of, step_in as step_in_data, steps_after, step_of, applied, side_of, steps_at};
 
 use crate::aggregates::read_aggregates;
 use crate::document::{FrameSpec, Place};
-use crate::from_tables::{frame_of_name, only_source_in};
+use crate::from_tables::{array_or_none, frame_of_name, only_source_in};
 use crate::row_wise_steps::{filter, select, with_columns};
-use crate::tree::{array_in, find, first_in, text_in, triple_in};
+use crate::tree::{array_in, first_in, text_in, triple_in};
 use crate::views_fault::ViewsFault;
 use df_plan::{How, Plan};
 use df_value::{Boxed, List, Text};
@@ -27,21 +27,20 @@ pub enum StepWord {
     Join,
 }
 
-/// The plan that begins with the frame of this name, and goes on with the steps of this table.
+/// The plan after the steps of a table, if it has any.
 #[cycle(steps)]
-pub fn read_plan(
+pub fn apply_table(
     alloc: Global,
     place: Place,
     frames: &[FrameSpec],
-    source: &str,
+    input: Plan,
     table: &Table,
 ) -> Result<Plan, ViewsFault>
-    ensures { Answers (plan_from place frames.now source.now (table_view table.now)) result }
+    ensures { Answers (steps_at place frames.now input (table_view table.now)) result }
 {
-    let input = Plan::Scan(frame_of_name(place, source, frames)?);
-    match find(table, "steps") {
-        Some(steps) => apply_steps(alloc, place, frames, input, array_in(place, steps)?),
-        None => Ok(input),
+    match array_or_none(place, table, "steps") {
+        Ok(steps) => apply_steps(alloc, place, frames, input, steps),
+        Err(fault) => Err(fault),
     }
 }
 
@@ -125,9 +124,11 @@ fn join(
 {
     let input = Boxed::new(alloc, input)?;
     let (kind, keys, right) = triple_in(place, items)?;
-    let (how, keys) = kind_and_keys(alloc, place, kind, keys)?;
-    match read_right(alloc, place, frames, right) {
-        Ok(right) => Ok(Plan::Join(input, right, how, keys)),
+    match kind_and_keys(alloc, place, kind, keys) {
+        Ok((how, keys)) => match read_right(alloc, place, frames, right) {
+            Ok(right) => Ok(Plan::Join(input, right, how, keys)),
+            Err(fault) => Err(fault),
+        },
         Err(fault) => Err(fault),
     }
 }
@@ -145,8 +146,8 @@ fn read_right(
     let plan = match right {
         Value::String(name) => Plan::Scan(frame_of_name(place, name.as_str(), frames)?),
         Value::Table(table) => {
-            let source = only_source_in(place, table)?;
-            read_plan(alloc, place, frames, source, table)?
+            let index = frame_of_name(place, only_source_in(place, table)?, frames)?;
+            apply_table(alloc, place, frames, Plan::Scan(index), table)?
         }
         _ => return Err(ViewsFault::Shape(place)),
     };

@@ -12,10 +12,11 @@ ghost use Rattle.df_text.specs.Document.{IsDocument, is_view_key as is_key_of_vi
 
 use crate::document::{FrameSpec, Place, ViewSpec, Views};
 use crate::frames::read_frames;
-use crate::from_tables::{array_or_none, source_in};
+use crate::from_tables::{array_or_none, frame_of_name, source_in};
 use crate::tree::{parse, table_in, text_in, value_at};
-use crate::view_steps::read_plan;
+use crate::view_steps::apply_table;
 use crate::views_fault::ViewsFault;
+use df_plan::Plan;
 use df_value::{List, Text};
 use std::alloc::Global;
 use toml::{Table, Value};
@@ -176,8 +177,9 @@ fn read_view(
     if has_view(before, entries.name) {
         return Err(ViewsFault::Doubled(place));
     }
+    let index = frame_of_name(place, entries.source, frames)?;
     let name = Text::from_str(alloc, entries.name)?;
-    match read_plan(alloc, place, frames, entries.source, table) {
+    match apply_table(alloc, place, frames, Plan::Scan(index), table) {
         Ok(plan) => Ok(ViewSpec { name, plan }),
         Err(fault) => Err(fault),
     }
