@@ -1,5 +1,7 @@
+pub mod Depths
 pub mod FormFacts
 pub mod ReadFacts
 pub mod Sound
+pub mod StepFacts
 pub mod TreeFacts
 pub mod Utf8

@@ -1,17 +1,21 @@
 -- What every document that is read promises.
-use Rattle.std.proofs.Common.{◌≡◌, ◌≤◌, ℕ, Bool, true, false, cond, List, [], length, nat_lt, position, Option, Some, None, Ok, Err, IfOk, codes, ◌∷◌, ◌+◌, refl, arith, rules, ◌∙◌}
+use Rattle.std.proofs.Common.{◌≡◌, ◌≤◌, ℕ, Bool, true, false, cond, ◌&&◌, List, [], length, nat_lt, position, Option, Some, None, Result, Ok, Err, IfOk, Ordering, Less, Equal, Greater, nat_cmp, codes, ◌∷◌, ◌+◌, refl, arith, rules, ◌∙◌}
 use Rattle.std.specs.List.{All}
 use Rattle.std.proofs.lemmas.Bool.Decides.{nat_tests}
 use Rattle.std.proofs.lemmas.List.Elements.{All-nil}
 use Rattle.std.proofs.lemmas.List.Quantifiers.{position-Some}
 use Rattle.std.proofs.lemmas.List.Sums.{list_all-from_AllPass}
-use Rattle.toml.specs.Data.{Data, Members}
+use Rattle.std.specs.Cmp.Lexicographic.{slice_cmp}
+use Rattle.std.specs.Ordering.{match_ordering}
+use Rattle.std.specs.Str.{bytes_eq}
+use Rattle.toml.specs.Data.{Data, string, integer, float, boolean, datetime, array, table, Items, no_items, item, Members, no_members, member}
 use Rattle.df_value.specs.Schemas.{is_base, is_base_type}
 use Rattle.df_value.specs.declared.cell.CellType.{CellType}
 use Rattle.df_value.specs.declared.cell.CellType.TheVariants as kind
 use Rattle.df_value.specs.declared.schema.SchemaFault.{SchemaFault}
 use Rattle.df_value.specs.SchemaFaults.{schema_fault}
-use Rattle.df_plan.specs.declared.plan.Plan.{Plan, Scan, Filter, Select, WithColumns, GroupBy, the_lemmas}
+use Rattle.df_plan.specs.declared.plan.How.{How}
+use Rattle.df_plan.specs.declared.plan.Plan.{Plan, Scan, Filter, Select, WithColumns, GroupBy, Join, the_lemmas}
 use Rattle.df_expr.specs.declared.expr.Expr.{Expr}
 use Rattle.df_plan.specs.declared.plan.Agg.{Agg}
 use Rattle.df_text.specs.declared.document.FrameSpec.{FrameSpec}
@@ -23,14 +27,15 @@ use Rattle.df_text.specs.declared.view_steps.StepWord.TheVariants as step_word
 use Rattle.df_text.specs.declared.views_fault.ViewsFault.{ViewsFault}
 use Rattle.df_text.specs.declared.views_fault.ViewsFault.TheVariants as fault
 use Rattle.df_text.specs.Reading.{read_each}
-use Rattle.df_text.specs.Tree.{keys_pass, text_in, array_in, table_in, first_in, only_in, pair_in, tree_of}
+use Rattle.df_text.specs.Tree.{keys_pass, text_in, array_in, table_in, first_in, only_in, pair_in, list_of, tree_of}
 use Rattle.df_text.specs.Frames.{column_of, type_of_word, entries_of_frame, unless_fault, schema_of, new_name, frame_of, frames_of}
 use Rattle.df_text.specs.Expressions.{expr_of}
 use Rattle.df_text.specs.RowWiseSteps.{item_of}
 use Rattle.df_text.specs.AggregateItems.{aggregate_of}
-use Rattle.df_text.specs.Steps.{applied, step_in, step_of, steps_after}
+use Rattle.df_text.specs.Sources.{found_frame, frame_named, only_source_at}
+use Rattle.df_text.specs.Steps.{step_of_word, kind_and_keys, steps_after, step_of, applied, side_of, steps_at, all_steps}
 use Rattle.df_text.specs.Scans.{scans_below}
-use Rattle.df_text.specs.Document.{IsDocument, is_top_key, at_most, document_of, entries_of_view, found_frame, frame_named, new_view_name, tables_at, tables_of, view_of, views_of}
+use Rattle.df_text.specs.Document.{IsDocument, is_top_key, at_most, document_of, entries_of_view, new_view_name, tables_at, tables_of, view_of, views_of}
 use Rattle.df_text.proofs.ReadFacts.{then_gives, if_gives, given, all_give, each_give, length_gives}
 
 -- the three words name base types
@@ -74,28 +79,17 @@ scans-WithColumns n p items = search (rules, the_lemmas)
 scans-GroupBy : (n : ℕ) (p : Plan) (keys : List (List ℕ)) (aggs : List (List ℕ × Agg)) → scans_below n (GroupBy p keys aggs) ≡ scans_below n p
 scans-GroupBy n p keys aggs = search (rules, the_lemmas)
 
+both_true : (a b c : Bool) → a ≡ (b && c) → b ≡ true → c ≡ true → a ≡ true
+both_true a b c e g h = rw (e, g, h) refl
+
+scans-both : (n : ℕ) (left right : Plan) (how : How) (keys : List (List ℕ)) → scans_below n (Join left right how keys) ≡ (scans_below n left && scans_below n right)
+scans-both n left right how keys = search (rules, the_lemmas)
+
+scans-Join : (n : ℕ) (left right : Plan) (how : How) (keys : List (List ℕ)) → scans_below n left ≡ true → scans_below n right ≡ true → scans_below n (Join left right how keys) ≡ true
+scans-Join n left right how keys g h = both_true _ _ _ (scans-both n left right how keys) g h
+
 scans-Scan : (n i : ℕ) → scans_below n (Scan i) ≡ nat_lt i n
 scans-Scan n i = search (rules, the_lemmas)
-
-applied_scans : (n : ℕ) (at : Place) (word : StepWord) (input : Plan) (ds : List Data) → scans_below n input ≡ true → IfOk (applied at word input ds) (λ p. scans_below n p ≡ true)
-applied_scans n at step_word.Filter input ds h =
-    then_gives _ (only_in at ds) _ (λ d _. then_gives _ (expr_of at d) _ (λ e _. scans-Filter n input e ∙ h))
-applied_scans n at step_word.Select input ds h =
-    then_gives _ (read_each (item_of at) ds) _ (λ items _. scans-Select n input items ∙ h)
-applied_scans n at step_word.WithColumns input ds h =
-    then_gives _ (read_each (item_of at) ds) _ (λ items _. scans-WithColumns n input items ∙ h)
-applied_scans n at step_word.GroupBy input ds h =
-    then_gives _ (first_in at ds) _ (λ k _. then_gives _ (array_in at k.0) _ (λ ks _.
-    then_gives _ (read_each (text_in at) ks) _ (λ keys _. then_gives _ (read_each (aggregate_of at) k.1) _ (λ aggregates _.
-    scans-GroupBy n input keys aggregates ∙ h))))
-
-step_scans : (n : ℕ) (at : Place) (input : Plan) (d : Data) → scans_below n input ≡ true → IfOk (step_of at input d) (λ p. scans_below n p ≡ true)
-step_scans n at input d h = then_gives _ (step_in at d) _ (λ s _. applied_scans n at s.0 input s.1 h)
-
-steps_scans : (n : ℕ) (at : Place) (input : Plan) (ds : List Data) → scans_below n input ≡ true → IfOk (steps_after at input ds) (λ p. scans_below n p ≡ true)
-steps_scans n at input [] h = h
-steps_scans n at input (d ∷ ds) h =
-    then_gives _ (step_of at input d) _ (λ next is. steps_scans n at next ds (given (λ p. scans_below n p ≡ true) (step_of at input d) next (step_scans n at input d h) is))
 
 found_within : (at : Place) (p : FrameSpec → Bool) (frames : List FrameSpec) (o : Option ℕ) (i : ℕ) → position p frames ≡ o → found_frame at o ≡ Ok i → nat_lt i (length frames) ≡ true
 found_within at p [] None i is e = absurd (cc)
@@ -106,16 +100,88 @@ found_within at p (f ∷ frames) (Some j) i is e =
     let within = position-Some p (f ∷ frames) j f is in
     rw (← same) (grind (arith, nat_tests))
 
-view_scans : (frames : List FrameSpec) (before : List ViewSpec) (d : Data) → IfOk (view_of frames before d) (λ (v : ViewSpec). scans_below (length frames) v.plan ≡ true)
+-- a frame that is named is there
+named_scans : (at : Place) (frames : List FrameSpec) (name : List ℕ) (i : ℕ) → frame_named at name frames ≡ Ok i → scans_below (length frames) (Scan i) ≡ true
+named_scans at frames name i is = scans-Scan (length frames) i ∙ found_within at (λ (f : FrameSpec). bytes_eq f.name name) frames _ i refl is
+
+-- a plan that reads no other frames
+abbrev pub Reads : List FrameSpec → Plan → Type 0
+Reads frames p = scans_below (length frames) p ≡ true
+
+either_scans : (frames : List FrameSpec) (o : Ordering) (r s : Result Plan ViewsFault) → IfOk r (Reads frames) → IfOk s (Reads frames) → IfOk (match_ordering o r s r) (Reads frames)
+either_scans frames Less r s g h = g
+either_scans frames Equal r s g h = h
+either_scans frames Greater r s g h = g
+
+mutual
+  steps_scans : (at : Place) (frames : List FrameSpec) (input : Plan) (ds : Items) → Reads frames input → IfOk (steps_after at frames input ds) (Reads frames)
+  steps_scans at frames input no_items h = h
+  steps_scans at frames input (item d ds) h =
+      then_gives _ (step_of at frames input d) _ (λ next is. steps_scans at frames next ds (given (Reads frames) (step_of at frames input d) next (step_scans at frames input d h) is))
+
+  step_scans : (at : Place) (frames : List FrameSpec) (input : Plan) (d : Data) → Reads frames input → IfOk (step_of at frames input d) (Reads frames)
+  step_scans at frames input (array (item w ds)) h =
+      then_gives _ (text_in at w) _ (λ name _. then_gives _ (step_of_word at name) _ (λ word _. applied_scans at frames word input ds h))
+  step_scans at frames input (array no_items) h = tt
+  step_scans at frames input (string s) h = tt
+  step_scans at frames input (integer n) h = tt
+  step_scans at frames input (float x) h = tt
+  step_scans at frames input (boolean b) h = tt
+  step_scans at frames input (datetime t) h = tt
+  step_scans at frames input (table ms) h = tt
+
+  applied_scans : (at : Place) (frames : List FrameSpec) (word : StepWord) (input : Plan) (ds : Items) → Reads frames input → IfOk (applied at frames word input ds) (Reads frames)
+  applied_scans at frames step_word.Filter input ds h =
+      then_gives _ (only_in at (list_of ds)) _ (λ d _. then_gives _ (expr_of at d) _ (λ e _. scans-Filter (length frames) input e ∙ h))
+  applied_scans at frames step_word.Select input ds h =
+      then_gives _ (read_each (item_of at) (list_of ds)) _ (λ items _. scans-Select (length frames) input items ∙ h)
+  applied_scans at frames step_word.WithColumns input ds h =
+      then_gives _ (read_each (item_of at) (list_of ds)) _ (λ items _. scans-WithColumns (length frames) input items ∙ h)
+  applied_scans at frames step_word.GroupBy input ds h =
+      then_gives _ (first_in at (list_of ds)) _ (λ k _. then_gives _ (array_in at k.0) _ (λ ks _.
+      then_gives _ (read_each (text_in at) ks) _ (λ keys _. then_gives _ (read_each (aggregate_of at) k.1) _ (λ aggregates _.
+      scans-GroupBy (length frames) input keys aggregates ∙ h))))
+  applied_scans at frames step_word.Join input (item kind (item keys (item right no_items))) h =
+      then_gives _ (kind_and_keys at kind keys) _ (λ how _. then_gives _ (side_of at frames right) _ (λ p is.
+      scans-Join (length frames) input p how.0 how.1 h (given (Reads frames) (side_of at frames right) p (side_scans at frames right) is)))
+  applied_scans at frames step_word.Join input no_items h = tt
+  applied_scans at frames step_word.Join input (item a no_items) h = tt
+  applied_scans at frames step_word.Join input (item a (item b no_items)) h = tt
+  applied_scans at frames step_word.Join input (item a (item b (item c (item d ds)))) h = tt
+
+  side_scans : (at : Place) (frames : List FrameSpec) (d : Data) → IfOk (side_of at frames d) (Reads frames)
+  side_scans at frames (string name) = then_gives _ (frame_named at name frames) _ (λ i is. named_scans at frames name i is)
+  side_scans at frames (table ms) =
+      then_gives _ (only_source_at at ms) _ (λ source _. then_gives _ (frame_named at source frames) _ (λ i is.
+      steps_at_scans at frames (Scan i) ms (named_scans at frames source i is)))
+  side_scans at frames (array ds) = tt
+  side_scans at frames (integer n) = tt
+  side_scans at frames (float x) = tt
+  side_scans at frames (boolean b) = tt
+  side_scans at frames (datetime t) = tt
+
+  steps_at_scans : (at : Place) (frames : List FrameSpec) (input : Plan) (ms : Members) → Reads frames input → IfOk (steps_at at frames input ms) (Reads frames)
+  steps_at_scans at frames input no_members h = h
+  steps_at_scans at frames input (member k d ms) h =
+      either_scans frames (slice_cmp nat_cmp (codes "steps") k) _ _ (steps_at_scans at frames input ms h) (all_steps_scans at frames input d h)
+
+  all_steps_scans : (at : Place) (frames : List FrameSpec) (input : Plan) (d : Data) → Reads frames input → IfOk (all_steps at frames input d) (Reads frames)
+  all_steps_scans at frames input (array ds) h = steps_scans at frames input ds h
+  all_steps_scans at frames input (string s) h = tt
+  all_steps_scans at frames input (integer n) h = tt
+  all_steps_scans at frames input (float x) h = tt
+  all_steps_scans at frames input (boolean b) h = tt
+  all_steps_scans at frames input (datetime t) h = tt
+  all_steps_scans at frames input (table ms) h = tt
+
+view_scans : (frames : List FrameSpec) (before : List ViewSpec) (d : Data) → IfOk (view_of frames before d) (λ (v : ViewSpec). Reads frames v.plan)
 view_scans frames before d =
     let at = place.View (length before) in
-    let n = length frames in
     then_gives _ (table_in at d) _ (λ ms _. then_gives _ (entries_of_view at ms) _ (λ entries _.
     then_gives _ (new_view_name at entries.name before) _ (λ name _.
-    then_gives _ (frame_named at entries.source frames) _ (λ index is.
-    then_gives _ (steps_after at (Scan index) entries.steps) _ (λ p are.
-    let below = scans-Scan n index ∙ found_within at _ frames _ index refl is in
-    given (λ q. scans_below n q ≡ true) (steps_after at (Scan index) entries.steps) p (steps_scans n at (Scan index) entries.steps below) are)))))
+    then_gives _ (frame_named at entries.source frames) _ (λ i is.
+    then_gives _ (steps_at at frames (Scan i) ms) _ (λ p are.
+    given (Reads frames) (steps_at at frames (Scan i) ms) p (steps_at_scans at frames (Scan i) ms (named_scans at frames entries.source i is)) are)))))
 
 few_by_test : (b : Bool) (n : ℕ) (many : ViewsFault) (ds : List Data) → nat_lt n (length ds) ≡ b → IfOk (cond b (Err many) (Ok ds)) (λ few. length few ≤ n)
 few_by_test true n many ds e = tt

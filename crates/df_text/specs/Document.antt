@@ -1,5 +1,5 @@
 -- A view document: TOML (1.1) that names frames and views, or the first fault in the order that is stated here.
-use Rattle.std.specs.Prelude.{◌≡◌, ◌≤◌, ◌||◌, ℕ, Bool, true, false, List, [], length, nat_lt, position, codes, Option, Some, None, Result, Ok, Err, if◌then◌else◌}
+use Rattle.std.specs.Prelude.{◌≡◌, ◌≤◌, ◌||◌, ℕ, Bool, true, false, List, [], length, nat_lt, codes, Result, Ok, Err, if◌then◌else◌}
 use Rattle.std.specs.List.{All, list_any, list_all}
 use Rattle.std.specs.Str.{bytes_eq}
 use Rattle.toml.specs.Data.{Data, table, Members, get_member}
@@ -13,51 +13,31 @@ use Rattle.df_text.specs.declared.document.Place.TheVariants as place
 use Rattle.df_text.specs.declared.views_fault.ViewsFault.{ViewsFault}
 use Rattle.df_text.specs.declared.views_fault.ViewsFault.TheVariants as fault
 use Rattle.df_text.specs.Reading.{then_read, read_after}
-use Rattle.df_text.specs.Tree.{tree_of, keys_pass, value_at, text_in, array_in, table_in}
+use Rattle.df_text.specs.Tree.{tree_of, keys_pass, value_at, text_in, table_in}
 use Rattle.df_text.specs.Frames.{frames_of}
-use Rattle.df_text.specs.Steps.{steps_after}
+use Rattle.df_text.specs.Sources.{array_or_none, source_at, frame_named}
+use Rattle.df_text.specs.Steps.{steps_at}
 use Rattle.df_text.specs.Scans.{scans_below}
 
 abbrev pub is_view_key : List ℕ → Bool
 is_view_key k = bytes_eq k (codes "name") || (bytes_eq k (codes "from") || bytes_eq k (codes "steps"))
 
--- the items of an array that may be missing
-abbrev pub array_or_none : Place → Option Data → Result (List Data) ViewsFault
-array_or_none at None = Ok []
-array_or_none at (Some d) = array_in at d
-
--- at most 64 steps
-abbrev pub few_steps : Place → List Data → Result (List Data) ViewsFault
-few_steps at steps = if nat_lt 64 (length steps) then Err (fault.Shape at) else Ok steps
-
 -- what stands at the keys of a view
 pub record ViewEntries : Type 0 where
   pub name : List ℕ
   pub source : List ℕ
-  pub steps : List Data
 
--- the two keys that must be there, perhaps `steps`, and no other, each with a value of its kind, at most 64 steps
--- (a fault in any of these is the same one)
+-- its name, what a table has that begins with a frame, and no other key (a fault in any of these is the same one)
 abbrev pub entries_of_view : Place → Members → Result ViewEntries ViewsFault
 entries_of_view at ms =
     if keys_pass is_view_key ms then
     then_read (value_at at (codes "name") ms) (λ n. then_read (text_in at n) (λ name.
-    then_read (value_at at (codes "from") ms) (λ s. then_read (text_in at s) (λ source.
-    then_read (array_or_none at (get_member (codes "steps") ms)) (λ ds. then_read (few_steps at ds) (λ steps.
-    Ok (record { name = name; source = source; steps = steps })))))))
+    then_read (source_at at ms) (λ source. Ok (record { name = name; source = source }))))
     else Err (fault.Shape at)
 
 -- a name that none of these views has
 abbrev pub new_view_name : Place → List ℕ → List ViewSpec → Result (List ℕ) ViewsFault
 new_view_name at name views = if list_any (λ (v : ViewSpec). bytes_eq v.name name) views then Err (fault.Doubled at) else Ok name
-
-abbrev pub found_frame : Place → Option ℕ → Result ℕ ViewsFault
-found_frame at (Some i) = Ok i
-found_frame at None = Err (fault.NoFrame at)
-
--- the index of the frame of this name
-abbrev pub frame_named : Place → List ℕ → List FrameSpec → Result ℕ ViewsFault
-frame_named at name frames = found_frame at (position (λ (f : FrameSpec). bytes_eq f.name name) frames)
 
 -- a view over these frames, after the views that stand before it
 abbrev pub view_of : List FrameSpec → List ViewSpec → Data → Result ViewSpec ViewsFault
@@ -66,7 +46,7 @@ view_of frames before d =
     then_read (table_in at d) (λ ms. then_read (entries_of_view at ms) (λ entries.
     then_read (new_view_name at entries.name before) (λ name.
     then_read (frame_named at entries.source frames) (λ index.
-    then_read (steps_after at (plan.Scan index) entries.steps) (λ p.
+    then_read (steps_at at frames (plan.Scan index) ms) (λ p.
     Ok (record { name = name; plan = p }))))))
 
 abbrev pub views_of : List FrameSpec → List Data → Result (List ViewSpec) ViewsFault

@@ -4,6 +4,7 @@ pub mod Frames
 pub mod Reading
 pub mod RowWiseSteps
 pub mod Scans
+pub mod Sources
 pub mod AggregateItems
 pub mod Steps
 pub mod Tree

@@ -1,5 +1,5 @@
 -- The frames that a plan reads.
-use Rattle.std.specs.Prelude.{ℕ, Bool, nat_lt}
+use Rattle.std.specs.Prelude.{◌&&◌, ℕ, Bool, nat_lt}
 use Rattle.df_plan.specs.declared.plan.Plan.{Plan, fold-Plan}
 use Rattle.df_plan.specs.declared.plan.Plan.TheOpen.{Plan-F}
 
@@ -9,6 +9,7 @@ scans_step n (Plan-F.Filter input predicate) = input
 scans_step n (Plan-F.Select input items) = input
 scans_step n (Plan-F.WithColumns input items) = input
 scans_step n (Plan-F.GroupBy input keys aggregates) = input
+scans_step n (Plan-F.Join left right how keys) = left && right
 
 -- whether each frame that a plan reads has an index below this number
 abbrev pub scans_below : ℕ → Plan → Bool

@@ -1,18 +1,25 @@
--- The steps of a view: each is an array that begins with a word. They are applied in order to a plan.
-use Rattle.std.specs.Prelude.{ℕ, List, [], ◌∷◌, codes, Result, Ok, Err, if◌then◌else◌}
+-- The steps of a view: each is an array that begins with a word. They are applied in order to a plan. A join reads one
+-- more plan, its right side, which can have steps of its own.
+use Rattle.std.specs.Prelude.{ℕ, List, codes, Result, Ok, Err, if◌then◌else◌}
+use Rattle.std.specs.Ordering.{nat_cmp, match_ordering}
+use Rattle.std.specs.Cmp.Lexicographic.{slice_cmp}
 use Rattle.std.specs.Str.{bytes_eq}
-use Rattle.toml.specs.Data.{Data}
+use Rattle.toml.specs.Data.{Data, string, array, table, Items, no_items, item, Members, no_members, member}
+use Rattle.df_plan.specs.declared.plan.How.{How}
+use Rattle.df_plan.specs.declared.plan.How.TheVariants as how
 use Rattle.df_plan.specs.declared.plan.Plan.{Plan}
 use Rattle.df_plan.specs.declared.plan.Plan.TheVariants as plan
 use Rattle.df_text.specs.declared.view_steps.StepWord.{StepWord}
 use Rattle.df_text.specs.declared.view_steps.StepWord.TheVariants as step_word
+use Rattle.df_text.specs.declared.document.FrameSpec.{FrameSpec}
 use Rattle.df_text.specs.declared.document.Place.{Place}
 use Rattle.df_text.specs.declared.views_fault.ViewsFault.{ViewsFault}
 use Rattle.df_text.specs.declared.views_fault.ViewsFault.TheVariants as fault
 use Rattle.df_text.specs.Reading.{then_read, read_each}
-use Rattle.df_text.specs.Tree.{text_in, array_in, first_in}
+use Rattle.df_text.specs.Tree.{text_in, array_in, first_in, list_of}
 use Rattle.df_text.specs.AggregateItems.{aggregate_of}
 use Rattle.df_text.specs.RowWiseSteps.{filter_of, select_of, with_columns_of}
+use Rattle.df_text.specs.Sources.{only_source_at, frame_named}
 
 -- the step that a word names
 abbrev pub step_of_word : Place → List ℕ → Result StepWord ViewsFault
@@ -21,6 +28,7 @@ step_of_word at w =
     else if bytes_eq w (codes "select") then Ok step_word.Select
     else if bytes_eq w (codes "with_columns") then Ok step_word.WithColumns
     else if bytes_eq w (codes "group_by") then Ok step_word.GroupBy
+    else if bytes_eq w (codes "join") then Ok step_word.Join
     else Err (fault.Word at)
 
 -- an array of key names, and then any number of aggregates
@@ -30,12 +38,18 @@ group_by_of at input ds =
     then_read (read_each (text_in at) ks) (λ keys. then_read (read_each (aggregate_of at) k.1) (λ aggregates.
     Ok (plan.GroupBy input keys aggregates)))))
 
--- a step of this word, with the items after the word
-abbrev pub applied : Place → StepWord → Plan → List Data → Result Plan ViewsFault
-applied at step_word.Filter input ds = filter_of at input ds
-applied at step_word.Select input ds = select_of at input ds
-applied at step_word.WithColumns input ds = with_columns_of at input ds
-applied at step_word.GroupBy input ds = group_by_of at input ds
+-- the kind of join that a word names
+abbrev pub kind_of_word : Place → List ℕ → Result How ViewsFault
+kind_of_word at w =
+    if bytes_eq w (codes "inner") then Ok how.Inner
+    else if bytes_eq w (codes "left") then Ok how.Left
+    else Err (fault.Word at)
+
+-- the kind of a join, and then an array of key names
+abbrev pub kind_and_keys : Place → Data → Data → Result (How × List (List ℕ)) ViewsFault
+kind_and_keys at kind keys =
+    then_read (text_in at kind) (λ w. then_read (kind_of_word at w) (λ h.
+    then_read (array_in at keys) (λ ks. then_read (read_each (text_in at) ks) (λ names. Ok (h, names)))))
 
 -- the step that a value names, with the items after its word
 abbrev pub step_in : Place → Data → Result (StepWord × List Data) ViewsFault
@@ -43,11 +57,42 @@ step_in at d =
     then_read (array_in at d) (λ ds. then_read (first_in at ds) (λ s. then_read (text_in at s.0) (λ w.
     then_read (step_of_word at w) (λ word. Ok (word, s.1)))))
 
--- the plan after a step
-abbrev pub step_of : Place → Plan → Data → Result Plan ViewsFault
-step_of at input d = then_read (step_in at d) (λ s. applied at s.0 input s.1)
+abbrev mutual
+  -- the plan after all steps, in order
+  pub steps_after : Place → List FrameSpec → Plan → Items → Result Plan ViewsFault
+  steps_after at frames input no_items = Ok input
+  steps_after at frames input (item d ds) = then_read (step_of at frames input d) (λ next. steps_after at frames next ds)
 
--- the plan after all steps, in order
-abbrev pub steps_after : Place → Plan → List Data → Result Plan ViewsFault
-steps_after at input [] = Ok input
-steps_after at input (d ∷ ds) = then_read (step_of at input d) (λ next. steps_after at next ds)
+  -- the plan after a step
+  pub step_of : Place → List FrameSpec → Plan → Data → Result Plan ViewsFault
+  step_of at frames input (array (item w ds)) =
+      then_read (text_in at w) (λ name. then_read (step_of_word at name) (λ word. applied at frames word input ds))
+  step_of at frames input _ = Err (fault.Shape at)
+
+  -- the plan after a step of this word, with the items after the word
+  pub applied : Place → List FrameSpec → StepWord → Plan → Items → Result Plan ViewsFault
+  applied at frames step_word.Filter input ds = filter_of at input (list_of ds)
+  applied at frames step_word.Select input ds = select_of at input (list_of ds)
+  applied at frames step_word.WithColumns input ds = with_columns_of at input (list_of ds)
+  applied at frames step_word.GroupBy input ds = group_by_of at input (list_of ds)
+  applied at frames step_word.Join input (item kind (item keys (item right no_items))) =
+      then_read (kind_and_keys at kind keys) (λ h. then_read (side_of at frames right) (λ p. Ok (plan.Join input p h.0 h.1)))
+  applied at frames step_word.Join input _ = Err (fault.Shape at)
+
+  -- the plan of a right side: a frame's name, or a table that begins with a frame
+  pub side_of : Place → List FrameSpec → Data → Result Plan ViewsFault
+  side_of at frames (string name) = then_read (frame_named at name frames) (λ i. Ok (plan.Scan i))
+  side_of at frames (table ms) =
+      then_read (only_source_at at ms) (λ source. then_read (frame_named at source frames) (λ i. steps_at at frames (plan.Scan i) ms))
+  side_of at frames _ = Err (fault.Shape at)
+
+  -- the plan after the steps at the key `steps`; without that key it is the plan before
+  pub steps_at : Place → List FrameSpec → Plan → Members → Result Plan ViewsFault
+  steps_at at frames input no_members = Ok input
+  steps_at at frames input (member k d ms) =
+      match_ordering (slice_cmp nat_cmp (codes "steps") k) (steps_at at frames input ms) (all_steps at frames input d) (steps_at at frames input ms)
+
+  -- the plan after the steps of an array
+  pub all_steps : Place → List FrameSpec → Plan → Data → Result Plan ViewsFault
+  all_steps at frames input (array ds) = steps_after at frames input ds
+  all_steps at frames input _ = Err (fault.Shape at)

@@ -68,6 +68,11 @@ abbrev pub pair_in : Place → List Data → Result (Data × Data) ViewsFault
 pair_in place (d ∷ e ∷ []) = Ok (d, e)
 pair_in place _ = Err (fault.Shape place)
 
+-- the items of an array of three
+abbrev pub triple_in : Place → List Data → Result (Data × Data × Data) ViewsFault
+triple_in place (d ∷ e ∷ f ∷ []) = Ok (d, e, f)
+triple_in place _ = Err (fault.Shape place)
+
 -- nothing more
 abbrev pub none_in : Place → List Data → Result (Unit {0}) ViewsFault
 none_in place [] = Ok tt

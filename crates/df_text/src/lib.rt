@@ -15,6 +15,7 @@ mod aggregates;
 mod document;
 mod expressions;
 mod frames;
+mod from_tables;
 mod row_wise_steps;
 mod tree;
 mod view_steps;

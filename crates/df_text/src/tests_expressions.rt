@@ -139,6 +139,7 @@ fn write_plan(alloc: Global, plan: &Plan, out: &mut String) -> Result<(), AllocE
             write_plan(alloc, input.get(), out)?;
             out.push_str(", groups")
         }
+        Plan::Join(_, _, _, _) => out.push_str("join"),
     }
 }
 

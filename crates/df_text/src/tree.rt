@@ -4,7 +4,7 @@ ghost use Rattle.std.specs.List.{list_all};
 ghost use Rattle.std.specs.Map.{keys_of};
 ghost use Rattle.toml.specs.Data.{get_member};
 ghost use Rattle.toml.specs.View.{table_view, view};
-ghost use Rattle.df_text.specs.Tree.{GivesTable, tree_of, value_at as value_at_key, text_in as text_of, array_in as array_of, table_in as table_of, first_in as first_of, pair_in as pair_of, only_in as only_of, none_in as none_of};
+ghost use Rattle.df_text.specs.Tree.{GivesTable, tree_of, value_at as value_at_key, text_in as text_of, array_in as array_of, table_in as table_of, first_in as first_of, pair_in as pair_of, triple_in as triple_of, only_in as only_of, none_in as none_of};
 
 use crate::document::Place;
 use crate::views_fault::ViewsFault;
@@ -101,6 +101,17 @@ pub fn pair_in(place: Place, items: &[Value]) -> Result<(&Value, &Value), ViewsF
     let (first, rest) = first_in(place, items)?;
     let second = only_in(place, rest)?;
     Ok((first, second))
+}
+
+/// The three items of an array of three.
+pub fn triple_in(place: Place, items: &[Value]) -> Result<(&Value, &Value, &Value), ViewsFault>
+    ensures { MatchResult result
+        (λ t. triple_of place (map view items.now) ≡ Ok (view t.0.now, view t.1.now, view t.2.now))
+        (λ f. triple_of place (map view items.now) ≡ Err f) }
+{
+    let (first, rest) = first_in(place, items)?;
+    let (second, third) = pair_in(place, rest)?;
+    Ok((first, second, third))
 }
 
 /// The item of an array of one.

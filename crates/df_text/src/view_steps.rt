@@ -1,19 +1,21 @@
 //! The steps of a view.
 ghost use Rattle.std.specs.Prelude.{◌≡◌, MatchResult, Ok, Err, map, codes};
-ghost use Rattle.toml.specs.View.{view};
+ghost use Rattle.toml.specs.View.{items_of, table_view, view};
+ghost use Rattle.df_text.specs.declared.view_steps.StepWord.TheVariants.{Join};
 ghost use Rattle.df_text.specs.Reading.{Answers, read_each};
 ghost use Rattle.df_text.specs.Tree.{text_in as text_of};
-ghost use Rattle.df_text.specs.Steps.{step_of_word, group_by_of, applied, step_in as step_in_data, step_of, steps_after};
+ghost use Rattle.df_text.specs.Steps.{step_of_word, group_by_of, kind_of_word, kind_and_keys as kind_and_keys_of, step_in as step_in_data, steps_after, step_of, applied, side_of, steps_at};
 
 use crate::aggregates::read_aggregates;
-use crate::document::Place;
+use crate::document::{FrameSpec, Place};
+use crate::from_tables::{array_or_none, frame_of_name, only_source_in};
 use crate::row_wise_steps::{filter, select, with_columns};
-use crate::tree::{array_in, first_in, text_in};
+use crate::tree::{array_in, first_in, text_in, triple_in};
 use crate::views_fault::ViewsFault;
-use df_plan::Plan;
+use df_plan::{How, Plan};
 use df_value::{Boxed, List, Text};
 use std::alloc::Global;
-use toml::Value;
+use toml::{Table, Value};
 
 /// What the word of a step stands for.
 #[derive(Clone, Copy)]
@@ -22,30 +24,57 @@ pub enum StepWord {
     Select,
     WithColumns,
     GroupBy,
+    Join,
+}
+
+/// The plan after the steps of a table, if it has any.
+#[cycle(steps)]
+pub fn apply_table(
+    alloc: Global,
+    place: Place,
+    frames: &[FrameSpec],
+    input: Plan,
+    table: &Table,
+) -> Result<Plan, ViewsFault>
+    ensures { Answers (steps_at place frames.now input (table_view table.now)) result }
+{
+    match array_or_none(place, table, "steps") {
+        Ok(steps) => apply_steps(alloc, place, frames, input, steps),
+        Err(fault) => Err(fault),
+    }
 }
 
 /// The plan after these steps, which are applied in order.
-pub fn apply_steps(
+#[cycle(steps)]
+fn apply_steps(
     alloc: Global,
     place: Place,
+    frames: &[FrameSpec],
     input: Plan,
     steps: &[Value],
 ) -> Result<Plan, ViewsFault>
-    ensures { Answers (steps_after place input (map view steps.now)) result }
+    ensures { Answers (steps_after place frames.now input (items_of (map view steps.now))) result }
 {
     let mut plan = input;
     for step in steps {
-        plan = apply_step(alloc, place, plan, step)?;
+        plan = apply_step(alloc, place, frames, plan, step)?;
     }
     Ok(plan)
 }
 
 /// The plan after a step.
-fn apply_step(alloc: Global, place: Place, input: Plan, step: &Value) -> Result<Plan, ViewsFault>
-    ensures { Answers (step_of place input (view step.now)) result }
+#[cycle(steps)]
+fn apply_step(
+    alloc: Global,
+    place: Place,
+    frames: &[FrameSpec],
+    input: Plan,
+    step: &Value,
+) -> Result<Plan, ViewsFault>
+    ensures { Answers (step_of place frames.now input (view step.now)) result }
 {
     match step_in(place, step) {
-        Ok((word, items)) => apply(alloc, place, word, input, items),
+        Ok((word, items)) => apply(alloc, place, frames, word, input, items),
         Err(fault) => Err(fault),
     }
 }
@@ -62,20 +91,91 @@ fn step_in(place: Place, step: &Value) -> Result<(StepWord, &[Value]), ViewsFaul
 }
 
 /// The plan after a step of this word, with the items after the word.
+#[cycle(steps)]
 fn apply(
     alloc: Global,
     place: Place,
+    frames: &[FrameSpec],
     word: StepWord,
     input: Plan,
     items: &[Value],
 ) -> Result<Plan, ViewsFault>
-    ensures { Answers (applied place word input (map view items.now)) result }
+    ensures { Answers (applied place frames.now word input (items_of (map view items.now))) result }
 {
     match word {
         StepWord::Filter => filter(alloc, place, input, items),
         StepWord::Select => select(alloc, place, input, items),
         StepWord::WithColumns => with_columns(alloc, place, input, items),
         StepWord::GroupBy => group_by(alloc, place, input, items),
+        StepWord::Join => join(alloc, place, frames, input, items),
+    }
+}
+
+/// Joins: a kind, an array of key names, and the right side.
+#[cycle(steps)]
+fn join(
+    alloc: Global,
+    place: Place,
+    frames: &[FrameSpec],
+    input: Plan,
+    items: &[Value],
+) -> Result<Plan, ViewsFault>
+    ensures { Answers (applied place frames.now Join input (items_of (map view items.now))) result }
+{
+    let input = Boxed::new(alloc, input)?;
+    let (kind, keys, right) = triple_in(place, items)?;
+    match kind_and_keys(alloc, place, kind, keys) {
+        Ok((how, keys)) => match read_right(alloc, place, frames, right) {
+            Ok(right) => Ok(Plan::Join(input, right, how, keys)),
+            Err(fault) => Err(fault),
+        },
+        Err(fault) => Err(fault),
+    }
+}
+
+/// The right side of a join: a frame's name, or a table that begins with a frame.
+#[cycle(steps)]
+fn read_right(
+    alloc: Global,
+    place: Place,
+    frames: &[FrameSpec],
+    right: &Value,
+) -> Result<Boxed<Plan>, ViewsFault>
+    ensures { Answers (side_of place frames.now (view right.now)) result }
+{
+    let plan = match right {
+        Value::String(name) => Plan::Scan(frame_of_name(place, name.as_str(), frames)?),
+        Value::Table(table) => {
+            let index = frame_of_name(place, only_source_in(place, table)?, frames)?;
+            apply_table(alloc, place, frames, Plan::Scan(index), table)?
+        }
+        _ => return Err(ViewsFault::Shape(place)),
+    };
+    Ok(Boxed::new(alloc, plan)?)
+}
+
+/// The kind of a join, and its keys.
+fn kind_and_keys(
+    alloc: Global,
+    place: Place,
+    kind: &Value,
+    keys: &Value,
+) -> Result<(How, List<Text>), ViewsFault>
+    ensures { Answers (kind_and_keys_of place (view kind.now) (view keys.now)) result }
+{
+    let how = kind_named(place, text_in(place, kind)?)?;
+    let keys = read_names(alloc, place, array_in(place, keys)?)?;
+    Ok((how, keys))
+}
+
+/// The kind of join that a word names.
+fn kind_named(place: Place, word: &str) -> Result<How, ViewsFault>
+    ensures { result ≡ kind_of_word place word.now }
+{
+    match word {
+        "inner" => Ok(How::Inner),
+        "left" => Ok(How::Left),
+        _ => Err(ViewsFault::Word(place)),
     }
 }
 
@@ -88,6 +188,7 @@ fn step_named(place: Place, word: &str) -> Result<StepWord, ViewsFault>
         "select" => Ok(StepWord::Select),
         "with_columns" => Ok(StepWord::WithColumns),
         "group_by" => Ok(StepWord::GroupBy),
+        "join" => Ok(StepWord::Join),
         _ => Err(ViewsFault::Word(place)),
     }
 }

@@ -1,5 +1,5 @@
 //! View documents.
-ghost use Rattle.std.specs.Prelude.{◌≡◌, [], MatchResult, Ok, Err, IfOk, map, length, string_bytes, codes, nat_lt, position};
+ghost use Rattle.std.specs.Prelude.{◌≡◌, [], MatchResult, Ok, Err, IfOk, map, length, string_bytes, codes, nat_lt};
 ghost use Rattle.std.specs.List.{list_any, list_all};
 ghost use Rattle.std.specs.Map.{keys_of};
 ghost use Rattle.std.specs.Option.{option_copied};
@@ -8,12 +8,13 @@ ghost use Rattle.toml.specs.Data.{get_member};
 ghost use Rattle.toml.specs.View.{table_view, view};
 ghost use Rattle.df_text.specs.Reading.{Answers};
 ghost use Rattle.df_text.specs.Tree.{keys_pass};
-ghost use Rattle.df_text.specs.Document.{IsDocument, is_view_key as is_key_of_view, is_top_key as is_key_of_top, is_table as is_table_data, array_or_none as array_or_none_of, entries_of_view, frame_named, view_of, views_of, tables_at as tables_at_key, tables_of, document_of};
+ghost use Rattle.df_text.specs.Document.{IsDocument, is_view_key as is_key_of_view, is_top_key as is_key_of_top, is_table as is_table_data, entries_of_view, view_of, views_of, tables_at as tables_at_key, tables_of, document_of};
 
 use crate::document::{FrameSpec, Place, ViewSpec, Views};
 use crate::frames::read_frames;
-use crate::tree::{array_in, find, parse, table_in, text_in, value_at};
-use crate::view_steps::apply_steps;
+use crate::from_tables::{array_or_none, frame_of_name, source_in};
+use crate::tree::{parse, table_in, text_in, value_at};
+use crate::view_steps::apply_table;
 use crate::views_fault::ViewsFault;
 use df_plan::Plan;
 use df_value::{List, Text};
@@ -25,9 +26,6 @@ const MOST_FRAMES: usize = 8;
 
 /// The most views of a document.
 const MOST_VIEWS: usize = 32;
-
-/// The most steps of a view.
-const MOST_STEPS: usize = 64;
 
 /// The tables of the frames, and those of the views.
 #[derive(Clone, Copy)]
@@ -41,7 +39,6 @@ struct Tables<'a> {
 struct ViewEntries<'a> {
     name: &'a str,
     source: &'a str,
-    steps: &'a [Value],
 }
 
 /// The frames and views that a document names, in its order.
@@ -131,18 +128,6 @@ fn tables_at<'a>(table: &'a Table, key: &str) -> Result<&'a [Value], ViewsFault>
     }
 }
 
-/// The items of the array at a key; a missing one is empty.
-fn array_or_none<'a>(place: Place, table: &'a Table, key: &str) -> Result<&'a [Value], ViewsFault>
-    ensures { MatchResult result
-        (λ vs. array_or_none_of place (get_member key.now (table_view table.now)) ≡ Ok (map view vs.now))
-        (λ f. array_or_none_of place (get_member key.now (table_view table.now)) ≡ Err f) }
-{
-    match find(table, key) {
-        Some(value) => array_in(place, value),
-        None => Ok(&[]),
-    }
-}
-
 fn are_tables(values: &[Value]) -> bool
     ensures { result ≡ list_all is_table_data (map view values.now) }
 {
@@ -187,13 +172,14 @@ fn read_view(
     ensures { Answers (view_of frames.now before.now (view value.now)) result }
 {
     let place = Place::View(before.len());
-    let entries = view_entries(place, table_in(place, value)?)?;
+    let table = table_in(place, value)?;
+    let entries = view_entries(place, table)?;
     if has_view(before, entries.name) {
         return Err(ViewsFault::Doubled(place));
     }
     let index = frame_of_name(place, entries.source, frames)?;
     let name = Text::from_str(alloc, entries.name)?;
-    match apply_steps(alloc, place, Plan::Scan(index), entries.steps) {
+    match apply_table(alloc, place, frames, Plan::Scan(index), table) {
         Ok(plan) => Ok(ViewSpec { name, plan }),
         Err(fault) => Err(fault),
     }
@@ -203,23 +189,15 @@ fn read_view(
 fn view_entries(place: Place, table: &Table) -> Result<ViewEntries<'_>, ViewsFault>
     ensures { MatchResult result
         (λ e. entries_of_view place (table_view table.now)
-        ≡ Ok (record { name = e.name.now; source = e.source.now; steps = map view e.steps.now }))
+        ≡ Ok (record { name = e.name.now; source = e.source.now }))
         (λ f. entries_of_view place (table_view table.now) ≡ Err f) }
 {
     if !has_view_keys(table) {
         return Err(ViewsFault::Shape(place));
     }
     let name = text_in(place, value_at(place, table, "name")?)?;
-    let source = text_in(place, value_at(place, table, "from")?)?;
-    let steps = array_or_none(place, table, "steps")?;
-    if steps.len() > MOST_STEPS {
-        return Err(ViewsFault::Shape(place));
-    }
-    Ok(ViewEntries {
-        name,
-        source,
-        steps,
-    })
+    let source = source_in(place, table)?;
+    Ok(ViewEntries { name, source })
 }
 
 /// Whether a table has no key but those of a view.
@@ -246,20 +224,4 @@ fn has_view(views: &[ViewSpec], name: &str) -> bool
     ensures { result ≡ list_any (λ v. bytes_eq v.name name.now) views.now }
 {
     views.iter().any(|v| v.name.as_str() == name)
-}
-
-/// The index of the frame of this name.
-fn frame_of_name(place: Place, name: &str, frames: &[FrameSpec]) -> Result<usize, ViewsFault>
-    ensures { result ≡ frame_named place name.now frames.now }
-{
-    match place_of_name(name, frames) {
-        Some(index) => Ok(index),
-        None => Err(ViewsFault::NoFrame(place)),
-    }
-}
-
-fn place_of_name(name: &str, frames: &[FrameSpec]) -> Option<usize>
-    ensures { result ≡ position (λ f. bytes_eq f.name name.now) frames.now }
-{
-    frames.iter().position(|f| f.name.as_str() == name)
 }
