@@ -40,17 +40,26 @@ fn is_sum(row: &Row, key: i64, total: i128) -> bool {
     }
 }
 
+fn are_sums(rows: &[Row]) -> bool {
+    match rows {
+        [first, second] => is_sum(first, 5, 10) && is_sum(second, -3, -3),
+        _ => false,
+    }
+}
+
+// The plan over one frame of these rows.
+fn evaluated(alloc: Global, plan: &CheckedPlan, numbers: &[i64]) -> Result<List<Row>, AllocError> {
+    let frame = List::from_vec(rows(alloc, numbers)?);
+    let frames = vec![in alloc; frame]?;
+    evaluate(alloc, plan, frames.as_slice())
+}
+
 #[test]
 fn evaluates(rt: HostRuntime) -> Result<(), Fail> {
     let alloc = rt.alloc();
     let plan = checked(alloc, 0)??;
-    let frame = List::from_vec(rows(alloc, &[5, -3, 5])?);
-    let frames = vec![in alloc; frame]?;
-    let out = evaluate(alloc, &plan, frames.as_slice())?;
-    assert!(rt; out.len() == 2);
-    let out = out.as_slice();
-    assert!(rt; is_sum(&out[0], 5, 10));
-    assert!(rt; is_sum(&out[1], -3, -3));
+    let out = evaluated(alloc, &plan, &[5, -3, 5])?;
+    assert!(rt; are_sums(out.as_slice()));
     Ok(())
 }
 
