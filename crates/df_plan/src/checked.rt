@@ -39,14 +39,16 @@ impl Model for CheckedPlan {
 impl CheckedPlan {
     /// The plan, if it checks over frames of these schemas, of which it keeps copies.
     ///
-    /// Refused is first a plan of more than 12 levels. Then comes the first fault of a walk that visits
-    /// inputs before their node. Of a scan: an index that is no frame. Of a filter: the predicate's
-    /// fault; a predicate that is no Bool. Of a select: no items; item by item the expression's fault, or
-    /// that it names no column. Of a with_columns: item by item the expression's fault; the first name
-    /// that stands earlier in the list; more than 32 columns. Of a group-by: no keys; key by key a missing
-    /// column or one of type Frac; aggregate by aggregate a missing column or one whose type it does not
-    /// take. Of a select and a group-by then: the first name of the result that stands earlier in it;
-    /// more than 32 columns.
+    /// Refused is first a plan of more than 12 levels, then one of more than 3 scans. Then comes the
+    /// first fault of a walk that visits inputs before their node. Of a scan: an index that is no frame.
+    /// Of a filter: the predicate's fault; a predicate that is no Bool. Of a select: no items; item by
+    /// item the expression's fault, or that it names no column. Of a with_columns: item by item the
+    /// expression's fault; the first name that stands earlier in the list; more than 32 columns. Of a
+    /// group-by: no keys; key by key a missing column or one of type Frac; aggregate by aggregate a
+    /// missing column or one whose type it does not take. Of a join: no keys; key by key a column that
+    /// is missing on the left or on the right, or whose types differ or are Frac; the first key that
+    /// stands earlier. Of a select, a group-by and a join then: the first name of the result that stands
+    /// earlier in it; more than 32 columns.
     pub fn new(alloc: Global, plan: Plan, frames: &[Schema]) -> Result<CheckedPlan, PlanFault>
         ensures ok { IfOk result (λ p. (p.plan ≡ plan) × (p.frames ≡ frames.now) × (checked plan frames.now ≡ Ok p.schema)) }
         ensures fault { IfErr result (λ f. f ≢ PlanFault.Memory → checked plan frames.now ≡ Err f) }

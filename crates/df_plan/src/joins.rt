@@ -124,7 +124,13 @@ fn matched_row(
     ensures { IfOk result (λ rows. rows.items ≡ row_joined how sides.now rights.now left.now) }
 {
     let key = key_of(alloc, sides.left.as_slice(), left)?;
-    let rests = matched_rests(alloc, sides.right.as_slice(), sides.rest.as_slice(), &key, rights)?;
+    let rests = matched_rests(
+        alloc,
+        sides.right.as_slice(),
+        sides.rest.as_slice(),
+        &key,
+        rights,
+    )?;
     put_beside(alloc, how, left, sides.rest.as_slice(), rests.as_slice())
 }
 

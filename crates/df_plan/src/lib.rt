@@ -5,7 +5,8 @@
 //! list of items what each gives (specs/ItemChecks.antt, items.rt); its meaning in `table_step`
 //! (specs/Meaning.antt; specs/RowWise.antt where it looks at one row at a time) and its body in
 //! `table_of_plan` (evaluation.rt, row_wise.rt); that its rows fit in `step` (proofs/Sound.antt). What
-//! puts columns among those of its input puts them by `placed` (placed.rt). To add an aggregate: a
+//! puts columns among those of its input puts them by `placed` (placed.rt); one with
+//! two inputs, as a join, counts the levels and the scans of both. To add an aggregate: a
 //! variant of [`Agg`] with its arms in `copy` (plan.rt), in `column` and `type_of` (aggregates.rt,
 //! specs/AggregateTypes.antt) and in `aggregate` (specs/Meaning.antt), and its type in proofs/AggregatesFit.antt.
 #![tactic(auto)]
@@ -29,11 +30,13 @@ mod totals;
 
 pub use aggregates::{count_of, mean_of, sum_of};
 pub use checked::CheckedPlan;
-pub use checks::MOST_LEVELS;
+pub use checks::{MOST_LEVELS, MOST_SCANS};
 pub use evaluation::evaluate;
 pub use extremes::{End, extreme_of, extremes_of};
 pub use fault::PlanFault;
 pub use groups::{group_lengths, group_of, keys_of};
+pub use join_columns::{Sides, joined_columns, sides_of};
+pub use joins::{joined_row, joined_rows};
 pub use plan::{Agg, How, Plan};
 pub use row_wise::{added_row, filtered, selected_row};
 pub use totals::group_sums;
@@ -42,3 +45,5 @@ pub use totals::group_sums;
 mod tests;
 #[cfg(test)]
 mod tests_aggregates;
+#[cfg(test)]
+mod tests_joins;
