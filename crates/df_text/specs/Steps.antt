@@ -51,7 +51,7 @@ kind_and_keys at kind keys =
     then_read (text_in at kind) (λ w. then_read (kind_of_word at w) (λ h.
     then_read (array_in at keys) (λ ks. then_read (read_each (text_in at) ks) (λ names. Ok (h, names)))))
 
--- the step that a value names, with the items after its word
+-- the step that a value names, with the items after its word as a list (as `step_of` reads it)
 abbrev pub step_in : Place → Data → Result (StepWord × List Data) ViewsFault
 step_in at d =
     then_read (array_in at d) (λ ds. then_read (first_in at ds) (λ s. then_read (text_in at s.0) (λ w.

@@ -50,7 +50,9 @@ struct ViewEntries<'a> {
 /// one the view is the frame. Whether a frame has the columns that a plan names is not asked here.
 ///
 /// The steps are `["filter", expression]`, `["select", [output, expression], ..]`, `["with_columns",
-/// [output, expression], ..]` and `["group_by", [key, ..], [output, "len"], [output, "sum", column], ..]`.
+/// [output, expression], ..]`, `["group_by", [key, ..], [output, "len"], [output, "sum", column], ..]` and
+/// `["join", kind, [key, ..], right]`, where the kind is `inner` or `left`, and the right side a frame's
+/// name or a table with the keys `from` and perhaps `steps`, as a view has them: its steps, too, may join.
 /// An expression is an integer, a Boolean or a text, which stands for itself; `["col", name]`; `["null",
 /// type]`; one of `~`, `is_null`, `is_not_null` before an expression; or one of `+`, `-`, `*`, `==`, `!=`,
 /// `<`, `<=`, `>`, `>=`, `&`, `|`, `eq_missing`, `fill_null` before two.
@@ -60,8 +62,9 @@ struct ViewEntries<'a> {
 /// then `Schema`, then `Doubled`; view by view `Shape` of its keys (also of more than 64 steps),
 /// `Doubled`, `NoFrame`, then step by step. Of a step and of an expression comes the word (`Shape`, then
 /// `Word`), then the number of items, then the items from left to right, each with its inside. Of an
-/// aggregate comes its word, then the number of its entries, its output and its column. `Memory` says that a growth was
-/// refused, and can stand in the place of any other answer.
+/// aggregate comes its word, then the number of its entries, its output and its column. The right side of
+/// a join is checked as a view that has no name. `Memory` says that a growth was refused, and can stand in
+/// the place of any other answer.
 pub fn read_views(alloc: Global, bytes: &[u8]) -> Result<Views, ViewsFault>
     ensures answer { Answers (document_of bytes.now) result }
     ensures sound { IfOk result (λ v. IsDocument v) }
