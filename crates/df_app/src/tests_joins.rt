@@ -65,8 +65,16 @@ fn without_a_match(rt: HostRuntime) -> Result<(), Fail> {
 #[test]
 fn in_left_order(rt: HostRuntime) -> Result<(), Fail> {
     let alloc = rt.alloc();
-    let right = ("[\"v\", \"Int\"], [\"w\", \"Text\"]", "v,w\n2,a\n1,b\n2,c\n");
-    let text = document(alloc, "x,1\ny,2\n", right, "[\"join\", \"inner\", [\"v\"], \"r\"]")?;
+    let right = (
+        "[\"v\", \"Int\"], [\"w\", \"Text\"]",
+        "v,w\n2,a\n1,b\n2,c\n",
+    );
+    let text = document(
+        alloc,
+        "x,1\ny,2\n",
+        right,
+        "[\"join\", \"inner\", [\"v\"], \"r\"]",
+    )?;
     let want = "v (3 x 3)\nk  v  w\nx  1  b\ny  2  a\ny  2  c\n";
     writes(&rt, alloc, text.as_str(), 1000, (want, Outcome::Clean))
 }
@@ -74,18 +82,31 @@ fn in_left_order(rt: HostRuntime) -> Result<(), Fail> {
 #[test]
 fn faults_of_joins(rt: HostRuntime) -> Result<(), Fail> {
     let alloc = rt.alloc();
-    let unlike = ("[\"k\", \"Int\"], [\"v\", \"Int\"], [\"v_right\", \"Int\"]", "k,v,v_right\n");
-    let four = "[\"join\", \"inner\", [\"k\"], \"l\"], [\"join\", \"inner\", [\"k\"], \"l\"], [\"join\", \"inner\", [\"k\"], \"l\"]";
+    let unlike = (
+        "[\"k\", \"Int\"], [\"v\", \"Int\"], [\"v_right\", \"Int\"]",
+        "k,v,v_right\n",
+    );
+    let four =
+        "[\"join\", \"inner\", [\"k\"], \"l\"], [\"join\", \"inner\", [\"k\"], \"l\"], [\"join\", \"inner\", [\"k\"], \"l\"]";
     let cases = [
         ("[\"join\", \"inner\", [], \"r\"]", "v: P7"),
         ("[\"join\", \"inner\", [\"k\"], \"r\"]", "v: P10 k"),
         ("[\"join\", \"inner\", [\"v\", \"v\"], \"r\"]", "v: P3 v"),
-        ("[\"join\", \"inner\", [\"nosuch\"], \"r\"]", "v: P2 E1 nosuch"),
-        ("[\"join\", \"inner\", [\"v_right\"], \"r\"]", "v: P2 E1 v_right"),
+        (
+            "[\"join\", \"inner\", [\"nosuch\"], \"r\"]",
+            "v: P2 E1 nosuch",
+        ),
+        (
+            "[\"join\", \"inner\", [\"v_right\"], \"r\"]",
+            "v: P2 E1 v_right",
+        ),
         ("[\"join\", \"outer\", 1, 2]", "V3 view 0"),
         ("[\"join\", \"inner\", [\"k\"]]", "V2 view 0"),
         ("[\"join\", \"inner\", [\"k\"], \"nosuch\"]", "V6 view 0"),
-        ("[\"join\", \"inner\", [\"k\"], { from = \"l\", name = \"n\" }]", "V2 view 0"),
+        (
+            "[\"join\", \"inner\", [\"k\"], { from = \"l\", name = \"n\" }]",
+            "V2 view 0",
+        ),
         (four, "v: P4"),
     ];
     for case in cases {
