@@ -125,3 +125,12 @@ fn doubled_by_the_suffix(rt: HostRuntime) -> Result<(), Fail> {
     let text = document(alloc, LEFT, right, steps)?;
     fails(&rt, alloc, text.as_str(), "v: P3 v_right")
 }
+
+// The right side's columns stand in its file in another order than in its schema.
+#[test]
+fn after_a_filter(rt: HostRuntime) -> Result<(), Fail> {
+    let document =
+        "[[frame]]\nname = \"s\"\ncolumns = [[\"k\", \"Text\"], [\"v\", \"Int\"]]\ntext = \"\"\"\nk,v\na,1\nb,2\na,\nc,4\n\"\"\"\n[[frame]]\nname = \"n\"\ncolumns = [[\"k\", \"Text\"], [\"city\", \"Text\"]]\ntext = \"\"\"\ncity,k\nUlm,a\nBern,c\n\"\"\"\n[[view]]\nname = \"j\"\nfrom = \"s\"\nsteps = [[\"filter\", [\">\", [\"col\", \"v\"], 1]], [\"join\", \"left\", [\"k\"], \"n\"]]\n";
+    let want = "j (2 x 3)\nk  v  city\nb  2  null\nc  4  Bern\n";
+    writes(&rt, rt.alloc(), document, 1000, (want, Outcome::Clean))
+}
