@@ -4,7 +4,7 @@ ghost use Rattle.df_value.specs.declared.cell.CellType.{CellType};
 ghost use Rattle.df_value.specs.Cells.{fits_type, is_text};
 ghost use Rattle.df_value.specs.Rows.{cell_at, row_fits};
 ghost use Rattle.df_expr.specs.Typing.{type_of, no_text};
-ghost use Rattle.df_expr.specs.Value.{value_of};
+ghost use Rattle.df_expr.specs.Value.{value_of, is_null as is_null_cell};
 
 use crate::expr::Expr;
 use crate::logic::{cell_of, kleene_and, kleene_not, kleene_or, truth_of};
@@ -81,19 +81,19 @@ pub fn value(
             let a = value(alloc, a.get(), columns, row)?;
             Ok(cell_of(kleene_not(truth_of(&a))))
         }
-        Expr::IsNull(a) => {
-            let a = value(alloc, a.get(), columns, row)?;
-            Ok(Cell::Bool(matches!(a, Cell::Null)))
-        }
-        Expr::IsNotNull(a) => {
-            let a = value(alloc, a.get(), columns, row)?;
-            Ok(Cell::Bool(!matches!(a, Cell::Null)))
-        }
+        Expr::IsNull(a) => Ok(Cell::Bool(is_null(&value(alloc, a.get(), columns, row)?))),
+        Expr::IsNotNull(a) => Ok(Cell::Bool(!is_null(&value(alloc, a.get(), columns, row)?))),
         Expr::FillNull(a, b) => match value(alloc, a.get(), columns, row)? {
             Cell::Null => value(alloc, b.get(), columns, row),
             a => Ok(a),
         },
     }
+}
+
+fn is_null(cell: &Cell) -> bool
+    ensures { result ≡ is_null_cell cell.now }
+{
+    matches!(cell, Cell::Null)
 }
 
 // A copy of the cell at a place, null where there is none.
