@@ -54,6 +54,7 @@ plan_text (plan.Expr f) = expr_text f
 plan_text (plan.DoubledName name) = named (codes "P3") name
 plan_text plan.TooManyScans = codes "P4"
 plan_text plan.TooDeep = codes "P5"
+plan_text plan.BadWindow = codes "P6"
 plan_text plan.EmptyList = codes "P7"
 plan_text plan.TooWide = codes "P8"
 plan_text (plan.ConstantColumn name) = named (codes "P9") name

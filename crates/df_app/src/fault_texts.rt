@@ -124,6 +124,7 @@ fn plan_text(alloc: Global, fault: &PlanFault) -> Result<String, AllocError>
         PlanFault::DoubledName(name) => named(alloc, "P3", name),
         PlanFault::TooManyScans => String::from_str(alloc, "P4"),
         PlanFault::TooDeep => String::from_str(alloc, "P5"),
+        PlanFault::BadWindow => String::from_str(alloc, "P6"),
         PlanFault::EmptyList => String::from_str(alloc, "P7"),
         PlanFault::TooWide => String::from_str(alloc, "P8"),
         PlanFault::ConstantColumn(name) => named(alloc, "P9", name),

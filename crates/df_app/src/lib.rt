@@ -22,3 +22,5 @@ mod tests_aggregates;
 mod tests_joins;
 #[cfg(test)]
 mod tests_steps;
+#[cfg(test)]
+mod tests_windows;

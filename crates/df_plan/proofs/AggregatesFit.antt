@@ -38,7 +38,7 @@ both_true true b e h = h
 both_true false b e h = cc
 
 -- the cells of a column are null or of its type
-cells_fit :
+pub cells_fit :
     (columns : Columns) (name : List ℕ) (t : CellType) → type_in name columns ≡ Some t → (rows : Rows) →
     IsTrue (rows_fit columns rows) → IsTrue (list_all (fits_type t) (cells_of (position_of name columns) rows))
 cells_fit columns name t is [] h = refl
@@ -74,7 +74,7 @@ at_fits q (c ∷ cs) (suc i) null h = at_fits q cs i null (second_true (q c) (li
 null_fits : (t : CellType) → IsTrue (fits_type t cell.Null)
 null_fits t = refl
 
-extreme_fits : (e : End) (t : CellType) (cs : List Cell) → IsTrue (list_all (fits_type t) cs) → IsTrue (fits_type t (extreme_of e cs))
+pub extreme_fits : (e : End) (t : CellType) (cs : List Cell) → IsTrue (list_all (fits_type t) cs) → IsTrue (fits_type t (extreme_of e cs))
 extreme_fits e t cs h =
     find_fits (fits_type t) (is_extreme e (present cs)) (present cs) refl (filter_fits (fits_type t) (λ c. not (is_null c)) cs h)
 

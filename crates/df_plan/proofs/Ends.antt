@@ -15,7 +15,7 @@ use Rattle.df_plan.specs.Aggregates.{beyond, is_extreme, extreme_in, present}
 use Rattle.df_plan.specs.Running.{picked_after}
 use Rattle.df_plan.proofs.Least.{IsStrict, least_after, least_found}
 
-less : (o : Ordering) → is_lt o ≡ true → o ≡ ordering.Less
+pub less : (o : Ordering) → is_lt o ≡ true → o ≡ ordering.Less
 less ordering.Less h = refl
 less ordering.Equal h = cc
 less ordering.Greater h = cc

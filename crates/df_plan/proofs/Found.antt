@@ -83,7 +83,7 @@ chosen : (b : Bool) (cs o : Columns) (f : PlanFault) → cond {A = Checked} b (E
 chosen true cs o f h = cc
 chosen false cs o f h = cc
 
-settled_is_at : (cs : Columns) (d : Option (List ℕ)) (o : Columns) → settled_at cs d ≡ Ok o → o ≡ cs
+pub settled_is_at : (cs : Columns) (d : Option (List ℕ)) (o : Columns) → settled_at cs d ≡ Ok o → o ≡ cs
 settled_is_at cs (Some name) o h = cc
 settled_is_at [] None o h = cc
 settled_is_at (c ∷ cs) None o h = chosen (nat_lt 32 (length (c ∷ cs))) (c ∷ cs) o fault.TooWide h

@@ -10,6 +10,10 @@ pub mod RowWiseSound
 pub mod ColumnsFit
 pub mod JoinSound
 pub mod JoinLaws
+pub mod WindowFacts
+pub mod WindowLaws
+pub mod RankLaws
+pub mod WindowSound
 pub mod Sound
 pub mod Least
 pub mod Ends

@@ -52,17 +52,17 @@ selected_fit columns row fits (i ∷ items) typed =
     (value_fits columns row fits i.1 (kind_of i.1 columns) typed.0) (selected_fit columns row fits items typed.1)
 
 -- a cell stands beside a column of its name, whose type it fits
-abbrev FitsBeside : List ℕ × CellType → List ℕ × Cell → Type 0
+abbrev pub FitsBeside : List ℕ × CellType → List ℕ × Cell → Type 0
 FitsBeside c v = (c.0 ≡ v.0) × IsTrue (fits_type c.1 v.1)
 
-fits_row : (columns : Columns) (cells : List (List ℕ × Cell)) → Beside FitsBeside columns cells → IsTrue (row_fits columns (map (λ v. v.1) cells))
+pub fits_row : (columns : Columns) (cells : List (List ℕ × Cell)) → Beside FitsBeside columns cells → IsTrue (row_fits columns (map (λ v. v.1) cells))
 fits_row [] [] h = refl
 fits_row [] (v ∷ cells) h = absurd h
 fits_row (c ∷ columns) [] h = absurd h
 fits_row (c ∷ columns) (v ∷ cells) h =
     both_true (fits_type c.1 v.1) (row_fits columns (map (λ v. v.1) cells)) h.0.1 (fits_row columns cells h.1)
 
-own_beside : (columns : Columns) (row : List Cell) → IsTrue (row_fits columns row) → Beside FitsBeside columns (named_cells columns row)
+pub own_beside : (columns : Columns) (row : List Cell) → IsTrue (row_fits columns row) → Beside FitsBeside columns (named_cells columns row)
 own_beside [] [] h = tt
 own_beside [] (v ∷ row) h = tt
 own_beside (c ∷ columns) [] h = cc

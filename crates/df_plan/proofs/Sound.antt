@@ -1,6 +1,6 @@
 -- The rows that a checked plan gives fit the schema that the check found.
 use Rattle.std.proofs.Common.{◌≡◌, ℕ, ◌∙◌, Bool, true, zero, suc, List, [], ◌∷◌, ◌++◌, map, refl, ap, sym, subst}
-use Rattle.std.specs.Prelude.{IsTrue, Ok, Option, Some, None, ◌&&◌, slice_get, unwrap_or}
+use Rattle.std.specs.Prelude.{ℤ, IsTrue, Ok, Option, Some, None, ◌&&◌, slice_get, unwrap_or}
 use Rattle.std.specs.List.{list_any, list_all, AllByRecursion}
 use Rattle.std.proofs.lemmas.List.Folds.{list_all-append}
 use Rattle.df_value.specs.declared.cell.Cell.{Cell}
@@ -11,8 +11,8 @@ use Rattle.df_value.specs.Rows.{row_fits, rows_fit, row_eq, cell_at}
 use Rattle.df_value.specs.Schemas.{type_in, position_of, doubled_after}
 use Rattle.df_plan.specs.Groups.{key_of, keys_of, group_of, distinct_after}
 use Rattle.df_plan.specs.declared.table.Table.{Table}
-use Rattle.df_plan.specs.Meaning.{key_column, aggregate_column, aggregate_of, places_of, grouped_columns, grouped, grouped_rows, group_row, filter_table, select_table, with_table, joined, frame_from, frames_fit, table_step, table_of}
-use Rattle.df_plan.specs.RowWise.{item_column, keeps, filtered, selected_row, added_row, added_columns}
+use Rattle.df_plan.specs.Meaning.{key_column, aggregate_column, aggregate_of, places_of, grouped_columns, grouped, grouped_rows, group_row, filter_table, select_table, with_table, joined, put_column, roll_table, cum_sum_table, rank_table, frame_from, frames_fit, table_step, table_of}
+use Rattle.df_plan.specs.RowWise.{item_column, keeps, filtered, selected_row, added_row, added_columns, put_rows}
 use Rattle.df_expr.specs.declared.expr.Expr.{Expr}
 use Rattle.df_plan.proofs.ItemKinds.{HasKind}
 use Rattle.df_plan.specs.ItemChecks.{Columns, Checked, expr_type}
@@ -21,6 +21,14 @@ use Rattle.df_plan.specs.JoinChecks.{join_checked}
 use Rattle.df_plan.specs.Joins.{joined_columns, joined_rows, sides_of}
 use Rattle.df_plan.specs.declared.plan.Agg.{Agg}
 use Rattle.df_plan.specs.declared.plan.How.{How}
+use Rattle.df_plan.specs.declared.plan.RankKind.{RankKind}
+use Rattle.df_plan.specs.declared.plan.RollKind.{RollKind}
+use Rattle.df_plan.specs.Aggregates.{cells_of}
+use Rattle.df_plan.specs.Placed.{placed}
+use Rattle.df_plan.specs.Ranks.{ranks_of}
+use Rattle.df_plan.specs.WindowChecks.{roll_checked, cum_sum_checked, rank_checked, rolled_type}
+use Rattle.df_plan.specs.Windows.{rolled, running_sum, size_of}
+use Rattle.df_plan.proofs.WindowSound.{IsPut, IsWhole, puts_fit, rolled_fits, sums_fit, ranks_fit, roll_found, cum_sum_found, rank_found}
 use Rattle.df_plan.specs.declared.plan.Plan.{Plan}
 use Rattle.df_plan.specs.declared.plan.Plan.TheOpen.{Plan-F}
 use Rattle.df_plan.specs.declared.plan.Plan.TheFolds.{fold-roll-Plan, ind-Plan, map-Plan}
@@ -28,7 +36,7 @@ use Rattle.df_plan.specs.declared.plan.Plan.TheViews.{roll-Plan}
 use Rattle.df_plan.proofs.Choices.{either}
 use Rattle.df_plan.proofs.ColumnsFit.{column_fits, fits_both}
 use Rattle.df_plan.proofs.JoinSound.{joined_fits}
-use Rattle.df_plan.proofs.AggregatesFit.{aggregate_fits}
+use Rattle.df_plan.proofs.AggregatesFit.{aggregate_fits, cells_fit}
 use Rattle.df_plan.proofs.Found.{IsTaken, IsColumn, then_ok, filter_found, select_found, with_found, group_found, join_found, checked_columns}
 use Rattle.df_plan.proofs.RowWiseSound.{first_of_two, second_of_two, both_true, map_all, filter_all, selected_fit, added_fit}
 
@@ -99,6 +107,7 @@ HasRows c t = (cs : Columns) → c ≡ Ok cs → (t.columns ≡ cs) × IsTrue (r
 group_has_rows :
     (c : Checked) (t : Table) (keys : List (List ℕ)) (aggs : List (List ℕ × Agg)) → HasRows c t →
     HasRows (then_checked c (λ columns. group_checked columns keys aggs)) (grouped t keys aggs)
+unfolding grouped
 group_has_rows c t keys aggs of_input cs h =
     let input = then_ok c (λ columns. group_checked columns keys aggs) cs h in
     let has = of_input input.0 input.1.0 in
@@ -169,6 +178,49 @@ join_has_rows c d t u how keys of_left of_right cs h =
     let rows = joined_fits how t.columns u.columns keys t.rows u.rows apart left_fit right_fit in
     (is, subst (λ (columns : Columns). IsTrue (rows_fit columns (joined_rows how (sides_of t.columns u.columns keys) t.rows u.rows))) is rows)
 
+-- a column is put among those of a table, its cells having the column's type where the node's check finds what it wants
+put_has_rows :
+    (c : Checked) (t : Table) (name : List ℕ) (k : CellType) (cells : List Cell) (next : Columns → Checked) (Found : Columns → Type 0) →
+    ((columns cs : Columns) → next columns ≡ Ok cs → IsPut columns name k cs × Found columns) →
+    (Found t.columns → IsTrue (rows_fit t.columns t.rows) → IsTrue (list_all (fits_type k) cells)) →
+    HasRows c t → HasRows (then_checked c next) (put_column t name k cells)
+unfolding put_column
+put_has_rows c t name k cells next Found finds typed of_input cs h =
+    let input = then_ok c next cs h in
+    let has = of_input input.0 input.1.0 in
+    let found = finds input.0 cs input.1.1 in
+    let is : placed t.columns ((name, k) ∷ []) ≡ cs = ap (λ (columns : Columns). placed columns ((name, k) ∷ [])) has.0 ∙ sym found.0 in
+    let fit = subst (λ (columns : Columns). IsTrue (rows_fit columns t.rows)) (sym has.0) has.1 in
+    let rows = puts_fit t.columns name k t.rows cells fit (typed (subst Found (sym has.0) found.1) fit) in
+    (is, subst (λ (columns : Columns). IsTrue (rows_fit columns (put_rows t.columns name t.rows cells))) is rows)
+
+roll_has_rows :
+    (c : Checked) (t : Table) (name : List ℕ) (k : RollKind) (column : List ℕ) (w m : ℤ) → HasRows c t →
+    HasRows (then_checked c (λ columns. roll_checked columns name k column w m)) (roll_table t name k column (size_of w) (size_of m))
+unfolding roll_table
+roll_has_rows c t name k column w m =
+    let cells = cells_of (position_of column t.columns) t.rows in
+    put_has_rows c t name (rolled_type k) (rolled k (size_of w) (size_of m) cells) (λ columns. roll_checked columns name k column w m) (IsWhole column)
+    (roll_found name k column w m) (λ is fit. rolled_fits k (size_of w) (size_of m) cells (cells_fit t.columns column kind.Int is t.rows fit))
+
+cum_sum_has_rows :
+    (c : Checked) (t : Table) (name column : List ℕ) → HasRows c t →
+    HasRows (then_checked c (λ columns. cum_sum_checked columns name column)) (cum_sum_table t name column)
+unfolding cum_sum_table
+cum_sum_has_rows c t name column =
+    let cells = cells_of (position_of column t.columns) t.rows in
+    put_has_rows c t name kind.Wide (running_sum cells) (λ columns. cum_sum_checked columns name column) (IsWhole column)
+    (cum_sum_found name column) (λ is fit. sums_fit cells)
+
+rank_has_rows :
+    (c : Checked) (t : Table) (name : List ℕ) (k : RankKind) (column : List ℕ) → HasRows c t →
+    HasRows (then_checked c (λ columns. rank_checked columns name column)) (rank_table t name k column)
+unfolding rank_table
+rank_has_rows c t name k column =
+    let place = position_of column t.columns in
+    put_has_rows c t name kind.Int (ranks_of k place t.rows) (λ columns. rank_checked columns name column) (λ columns. Unit {0})
+    (rank_found name column) (λ is fit. ranks_fit k place t.rows)
+
 -- where all frames fit their schemas, the frame of an index has rows that fit the schema there
 frame_rows :
     (schemas : List Columns) (frames : List Rows) → IsTrue (frames_fit schemas frames) → (f : ℕ) (cs : Columns) →
@@ -216,6 +268,15 @@ step schemas frames fit (Plan-F.GroupBy a keys aggs) =
 step schemas frames fit (Plan-F.Join a b how keys) =
     rw (fold-roll-Plan Checked (check_step schemas), fold-roll-Plan Table (table_step schemas frames))
     (join_has_rows (columns_of a.0 schemas) (columns_of b.0 schemas) (table_of a.0 schemas frames) (table_of b.0 schemas frames) how keys a.1 b.1)
+step schemas frames fit (Plan-F.Rolling a name k column w m) =
+    rw (fold-roll-Plan Checked (check_step schemas), fold-roll-Plan Table (table_step schemas frames))
+    (roll_has_rows (columns_of a.0 schemas) (table_of a.0 schemas frames) name k column w m a.1)
+step schemas frames fit (Plan-F.CumSum a name column) =
+    rw (fold-roll-Plan Checked (check_step schemas), fold-roll-Plan Table (table_step schemas frames))
+    (cum_sum_has_rows (columns_of a.0 schemas) (table_of a.0 schemas frames) name column a.1)
+step schemas frames fit (Plan-F.Rank a name k column) =
+    rw (fold-roll-Plan Checked (check_step schemas), fold-roll-Plan Table (table_step schemas frames))
+    (rank_has_rows (columns_of a.0 schemas) (table_of a.0 schemas frames) name k column a.1)
 
 plan_has_rows :
     (schemas : List Columns) (frames : List Rows) → IsTrue (frames_fit schemas frames) → (p : Plan) →

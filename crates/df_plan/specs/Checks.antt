@@ -9,10 +9,10 @@ use Rattle.df_plan.specs.declared.fault.PlanFault.TheVariants as fault
 use Rattle.df_plan.specs.declared.plan.Agg.{Agg}
 use Rattle.df_plan.specs.declared.plan.Plan.{Plan, fold-Plan}
 use Rattle.df_plan.specs.declared.plan.Plan.TheOpen.{Plan-F}
-use Rattle.df_plan.specs.Placed.{placed}
 pub use Rattle.df_plan.specs.ItemChecks.{Columns, Checked}
-pub use Rattle.df_plan.specs.Settled.{settled_at}
+pub use Rattle.df_plan.specs.Settled.{settled_at, put_checked}
 use Rattle.df_plan.specs.JoinChecks.{join_checked}
+use Rattle.df_plan.specs.WindowChecks.{roll_checked, cum_sum_checked, rank_checked}
 use Rattle.df_plan.specs.ItemChecks.{Kind, each_after, expr_type, checked_key, checked_aggregate, checked_output, checked_added}
 
 -- the next step's answer, or the fault
@@ -33,10 +33,6 @@ filter_checked columns (Err f) = Err f
 abbrev pub select_checked : Columns → List (List ℕ × Expr) → Checked
 select_checked columns [] = Err fault.EmptyList
 select_checked columns items = then_checked (each_after (checked_output columns) [] items) settled
-
--- columns that are put among others: no two of them may have one name, and the result may not be too wide
-abbrev pub put_checked : Columns → Columns → Checked
-put_checked columns added = settled_at (placed columns added) (doubled_after [] added)
 
 -- the columns of a with_columns: the items', checked in turn, put among the input's
 abbrev pub with_checked : Columns → List (List ℕ × Expr) → Checked
@@ -62,6 +58,10 @@ check_step frames (Plan-F.WithColumns input items) = then_checked input (λ colu
 check_step frames (Plan-F.GroupBy input keys aggs) = then_checked input (λ columns. group_checked columns keys aggs)
 check_step frames (Plan-F.Join left right h keys) =
     then_checked left (λ ls. then_checked right (λ rs. join_checked ls rs keys))
+check_step frames (Plan-F.Rolling input output k column w m) =
+    then_checked input (λ columns. roll_checked columns output k column w m)
+check_step frames (Plan-F.CumSum input output column) = then_checked input (λ columns. cum_sum_checked columns output column)
+check_step frames (Plan-F.Rank input output k column) = then_checked input (λ columns. rank_checked columns output column)
 
 -- the columns of a plan's result, or the first fault of a walk that visits inputs before their node
 abbrev pub columns_of : Plan → List Columns → Checked
@@ -74,6 +74,9 @@ levels_step (Plan-F.Select input items) = 1 + input
 levels_step (Plan-F.WithColumns input items) = 1 + input
 levels_step (Plan-F.GroupBy input keys aggs) = 1 + input
 levels_step (Plan-F.Join left right h keys) = 1 + max left right
+levels_step (Plan-F.Rolling input output k column w m) = 1 + input
+levels_step (Plan-F.CumSum input output column) = 1 + input
+levels_step (Plan-F.Rank input output k column) = 1 + input
 
 -- the nodes on the longest path
 abbrev pub levels : Plan → ℕ
@@ -86,6 +89,9 @@ scans_step (Plan-F.Select input items) = input
 scans_step (Plan-F.WithColumns input items) = input
 scans_step (Plan-F.GroupBy input keys aggs) = input
 scans_step (Plan-F.Join left right h keys) = left + right
+scans_step (Plan-F.Rolling input output k column w m) = input
+scans_step (Plan-F.CumSum input output column) = input
+scans_step (Plan-F.Rank input output k column) = input
 
 -- the scans, which are the leaves
 abbrev pub scans : Plan → ℕ

@@ -11,3 +11,6 @@ pub mod RowWise
 pub mod Meaning
 pub mod Joins
 pub mod JoinChecks
+pub mod WindowChecks
+pub mod Windows
+pub mod Ranks

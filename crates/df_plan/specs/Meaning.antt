@@ -11,12 +11,18 @@ use Rattle.df_expr.specs.declared.expr.Expr.{Expr}
 use Rattle.df_plan.specs.Groups.{keys_of, group_of}
 use Rattle.df_plan.specs.AggregateTypes.{column_taken, type_given}
 use Rattle.df_plan.specs.Aggregates.{cells_of, count_of, sum_of, extreme_of, first_of, last_of, n_unique_of, mean_of}
-use Rattle.df_plan.specs.RowWise.{item_column, filtered, selected_row, added_row, added_columns}
+use Rattle.df_plan.specs.RowWise.{item_column, filtered, selected_row, added_row, added_columns, put_rows}
 use Rattle.df_plan.specs.declared.extremes.End.TheVariants as end
 use Rattle.df_plan.specs.Joins.{joined_columns, joined_rows, sides_of}
 use Rattle.df_plan.specs.declared.plan.Agg.{Agg}
 use Rattle.df_plan.specs.declared.plan.Agg.TheVariants as agg
 use Rattle.df_plan.specs.declared.plan.How.{How}
+use Rattle.df_plan.specs.declared.plan.RankKind.{RankKind}
+use Rattle.df_plan.specs.declared.plan.RollKind.{RollKind}
+use Rattle.df_plan.specs.Placed.{placed}
+use Rattle.df_plan.specs.Ranks.{ranks_of}
+use Rattle.df_plan.specs.WindowChecks.{rolled_type}
+use Rattle.df_plan.specs.Windows.{rolled, running_sum, size_of}
 use Rattle.df_plan.specs.declared.plan.Plan.{Plan, fold-Plan}
 use Rattle.df_plan.specs.declared.plan.Plan.TheOpen.{Plan-F}
 use Rattle.df_plan.specs.declared.table.Table.{Table}
@@ -67,7 +73,7 @@ abbrev pub grouped_rows : Table → List (List ℕ) → List (List ℕ × Agg) �
 grouped_rows t keys aggs =
     map (group_row t.columns (places_of t.columns keys) aggs t.rows) (keys_of (places_of t.columns keys) t.rows)
 
-abbrev pub grouped : Table → List (List ℕ) → List (List ℕ × Agg) → Table
+unfoldable pub grouped : Table → List (List ℕ) → List (List ℕ × Agg) → Table
 grouped t keys aggs = record { columns = grouped_columns t.columns keys aggs; rows = grouped_rows t keys aggs }
 
 -- the rows whose predicate is true
@@ -90,6 +96,26 @@ joined left right h keys = record {
   rows = joined_rows h (sides_of left.columns right.columns keys) left.rows right.rows;
 }
 
+-- a column of further cells, one for each row, put among those of a table
+unfoldable pub put_column : Table → List ℕ → CellType → List Cell → Table
+put_column t name k cells = record {
+  columns = placed t.columns ((name, k) ∷ []);
+  rows = put_rows t.columns name t.rows cells;
+}
+
+-- the rolling values of a column
+unfoldable pub roll_table : Table → List ℕ → RollKind → List ℕ → ℕ → ℕ → Table
+roll_table t name k column w m =
+    put_column t name (rolled_type k) (rolled k w m (cells_of (position_of column t.columns) t.rows))
+
+-- its cumulative sums
+unfoldable pub cum_sum_table : Table → List ℕ → List ℕ → Table
+cum_sum_table t name column = put_column t name kind.Wide (running_sum (cells_of (position_of column t.columns) t.rows))
+
+-- and its ranks
+unfoldable pub rank_table : Table → List ℕ → RankKind → List ℕ → Table
+rank_table t name k column = put_column t name kind.Int (ranks_of k (position_of column t.columns) t.rows)
+
 -- the columns and rows of a frame, empty where either is missing
 abbrev pub frame_from : Option (List (List ℕ × CellType)) → Option (List (List Cell)) → Table
 frame_from None rows = record { columns = []; rows = [] }
@@ -104,6 +130,9 @@ table_step schemas frames (Plan-F.Select t items) = select_table t items
 table_step schemas frames (Plan-F.WithColumns t items) = with_table t items
 table_step schemas frames (Plan-F.GroupBy t keys aggs) = grouped t keys aggs
 table_step schemas frames (Plan-F.Join left right h keys) = joined left right h keys
+table_step schemas frames (Plan-F.Rolling t name k column w m) = roll_table t name k column (size_of w) (size_of m)
+table_step schemas frames (Plan-F.CumSum t name column) = cum_sum_table t name column
+table_step schemas frames (Plan-F.Rank t name k column) = rank_table t name k column
 
 -- the table that a plan means over frames of these schemas and rows
 abbrev pub table_of : Plan → List (List (List ℕ × CellType)) → List (List (List Cell)) → Table

@@ -1,6 +1,6 @@
 -- Operators that look at one row at a time, as `filter`, `select` and `with_columns` of the Polars Python reference:
 -- every expression sees the input's row.
-use Rattle.std.specs.Prelude.{◌≡◌, ℕ, Bool, false, IsTrue, not, List, filter, map, unwrap_or}
+use Rattle.std.specs.Prelude.{◌≡◌, ℕ, Bool, false, IsTrue, not, List, [], ◌∷◌, filter, map, unwrap_or}
 use Rattle.std.specs.List.{zip}
 use Rattle.df_value.specs.declared.cell.Cell.{Cell}
 use Rattle.df_value.specs.declared.cell.Cell.TheVariants as cell
@@ -67,3 +67,11 @@ abbrev pub KeepsOthers : List (List ℕ × CellType) → List (List ℕ × Expr)
 KeepsOthers columns items row result =
     (name : List ℕ) → IsTrue (has_name name columns) → IsTrue (not (has_name name items)) →
     cell_at (position_of name (added_columns columns items)) result ≡ cell_at (position_of name columns) row
+
+-- a row with one more cell put among its own under a name
+unfoldable pub put_row : List (List ℕ × CellType) → List ℕ → List Cell → Cell → List Cell
+put_row columns name row c = map (λ x. x.1) (placed (named_cells columns row) ((name, c) ∷ []))
+
+-- rows beside each of which stands a cell, each with that cell put among its own
+abbrev pub put_rows : List (List ℕ × CellType) → List ℕ → List (List Cell) → List Cell → List (List Cell)
+put_rows columns name rows cells = map (λ p. put_row columns name p.0 p.1) (zip rows cells)

@@ -78,8 +78,8 @@ pub fn sum_of(place: Option<usize>, rows: &[Row]) -> i128
     sum
 }
 
-// The sum with a further number, if there is one.
-fn next_sum(sum: i128, n: Option<i64>) -> i128
+/// The sum with a further number, if there is one.
+pub fn next_sum(sum: i128, n: Option<i64>) -> i128
     requires low { pos 0 ≤ℤ (sum +ℤ pos (2 ^ 127 - 2 ^ 63)) }
     requires high { (sum +ℤ pos (2 ^ 63)) ≤ℤ pos (2 ^ 127) }
     ensures value { result ≡ added sum n }
@@ -92,7 +92,8 @@ fn next_sum(sum: i128, n: Option<i64>) -> i128
     }
 }
 
-fn number_at(place: Option<usize>, row: &Row) -> Option<i64>
+/// What the cell of a row at a place adds to a sum.
+pub fn number_at(place: Option<usize>, row: &Row) -> Option<i64>
     ensures { result ≡ number_of (cell_at place row.now) }
 {
     match row.get(place?)? {
@@ -119,7 +120,13 @@ fn mean(sum: i128, count: usize) -> Cell
     }
 }
 
-fn extreme(alloc: Global, end: End, place: Option<usize>, rows: &[Row]) -> Result<Cell, AllocError>
+/// A copy of the cell that no other lies beyond, null where all are null.
+pub fn extreme(
+    alloc: Global,
+    end: End,
+    place: Option<usize>,
+    rows: &[Row],
+) -> Result<Cell, AllocError>
     ensures { IfOk result (λ c. c ≡ extreme_of_cells end (cells_of place rows.now)) }
 {
     match extreme_of(end, place, rows) {

@@ -48,7 +48,9 @@ impl CheckedPlan {
     /// missing column or one whose type it does not take. Of a join: no keys; key by key a column that
     /// is missing on the left or on the right, or whose types differ or are Frac; the first key that
     /// stands earlier. Of a select, a group-by and a join then: the first name of the result that stands
-    /// earlier in it; more than 32 columns.
+    /// earlier in it; more than 32 columns. Of a rolling window: sizes that are none, before its column.
+    /// Of it and of a cumulative sum: a column that is missing or not Int; of a rank: one that is missing
+    /// or Frac; then more than 32 columns.
     pub fn new(alloc: Global, plan: Plan, frames: &[Schema]) -> Result<CheckedPlan, PlanFault>
         ensures ok { IfOk result (λ p. (p.plan ≡ plan) × (p.frames ≡ frames.now) × (checked plan frames.now ≡ Ok p.schema)) }
         ensures fault { IfErr result (λ f. f ≢ PlanFault.Memory → checked plan frames.now ≡ Err f) }

@@ -9,6 +9,7 @@ use crate::items::{Added, Aggregates, Columns, Keys, Outputs, check_each, expr_t
 use crate::join_checks::check_join;
 use crate::placed::placed;
 use crate::plan::{Agg, Plan};
+use crate::window_checks::{check_cum_sum, check_rank, check_rolling};
 use df_expr::{Expr, ExprFault};
 use df_value::{CellType, Duplicate, List, Schema, SchemaFault, Text, doubled};
 use std::alloc::Global;
@@ -44,7 +45,10 @@ fn is_within(plan: &Plan, most: u32) -> bool
         Plan::Filter(input, _) | Plan::Select(input, _) | Plan::WithColumns(input, _) => {
             is_within(input.get(), most - 1)
         }
-        Plan::GroupBy(input, _, _) => is_within(input.get(), most - 1),
+        Plan::GroupBy(input, _, _) | Plan::CumSum(input, _, _) => is_within(input.get(), most - 1),
+        Plan::Rolling(input, _, _, _, _, _) | Plan::Rank(input, _, _, _) => {
+            is_within(input.get(), most - 1)
+        }
         Plan::Join(left, right, _, _) => {
             is_within(left.get(), most - 1) && is_within(right.get(), most - 1)
         }
@@ -60,7 +64,10 @@ fn scans_left(plan: &Plan, most: u32) -> Option<u32>
         Plan::Filter(input, _) | Plan::Select(input, _) | Plan::WithColumns(input, _) => {
             scans_left(input.get(), most)
         }
-        Plan::GroupBy(input, _, _) => scans_left(input.get(), most),
+        Plan::GroupBy(input, _, _) | Plan::CumSum(input, _, _) => scans_left(input.get(), most),
+        Plan::Rolling(input, _, _, _, _, _) | Plan::Rank(input, _, _, _) => {
+            scans_left(input.get(), most)
+        }
         Plan::Join(left, right, _, _) => {
             let rest = scans_left(left.get(), most)?;
             scans_left(right.get(), rest)
@@ -95,6 +102,22 @@ fn check_node(alloc: Global, plan: &Plan, frames: &[Schema]) -> Result<Schema, P
                 Ok(right) => check_join(alloc, &left, &right, keys.as_slice()),
                 Err(fault) => Err(fault),
             }
+        }
+        Plan::Rolling(input, output, kind, column, w, m) => {
+            let columns = check_node(alloc, input.get(), frames)?;
+            check_rolling(alloc, &columns, output, *kind, column, *w, *m)
+        }
+        Plan::CumSum(input, output, column) => {
+            let columns = check_node(alloc, input.get(), frames)?;
+            check_cum_sum(alloc, &columns, output, column)
+        }
+        Plan::Rank(input, output, _, column) => {
+            check_rank(
+                alloc,
+                &check_node(alloc, input.get(), frames)?,
+                output,
+                column,
+            )
         }
     }
 }
@@ -156,8 +179,8 @@ fn check_groups(
     settled(alloc, out)
 }
 
-// The schema of a table with columns put among its own.
-fn put(alloc: Global, input: &Schema, added: &Columns) -> Result<Schema, PlanFault>
+/// The schema of a table with columns put among its own.
+pub fn put(alloc: Global, input: &Schema, added: &Columns) -> Result<Schema, PlanFault>
     ensures { Answers (put_checked input.now added.now) result }
 {
     if let Some(name) = doubled(added.as_slice()) {

@@ -8,8 +8,10 @@ use crate::checked::CheckedPlan;
 use crate::groups::{group_of, keys_of};
 use crate::joins::join;
 use crate::plan::{Agg, Plan};
+use crate::ranks::rank_table;
 use crate::row_wise::{filter_table, select_table, with_table};
 use crate::table::Table;
+use crate::windows::{cum_sum_table, roll_table, size_of};
 use df_value::{Cell, CellType, Duplicate, List, Row, Schema, Text, place_of, type_of};
 use std::alloc::{AllocError, Global};
 
@@ -67,6 +69,26 @@ fn table_of_plan(
                 Err(refused) => Err(refused),
             }
         }
+        Plan::Rolling(input, output, kind, column, w, m) => {
+            let input = table_of_plan(alloc, input.get(), schemas, frames)?;
+            roll_table(
+                alloc,
+                &input,
+                output,
+                *kind,
+                column,
+                size_of(*w),
+                size_of(*m),
+            )
+        }
+        Plan::CumSum(input, output, column) => {
+            let input = table_of_plan(alloc, input.get(), schemas, frames)?;
+            cum_sum_table(alloc, &input, output, column)
+        }
+        Plan::Rank(input, output, kind, column) => {
+            let input = table_of_plan(alloc, input.get(), schemas, frames)?;
+            rank_table(alloc, &input, output, *kind, column)
+        }
     }
 }
 
@@ -93,6 +115,7 @@ fn copy_frame(
 }
 
 // The groups of a table, by the first appearance of their keys.
+#[tactic(auto, unfolding(crate::specs::Meaning::grouped))]
 fn group_by(
     alloc: Global,
     table: &Table,

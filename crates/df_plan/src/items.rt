@@ -103,7 +103,8 @@ pub fn check_each<T, N: ColumnOf<T>>(
     Ok(List::from_vec(out))
 }
 
-fn key_type(alloc: Global, input: &Schema, name: &Text) -> Result<CellType, PlanFault>
+/// The type of a key's column, which must be there and not Frac.
+pub fn key_type(alloc: Global, input: &Schema, name: &Text) -> Result<CellType, PlanFault>
     ensures { Answers (type_of_key name.now (type_in name.now input.now)) result }
 {
     match input.type_of(name) {

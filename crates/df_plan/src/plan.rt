@@ -38,6 +38,24 @@ pub enum How {
     Left,
 }
 
+/// What a rolling window takes of its cells.
+#[derive(Clone, Copy, Debug, PartialEq, Eq, Hash)]
+pub enum RollKind {
+    /// The sum of those that are not null, a Wide.
+    Sum,
+    /// The least that is not null.
+    Min,
+    /// The greatest that is not null.
+    Max,
+}
+
+/// How a rank counts cells that are equal.
+#[derive(Clone, Copy, Debug, PartialEq, Eq, Hash)]
+pub enum RankKind {
+    /// Once, so that no rank is left out.
+    Dense,
+}
+
 /// How a table is made of frames.
 #[derive(Debug, Drop)]
 pub enum Plan {
@@ -60,6 +78,16 @@ pub enum Plan {
     /// second's columns come last, without its keys; a name that stands in the first gets the suffix
     /// `_right`.
     Join(Boxed<Plan>, Boxed<Plan>, How, List<Text>),
+    /// The input, and put among its columns as `WithColumns` puts them one of this name: of the cells of
+    /// an Int column in a row and those before it, at most as many as the first number says, the sum,
+    /// least or greatest; null where fewer than the second number are not null.
+    Rolling(Boxed<Plan>, Text, RollKind, Text, i64, i64),
+    /// The input, and put among its columns one of this name: the sum of the cells of an Int column up to
+    /// each row, a Wide; null where the row's own cell is null.
+    CumSum(Boxed<Plan>, Text, Text),
+    /// The input, and put among its columns one of this name: the rank of each cell of a column among all
+    /// of them, an Int from 1 on; null where the cell is null. Of every type but Frac.
+    Rank(Boxed<Plan>, Text, RankKind, Text),
 }
 
 impl Exact for Agg {
@@ -133,6 +161,19 @@ impl Duplicate for Plan {
                 let right = copy_of(alloc, right)?;
                 Ok(Plan::Join(left, right, *how, keys.copy(alloc)?))
             }
+            Plan::Rolling(input, output, kind, column, w, m) => {
+                let input = copy_of(alloc, input)?;
+                let output = output.copy(alloc)?;
+                Ok(Plan::Rolling(input, output, *kind, column.copy(alloc)?, *w, *m))
+            }
+            Plan::CumSum(input, output, column) => {
+                let input = copy_of(alloc, input)?;
+                Ok(Plan::CumSum(input, output.copy(alloc)?, column.copy(alloc)?))
+            }
+            Plan::Rank(input, output, kind, column) => {
+                let input = copy_of(alloc, input)?;
+                Ok(Plan::Rank(input, output.copy(alloc)?, *kind, column.copy(alloc)?))
+            }
         }
     }
 }
@@ -164,6 +205,31 @@ fn same_plan(a: &Plan, b: &Plan) -> bool
                 && *how == *other_how
                 && same(keys, other_keys)
         }
+        (
+            Plan::Rolling(x, output, kind, column, w, m),
+            Plan::Rolling(y, other, other_kind, other_column, other_w, other_m),
+        ) => {
+            same_plan(x.get(), y.get())
+                && *kind == *other_kind
+                && same_names(output, other, column, other_column)
+                && *w == *other_w
+                && *m == *other_m
+        }
+        (Plan::CumSum(x, output, column), Plan::CumSum(y, other, other_column)) => {
+            same_plan(x.get(), y.get()) && same_names(output, other, column, other_column)
+        }
+        (Plan::Rank(x, output, kind, column), Plan::Rank(y, other, other_kind, other_column)) => {
+            same_plan(x.get(), y.get())
+                && *kind == *other_kind
+                && same_names(output, other, column, other_column)
+        }
         _ => false,
     }
+}
+
+// Whether two outputs have one name, and so the columns that they are taken of.
+fn same_names(output: &Text, other: &Text, column: &Text, other_column: &Text) -> bool
+    ensures { IsTrue result ↔ ((output.now ≡ other.now) × (column.now ≡ other_column.now)) }
+{
+    same(output, other) && same(column, other_column)
 }

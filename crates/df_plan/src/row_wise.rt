@@ -156,8 +156,8 @@ fn put_cells(
     unnamed(alloc, cells.as_slice())
 }
 
-// Copies of a row's cells under the names of their columns.
-fn named_cells(
+/// Copies of a row's cells under the names of their columns.
+pub fn named_cells(
     alloc: Global,
     columns: &[(Text, CellType)],
     cells: &[Cell],
@@ -187,7 +187,8 @@ fn item_cells(
     Ok(cells)
 }
 
-fn unnamed(alloc: Global, cells: &[(Text, Cell)]) -> Result<Row, AllocError>
+/// Copies of the cells without their names.
+pub fn unnamed(alloc: Global, cells: &[(Text, Cell)]) -> Result<Row, AllocError>
     ensures { IfOk result (λ row. row ≡ map (λ c. c.1) cells.now) }
 {
     let mut row = Vec::with_capacity(alloc, cells.len())?;

@@ -1,5 +1,6 @@
 -- What every document that is read promises.
 use Rattle.std.proofs.Common.{◌≡◌, ◌≤◌, ℕ, Bool, true, false, cond, ◌&&◌, List, [], length, nat_lt, position, Option, Some, None, Result, Ok, Err, IfOk, Ordering, Less, Equal, Greater, nat_cmp, codes, ◌∷◌, ◌+◌, refl, arith, rules, ◌∙◌}
+use Rattle.std.specs.Prelude.{ℤ}
 use Rattle.std.specs.List.{All}
 use Rattle.std.proofs.lemmas.Bool.Decides.{nat_tests}
 use Rattle.std.proofs.lemmas.List.Elements.{All-nil}
@@ -15,7 +16,9 @@ use Rattle.df_value.specs.declared.cell.CellType.TheVariants as kind
 use Rattle.df_value.specs.declared.schema.SchemaFault.{SchemaFault}
 use Rattle.df_value.specs.SchemaFaults.{schema_fault}
 use Rattle.df_plan.specs.declared.plan.How.{How}
-use Rattle.df_plan.specs.declared.plan.Plan.{Plan, Scan, Filter, Select, WithColumns, GroupBy, Join, the_lemmas}
+use Rattle.df_plan.specs.declared.plan.Plan.{Plan, Scan, Filter, Select, WithColumns, GroupBy, Join, Rolling, CumSum, Rank, the_lemmas}
+use Rattle.df_plan.specs.declared.plan.RankKind.{RankKind}
+use Rattle.df_plan.specs.declared.plan.RollKind.{RollKind}
 use Rattle.df_expr.specs.declared.expr.Expr.{Expr}
 use Rattle.df_plan.specs.declared.plan.Agg.{Agg}
 use Rattle.df_text.specs.declared.document.FrameSpec.{FrameSpec}
@@ -27,11 +30,12 @@ use Rattle.df_text.specs.declared.view_steps.StepWord.TheVariants as step_word
 use Rattle.df_text.specs.declared.views_fault.ViewsFault.{ViewsFault}
 use Rattle.df_text.specs.declared.views_fault.ViewsFault.TheVariants as fault
 use Rattle.df_text.specs.Reading.{read_each}
-use Rattle.df_text.specs.Tree.{keys_pass, text_in, array_in, table_in, first_in, only_in, pair_in, list_of, tree_of}
+use Rattle.df_text.specs.Tree.{keys_pass, text_in, array_in, table_in, first_in, only_in, pair_in, triple_in, list_of, tree_of}
 use Rattle.df_text.specs.Frames.{column_of, type_of_word, entries_of_frame, unless_fault, schema_of, new_name, frame_of, frames_of}
 use Rattle.df_text.specs.Expressions.{expr_of}
 use Rattle.df_text.specs.RowWiseSteps.{item_of}
 use Rattle.df_text.specs.AggregateItems.{aggregate_of}
+use Rattle.df_text.specs.WindowSteps.{int_in, names_in, rolling_of, rank_of_word}
 use Rattle.df_text.specs.Sources.{found_frame, frame_named, only_source_at}
 use Rattle.df_text.specs.Steps.{step_of_word, kind_and_keys, steps_after, step_of, applied, side_of, steps_at, all_steps}
 use Rattle.df_text.specs.Scans.{scans_below}
@@ -82,6 +86,15 @@ scans-GroupBy n p keys aggs = search (rules, the_lemmas)
 both_true : (a b c : Bool) → a ≡ (b && c) → b ≡ true → c ≡ true → a ≡ true
 both_true a b c e g h = rw (e, g, h) refl
 
+scans-Rolling : (n : ℕ) (p : Plan) (output : List ℕ) (kind : RollKind) (column : List ℕ) (w m : ℤ) → scans_below n (Rolling p output kind column w m) ≡ scans_below n p
+scans-Rolling n p output kind column w m = search (rules, the_lemmas)
+
+scans-CumSum : (n : ℕ) (p : Plan) (output column : List ℕ) → scans_below n (CumSum p output column) ≡ scans_below n p
+scans-CumSum n p output column = search (rules, the_lemmas)
+
+scans-Rank : (n : ℕ) (p : Plan) (output : List ℕ) (kind : RankKind) (column : List ℕ) → scans_below n (Rank p output kind column) ≡ scans_below n p
+scans-Rank n p output kind column = search (rules, the_lemmas)
+
 scans-both : (n : ℕ) (left right : Plan) (how : How) (keys : List (List ℕ)) → scans_below n (Join left right how keys) ≡ (scans_below n left && scans_below n right)
 scans-both n left right how keys = search (rules, the_lemmas)
 
@@ -113,6 +126,18 @@ either_scans frames Less r s g h = g
 either_scans frames Equal r s g h = h
 either_scans frames Greater r s g h = g
 
+rolling_scans : (at : Place) (frames : List FrameSpec) (kind : RollKind) (input : Plan) (ds : List Data) → Reads frames input → IfOk (rolling_of at kind input ds) (Reads frames)
+rolling_scans at frames kind input [] h = tt
+rolling_scans at frames kind input (output ∷ []) h = tt
+rolling_scans at frames kind input (output ∷ column ∷ []) h = tt
+rolling_scans at frames kind input (output ∷ column ∷ w ∷ []) h =
+    then_gives _ (names_in at output column) _ (λ n _. then_gives _ (int_in at w) _ (λ rows _.
+    scans-Rolling (length frames) input n.0 kind n.1 rows rows ∙ h))
+rolling_scans at frames kind input (output ∷ column ∷ w ∷ m ∷ []) h =
+    then_gives _ (names_in at output column) _ (λ n _. then_gives _ (int_in at w) _ (λ rows _. then_gives _ (int_in at m) _ (λ least _.
+    scans-Rolling (length frames) input n.0 kind n.1 rows least ∙ h)))
+rolling_scans at frames kind input (output ∷ column ∷ w ∷ m ∷ d ∷ ds) h = tt
+
 mutual
   steps_scans : (at : Place) (frames : List FrameSpec) (input : Plan) (ds : Items) → Reads frames input → IfOk (steps_after at frames input ds) (Reads frames)
   steps_scans at frames input no_items h = h
@@ -141,6 +166,12 @@ mutual
       then_gives _ (first_in at (list_of ds)) _ (λ k _. then_gives _ (array_in at k.0) _ (λ ks _.
       then_gives _ (read_each (text_in at) ks) _ (λ keys _. then_gives _ (read_each (aggregate_of at) k.1) _ (λ aggregates _.
       scans-GroupBy (length frames) input keys aggregates ∙ h))))
+  applied_scans at frames (step_word.Rolling kind) input ds h = rolling_scans at frames kind input (list_of ds) h
+  applied_scans at frames step_word.CumSum input ds h =
+      then_gives _ (pair_in at (list_of ds)) _ (λ p _. then_gives _ (names_in at p.0 p.1) _ (λ n _. scans-CumSum (length frames) input n.0 n.1 ∙ h))
+  applied_scans at frames step_word.Rank input ds h =
+      then_gives _ (triple_in at (list_of ds)) _ (λ t _. then_gives _ (text_in at t.0) _ (λ output _. then_gives _ (text_in at t.1) _ (λ w _.
+      then_gives _ (rank_of_word at w) _ (λ kind _. then_gives _ (text_in at t.2) _ (λ column _. scans-Rank (length frames) input output kind column ∙ h)))))
   applied_scans at frames step_word.Join input (item kind (item keys (item right no_items))) h =
       then_gives _ (kind_and_keys at kind keys) _ (λ how _. then_gives _ (side_of at frames right) _ (λ p is.
       scans-Join (length frames) input p how.0 how.1 h (given (Reads frames) (side_of at frames right) p (side_scans at frames right) is)))

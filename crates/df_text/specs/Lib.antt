@@ -6,5 +6,6 @@ pub mod RowWiseSteps
 pub mod Scans
 pub mod Sources
 pub mod AggregateItems
+pub mod WindowSteps
 pub mod Steps
 pub mod Tree

@@ -9,6 +9,9 @@ scans_step n (Plan-F.Filter input predicate) = input
 scans_step n (Plan-F.Select input items) = input
 scans_step n (Plan-F.WithColumns input items) = input
 scans_step n (Plan-F.GroupBy input keys aggregates) = input
+scans_step n (Plan-F.Rolling input output kind column w m) = input
+scans_step n (Plan-F.CumSum input output column) = input
+scans_step n (Plan-F.Rank input output kind column) = input
 scans_step n (Plan-F.Join left right how keys) = left && right
 
 -- whether each frame that a plan reads has an index below this number

@@ -9,6 +9,7 @@ use Rattle.df_plan.specs.declared.plan.How.{How}
 use Rattle.df_plan.specs.declared.plan.How.TheVariants as how
 use Rattle.df_plan.specs.declared.plan.Plan.{Plan}
 use Rattle.df_plan.specs.declared.plan.Plan.TheVariants as plan
+use Rattle.df_plan.specs.declared.plan.RollKind.TheVariants as roll
 use Rattle.df_text.specs.declared.view_steps.StepWord.{StepWord}
 use Rattle.df_text.specs.declared.view_steps.StepWord.TheVariants as step_word
 use Rattle.df_text.specs.declared.document.FrameSpec.{FrameSpec}
@@ -19,6 +20,7 @@ use Rattle.df_text.specs.Reading.{then_read, read_each}
 use Rattle.df_text.specs.Tree.{text_in, array_in, first_in, list_of}
 use Rattle.df_text.specs.AggregateItems.{aggregate_of}
 use Rattle.df_text.specs.RowWiseSteps.{filter_of, select_of, with_columns_of}
+use Rattle.df_text.specs.WindowSteps.{rolling_of, cum_sum_of, rank_of}
 use Rattle.df_text.specs.Sources.{only_source_at, frame_named}
 
 -- the step that a word names
@@ -29,6 +31,11 @@ step_of_word at w =
     else if bytes_eq w (codes "with_columns") then Ok step_word.WithColumns
     else if bytes_eq w (codes "group_by") then Ok step_word.GroupBy
     else if bytes_eq w (codes "join") then Ok step_word.Join
+    else if bytes_eq w (codes "rolling_sum") then Ok (step_word.Rolling roll.Sum)
+    else if bytes_eq w (codes "rolling_min") then Ok (step_word.Rolling roll.Min)
+    else if bytes_eq w (codes "rolling_max") then Ok (step_word.Rolling roll.Max)
+    else if bytes_eq w (codes "cum_sum") then Ok step_word.CumSum
+    else if bytes_eq w (codes "rank") then Ok step_word.Rank
     else Err (fault.Word at)
 
 -- an array of key names, and then any number of aggregates
@@ -75,6 +82,9 @@ abbrev mutual
   applied at frames step_word.Select input ds = select_of at input (list_of ds)
   applied at frames step_word.WithColumns input ds = with_columns_of at input (list_of ds)
   applied at frames step_word.GroupBy input ds = group_by_of at input (list_of ds)
+  applied at frames (step_word.Rolling kind) input ds = rolling_of at kind input (list_of ds)
+  applied at frames step_word.CumSum input ds = cum_sum_of at input (list_of ds)
+  applied at frames step_word.Rank input ds = rank_of at input (list_of ds)
   applied at frames step_word.Join input (item kind (item keys (item right no_items))) =
       then_read (kind_and_keys at kind keys) (λ h. then_read (side_of at frames right) (λ p. Ok (plan.Join input p h.0 h.1)))
   applied at frames step_word.Join input _ = Err (fault.Shape at)

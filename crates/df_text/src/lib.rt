@@ -25,6 +25,7 @@ mod tree;
 mod view_steps;
 mod views;
 mod views_fault;
+mod window_steps;
 
 pub use df_csv::{
     CsvFault, MOST_BYTES_OF_FILE, ReadLimitedFault, Records, count_pieces, parse_records,

@@ -12,7 +12,8 @@ use crate::from_tables::{array_or_none, frame_of_name, only_source_in};
 use crate::row_wise_steps::{filter, select, with_columns};
 use crate::tree::{array_in, first_in, text_in, triple_in};
 use crate::views_fault::ViewsFault;
-use df_plan::{How, Plan};
+use crate::window_steps::{cum_sum, rank, rolling};
+use df_plan::{How, Plan, RollKind};
 use df_value::{Boxed, List, Text};
 use std::alloc::Global;
 use toml::{Table, Value};
@@ -25,6 +26,9 @@ pub enum StepWord {
     WithColumns,
     GroupBy,
     Join,
+    Rolling(RollKind),
+    CumSum,
+    Rank,
 }
 
 /// The plan after the steps of a table, if it has any.
@@ -108,6 +112,9 @@ fn apply(
         StepWord::WithColumns => with_columns(alloc, place, input, items),
         StepWord::GroupBy => group_by(alloc, place, input, items),
         StepWord::Join => join(alloc, place, frames, input, items),
+        StepWord::Rolling(kind) => rolling(alloc, place, kind, input, items),
+        StepWord::CumSum => cum_sum(alloc, place, input, items),
+        StepWord::Rank => rank(alloc, place, input, items),
     }
 }
 
@@ -189,6 +196,11 @@ fn step_named(place: Place, word: &str) -> Result<StepWord, ViewsFault>
         "with_columns" => Ok(StepWord::WithColumns),
         "group_by" => Ok(StepWord::GroupBy),
         "join" => Ok(StepWord::Join),
+        "rolling_sum" => Ok(StepWord::Rolling(RollKind::Sum)),
+        "rolling_min" => Ok(StepWord::Rolling(RollKind::Min)),
+        "rolling_max" => Ok(StepWord::Rolling(RollKind::Max)),
+        "cum_sum" => Ok(StepWord::CumSum),
+        "rank" => Ok(StepWord::Rank),
         _ => Err(ViewsFault::Word(place)),
     }
 }

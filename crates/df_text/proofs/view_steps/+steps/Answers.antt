@@ -2,6 +2,7 @@ use Rattle.std.proofs.Common.{map, codes, arith, refl}
 use Rattle.toml.specs.View.{table_view, view}
 use Rattle.df_text.specs.RowWiseSteps.{filter_of, select_of, with_columns_of}
 use Rattle.df_text.specs.Steps.{group_by_of}
+use Rattle.df_text.specs.WindowSteps.{rolling_of, cum_sum_of, rank_of}
 use Rattle.df_text.proofs.Depths.{array_at_no_deeper, item_no_deeper, step_deeper, third_no_deeper}
 use Rattle.df_text.proofs.StepFacts.{join_by_items, plain_step, step_by_word, steps_by_key}
 use Rattle.df_text.proofs.view_steps.+steps.Goals as goal
@@ -17,6 +18,16 @@ apply-returns-in-WithColumns t c = rw (c.in-WithColumns.is, plain_step (with_col
 
 pub apply-returns-in-GroupBy : goal.apply-returns-in-GroupBy
 apply-returns-in-GroupBy t c = rw (c.in-GroupBy.is, plain_step (group_by_of c.args.place c.args.input) (map view c.args.items.now)) c.group_by.ensures
+
+pub apply-returns-in-Rolling : goal.apply-returns-in-Rolling
+apply-returns-in-Rolling t c =
+    rw (c.in-Rolling.is, plain_step (rolling_of c.args.place c.in-Rolling.kind c.args.input) (map view c.args.items.now)) c.rolling.ensures
+
+pub apply-returns-in-CumSum : goal.apply-returns-in-CumSum
+apply-returns-in-CumSum t c = rw (c.in-CumSum.is, plain_step (cum_sum_of c.args.place c.args.input) (map view c.args.items.now)) c.cum_sum.ensures
+
+pub apply-returns-in-Rank : goal.apply-returns-in-Rank
+apply-returns-in-Rank t c = rw (c.in-Rank.is, plain_step (rank_of c.args.place c.args.input) (map view c.args.items.now)) c.rank.ensures
 
 pub apply_step-apply-requires : goal.apply_step-apply-requires
 apply_step-apply-requires t c =

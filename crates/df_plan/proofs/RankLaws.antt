@@ -1,0 +1,106 @@
+-- Equal cells have one rank, a greater cell has a greater one, and none is above the number of distinct cells.
+use Rattle.std.proofs.Common.{◌≡◌, ℕ, ◌<◌, ◌≤◌, ◌∙◌, Bool, true, false, cond, zero, suc, List, [], ◌∷◌, length, get_or, filter, refl, ap, arith, Contains, Option}
+use Rattle.std.specs.Prelude.{Some, not, ◌&&◌}
+use Rattle.std.specs.Ordering.{is_lt}
+use Rattle.std.specs.declared.cmp.Ordering.TheVariants as ordering
+use Rattle.std.proofs.lemmas.List.Elements.{All-contains}
+use Rattle.df_value.specs.declared.cell.Cell.{Cell}
+use Rattle.df_value.specs.CellOrder.{cell_cmp, cell_cmp_total}
+use Rattle.df_value.specs.Rows.{cell_at}
+use Rattle.df_expr.specs.Value.{is_null}
+use Rattle.df_plan.specs.Groups.{key_of}
+use Rattle.df_plan.specs.Ranks.{dense_rank_of, distinct_at, is_present, is_smaller, RanksAgree, RanksRise, RanksWithin}
+use Rattle.df_value.proofs.CellOrders.{to_itself}
+use Rattle.df_plan.proofs.Ends.{less}
+use Rattle.df_plan.proofs.Keys.{each_row}
+
+abbrev Rows : Type 0
+Rows = List (List Cell)
+
+no_fewer : (b c : Bool) → (b ≡ true → c ≡ true) → (x : List Cell) (ps qs : Rows) → length ps ≤ length qs →
+    length (cond b (x ∷ ps) ps) ≤ length (cond c (x ∷ qs) qs)
+no_fewer true true f x ps qs h = omega arith
+no_fewer true false f x ps qs h = let e = f refl in cc
+no_fewer false true f x ps qs h = omega arith
+no_fewer false false f x ps qs h = h
+
+-- what q takes too is no fewer
+filter_more : (p q : List Cell → Bool) → ((x : List Cell) → p x ≡ true → q x ≡ true) → (xs : Rows) → length (filter p xs) ≤ length (filter q xs)
+filter_more p q f [] = omega arith
+filter_more p q f (x ∷ xs) = no_fewer (p x) (q x) (f x) x (filter p xs) (filter q xs) (filter_more p q f xs)
+
+one_more : (b c : Bool) → b ≡ false → c ≡ true → (x : List Cell) (ps qs : Rows) → length ps ≤ length qs →
+    length (cond b (x ∷ ps) ps) < length (cond c (x ∷ qs) qs)
+one_more true c e f x ps qs h = cc
+one_more false true e f x ps qs h = omega arith
+one_more false false e f x ps qs h = cc
+
+still_more : (b c : Bool) → (b ≡ true → c ≡ true) → (x : List Cell) (ps qs : Rows) → length ps < length qs →
+    length (cond b (x ∷ ps) ps) < length (cond c (x ∷ qs) qs)
+still_more true true f x ps qs h = omega arith
+still_more true false f x ps qs h = let e = f refl in cc
+still_more false true f x ps qs h = omega arith
+still_more false false f x ps qs h = h
+
+-- and one that only q takes makes them more
+filter_less :
+    (p q : List Cell → Bool) → ((x : List Cell) → p x ≡ true → q x ≡ true) → (xs : Rows) (k : ℕ) (x : List Cell) → k < length xs →
+    get_or xs k x ≡ x → p x ≡ false → q x ≡ true → length (filter p xs) < length (filter q xs)
+filter_less p q f [] k x h e a b = absurd (omega arith)
+filter_less p q f (y ∷ ys) zero x h e a b =
+    let same : y ≡ x = e in
+    one_more (p y) (q y) (ap p same ∙ a) (ap q same ∙ b) y (filter p ys) (filter q ys) (filter_more p q f ys)
+filter_less p q f (y ∷ ys) (suc k) x h e a b =
+    still_more (p y) (q y) (f y) y (filter p ys) (filter q ys) (filter_less p q f ys k x (omega arith) e a b)
+
+first_of : (a b : Bool) → (a && b) ≡ true → a ≡ true
+first_of true b h = refl
+first_of false b h = cc
+
+second_of : (a b : Bool) → (a && b) ≡ true → b ≡ true
+second_of true b h = h
+second_of false b h = cc
+
+both_of : (a b : Bool) → a ≡ true → b ≡ true → (a && b) ≡ true
+both_of true b e h = h
+both_of false b e h = cc
+
+and_false : (a : Bool) → (a && false) ≡ false
+and_false true = refl
+and_false false = refl
+
+smaller_too : (a b : Cell) → cell_cmp a b ≡ ordering.Less → (key : List Cell) → is_smaller a key ≡ true → is_smaller b key ≡ true
+smaller_too a b h key e =
+    let k = cell_at (Some 0) key in
+    both_of (not (is_null k)) (is_lt (cell_cmp k b)) (first_of (not (is_null k)) (is_lt (cell_cmp k a)) e)
+    (ap is_lt (cell_cmp_total.trans k a b (less (cell_cmp k a) (second_of (not (is_null k)) (is_lt (cell_cmp k a)) e)) h))
+
+present_too : (a : Cell) (key : List Cell) → is_smaller a key ≡ true → is_present key ≡ true
+present_too a key e = first_of (is_present key) (is_lt (cell_cmp (cell_at (Some 0) key) a)) e
+
+not_itself : (a : Cell) → is_smaller a (a ∷ []) ≡ false
+not_itself a = ap (λ o. not (is_null a) && is_lt o) (to_itself a) ∙ and_false (not (is_null a))
+
+-- a row's cell is one of the distinct ones
+key_stands : (place : Option ℕ) (rows : Rows) (r : List Cell) → Contains rows r → Contains (distinct_at place rows) (cell_at place r ∷ [])
+key_stands place rows r h =
+    All-contains (λ r. Contains (distinct_at place rows) (key_of (place ∷ []) r)) rows r (each_row (place ∷ []) rows) h
+
+pub agree : (place : Option ℕ) (rows : Rows) → RanksAgree place rows
+agree place rows r s e = ap (dense_rank_of (distinct_at place rows)) e
+
+pub rise : (place : Option ℕ) (rows : Rows) → RanksRise place rows
+rise place rows r s ranked h =
+    let a = cell_at place r in
+    let b = cell_at place s in
+    let at = key_stands place rows r ranked.0 in
+    let more = filter_less (is_smaller a) (is_smaller b) (smaller_too a b h) (distinct_at place rows) at.0 (a ∷ []) at.1 at.2
+    (not_itself a) (both_of (not (is_null a)) (is_lt (cell_cmp a b)) ranked.1 (ap is_lt h)) in
+    omega arith
+
+pub within : (place : Option ℕ) (rows : Rows) → RanksWithin place rows
+within place rows r ranked =
+    let a = cell_at place r in
+    let at = key_stands place rows r ranked.0 in
+    let more = filter_less (is_smaller a) is_present (present_too a) (distinct_at place rows) at.0 (a ∷ []) at.1 at.2 (not_itself a) ranked.1 in
+    omega arith
