@@ -52,7 +52,7 @@ once_at x k ks false e apart h later =
     omega arith
 
 -- a row that is among distinct ones is there once
-once : (x : List Cell) (ks : Rows) → IsDistinct row_eq ks → list_any (row_eq x) ks ≡ true → count_by (row_eq x) ks ≡ 1
+pub once : (x : List Cell) (ks : Rows) → IsDistinct row_eq ks → list_any (row_eq x) ks ≡ true → count_by (row_eq x) ks ≡ 1
 once x [] d h = absurd (false≢true h)
 once x (k ∷ ks) d h =
     sum_by-cons (λ y. cond (row_eq x y) 1 0) k ks

@@ -1,6 +1,6 @@
 -- Dense ranks, as `rank` with the method "dense" of the Polars Python reference gives them: equal cells have one rank,
 -- and no rank is left out. That null has the rank null is this project's own choice.
-use Rattle.std.specs.Prelude.{◌≡◌, ◌<◌, ◌≤◌, Contains, IsTrue, ℕ, Bool, pos, ◌+◌, ◌&&◌, not, List, [], ◌∷◌, Option, Some, filter, length, map, if◌then◌else◌}
+use Rattle.std.specs.Prelude.{◌≡◌, ◌≢◌, ◌<◌, ◌≤◌, Contains, IsTrue, ℕ, Bool, pos, ◌+◌, ◌&&◌, not, List, [], ◌∷◌, Option, Some, filter, length, map, if◌then◌else◌}
 use Rattle.std.specs.Ordering.{is_lt}
 use Rattle.std.specs.declared.cmp.Ordering.TheVariants as ordering
 use Rattle.df_value.specs.declared.cell.Cell.{Cell}
@@ -62,3 +62,10 @@ abbrev pub RanksWithin : Option ℕ → List (List Cell) → Type 0
 RanksWithin place rows =
     (r : List Cell) → IsRanked place rows r →
     rank_number (distinct_at place rows) (cell_at place r) ≤ length (filter is_present (distinct_at place rows))
+
+-- the greatest cell's rank is that number
+abbrev pub GreatestCounts : Option ℕ → List (List Cell) → Type 0
+GreatestCounts place rows =
+    (r : List Cell) → IsRanked place rows r →
+    ((s : List Cell) → IsRanked place rows s → cell_cmp (cell_at place r) (cell_at place s) ≢ ordering.Less) →
+    rank_number (distinct_at place rows) (cell_at place r) ≡ length (filter is_present (distinct_at place rows))

@@ -2,7 +2,7 @@
 ghost use Rattle.std.specs.Prelude.{◌≡◌, ◌≤◌, ◌∷◌, [], IfOk, filter, length};
 ghost use Rattle.df_value.specs.Rows.{cell_at};
 ghost use Rattle.df_plan.specs.Meaning.{rank_table as table_ranked};
-ghost use Rattle.df_plan.specs.Ranks.{dense_rank as ranks_at, dense_rank_of, is_smaller as is_smaller_cell, ranks_of, RanksAgree, RanksRise, RanksWithin};
+ghost use Rattle.df_plan.specs.Ranks.{dense_rank as ranks_at, dense_rank_of, is_smaller as is_smaller_cell, ranks_of, GreatestCounts, RanksAgree, RanksRise, RanksWithin};
 
 use crate::extremes::present_at;
 use crate::groups::keys_of;
@@ -51,6 +51,7 @@ pub fn dense_rank(
     ensures agree { RanksAgree place rows.now }
     ensures rise { RanksRise place rows.now }
     ensures within { RanksWithin place rows.now }
+    ensures greatest { GreatestCounts place rows.now }
 {
     all_ranked(alloc, place, rows)
 }
