@@ -13,14 +13,14 @@ use Rattle.df_value.specs.Schemas.{type_in, position_of}
 use Rattle.df_expr.specs.Typing.{column_type}
 use Rattle.df_expr.specs.Value.{is_null}
 use Rattle.df_expr.proofs.Sound.{column_fits}
-use Rattle.df_plan.specs.declared.extremes.End.{End}
-use Rattle.df_plan.specs.declared.extremes.End.TheVariants as end
-use Rattle.df_plan.specs.declared.plan.Agg.{Agg}
-use Rattle.df_plan.specs.declared.plan.Agg.TheVariants as agg
-use Rattle.df_plan.specs.Aggregates.{cells_of, present, count_of, sum_of, is_extreme, extreme_of, first_of, last_of, mean_at}
-use Rattle.df_plan.specs.AggregateTypes.{column_taken, type_given}
+use Rattle.df_table.specs.declared.extremes.End.{End}
+use Rattle.df_table.specs.declared.extremes.End.TheVariants as end
+use Rattle.df_table.specs.declared.kinds.Agg.{Agg}
+use Rattle.df_table.specs.declared.kinds.Agg.TheVariants as agg
+use Rattle.df_table.specs.Aggregates.{cells_of, present, count_of, sum_of, is_extreme, extreme_of, first_of, last_of, mean_at}
+use Rattle.df_table.specs.AggregateTypes.{column_taken, type_given}
 use Rattle.df_plan.specs.ItemChecks.{Columns, aggregate_type, type_of_column, taken_type, given_type}
-use Rattle.df_plan.specs.Meaning.{aggregate_of, type_of_aggregate, type_of_taken}
+use Rattle.df_table.specs.Tables.{aggregate_of, type_of_aggregate, type_of_taken}
 
 abbrev Rows : Type 0
 Rows = List (List Cell)

@@ -6,16 +6,16 @@ use Rattle.df_value.specs.declared.cell.CellType.{CellType}
 use Rattle.df_value.specs.declared.cell.CellType.TheVariants as kind
 use Rattle.df_value.specs.Schemas.{type_in, doubled_after}
 use Rattle.df_expr.specs.declared.expr.Expr.{Expr}
-use Rattle.df_plan.specs.Meaning.{key_column, aggregate_column, type_of_aggregate, grouped_columns}
-use Rattle.df_plan.specs.Placed.{placed}
-use Rattle.df_plan.specs.RowWise.{item_column, added_columns}
+use Rattle.df_table.specs.Tables.{key_column, aggregate_column, type_of_aggregate, grouped_columns}
+use Rattle.df_table.specs.Placed.{placed}
+use Rattle.df_table.specs.RowWise.{item_column, added_columns}
 use Rattle.df_plan.specs.ItemChecks.{Columns, Checked, Kind, Column, key_type, aggregate_type, checked_key, checked_aggregate, checked_output, checked_added, with_column, each_after}
 use Rattle.df_plan.specs.Checks.{settled, settled_at, put_checked, filter_checked, select_checked, with_checked, group_checked, then_checked, checked, columns_of, levels, scans}
 use Rattle.df_plan.specs.JoinChecks.{join_checked, join_settled, fault_first, either_name, keys_fault, doubled_key_after}
-use Rattle.df_plan.specs.Joins.{joined_columns}
+use Rattle.df_table.specs.Joins.{joined_columns}
 use Rattle.df_plan.specs.declared.fault.PlanFault.{PlanFault}
 use Rattle.df_plan.specs.declared.fault.PlanFault.TheVariants as fault
-use Rattle.df_plan.specs.declared.plan.Agg.{Agg}
+use Rattle.df_table.specs.declared.kinds.Agg.{Agg}
 use Rattle.df_plan.specs.declared.plan.Plan.{Plan}
 use Rattle.df_plan.proofs.AggregatesFit.{aggregate_fits}
 use Rattle.df_plan.proofs.ItemKinds.{HasKind, output_found, added_found, named_ok}

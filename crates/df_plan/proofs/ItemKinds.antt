@@ -13,7 +13,7 @@ use Rattle.df_expr.specs.declared.expr.Expr.TheOpen.{Expr-F}
 use Rattle.df_expr.specs.declared.expr.Expr.TheFolds.{fold-roll-Expr, ind-Expr, map-Expr}
 use Rattle.df_expr.specs.declared.expr.Expr.TheViews.{roll-Expr}
 use Rattle.df_expr.specs.Typing.{Typed, type_of, type_step, column_type, literal_type, then_typed, both, arith_type, ordered_type, compare_type, truth_type, truths_type, levels, names_column, checked as checked_expr}
-use Rattle.df_plan.specs.RowWise.{kind_of, kind_step, item_column}
+use Rattle.df_table.specs.RowWise.{kind_of, kind_step, item_column}
 use Rattle.df_plan.specs.ItemChecks.{Columns, Kind, named, of_expr, expr_type, output_type, checked_output, checked_added}
 use Rattle.df_plan.specs.declared.fault.PlanFault.{PlanFault}
 use Rattle.df_plan.specs.declared.fault.PlanFault.TheVariants as fault

@@ -12,15 +12,15 @@ use Rattle.df_value.specs.declared.cell.CellType.TheVariants as kind
 use Rattle.df_value.specs.Cells.{fits_type}
 use Rattle.df_value.specs.Rows.{row_fits, rows_fit, cell_at}
 use Rattle.df_value.specs.Schemas.{doubled_after, position_of}
-use Rattle.df_plan.specs.Groups.{key_of}
+use Rattle.df_table.specs.Groups.{key_of}
 use Rattle.df_plan.specs.ItemChecks.{Columns}
-use Rattle.df_plan.specs.Joins.{is_key, others, beside, joined_columns, joined_row, joined_rows, keys_match, matches_of, nulls_at, places_in, put_beside, sides_of}
-use Rattle.df_plan.specs.Placed.{has_name, find_name}
-use Rattle.df_plan.specs.declared.plan.How.{How}
-use Rattle.df_plan.specs.declared.plan.How.TheVariants as how
-use Rattle.df_plan.proofs.Choices.{by_test}
+use Rattle.df_table.specs.Joins.{is_key, others, beside, joined_columns, joined_row, joined_rows, keys_match, matches_of, nulls_at, places_in, put_beside, sides_of}
+use Rattle.df_table.specs.Placed.{has_name, find_name}
+use Rattle.df_table.specs.declared.kinds.How.{How}
+use Rattle.df_table.specs.declared.kinds.How.TheVariants as how
+use Rattle.df_table.proofs.Choices.{by_test}
 use Rattle.df_plan.proofs.ColumnsFit.{column_fits, fits_both}
-use Rattle.df_plan.proofs.PlacedFacts.{Apart, head_apart, neither}
+use Rattle.df_table.proofs.PlacedFacts.{Apart, head_apart, neither}
 use Rattle.df_plan.proofs.RowWiseSound.{first_of_two, second_of_two, both_true, map_all, filter_all}
 
 abbrev Rows : Type 0

@@ -10,10 +10,10 @@ use Rattle.df_expr.specs.declared.expr.Expr.{Expr}
 use Rattle.df_expr.specs.Value.{value_of}
 use Rattle.df_expr.proofs.Sound.{value_fits}
 use Rattle.df_plan.specs.ItemChecks.{Columns}
-use Rattle.df_plan.specs.Placed.{placed}
-use Rattle.df_plan.specs.RowWise.{kind_of, item_column, item_cell, selected_row, named_cells, added_row, added_columns}
-use Rattle.df_plan.proofs.Choices.{either}
-use Rattle.df_plan.proofs.Beside.{Beside, placed_beside}
+use Rattle.df_table.specs.Placed.{placed}
+use Rattle.df_table.specs.RowWise.{kind_of, item_column, item_cell, selected_row, named_cells, added_row, added_columns}
+use Rattle.df_table.proofs.Choices.{either}
+use Rattle.df_table.proofs.Beside.{Beside, placed_beside}
 use Rattle.df_plan.proofs.ItemKinds.{HasKind}
 
 pub first_of_two : (a b : Bool) → IsTrue (a && b) → IsTrue a

@@ -9,31 +9,33 @@ use Rattle.df_value.specs.declared.cell.CellType.TheVariants as kind
 use Rattle.df_value.specs.Cells.{fits_type}
 use Rattle.df_value.specs.Rows.{row_fits, rows_fit, row_eq, cell_at}
 use Rattle.df_value.specs.Schemas.{type_in, position_of, doubled_after}
-use Rattle.df_plan.specs.Groups.{key_of, keys_of, group_of, distinct_after}
-use Rattle.df_plan.specs.declared.table.Table.{Table}
-use Rattle.df_plan.specs.Meaning.{key_column, aggregate_column, aggregate_of, places_of, grouped_columns, grouped, grouped_rows, group_row, filter_table, select_table, with_table, joined, put_column, roll_table, cum_sum_table, rank_table, frame_from, frames_fit, table_step, table_of}
-use Rattle.df_plan.specs.RowWise.{item_column, keeps, filtered, selected_row, added_row, added_columns, put_rows}
+use Rattle.df_table.specs.Groups.{key_of, keys_of, group_of, distinct_after}
+use Rattle.df_table.specs.declared.table.Table.{Table}
+use Rattle.df_table.specs.Tables.{key_column, aggregate_column, aggregate_of, places_of, grouped_columns, grouped, grouped_rows, group_row, filter_table, select_table, with_table, joined, put_column, roll_table, cum_sum_table, rank_table}
+use Rattle.df_plan.specs.Meaning.{frame_from, frames_fit, table_step, table_of}
+use Rattle.df_table.specs.RowWise.{item_column, keeps, filtered, selected_row, added_row, added_columns, put_rows}
 use Rattle.df_expr.specs.declared.expr.Expr.{Expr}
 use Rattle.df_plan.proofs.ItemKinds.{HasKind}
 use Rattle.df_plan.specs.ItemChecks.{Columns, Checked, expr_type}
 use Rattle.df_plan.specs.Checks.{then_checked, filter_checked, select_checked, with_checked, group_checked, frame_checked, check_step, columns_of, checked}
 use Rattle.df_plan.specs.JoinChecks.{join_checked}
-use Rattle.df_plan.specs.Joins.{joined_columns, joined_rows, sides_of}
-use Rattle.df_plan.specs.declared.plan.Agg.{Agg}
-use Rattle.df_plan.specs.declared.plan.How.{How}
-use Rattle.df_plan.specs.declared.plan.RankKind.{RankKind}
-use Rattle.df_plan.specs.declared.plan.RollKind.{RollKind}
-use Rattle.df_plan.specs.Aggregates.{cells_of}
-use Rattle.df_plan.specs.Placed.{placed}
-use Rattle.df_plan.specs.Ranks.{ranks_of}
-use Rattle.df_plan.specs.WindowChecks.{roll_checked, cum_sum_checked, rank_checked, rolled_type}
-use Rattle.df_plan.specs.Windows.{rolled, running_sum, size_of}
+use Rattle.df_table.specs.Joins.{joined_columns, joined_rows, sides_of}
+use Rattle.df_table.specs.declared.kinds.Agg.{Agg}
+use Rattle.df_table.specs.declared.kinds.How.{How}
+use Rattle.df_table.specs.declared.kinds.RankKind.{RankKind}
+use Rattle.df_table.specs.declared.kinds.RollKind.{RollKind}
+use Rattle.df_table.specs.Aggregates.{cells_of}
+use Rattle.df_table.specs.Placed.{placed}
+use Rattle.df_table.specs.Ranks.{ranks_of}
+use Rattle.df_plan.specs.WindowChecks.{roll_checked, cum_sum_checked, rank_checked}
+use Rattle.df_table.specs.Windows.{rolled_type}
+use Rattle.df_table.specs.Windows.{rolled, running_sum, size_of}
 use Rattle.df_plan.proofs.WindowSound.{IsPut, IsWhole, puts_fit, rolled_fits, sums_fit, ranks_fit, roll_found, cum_sum_found, rank_found}
 use Rattle.df_plan.specs.declared.plan.Plan.{Plan}
 use Rattle.df_plan.specs.declared.plan.Plan.TheOpen.{Plan-F}
 use Rattle.df_plan.specs.declared.plan.Plan.TheFolds.{fold-roll-Plan, ind-Plan, map-Plan}
 use Rattle.df_plan.specs.declared.plan.Plan.TheViews.{roll-Plan}
-use Rattle.df_plan.proofs.Choices.{either}
+use Rattle.df_table.proofs.Choices.{either}
 use Rattle.df_plan.proofs.ColumnsFit.{column_fits, fits_both}
 use Rattle.df_plan.proofs.JoinSound.{joined_fits}
 use Rattle.df_plan.proofs.AggregatesFit.{aggregate_fits, cells_fit}

@@ -10,23 +10,24 @@ use Rattle.df_value.specs.Cells.{fits_type}
 use Rattle.df_value.specs.Rows.{row_fits, rows_fit, cell_at}
 use Rattle.df_value.specs.Schemas.{doubled_after, type_in}
 use Rattle.df_expr.specs.Value.{is_null}
-use Rattle.df_plan.specs.declared.extremes.End.TheVariants as end
+use Rattle.df_table.specs.declared.extremes.End.TheVariants as end
 use Rattle.df_plan.specs.declared.fault.PlanFault.{PlanFault}
 use Rattle.df_plan.specs.declared.fault.PlanFault.TheVariants as fault
-use Rattle.df_plan.specs.declared.plan.RankKind.{RankKind}
-use Rattle.df_plan.specs.declared.plan.RankKind.TheVariants as rank
-use Rattle.df_plan.specs.declared.plan.RollKind.{RollKind}
-use Rattle.df_plan.specs.declared.plan.RollKind.TheVariants as roll
-use Rattle.df_plan.specs.Aggregates.{count_of, last_of, sum_of}
+use Rattle.df_table.specs.declared.kinds.RankKind.{RankKind}
+use Rattle.df_table.specs.declared.kinds.RankKind.TheVariants as rank
+use Rattle.df_table.specs.declared.kinds.RollKind.{RollKind}
+use Rattle.df_table.specs.declared.kinds.RollKind.TheVariants as roll
+use Rattle.df_table.specs.Aggregates.{count_of, last_of, sum_of}
 use Rattle.df_plan.specs.ItemChecks.{Columns, Checked, Kind, key_type}
-use Rattle.df_plan.specs.Placed.{placed}
-use Rattle.df_plan.specs.Ranks.{dense_rank_of, distinct_at, ranks_of}
-use Rattle.df_plan.specs.RowWise.{named_cells, put_row, put_rows}
-use Rattle.df_plan.specs.WindowChecks.{cum_sum_checked, is_window, output_checked, rank_checked, roll_checked, rolled_type, whole_type}
-use Rattle.df_plan.specs.Windows.{rolled, rolled_of, rolled_value, running_sum, running_sum_of, window_of}
+use Rattle.df_table.specs.Placed.{placed}
+use Rattle.df_table.specs.Ranks.{dense_rank_of, distinct_at, ranks_of}
+use Rattle.df_table.specs.RowWise.{named_cells, put_row, put_rows}
+use Rattle.df_plan.specs.WindowChecks.{cum_sum_checked, is_window, output_checked, rank_checked, roll_checked, whole_type}
+use Rattle.df_table.specs.Windows.{rolled_type}
+use Rattle.df_table.specs.Windows.{rolled, rolled_of, rolled_value, running_sum, running_sum_of, window_of}
 use Rattle.df_plan.proofs.AggregatesFit.{extreme_fits}
-use Rattle.df_plan.proofs.Beside.{placed_beside}
-use Rattle.df_plan.proofs.Choices.{either}
+use Rattle.df_table.proofs.Beside.{placed_beside}
+use Rattle.df_table.proofs.Choices.{either}
 use Rattle.df_plan.proofs.Found.{settled_is_at}
 use Rattle.df_plan.proofs.RowWiseSound.{FitsBeside, both_true, first_of_two, second_of_two, fits_row, own_beside}
 

@@ -6,7 +6,7 @@ use Rattle.df_expr.specs.declared.expr.Expr.{Expr}
 use Rattle.df_expr.specs.declared.fault.ExprFault.TheVariants as expr
 use Rattle.df_plan.specs.declared.fault.PlanFault.{PlanFault}
 use Rattle.df_plan.specs.declared.fault.PlanFault.TheVariants as fault
-use Rattle.df_plan.specs.declared.plan.Agg.{Agg}
+use Rattle.df_table.specs.declared.kinds.Agg.{Agg}
 use Rattle.df_plan.specs.declared.plan.Plan.{Plan, fold-Plan}
 use Rattle.df_plan.specs.declared.plan.Plan.TheOpen.{Plan-F}
 pub use Rattle.df_plan.specs.ItemChecks.{Columns, Checked}

@@ -9,8 +9,8 @@ use Rattle.df_expr.specs.declared.expr.Expr.{Expr}
 use Rattle.df_expr.specs.Typing.{Typed, names_column, checked as checked_expr}
 use Rattle.df_plan.specs.declared.fault.PlanFault.{PlanFault}
 use Rattle.df_plan.specs.declared.fault.PlanFault.TheVariants as fault
-use Rattle.df_plan.specs.declared.plan.Agg.{Agg}
-use Rattle.df_plan.specs.AggregateTypes.{column_taken, type_given}
+use Rattle.df_table.specs.declared.kinds.Agg.{Agg}
+use Rattle.df_table.specs.AggregateTypes.{column_taken, type_given}
 
 -- names and types
 abbrev pub Columns : Type 0
@@ -33,7 +33,7 @@ abbrev pub named : List ℕ → Kind → Column
 named name (Ok t) = Ok (name, t)
 named name (Err f) = Err f
 
--- the type of a key: its column must be there, and may have every type but Frac
+-- the type of a key, or of a column that is ranked: it must be there, and may have every type but Frac
 abbrev pub key_type : List ℕ → Option CellType → Kind
 key_type name None = Err (fault.Expr (expr.NoColumn name))
 key_type name (Some kind.Frac) = Err (fault.WrongType name)

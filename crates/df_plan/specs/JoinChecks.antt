@@ -10,7 +10,7 @@ use Rattle.df_plan.specs.declared.fault.PlanFault.{PlanFault}
 use Rattle.df_plan.specs.declared.fault.PlanFault.TheVariants as fault
 use Rattle.df_plan.specs.ItemChecks.{Columns, Checked, Kind}
 use Rattle.df_plan.specs.Settled.{settled_at}
-use Rattle.df_plan.specs.Joins.{joined_columns}
+use Rattle.df_table.specs.Joins.{joined_columns}
 
 -- the type of a key: its column must be there on the left and on the right, of one type, which may be every one but
 -- Frac

@@ -1,16 +1,7 @@
 pub mod ItemChecks
-pub mod Placed
 pub mod Settled
 pub mod Checks
 pub mod CheckedParts
-pub mod Groups
-pub mod Aggregates
-pub mod AggregateTypes
-pub mod Running
-pub mod RowWise
 pub mod Meaning
-pub mod Joins
 pub mod JoinChecks
 pub mod WindowChecks
-pub mod Windows
-pub mod Ranks

@@ -3,7 +3,7 @@ use Rattle.std.specs.Prelude.{ℕ, List, [], Option, Some, None, Ok, Err, length
 use Rattle.df_plan.specs.declared.fault.PlanFault.TheVariants as fault
 use Rattle.df_value.specs.Schemas.{doubled_after}
 use Rattle.df_plan.specs.ItemChecks.{Columns, Checked}
-use Rattle.df_plan.specs.Placed.{placed}
+use Rattle.df_table.specs.Placed.{placed}
 
 -- columns whose first doubled name, if there is one, is given: that name is refused first, then a list of
 -- columns that is empty or has more than 32

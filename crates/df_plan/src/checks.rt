@@ -7,10 +7,10 @@ ghost use Rattle.df_plan.specs.ItemChecks.{expr_type as type_of_expr};
 use crate::fault::PlanFault;
 use crate::items::{Added, Aggregates, Columns, Keys, Outputs, check_each, expr_type};
 use crate::join_checks::check_join;
-use crate::placed::placed;
-use crate::plan::{Agg, Plan};
+use crate::plan::Plan;
 use crate::window_checks::{check_cum_sum, check_rank, check_rolling};
 use df_expr::{Expr, ExprFault};
+use df_table::{Agg, placed};
 use df_value::{CellType, Duplicate, List, Schema, SchemaFault, Text, doubled};
 use std::alloc::Global;
 

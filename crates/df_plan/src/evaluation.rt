@@ -1,17 +1,12 @@
 //! The plain evaluation of a plan, over whole tables.
 ghost use Rattle.std.specs.Prelude.{◌≡◌, IfOk, IsTrue, map, slice_get};
 ghost use Rattle.df_value.specs.Rows.{rows_fit};
-ghost use Rattle.df_plan.specs.Meaning.{table_of, frame_from, frames_fit, grouped, grouped_columns as columns_of_groups, group_row as row_of_group, type_of_aggregate, places_of as places_at, type_at as type_at_name};
+ghost use Rattle.df_table.specs.Tables.{grouped, grouped_columns as columns_of_groups, group_row as row_of_group, type_of_aggregate, places_of as places_at, type_at as type_at_name};
+ghost use Rattle.df_plan.specs.Meaning.{table_of, frame_from, frames_fit};
 
-use crate::aggregates::aggregate;
 use crate::checked::CheckedPlan;
-use crate::groups::{group_of, keys_of};
-use crate::joins::join;
-use crate::plan::{Agg, Plan};
-use crate::ranks::rank_table;
-use crate::row_wise::{filter_table, select_table, with_table};
-use crate::table::Table;
-use crate::windows::{cum_sum_table, roll_table, size_of};
+use crate::plan::Plan;
+use df_table::{Table, cum_sum_table, filter_table, group_by, join, rank_table, roll_table, select_table, size_of, with_table};
 use df_value::{Cell, CellType, Duplicate, List, Row, Schema, Text, place_of, type_of};
 use std::alloc::{AllocError, Global};
 
@@ -112,104 +107,4 @@ fn copy_frame(
             rows: List::from_vec(Vec::new(alloc)),
         }),
     }
-}
-
-// The groups of a table, by the first appearance of their keys.
-#[tactic(auto, unfolding(crate::specs::Meaning::grouped))]
-fn group_by(
-    alloc: Global,
-    table: &Table,
-    keys: &[Text],
-    aggs: &[(Text, Agg)],
-) -> Result<Table, AllocError>
-    ensures { IfOk result (λ t. t ≡ grouped table.now keys.now aggs.now) }
-{
-    let places = places_of(alloc, &table.columns, keys)?;
-    let found = keys_of(alloc, places.as_slice(), table.rows.as_slice())?;
-    let columns = grouped_columns(alloc, &table.columns, keys, aggs)?;
-    let rows = group_rows(alloc, table, places.as_slice(), found.as_slice(), aggs)?;
-    Ok(Table { columns, rows })
-}
-
-fn places_of(
-    alloc: Global,
-    columns: &List<(Text, CellType)>,
-    names: &[Text],
-) -> Result<Vec<Option<usize>>, AllocError>
-    ensures { IfOk result (λ places. places.items ≡ places_at columns.now names.now) }
-{
-    names
-        .iter()
-        .map(|name| place_of(name, columns.as_slice()))
-        .collect(alloc)
-}
-
-fn grouped_columns(
-    alloc: Global,
-    columns: &List<(Text, CellType)>,
-    keys: &[Text],
-    aggs: &[(Text, Agg)],
-) -> Result<List<(Text, CellType)>, AllocError>
-    ensures { IfOk result (λ cs. cs ≡ columns_of_groups columns.now keys.now aggs.now) }
-{
-    let mut out = Vec::new(alloc);
-    for name in keys {
-        out.push((name.copy(alloc)?, type_at(columns, name)))?;
-    }
-    for agg in aggs {
-        out.push((agg.0.copy(alloc)?, type_of_agg(columns, &agg.1)))?;
-    }
-    Ok(List::from_vec(out))
-}
-
-fn type_at(columns: &List<(Text, CellType)>, name: &Text) -> CellType
-    ensures { result ≡ type_at_name columns.now name.now }
-{
-    type_of(name, columns.as_slice()).unwrap_or(CellType::Int)
-}
-
-fn type_of_agg(columns: &List<(Text, CellType)>, agg: &Agg) -> CellType
-    ensures { result ≡ type_of_aggregate columns.now agg.now }
-{
-    match agg.column() {
-        Some(name) => agg.type_of(type_at(columns, name)).unwrap_or(CellType::Int),
-        None => CellType::Int,
-    }
-}
-
-// A row for each key.
-fn group_rows(
-    alloc: Global,
-    table: &Table,
-    places: &[Option<usize>],
-    found: &[Row],
-    aggs: &[(Text, Agg)],
-) -> Result<List<Row>, AllocError>
-    ensures { IfOk result
-        (λ rows. rows ≡ map (row_of_group table.now.columns places.now aggs.now table.now.rows) found.now) }
-{
-    let mut rows = Vec::with_capacity(alloc, found.len())?;
-    for key in found {
-        rows.push(group_row(alloc, table, places, key, aggs)?)?;
-    }
-    Ok(List::from_vec(rows))
-}
-
-// The key, and after it the aggregates of its group.
-fn group_row(
-    alloc: Global,
-    table: &Table,
-    places: &[Option<usize>],
-    key: &Row,
-    aggs: &[(Text, Agg)],
-) -> Result<Row, AllocError>
-    ensures { IfOk result
-        (λ row. row ≡ row_of_group table.now.columns places.now aggs.now table.now.rows key.now) }
-{
-    let group = group_of(alloc, places, table.rows.as_slice(), key)?;
-    let mut row = key.copy(alloc)?.into_vec();
-    for agg in aggs {
-        row.push(aggregate(alloc, table.columns.as_slice(), group.as_slice(), &agg.1)?)?;
-    }
-    Ok(List::from_vec(row))
 }

@@ -5,8 +5,8 @@ ghost use Rattle.df_plan.specs.Checks.{Answers};
 ghost use Rattle.df_plan.specs.ItemChecks.{Column, Columns as ColumnList, key_type as type_of_key, aggregate_type as type_of_aggregate, given_type as type_or_refusal, expr_type as type_of_expr, output_type as type_of_output, checked_key, checked_aggregate, checked_output, checked_added, each_after};
 
 use crate::fault::PlanFault;
-use crate::plan::Agg;
 use df_expr::{Expr, ExprFault, check, names_column};
+use df_table::Agg;
 use df_value::{CellType, Duplicate, List, Schema, Text};
 use std::alloc::Global;
 

@@ -10,8 +10,8 @@ ghost use Rattle.df_plan.specs.JoinChecks.{join_checked, join_settled, join_key_
 use crate::checks::settled;
 use crate::fault::PlanFault;
 use crate::items::Columns;
-use crate::join_columns::joined_columns;
 use df_expr::ExprFault;
+use df_table::joined_columns;
 use df_value::{CellType, Duplicate, Schema, Text};
 use std::alloc::Global;
 

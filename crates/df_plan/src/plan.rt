@@ -2,59 +2,9 @@
 ghost use Rattle.std.specs.Prelude.{◌≡◌, ◌↔◌, IfOk, IsTrue};
 
 use df_expr::Expr;
+use df_table::{Agg, How, RankKind, RollKind};
 use df_value::{Boxed, Duplicate, Exact, List, Text, same};
 use std::alloc::{AllocError, Global};
-
-/// What is taken of the rows of a group. All but the length take the cells of a column.
-#[derive(Debug, PartialEq, Eq, Hash, Drop)]
-pub enum Agg {
-    /// The number of rows, an Int.
-    Len,
-    /// The number of cells that are not null, an Int.
-    Count(Text),
-    /// The sum of an Int column's cells that are not null, or the number of trues of a Bool column: a Wide;
-    /// 0 where there is none.
-    Sum(Text),
-    /// The least cell that is not null; null where there is none. Of every type but Frac.
-    Min(Text),
-    /// The greatest cell that is not null; null where there is none. Of every type but Frac.
-    Max(Text),
-    /// The first row's cell, a null one too.
-    First(Text),
-    /// The last row's cell, a null one too.
-    Last(Text),
-    /// The number of distinct cells, null being one: an Int. Of every type but Frac.
-    NUnique(Text),
-    /// The mean of an Int column's cells that are not null: a Frac, never reduced; null where there is none.
-    Mean(Text),
-}
-
-/// Which left rows a join keeps.
-#[derive(Clone, Copy, Debug, PartialEq, Eq, Hash)]
-pub enum How {
-    /// Those that have a match.
-    Inner,
-    /// All; one without a match stands once, beside nulls.
-    Left,
-}
-
-/// What a rolling window takes of its cells.
-#[derive(Clone, Copy, Debug, PartialEq, Eq, Hash)]
-pub enum RollKind {
-    /// The sum of those that are not null, a Wide.
-    Sum,
-    /// The least that is not null.
-    Min,
-    /// The greatest that is not null.
-    Max,
-}
-
-/// How a rank counts cells that are equal.
-#[derive(Clone, Copy, Debug, PartialEq, Eq, Hash)]
-pub enum RankKind {
-    /// Once, so that no rank is left out.
-    Dense,
-}
 
 /// How a table is made of frames.
 #[derive(Debug, Drop)]
@@ -88,28 +38,6 @@ pub enum Plan {
     /// The input, and put among its columns one of this name: the rank of each cell of a column among all
     /// of them, an Int from 1 on; null where the cell is null. Of every type but Frac.
     Rank(Boxed<Plan>, Text, RankKind, Text),
-}
-
-impl Exact for Agg {
-    ghost use Rattle.std.proofs.Common.{rules};
-
-    ghost decides = { Prim.search rules };
-}
-
-impl Duplicate for Agg {
-    fn copy(&self, alloc: Global) -> Result<Agg, AllocError> {
-        match self {
-            Agg::Len => Ok(Agg::Len),
-            Agg::Count(column) => Ok(Agg::Count(column.copy(alloc)?)),
-            Agg::Sum(column) => Ok(Agg::Sum(column.copy(alloc)?)),
-            Agg::Min(column) => Ok(Agg::Min(column.copy(alloc)?)),
-            Agg::Max(column) => Ok(Agg::Max(column.copy(alloc)?)),
-            Agg::First(column) => Ok(Agg::First(column.copy(alloc)?)),
-            Agg::Last(column) => Ok(Agg::Last(column.copy(alloc)?)),
-            Agg::NUnique(column) => Ok(Agg::NUnique(column.copy(alloc)?)),
-            Agg::Mean(column) => Ok(Agg::Mean(column.copy(alloc)?)),
-        }
-    }
 }
 
 impl PartialEq for Plan {

@@ -2,13 +2,14 @@
 ghost use Rattle.std.specs.Prelude.{◌≡◌, ◌∷◌, []};
 ghost use Rattle.df_value.specs.Schemas.{type_in};
 ghost use Rattle.df_plan.specs.Checks.{Answers, put_checked};
-ghost use Rattle.df_plan.specs.WindowChecks.{is_window as is_any_window, roll_checked, rolled_type, cum_sum_checked, rank_checked, whole_type as type_of_whole};
+ghost use Rattle.df_plan.specs.WindowChecks.{is_window as is_any_window, roll_checked, cum_sum_checked, rank_checked, whole_type as type_of_whole};
+ghost use Rattle.df_table.specs.Windows.{rolled_type};
 
 use crate::checks::put;
 use crate::fault::PlanFault;
 use crate::items::key_type;
-use crate::plan::RollKind;
 use df_expr::ExprFault;
+use df_table::{RollKind, type_of_roll};
 use df_value::{CellType, Duplicate, List, Schema, Text};
 use std::alloc::Global;
 
@@ -61,16 +62,6 @@ fn is_window(w: i64, m: i64) -> bool
     ensures { result ≡ is_any_window w m }
 {
     1 <= w && w <= 65536 && 1 <= m && m <= w
-}
-
-/// The type of a rolling column.
-pub fn type_of_roll(kind: RollKind) -> CellType
-    ensures { result ≡ rolled_type kind }
-{
-    match kind {
-        RollKind::Sum => CellType::Wide,
-        RollKind::Min | RollKind::Max => CellType::Int,
-    }
 }
 
 fn whole_type(alloc: Global, input: &Schema, name: &Text) -> Result<CellType, PlanFault>

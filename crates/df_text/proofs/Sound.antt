@@ -15,12 +15,12 @@ use Rattle.df_value.specs.declared.cell.CellType.{CellType}
 use Rattle.df_value.specs.declared.cell.CellType.TheVariants as kind
 use Rattle.df_value.specs.declared.schema.SchemaFault.{SchemaFault}
 use Rattle.df_value.specs.SchemaFaults.{schema_fault}
-use Rattle.df_plan.specs.declared.plan.How.{How}
+use Rattle.df_table.specs.declared.kinds.How.{How}
 use Rattle.df_plan.specs.declared.plan.Plan.{Plan, Scan, Filter, Select, WithColumns, GroupBy, Join, Rolling, CumSum, Rank, the_lemmas}
-use Rattle.df_plan.specs.declared.plan.RankKind.{RankKind}
-use Rattle.df_plan.specs.declared.plan.RollKind.{RollKind}
+use Rattle.df_table.specs.declared.kinds.RankKind.{RankKind}
+use Rattle.df_table.specs.declared.kinds.RollKind.{RollKind}
 use Rattle.df_expr.specs.declared.expr.Expr.{Expr}
-use Rattle.df_plan.specs.declared.plan.Agg.{Agg}
+use Rattle.df_table.specs.declared.kinds.Agg.{Agg}
 use Rattle.df_text.specs.declared.document.FrameSpec.{FrameSpec}
 use Rattle.df_text.specs.declared.document.ViewSpec.{ViewSpec}
 use Rattle.df_text.specs.declared.document.Place.{Place}

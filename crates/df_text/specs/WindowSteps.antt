@@ -1,12 +1,12 @@
--- The steps that add a column over a column's rows: rolling windows, `cum_sum` and `rank`, by the items after their word.
+-- The steps that put a column among those of their input: rolling windows, `cum_sum` and `rank`, by the items after their word.
 use Rattle.std.specs.Prelude.{ℕ, ℤ, List, [], ◌∷◌, codes, Result, Ok, Err, if◌then◌else◌}
 use Rattle.std.specs.Str.{bytes_eq}
 use Rattle.toml.specs.Data.{Data, integer}
 use Rattle.df_plan.specs.declared.plan.Plan.{Plan}
 use Rattle.df_plan.specs.declared.plan.Plan.TheVariants as plan
-use Rattle.df_plan.specs.declared.plan.RankKind.{RankKind}
-use Rattle.df_plan.specs.declared.plan.RankKind.TheVariants as rank
-use Rattle.df_plan.specs.declared.plan.RollKind.{RollKind}
+use Rattle.df_table.specs.declared.kinds.RankKind.{RankKind}
+use Rattle.df_table.specs.declared.kinds.RankKind.TheVariants as rank
+use Rattle.df_table.specs.declared.kinds.RollKind.{RollKind}
 use Rattle.df_text.specs.declared.document.Place.{Place}
 use Rattle.df_text.specs.declared.views_fault.ViewsFault.{ViewsFault}
 use Rattle.df_text.specs.declared.views_fault.ViewsFault.TheVariants as fault
@@ -23,8 +23,8 @@ abbrev pub names_in : Place → Data → Data → Result (List ℕ × List ℕ) 
 names_in at output column =
     then_read (text_in at output) (λ o. then_read (text_in at column) (λ c. Ok (o, c)))
 
--- an output, a column, the number of rows of a window and, if wanted, how many of them must not be null; else that is
--- the number of rows
+-- an output, a column, the number of rows of a window and, if wanted, of how many at least the cell must not be
+-- null; where that is missing it is the number of rows
 abbrev pub rolling_of : Place → RollKind → Plan → List Data → Result Plan ViewsFault
 rolling_of at kind input (output ∷ column ∷ w ∷ []) =
     then_read (names_in at output column) (λ n. then_read (int_in at w) (λ rows. Ok (plan.Rolling input n.0 kind n.1 rows rows)))

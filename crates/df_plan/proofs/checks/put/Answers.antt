@@ -2,8 +2,8 @@ use Rattle.std.proofs.Common.{◌≡◌, ◌∙◌, [], ap, sym}
 use Rattle.std.specs.Prelude.{None}
 use Rattle.df_value.specs.Schemas.{doubled_after}
 use Rattle.df_plan.specs.ItemChecks.{Columns}
-use Rattle.df_plan.specs.Placed.{placed}
-use Rattle.df_plan.proofs.PlacedFacts.{placed_apart}
+use Rattle.df_table.specs.Placed.{placed}
+use Rattle.df_table.proofs.PlacedFacts.{placed_apart}
 use Rattle.df_plan.proofs.checks.put.Goals as goal
 
 pub schema_of-requires : goal.schema_of-requires

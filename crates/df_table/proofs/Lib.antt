@@ -1,0 +1,13 @@
+pub mod Choices
+pub mod Keys
+pub mod Partition
+pub mod Beside
+pub mod PlacedFacts
+pub mod RowWiseLaws
+pub mod JoinLaws
+pub mod WindowFacts
+pub mod WindowLaws
+pub mod RankLaws
+pub mod Least
+pub mod Ends
+pub mod GroupSums

@@ -1,0 +1,10 @@
+pub mod Placed
+pub mod Groups
+pub mod AggregateTypes
+pub mod Aggregates
+pub mod Running
+pub mod RowWise
+pub mod Joins
+pub mod Windows
+pub mod Ranks
+pub mod Tables

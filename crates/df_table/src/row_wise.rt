@@ -1,0 +1,226 @@
+//! Operators that look at one row at a time: filter, select, with_columns.
+ghost use Rattle.std.specs.Prelude.{◌≡◌, ◌++◌, ◌∷◌, [], IfOk, IsTrue, OnOk, length, map};
+ghost use Rattle.df_value.specs.Rows.{row_fits};
+ghost use Rattle.df_expr.specs.declared.expr.Expr.{Expr as AnyExpr};
+ghost use Rattle.df_expr.specs.declared.expr.Expr.TheVariants as expr;
+ghost use Rattle.df_table.specs.Tables.{filter_table as table_filtered, select_table as table_selected, with_table as table_with};
+ghost use Rattle.df_table.specs.RowWise.{kind_of as kind_of_expr, item_column, item_cell, is_true as is_true_cell, filtered as rows_filtered, selected_row as row_selected, named_cells as cells_named, added_row as row_added, KeepsOthers};
+
+use crate::placing::placed;
+use crate::table::Table;
+use df_expr::{Expr, value};
+use df_value::{Cell, CellType, Duplicate, List, Row, Text, type_of};
+use std::alloc::{AllocError, Global};
+
+/// The table with the rows whose predicate is true.
+#[tactic(auto, unfolding(crate::specs::Tables::filter_table))]
+pub fn filter_table(alloc: Global, table: &Table, predicate: &Expr) -> Result<Table, AllocError>
+    ensures { IfOk result (λ t. t ≡ table_filtered table.now predicate.now) }
+{
+    let rows = filtered(
+        alloc,
+        table.columns.as_slice(),
+        predicate,
+        table.rows.as_slice(),
+    )?;
+    let columns = table.columns.copy(alloc)?;
+    Ok(Table { columns, rows })
+}
+
+/// Copies of the rows whose predicate is true, in their order; a predicate that is null drops its row.
+#[tactic(auto, using(crate::proofs::RowWiseLaws::filtered_twice))]
+pub fn filtered(
+    alloc: Global,
+    columns: &[(Text, CellType)],
+    predicate: &Expr,
+    rows: &[Row],
+) -> Result<List<Row>, AllocError>
+    ensures value { IfOk result (λ kept. kept ≡ rows_filtered columns.now predicate.now rows.now) }
+
+    // Filtering again is filtering by both.
+    ensures twice { (again : AnyExpr) → rows_filtered columns.now again (rows_filtered columns.now predicate.now rows.now)
+        ≡ rows_filtered columns.now (expr.And predicate.now again) rows.now }
+{
+    let mut kept = Vec::new(alloc);
+    for row in rows {
+        keep(alloc, &mut kept, columns, predicate, row)?;
+    }
+    Ok(List::from_vec(kept))
+}
+
+// Adds a copy of the row, if its predicate is true.
+#[tactic(auto, unfolding(crate::specs::RowWise::keeps))]
+fn keep(
+    alloc: Global,
+    kept: &mut Vec<Row>,
+    columns: &[(Text, CellType)],
+    predicate: &Expr,
+    row: &Row,
+) -> Result<(), AllocError>
+    ensures { OnOk result (kept.new.items ≡ kept.old.items ++ rows_filtered columns.now predicate.now (row.now ∷ [])) }
+{
+    let cell = value(alloc, predicate, columns, row)?;
+    if is_true(&cell) {
+        kept.push(row.copy(alloc)?)?;
+    }
+    Ok(())
+}
+
+fn is_true(cell: &Cell) -> bool
+    ensures { result ≡ is_true_cell cell.now }
+{
+    match cell {
+        Cell::Bool(truth) => *truth,
+        _ => false,
+    }
+}
+
+/// The table of the items' values.
+#[tactic(auto, unfolding(crate::specs::Tables::select_table))]
+pub fn select_table(
+    alloc: Global,
+    table: &Table,
+    items: &[(Text, Expr)],
+) -> Result<Table, AllocError>
+    ensures { IfOk result (λ t. t ≡ table_selected table.now items.now) }
+{
+    let columns = item_columns(alloc, table.columns.as_slice(), items)?;
+    let mut rows = Vec::with_capacity(alloc, table.rows.len())?;
+    for row in table.rows.as_slice() {
+        rows.push(selected_row(alloc, table.columns.as_slice(), items, row)?)?;
+    }
+    let rows = List::from_vec(rows);
+    Ok(Table { columns, rows })
+}
+
+/// The items' values in a row.
+pub fn selected_row(
+    alloc: Global,
+    columns: &[(Text, CellType)],
+    items: &[(Text, Expr)],
+    row: &Row,
+) -> Result<Row, AllocError>
+    ensures value { IfOk result (λ r. r ≡ row_selected columns.now items.now row.now) }
+    ensures cells { IfOk result (λ r. length r ≡ length items.now) }
+{
+    let mut cells = Vec::with_capacity(alloc, items.len())?;
+    for item in items {
+        cells.push(value(alloc, &item.1, columns, row)?)?;
+    }
+    Ok(List::from_vec(cells))
+}
+
+/// The table with the items' columns put among its own.
+#[tactic(auto, unfolding(crate::specs::Tables::with_table))]
+pub fn with_table(alloc: Global, table: &Table, items: &[(Text, Expr)]) -> Result<Table, AllocError>
+    ensures { IfOk result (λ t. t ≡ table_with table.now items.now) }
+{
+    let added_columns = item_columns(alloc, table.columns.as_slice(), items)?;
+    let columns = placed(alloc, table.columns.as_slice(), added_columns.as_slice())?;
+    let mut rows = Vec::with_capacity(alloc, table.rows.len())?;
+    for row in table.rows.as_slice() {
+        rows.push(added_row(alloc, table.columns.as_slice(), items, row)?)?;
+    }
+    let rows = List::from_vec(rows);
+    Ok(Table { columns, rows })
+}
+
+/// The row with the items' values put among its cells: each in the place of the column of its name, and
+/// at the end where no column has it.
+pub fn added_row(
+    alloc: Global,
+    columns: &[(Text, CellType)],
+    items: &[(Text, Expr)],
+    row: &Row,
+) -> Result<Row, AllocError>
+    ensures value { IfOk result (λ r. r ≡ row_added columns.now items.now row.now) }
+
+    // The columns that no item names keep their cells.
+    ensures others { IsTrue (row_fits columns.now row.now) → IfOk result (KeepsOthers columns.now items.now row.now) }
+{
+    put_cells(alloc, columns, items, row)
+}
+
+#[tactic(auto, unfolding(crate::specs::RowWise::added_row))]
+fn put_cells(
+    alloc: Global,
+    columns: &[(Text, CellType)],
+    items: &[(Text, Expr)],
+    row: &Row,
+) -> Result<Row, AllocError>
+    ensures { IfOk result (λ r. r ≡ row_added columns.now items.now row.now) }
+{
+    let own = named_cells(alloc, columns, row.as_slice())?;
+    let values = item_cells(alloc, columns, items, row)?;
+    let cells = placed(alloc, own.as_slice(), values.as_slice())?;
+    unnamed(alloc, cells.as_slice())
+}
+
+/// Copies of a row's cells under the names of their columns.
+pub fn named_cells(
+    alloc: Global,
+    columns: &[(Text, CellType)],
+    cells: &[Cell],
+) -> Result<Vec<(Text, Cell)>, AllocError>
+    ensures { IfOk result (λ named. named.items ≡ cells_named columns.now cells.now) }
+{
+    let mut named = Vec::with_capacity(alloc, columns.len())?;
+    for (column, cell) in columns.iter().zip(cells) {
+        named.push((column.0.copy(alloc)?, cell.copy(alloc)?))?;
+    }
+    Ok(named)
+}
+
+// The items' values in a row, under the items' names.
+fn item_cells(
+    alloc: Global,
+    columns: &[(Text, CellType)],
+    items: &[(Text, Expr)],
+    row: &Row,
+) -> Result<Vec<(Text, Cell)>, AllocError>
+    ensures { IfOk result (λ cells. cells.items ≡ map (item_cell columns.now row.now) items.now) }
+{
+    let mut cells = Vec::with_capacity(alloc, items.len())?;
+    for item in items {
+        cells.push((item.0.copy(alloc)?, value(alloc, &item.1, columns, row)?))?;
+    }
+    Ok(cells)
+}
+
+/// Copies of the cells without their names.
+pub fn unnamed(alloc: Global, cells: &[(Text, Cell)]) -> Result<Row, AllocError>
+    ensures { IfOk result (λ row. row ≡ map (λ c. c.1) cells.now) }
+{
+    let mut row = Vec::with_capacity(alloc, cells.len())?;
+    for cell in cells {
+        row.push(cell.1.copy(alloc)?)?;
+    }
+    Ok(List::from_vec(row))
+}
+
+fn item_columns(
+    alloc: Global,
+    columns: &[(Text, CellType)],
+    items: &[(Text, Expr)],
+) -> Result<List<(Text, CellType)>, AllocError>
+    ensures { IfOk result (λ cs. cs ≡ map (item_column columns.now) items.now) }
+{
+    let mut out = Vec::with_capacity(alloc, items.len())?;
+    for item in items {
+        out.push((item.0.copy(alloc)?, kind_of(&item.1, columns)))?;
+    }
+    Ok(List::from_vec(out))
+}
+
+// The type that an expression has if it checks.
+fn kind_of(expr: &Expr, columns: &[(Text, CellType)]) -> CellType
+    ensures { result ≡ kind_of_expr expr.now columns.now }
+{
+    match expr {
+        Expr::Column(name) => type_of(name, columns).unwrap_or(CellType::Int),
+        Expr::Literal(_, kind) => *kind,
+        Expr::Arith(_, _, _) => CellType::Int,
+        Expr::FillNull(a, _) => kind_of(a.get(), columns),
+        _ => CellType::Bool,
+    }
+}
