@@ -1,31 +1,14 @@
 -- The table that a plan means over frames: that of a scan is its frame, and each other node gives what its operator gives
 -- of the table of its input.
-use Rattle.std.specs.Prelude.{ℕ, pos, List, [], ◌∷◌, ◌++◌, Option, Some, None, Bool, true, false, ◌&&◌, length, map, slice_get, unwrap_or}
+use Rattle.std.specs.Prelude.{ℕ, List, [], ◌∷◌, Option, Some, None, Bool, true, false, ◌&&◌, slice_get}
 use Rattle.df_value.specs.declared.cell.Cell.{Cell}
-use Rattle.df_value.specs.declared.cell.Cell.TheVariants as cell
 use Rattle.df_value.specs.declared.cell.CellType.{CellType}
-use Rattle.df_value.specs.declared.cell.CellType.TheVariants as kind
 use Rattle.df_value.specs.Rows.{rows_fit}
-use Rattle.df_value.specs.Schemas.{position_of, type_in}
-use Rattle.df_expr.specs.declared.expr.Expr.{Expr}
-use Rattle.df_table.specs.Groups.{keys_of, group_of}
-use Rattle.df_table.specs.AggregateTypes.{column_taken, type_given}
-use Rattle.df_table.specs.Aggregates.{cells_of, count_of, sum_of, extreme_of, first_of, last_of, n_unique_of, mean_of}
-use Rattle.df_table.specs.RowWise.{item_column, filtered, selected_row, added_row, added_columns, put_rows}
-use Rattle.df_table.specs.declared.extremes.End.TheVariants as end
-use Rattle.df_table.specs.Joins.{joined_columns, joined_rows, sides_of}
-use Rattle.df_table.specs.declared.kinds.Agg.{Agg}
-use Rattle.df_table.specs.declared.kinds.Agg.TheVariants as agg
-use Rattle.df_table.specs.declared.kinds.How.{How}
-use Rattle.df_table.specs.declared.kinds.RankKind.{RankKind}
-use Rattle.df_table.specs.declared.kinds.RollKind.{RollKind}
-use Rattle.df_table.specs.Placed.{placed}
-use Rattle.df_table.specs.Ranks.{ranks_of}
-use Rattle.df_table.specs.Windows.{rolled_type}
-use Rattle.df_table.specs.Windows.{rolled, running_sum, size_of}
+use Rattle.df_table.specs.Tables.{filter_table, select_table, with_table, grouped, joined, roll_table, cum_sum_table, rank_table}
+use Rattle.df_table.specs.Windows.{size_of}
+use Rattle.df_table.specs.declared.table.Table.{Table}
 use Rattle.df_plan.specs.declared.plan.Plan.{Plan, fold-Plan}
 use Rattle.df_plan.specs.declared.plan.Plan.TheOpen.{Plan-F}
-use Rattle.df_table.specs.declared.table.Table.{Table}
 
 -- the columns and rows of a frame, empty where either is missing
 abbrev pub frame_from : Option (List (List ℕ × CellType)) → Option (List (List Cell)) → Table

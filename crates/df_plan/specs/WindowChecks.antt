@@ -7,7 +7,7 @@ use Rattle.df_value.specs.Schemas.{type_in}
 use Rattle.df_expr.specs.declared.fault.ExprFault.TheVariants as expr
 use Rattle.df_plan.specs.declared.fault.PlanFault.TheVariants as fault
 use Rattle.df_table.specs.declared.kinds.RollKind.{RollKind}
-use Rattle.df_table.specs.declared.kinds.RollKind.TheVariants as roll
+use Rattle.df_table.specs.Windows.{rolled_type}
 use Rattle.df_plan.specs.ItemChecks.{Columns, Checked, Kind, key_type}
 use Rattle.df_plan.specs.Settled.{put_checked}
 

@@ -1,13 +1,15 @@
 //! The plain evaluation of a plan, over whole tables.
-ghost use Rattle.std.specs.Prelude.{◌≡◌, IfOk, IsTrue, map, slice_get};
+ghost use Rattle.std.specs.Prelude.{◌≡◌, IfOk, IsTrue, slice_get};
 ghost use Rattle.df_value.specs.Rows.{rows_fit};
-ghost use Rattle.df_table.specs.Tables.{grouped, grouped_columns as columns_of_groups, group_row as row_of_group, type_of_aggregate, places_of as places_at, type_at as type_at_name};
 ghost use Rattle.df_plan.specs.Meaning.{table_of, frame_from, frames_fit};
 
 use crate::checked::CheckedPlan;
 use crate::plan::Plan;
-use df_table::{Table, cum_sum_table, filter_table, group_by, join, rank_table, roll_table, select_table, size_of, with_table};
-use df_value::{Cell, CellType, Duplicate, List, Row, Schema, Text, place_of, type_of};
+use df_table::{
+    Table, cum_sum_table, filter_table, group_by, join, rank_table, roll_table, select_table,
+    size_of, with_table,
+};
+use df_value::{Duplicate, List, Row, Schema};
 use std::alloc::{AllocError, Global};
 
 /// The rows that a plan gives over frames: `frames[i]` are the rows of frame i, by rising number.

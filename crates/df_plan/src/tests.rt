@@ -1,8 +1,5 @@
 //! Each public call once with ample memory. Worked documents are tested in df_app.
-use crate::{
-    Agg, CheckedPlan, Plan, PlanFault, added_row, evaluate, filtered, group_lengths, group_of,
-    keys_of, selected_row,
-};
+use crate::{Agg, CheckedPlan, Plan, PlanFault, evaluate};
 use df_expr::{ArithOp, Expr};
 use df_value::{Boxed, Cell, CellType, Duplicate, List, Row, Schema, Text};
 use std::alloc::{AllocError, Global};
@@ -89,19 +86,6 @@ fn keeps_its_parts(rt: HostRuntime) -> Result<(), Fail> {
     Ok(())
 }
 
-#[test]
-fn groups(rt: HostRuntime) -> Result<(), Fail> {
-    let alloc = rt.alloc();
-    let rows = rows(alloc, &[5, -3, 5])?;
-    let keys = keys_of(alloc, &[Some(0)], rows.as_slice())?;
-    assert!(rt; keys.len() == 2);
-    let group = group_of(alloc, &[Some(0)], rows.as_slice(), &keys[0])?;
-    assert!(rt; group.len() == 2);
-    let lengths = group_lengths(alloc, &[Some(0)], rows.as_slice())?;
-    assert!(rt; lengths.as_slice() == [2, 1].as_slice());
-    Ok(())
-}
-
 fn column(alloc: Global, name: &str) -> Result<Expr, AllocError> {
     Ok(Expr::Column(Text::from_str(alloc, name)?))
 }
@@ -178,30 +162,5 @@ fn selects(rt: HostRuntime) -> Result<(), Fail> {
     assert!(rt; matches!(constant, Some(PlanFault::ConstantColumn(_))));
     let out = results(alloc, Plan::Select(scan(alloc)?, moved(alloc)?), &[5])?;
     assert!(rt; out.len() == 1 && is_pair(&out.as_slice()[0], 6, 5));
-    Ok(())
-}
-
-#[test]
-fn rows_alone(rt: HostRuntime) -> Result<(), Fail> {
-    let alloc = rt.alloc();
-    let schema = schema(alloc)?;
-    let columns = schema.columns().as_slice();
-    let row = List::from_vec(vec![in alloc; Cell::Int(5)]?);
-    let items = moved(alloc)?;
-    let selected = selected_row(alloc, columns, items.as_slice(), &row)?;
-    assert!(rt; is_pair(&selected, 6, 5));
-    let added = added_row(alloc, columns, items.as_slice(), &row)?;
-    assert!(rt; is_pair(&added, 6, 5));
-    Ok(())
-}
-
-#[test]
-fn keeps_true_rows(rt: HostRuntime) -> Result<(), Fail> {
-    let alloc = rt.alloc();
-    let schema = schema(alloc)?;
-    let rows = rows(alloc, &[5, 6])?;
-    let always = Expr::Literal(Cell::Bool(true), CellType::Bool);
-    let columns = schema.columns().as_slice();
-    assert!(rt; filtered(alloc, columns, &always, rows.as_slice())?.len() == 2);
     Ok(())
 }

@@ -1,7 +1,5 @@
 //! Joins: worked rows, and the limits of their check.
-use crate::{
-    CheckedPlan, How, Plan, PlanFault, evaluate, joined_columns, joined_row, joined_rows, sides_of,
-};
+use crate::{CheckedPlan, How, Plan, PlanFault, evaluate};
 use df_expr::Expr;
 use df_value::{Boxed, Cell, CellType, List, Row, Schema, Text};
 use std::alloc::{AllocError, Global};
@@ -160,31 +158,6 @@ fn the_null_row_stands_only_without_a_match(rt: HostRuntime) -> Result<(), Fail>
     let plan = join_on_k(alloc, How::Left, &["k"], &["k", "v"])?;
     assert!(rt; gives(alloc, &plan, &[&["7"]], &[], &[&["7", ""]])?);
     assert!(rt; gives(alloc, &plan, &[&["7"]], &[&["7", "1"]], &[&["7", "1"]])?);
-    Ok(())
-}
-
-#[test]
-fn the_right_name_gets_the_suffix(rt: HostRuntime) -> Result<(), Fail> {
-    let alloc = rt.alloc();
-    let own = columns(alloc, &["k", "v"])?;
-    let keys = texts(alloc, &["k"])?;
-    let out = joined_columns(alloc, &own, own.as_slice(), keys.as_slice())?;
-    assert!(rt; out == columns(alloc, &["k", "v", "v_right"])?);
-    Ok(())
-}
-
-#[test]
-fn joins_rows(rt: HostRuntime) -> Result<(), Fail> {
-    let alloc = rt.alloc();
-    let own = columns(alloc, &["k"])?;
-    let keys = texts(alloc, &["k"])?;
-    let sides = sides_of(alloc, own.as_slice(), own.as_slice(), keys.as_slice())?;
-    let table = rows(alloc, &[&["1"], &["2"], &["1"]])?;
-    let one = row(alloc, &["1"])?;
-    let made = joined_row(alloc, How::Inner, &sides, &one, table.as_slice())?;
-    assert_eq!(rt; made.len(), 2);
-    let all = joined_rows(alloc, How::Left, &sides, table.as_slice(), table.as_slice())?;
-    assert_eq!(rt; all.len(), 5);
     Ok(())
 }
 

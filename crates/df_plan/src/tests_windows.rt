@@ -1,5 +1,5 @@
-//! Windows, cumulative sums and ranks over small columns.
-use crate::{CheckedPlan, Plan, PlanFault, RankKind, RollKind, evaluate};
+//! The checks of windows and cumulative sums, and one of them evaluated.
+use crate::{CheckedPlan, Plan, PlanFault, RollKind, evaluate};
 use df_expr::ExprFault;
 use df_value::{Boxed, Cell, CellType, Duplicate, List, Row, Schema, Text};
 use std::alloc::{AllocError, Global};
@@ -67,14 +67,6 @@ fn given(
     evaluate(alloc, plan, frames.as_slice())
 }
 
-// Whether the rows have these Int cells at a place.
-fn has_ints(rows: &List<Row>, place: usize, wanted: &[Option<i64>]) -> bool {
-    rows.len() == wanted.len()
-        && (rows.as_slice().iter())
-            .zip(wanted)
-            .all(|(row, n)| row.get(place) == Some(&number(*n)))
-}
-
 fn wide(n: Option<i128>) -> Cell {
     match n {
         Some(n) => Cell::Wide(n),
@@ -88,32 +80,6 @@ fn has_wides(rows: &List<Row>, place: usize, wanted: &[Option<i128>]) -> bool {
         && (rows.as_slice().iter())
             .zip(wanted)
             .all(|(row, n)| row.get(place) == Some(&wide(*n)))
-}
-
-#[test]
-fn takes_the_least_of_a_window(rt: HostRuntime) -> Result<(), Fail> {
-    let alloc = rt.alloc();
-    let plan = checked(
-        alloc,
-        rolling(alloc, "y", RollKind::Min, 2, 2)?,
-        CellType::Int,
-    )??;
-    let rows = given(alloc, &plan, &[Some(3), Some(1), None, Some(2)])?;
-    assert!(rt; has_ints(&rows, 1, &[None, Some(1), None, None]));
-    Ok(())
-}
-
-#[test]
-fn takes_the_greatest_of_a_window(rt: HostRuntime) -> Result<(), Fail> {
-    let alloc = rt.alloc();
-    let plan = checked(
-        alloc,
-        rolling(alloc, "y", RollKind::Max, 2, 1)?,
-        CellType::Int,
-    )??;
-    let rows = given(alloc, &plan, &[Some(4), None, None, Some(1)])?;
-    assert!(rt; has_ints(&rows, 1, &[Some(4), Some(4), None, Some(1)]));
-    Ok(())
 }
 
 fn has_schema(alloc: Global, plan: &CheckedPlan, kind: CellType) -> Result<bool, Fail> {
@@ -135,32 +101,6 @@ fn replaces_its_column(rt: HostRuntime) -> Result<(), Fail> {
 }
 
 #[test]
-fn sums_single_rows(rt: HostRuntime) -> Result<(), Fail> {
-    let alloc = rt.alloc();
-    let plan = checked(
-        alloc,
-        rolling(alloc, "x", RollKind::Sum, 1, 1)?,
-        CellType::Int,
-    )??;
-    let rows = given(alloc, &plan, &[Some(5), None])?;
-    assert!(rt; has_wides(&rows, 0, &[Some(5), None]));
-    Ok(())
-}
-
-#[test]
-fn sums_the_widest_window(rt: HostRuntime) -> Result<(), Fail> {
-    let alloc = rt.alloc();
-    let plan = checked(
-        alloc,
-        rolling(alloc, "y", RollKind::Sum, 65536, 1)?,
-        CellType::Int,
-    )??;
-    let rows = given(alloc, &plan, &[Some(1), Some(2)])?;
-    assert!(rt; has_wides(&rows, 1, &[Some(1), Some(3)]));
-    Ok(())
-}
-
-#[test]
 fn sums_along(rt: HostRuntime) -> Result<(), Fail> {
     let alloc = rt.alloc();
     let plan = checked(
@@ -170,39 +110,6 @@ fn sums_along(rt: HostRuntime) -> Result<(), Fail> {
     )??;
     let rows = given(alloc, &plan, &[Some(2), None, Some(-5)])?;
     assert!(rt; has_wides(&rows, 1, &[Some(2), None, Some(-3)]));
-    Ok(())
-}
-
-// The frame of one column of these texts, and a null before the last.
-fn texts(alloc: Global, before: &[&str], last: &str) -> Result<List<Row>, AllocError> {
-    let mut rows = Vec::new(alloc);
-    for text in before {
-        let cell = Cell::Text(Text::from_str(alloc, text)?);
-        rows.push(List::from_vec(vec![in alloc; cell]?))?;
-    }
-    rows.push(List::from_vec(vec![in alloc; Cell::Null]?))?;
-    let last = Cell::Text(Text::from_str(alloc, last)?);
-    rows.push(List::from_vec(vec![in alloc; last]?))?;
-    Ok(List::from_vec(rows))
-}
-
-fn ranked(alloc: Global) -> Result<Plan, AllocError> {
-    let name = Text::from_str(alloc, "y")?;
-    let column = Text::from_str(alloc, "x")?;
-    Ok(Plan::Rank(scan(alloc)?, name, RankKind::Dense, column))
-}
-
-fn given_texts(alloc: Global, plan: &CheckedPlan) -> Result<List<Row>, AllocError> {
-    let frames = vec![in alloc; texts(alloc, &["b", "a"], "b")?]?;
-    evaluate(alloc, plan, frames.as_slice())
-}
-
-#[test]
-fn ranks_equal_cells_equally(rt: HostRuntime) -> Result<(), Fail> {
-    let alloc = rt.alloc();
-    let plan = checked(alloc, ranked(alloc)?, CellType::Text)??;
-    let rows = given_texts(alloc, &plan)?;
-    assert!(rt; has_ints(&rows, 1, &[Some(2), Some(1), None, Some(2)]));
     Ok(())
 }
 

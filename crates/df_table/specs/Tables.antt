@@ -5,7 +5,6 @@ use Rattle.df_value.specs.declared.cell.Cell.{Cell}
 use Rattle.df_value.specs.declared.cell.Cell.TheVariants as cell
 use Rattle.df_value.specs.declared.cell.CellType.{CellType}
 use Rattle.df_value.specs.declared.cell.CellType.TheVariants as kind
-use Rattle.df_value.specs.Rows.{rows_fit}
 use Rattle.df_value.specs.Schemas.{position_of, type_in}
 use Rattle.df_expr.specs.declared.expr.Expr.{Expr}
 use Rattle.df_table.specs.Groups.{keys_of, group_of}

@@ -43,4 +43,10 @@ pub use totals::group_sums;
 pub use windows::{cum_sum_table, roll_table, rolled_last, running_sum, size_of, type_of_roll};
 
 #[cfg(test)]
+mod tests;
+#[cfg(test)]
 mod tests_aggregates;
+#[cfg(test)]
+mod tests_joins;
+#[cfg(test)]
+mod tests_windows;
