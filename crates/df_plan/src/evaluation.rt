@@ -2,14 +2,16 @@
 ghost use Rattle.std.specs.Prelude.{◌≡◌, IfOk, IsTrue, slice_get};
 ghost use Rattle.df_value.specs.Rows.{rows_fit};
 ghost use Rattle.df_plan.specs.Meaning.{table_of, frame_from, frames_fit};
+ghost use Rattle.df_table.specs.Tables.{roll_table as table_rolled};
+ghost use Rattle.df_table.specs.Windows.{size_of as size_in};
 
 use crate::checked::CheckedPlan;
 use crate::plan::Plan;
 use df_table::{
-    Table, cum_sum_table, filter_table, group_by, join, rank_table, roll_table, select_table,
-    size_of, with_table,
+    RollKind, Table, cum_sum_table, filter_table, group_by, join, rank_table, roll_table,
+    select_table, size_of, with_table,
 };
-use df_value::{Duplicate, List, Row, Schema};
+use df_value::{Duplicate, List, Row, Schema, Text};
 use std::alloc::{AllocError, Global};
 
 /// The rows that a plan gives over frames: `frames[i]` are the rows of frame i, by rising number.
@@ -68,15 +70,7 @@ fn table_of_plan(
         }
         Plan::Rolling(input, output, kind, column, w, m) => {
             let input = table_of_plan(alloc, input.get(), schemas, frames)?;
-            roll_table(
-                alloc,
-                &input,
-                output,
-                *kind,
-                column,
-                size_of(*w),
-                size_of(*m),
-            )
+            rolled(alloc, &input, output, *kind, column, *w, *m)
         }
         Plan::CumSum(input, output, column) => {
             let input = table_of_plan(alloc, input.get(), schemas, frames)?;
@@ -87,6 +81,21 @@ fn table_of_plan(
             rank_table(alloc, &input, output, *kind, column)
         }
     }
+}
+
+// The rolling values of a checked window, whose numbers are sizes.
+fn rolled(
+    alloc: Global,
+    input: &Table,
+    output: &Text,
+    kind: RollKind,
+    column: &Text,
+    w: i64,
+    m: i64,
+) -> Result<Table, AllocError>
+    ensures { IfOk result (λ t. t ≡ table_rolled input.now output.now kind column.now (size_in w) (size_in m)) }
+{
+    roll_table(alloc, input, output, kind, column, size_of(w), size_of(m))
 }
 
 // A copy of the frame, or no rows where there is none.

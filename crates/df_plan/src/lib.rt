@@ -21,9 +21,9 @@ mod window_checks;
 
 pub use checked::CheckedPlan;
 pub use checks::{MOST_LEVELS, MOST_SCANS};
+pub use df_table::{Agg, How, RankKind, RollKind};
 pub use evaluation::evaluate;
 pub use fault::PlanFault;
-pub use df_table::{Agg, How, RankKind, RollKind};
 pub use plan::Plan;
 
 #[cfg(test)]

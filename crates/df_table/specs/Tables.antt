@@ -1,6 +1,6 @@
 -- The table that each operator gives of the whole table of its input: `filter`, `select`, `with_columns`, `join`, rolling
 -- windows, `cum_sum`, `rank`, and `group_by` with `maintain_order=True` of the Polars Python reference.
-use Rattle.std.specs.Prelude.{ℕ, pos, List, [], ◌∷◌, ◌++◌, Option, Some, None, Bool, true, false, ◌&&◌, length, map, slice_get, unwrap_or}
+use Rattle.std.specs.Prelude.{ℕ, pos, List, [], ◌∷◌, ◌++◌, Option, Some, None, length, map, unwrap_or}
 use Rattle.df_value.specs.declared.cell.Cell.{Cell}
 use Rattle.df_value.specs.declared.cell.Cell.TheVariants as cell
 use Rattle.df_value.specs.declared.cell.CellType.{CellType}
@@ -20,8 +20,7 @@ use Rattle.df_table.specs.declared.kinds.RankKind.{RankKind}
 use Rattle.df_table.specs.declared.kinds.RollKind.{RollKind}
 use Rattle.df_table.specs.Placed.{placed}
 use Rattle.df_table.specs.Ranks.{ranks_of}
-use Rattle.df_table.specs.Windows.{rolled_type}
-use Rattle.df_table.specs.Windows.{rolled, running_sum, size_of}
+use Rattle.df_table.specs.Windows.{rolled, rolled_type, running_sum}
 use Rattle.df_table.specs.declared.table.Table.{Table}
 
 -- an aggregate of the rows of a group
