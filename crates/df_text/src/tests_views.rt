@@ -59,7 +59,9 @@ fn are_sales(frames: &List<FrameSpec>) -> bool {
     let Some(frame) = frames.get(0) else {
         return false;
     };
-    let FrameSource::Text(text) = &frame.source;
+    let FrameSource::Text(text) = &frame.source else {
+        return false;
+    };
     frames.len() == 1
         && frame.name.as_str() == "sales"
         && text.as_str() == "region,qty\nnorth,3\nsouth,\nnorth,-1\n"
