@@ -56,11 +56,7 @@ fn read_frame(alloc: Global, before: &[FrameSpec], value: &Value) -> Result<Fram
 }
 
 /// What stands at the keys of a frame, if it has no others.
-fn frame_entries(
-    alloc: Global,
-    place: Place,
-    table: &Table,
-) -> Result<FrameEntries<'_>, ViewsFault>
+fn frame_entries(alloc: Global, place: Place, table: &Table) -> Result<FrameEntries<'_>, ViewsFault>
     ensures { MatchResult result
         (λ e. entries_of_frame place (table_view table.now)
         ≡ Ok (record { name = e.name.now; columns = map view e.columns.now; source = e.source }))
