@@ -11,13 +11,15 @@ mod csv_rows;
 mod fields;
 mod limited;
 mod pieces;
+mod reading;
 mod records;
 mod typed;
 
 pub use csv_fault::CsvFault;
 pub use limited::{ReadLimitedFault, read_limited};
 pub use pieces::{count_pieces, type_piece};
-pub use records::{MOST_BYTES_OF_FILE, Records, parse_records, read_records};
+pub use reading::{MOST_BYTES_OF_FILE, parse_records, read_records};
+pub use records::Records;
 pub use typed::type_chunk;
 
 #[cfg(test)]

@@ -21,14 +21,8 @@ fn sales(alloc: Global) -> Result<Schema, Fail> {
 }
 
 /// Whether a field of a record is this text.
-fn field_is(records: &Records, record: usize, field: usize, text: &str) -> bool {
-    match records.rows().get(record) {
-        Some(row) => match row.get(field) {
-            Some(found) => found.as_str() == text,
-            None => false,
-        },
-        None => false,
-    }
+fn field_is(records: &Records, row: usize, column: usize, text: &str) -> bool {
+    row < records.len() && column < records.record_len(row) && records.field(row, column) == text
 }
 
 #[test]
