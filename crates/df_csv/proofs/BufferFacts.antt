@@ -1,5 +1,5 @@
 -- Rows whose fields stand one behind the other.
-use Rattle.std.proofs.Common.{◌≡◌, ◌+◌, ◌*◌, ◌<◌, ◌≤◌, ℕ, zero, suc, List, [], ◌∷◌, ◌++◌, length, take, drop, get_or, true, Option, Some, None, Result, Ok, Err, refl, sym, ap, arith, add-one, length-append, ◌∙◌}
+use Rattle.std.proofs.Common.{◌≡◌, ◌+◌, ◌*◌, ◌<◌, ◌≤◌, ℕ, zero, suc, List, [], ◌∷◌, ◌++◌, length, take, drop, get_or, true, Some, None, Result, Ok, Err, refl, sym, ap, arith, add-one, length-append, ◌∙◌}
 use Rattle.std.specs.Prelude.{OnOk, unwrap_or, slice_get}
 use Rattle.std.specs.Result.{is_ok}
 use Rattle.std.proofs.lemmas.Bool.{false≢true}

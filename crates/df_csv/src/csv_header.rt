@@ -1,5 +1,5 @@
 //! The header of a CSV file, and the marks before it.
-ghost use Rattle.std.specs.Prelude.{◌≡◌, ◌≢◌, None, [], MatchResult, IfOk, IsUtf8, map, position, unwrap_or};
+ghost use Rattle.std.specs.Prelude.{◌≡◌, ◌≢◌, None, [], MatchResult, IfOk, map, position, unwrap_or};
 ghost use Rattle.std.specs.Option.{option_copied};
 ghost use Rattle.std.specs.Str.{bytes_eq};
 ghost use Rattle.csv.specs.Records.{AllText, field_at, fields_of};

@@ -2,12 +2,14 @@
 //!
 //! [`parse_records`] and [`read_records`] read the records of a CSV file, as texts in a schema's
 //! columns; [`type_chunk`] makes a chunk of some of them, [`type_piece`] of one piece of a file.
+//! [`CsvSource`] is a source of the chunks of all pieces.
 //! [`read_limited`] reads bytes up to a limit.
 #![tactic(auto)]
 
 mod csv_fault;
 mod csv_header;
 mod csv_rows;
+mod csv_source;
 mod fields;
 mod limited;
 mod pieces;
@@ -16,6 +18,7 @@ mod records;
 mod typed;
 
 pub use csv_fault::CsvFault;
+pub use csv_source::CsvSource;
 pub use limited::{ReadLimitedFault, read_limited};
 pub use pieces::{count_pieces, type_piece};
 pub use reading::{MOST_BYTES_OF_FILE, parse_records, read_records};

@@ -1,5 +1,5 @@
 //! The typed pieces of a CSV file.
-ghost use Rattle.std.specs.Prelude.{◌≡◌, ◌+◌, ◌<◌, ◌≤◌, ◌^◌, All, IfOk, None, drop, length, take};
+ghost use Rattle.std.specs.Prelude.{◌≡◌, ◌+◌, ◌<◌, ◌≤◌, IfOk, None, drop, length, take};
 ghost use Rattle.df_value.specs.Chunks.{MakesChunk};
 ghost use Rattle.df_value.specs.ChunkFaults.{chunk_fault};
 ghost use Rattle.df_csv.specs.Records.{IsRecords, record_at};
