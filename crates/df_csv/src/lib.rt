@@ -27,3 +27,5 @@ pub use typed::type_chunk;
 
 #[cfg(test)]
 mod tests;
+#[cfg(test)]
+mod tests_limits;
