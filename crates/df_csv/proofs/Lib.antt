@@ -1,9 +1,11 @@
+pub mod BufferFacts
 pub mod ChunkFacts
 pub mod CsvSteps
 pub mod FieldFacts
 pub mod Fuel
 pub mod HeaderFacts
 pub mod PieceFacts
+pub mod RecordFacts
 pub mod RowFacts
 pub mod SoundFacts
 pub mod TextFields

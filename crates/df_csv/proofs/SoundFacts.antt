@@ -1,6 +1,6 @@
 -- Records that a text has are few enough, and each has a field for each column.
 use Rattle.std.proofs.Common.{◌≡◌, ◌+◌, ◌≤◌, ℕ, List, [], ◌∷◌, length, map, Option, Some, None, Result, Ok, Err, refl, arith, inl, inr, subst, nat_eq, nat_lt}
-use Rattle.std.specs.Prelude.{All, unwrap_or}
+use Rattle.std.specs.Prelude.{All, IfOk, unwrap_or}
 use Rattle.csv.specs.Records.{field_at}
 use Rattle.std.specs.Str.{is_utf8}
 use Rattle.std.proofs.lemmas.Bool.{cases_Bool}
@@ -11,7 +11,7 @@ use Rattle.csv.specs.Reading.{default_config, records}
 use Rattle.df_value.specs.declared.cell.CellType.{CellType}
 use Rattle.df_csv.specs.declared.csv_fault.CsvFault.{CsvFault}
 use Rattle.df_csv.specs.Header.{header_fault, place_of, without_marks}
-use Rattle.df_csv.specs.Records.{IsRecords, Rows, after_rows, if_sound, picked, records_of, rows_from, table_of}
+use Rattle.df_csv.specs.Records.{Gives, IsRecords, Rows, after_rows, if_sound, picked, records_of, rows_from, table_of}
 
 abbrev Sound : ℕ → ℕ → Rows → Type 0
 Sound k n xs = (length xs + n ≤ 1048577) × All (λ r. length r ≡ k) xs
@@ -53,8 +53,13 @@ sound_top columns [] xs e = none (header_fault columns []) e
 sound_top columns (h ∷ rows) xs e =
     sound_table columns (h ∷ rows) xs (header_fault columns h) (length h) (map (λ c. place_of h c.0) columns) rows (length-map columns (λ (c : List ℕ × CellType). place_of h c.0)) e
 
-pub sound_of : (bytes : List ℕ) (columns : List (List ℕ × CellType)) (xs : Rows) → records_of bytes columns ≡ Ok xs → IsRecords (length columns) xs
+sound_of : (bytes : List ℕ) (columns : List (List ℕ × CellType)) (xs : Rows) → records_of bytes columns ≡ Ok xs → IsRecords (length columns) xs
 sound_of bytes columns xs e = elim (cases_Bool (is_utf8 (without_marks bytes))) [
   | inl is ↦ sound_top columns (records default_config (without_marks bytes)) xs (rw is at e)
   | inr isnt ↦ let q = rw isnt at e in cc
 ]
+
+-- so are the records that an answer gives
+pub sound_result : (bytes : List ℕ) (columns : List (List ℕ × CellType)) (r : Result Rows CsvFault) → Gives r (records_of bytes columns) → IfOk r (λ rows. IsRecords (length columns) rows)
+sound_result bytes columns (Ok rows) h = sound_of bytes columns rows h
+sound_result bytes columns (Err e) h = tt

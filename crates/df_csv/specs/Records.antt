@@ -1,7 +1,7 @@
 -- What a CSV file says under a schema: of each record the fields of the schema's columns, or the first fault.
 -- The records are those that the crate csv defines for commas and double quotes (RFC 4180, and beside its line
 -- ends a lone CR or LF); blank lines are passed over.
-use Rattle.std.specs.Prelude.{◌≡◌, ◌≢◌, ◌+◌, ◌≤◌, ◌==◌, ℕ, not, nat_lt, List, [], ◌∷◌, ◌++◌, length, map, Option, Some, None, unwrap_or, Result, Ok, Err, All, ⊤, if◌then◌else◌}
+use Rattle.std.specs.Prelude.{◌≡◌, ◌≢◌, ◌+◌, ◌≤◌, ◌==◌, ℕ, zero, suc, not, nat_lt, List, [], ◌∷◌, ◌++◌, length, map, take, drop, Option, Some, None, slice_get, unwrap_or, Result, Ok, Err, All, ⊤, if◌then◌else◌}
 use Rattle.std.specs.Str.{is_utf8}
 use Rattle.csv.specs.Reading.{default_config, records}
 use Rattle.csv.specs.Records.{AllText, field_at}
@@ -60,6 +60,15 @@ Gives (Err e) said = e ≢ Memory → said ≡ Err e
 abbrev pub GivesRead : Result Rows CsvFault → Result Rows CsvFault → Type 0
 GivesRead (Ok rows) said = said ≡ Ok rows
 GivesRead (Err e) said = e ≢ ReadFault → e ≢ Memory → said ≡ Err e
+
+-- so many rows of one width, of fields that stand one behind the other
+abbrev pub rows_in : ℕ → ℕ → List (List ℕ) → Rows
+rows_in width zero fields = []
+rows_in width (suc n) fields = take width fields ∷ rows_in width n (drop width fields)
+
+-- the fields of the record at this place, none where there is no such record
+abbrev pub record_at : Rows → ℕ → List (List ℕ)
+record_at rows i = unwrap_or (slice_get rows i) []
 
 -- few enough records, each with so many fields
 pub record IsRecords (width : ℕ) (rows : Rows) : Type 0 where

@@ -1,5 +1,5 @@
 //! The header of a CSV file, and the marks before it.
-ghost use Rattle.std.specs.Prelude.{◌≡◌, ◌≢◌, None, [], MatchResult, IfOk, IsUtf8, map, position, unwrap_or};
+ghost use Rattle.std.specs.Prelude.{◌≡◌, ◌≢◌, None, [], MatchResult, IfOk, map, position, unwrap_or};
 ghost use Rattle.std.specs.Option.{option_copied};
 ghost use Rattle.std.specs.Str.{bytes_eq};
 ghost use Rattle.csv.specs.Records.{AllText, field_at, fields_of};
@@ -10,24 +10,14 @@ use csv::ByteRecord;
 use df_value::{CellType, Duplicate, Text};
 use std::alloc::{AllocError, Global};
 
-/// The text of these bytes.
-pub fn text_of(alloc: Global, bytes: &[u8]) -> Result<Text, AllocError>
-    requires { IsUtf8 bytes.now }
-    ensures { IfOk result (λ t. t ≡ bytes.now) }
-{
-    match str::from_utf8(bytes) {
-        Ok(text) => Text::from_str(alloc, text),
-        Err(_) => unreachable!(),
-    }
-}
-
 /// The field at this place, or an empty text where there is none.
-pub fn field_of(alloc: Global, row: &ByteRecord, place: usize) -> Result<Text, AllocError>
+pub fn field_in(row: &ByteRecord, place: usize) -> &str
     requires { AllText (fields_of row.now) }
-    ensures { IfOk result (λ t. t ≡ unwrap_or (field_at (fields_of row.now) place) []) }
+    ensures { result.now ≡ unwrap_or (field_at (fields_of row.now) place) [] }
 {
     let field = row.get(place).unwrap_or(&[]);
-    text_of(alloc, field)
+    // SAFETY: all fields of the record are UTF-8.
+    unsafe { str::from_utf8_unchecked(field) }
 }
 
 /// The fields of a record.
@@ -38,7 +28,7 @@ pub fn names_of(alloc: Global, row: &ByteRecord) -> Result<Vec<Text>, AllocError
 {
     let mut names = Vec::new(alloc);
     for i in 0..row.len() {
-        names.push(field_of(alloc, row, i)?)?;
+        names.push(Text::from_str(alloc, field_in(row, i))?)?;
     }
     Ok(names)
 }

@@ -1,19 +1,19 @@
 //! The records of a CSV file under its header.
-ghost use Rattle.std.specs.Prelude.{◌≡◌, Some, IfOk};
+ghost use Rattle.std.specs.Prelude.{◌≡◌, ◌++◌, OnOk, Some};
 ghost use Rattle.csv.specs.Reading.{expected_len};
 ghost use Rattle.csv.specs.Records.{AllText, fields_of};
 ghost use Rattle.df_csv.specs.Records.{EveryText, Gives, picked, rows_from};
 ghost use Rattle.df_csv.specs.Rows.{IsPlain, TakesRow, rows_left};
 
 use crate::csv_fault::CsvFault;
-use crate::csv_header::field_of;
-use csv::{ByteRecord, ErrorKind, Reader};
-use df_value::{List, Text};
+use crate::csv_header::field_in;
+use crate::records::Records;
+use csv::{ByteRecord, ErrorKind, Reader, StringRecord};
 use std::alloc::{AllocError, Global};
 use std::io::Read;
 
 /// The most records of a file.
-const MOST_RECORDS: u64 = 1_048_576;
+const MOST_RECORDS: usize = 1_048_576;
 
 /// What the next record is: a row, none, one of another length than those before it, or not known for
 /// want of memory.
@@ -44,16 +44,15 @@ pub fn next_row<R: Read>(reader: &mut Reader<R>, row: &mut ByteRecord) -> Taken
     }
 }
 
-/// The fields at these places.
-fn pick(alloc: Global, row: &ByteRecord, places: &[usize]) -> Result<List<Text>, AllocError>
+/// Adds the fields at these places.
+fn pick(fields: &mut StringRecord, row: &ByteRecord, places: &[usize]) -> Result<(), AllocError>
     requires { AllText (fields_of row.now) }
-    ensures { IfOk result (λ fields. fields ≡ picked places.now (fields_of row.now)) }
+    ensures { OnOk result (fields_of fields.new ≡ fields_of fields.old ++ picked places.now (fields_of row.now)) }
 {
-    let mut fields = Vec::with_capacity(alloc, places.len())?;
     for place in places {
-        fields.push(field_of(alloc, row, *place)?)?;
+        fields.push_field(field_in(row, *place))?;
     }
-    Ok(List::from_vec(fields))
+    Ok(())
 }
 
 /// The records under the header, which has `width` fields; of each the fields at these places.
@@ -62,31 +61,28 @@ pub fn read_rows<R: Read>(
     reader: &mut Reader<R>,
     places: &[usize],
     width: usize,
-) -> Result<List<List<Text>>, CsvFault>
+) -> Result<Records, CsvFault>
     requires plain { IsPlain R.remaining reader.old }
     requires width { expected_len reader.old ≡ Some width }
     requires texts { EveryText (rows_left R.remaining reader.old) }
     ensures { Gives result (rows_from width places.now 1 (rows_left R.remaining reader.old)) }
 {
-    let mut rows = Vec::new(alloc);
+    let mut fields = StringRecord::new(alloc);
     let mut row = ByteRecord::new(alloc);
-    let mut n: u64 = 1;
+    let mut count: usize = 0;
     'records: loop {
         match next_row(reader, &mut row) {
             Taken::Row => {}
-            Taken::End => return Ok(List::from_vec(rows)),
-            Taken::Unlike => return Err(CsvFault::BadRecord(n)),
+            Taken::End => return Ok(Records::from_fields(fields, places.len(), count)),
+            Taken::Unlike => return Err(CsvFault::BadRecord(count as u64 + 1)),
             Taken::Memory => return Err(CsvFault::Memory),
         }
-        if n > MOST_RECORDS {
+        if count == MOST_RECORDS {
             return Err(CsvFault::TooManyRecords);
         }
-        let Ok(fields) = pick(alloc, &row, places) else {
-            return Err(CsvFault::Memory);
-        };
-        if rows.push(fields).is_err() {
+        if pick(&mut fields, &row, places).is_err() {
             return Err(CsvFault::Memory);
         }
-        n += 1;
+        count += 1;
     }
 }

@@ -2,7 +2,7 @@
 ghost use Rattle.std.specs.Prelude.{◌≡◌, IfOk};
 ghost use Rattle.df_csv.specs.Fields.{bool_in, cell_in, int_in};
 
-use df_value::{Cell, CellType, Duplicate, Text};
+use df_value::{Cell, CellType, Text};
 use std::alloc::{AllocError, Global};
 
 /// The integer that a text writes.
@@ -27,16 +27,16 @@ fn bool_of(text: &str) -> Option<bool>
 
 /// The cell of a field in a column of this type: null where it is empty, and `None` where it is no
 /// value of the type.
-pub fn cell_of(alloc: Global, kind: CellType, field: &Text) -> Result<Option<Cell>, AllocError>
+pub fn cell_of(alloc: Global, kind: CellType, field: &str) -> Result<Option<Cell>, AllocError>
     ensures { IfOk result (λ cell. cell ≡ cell_in kind field.now) }
 {
     if field.is_empty() {
         return Ok(Some(Cell::Null));
     }
     match kind {
-        CellType::Int => Ok(int_of(field.as_str()).map(Cell::Int)),
-        CellType::Bool => Ok(bool_of(field.as_str()).map(Cell::Bool)),
-        CellType::Text => Ok(Some(Cell::Text(field.copy(alloc)?))),
+        CellType::Int => Ok(int_of(field).map(Cell::Int)),
+        CellType::Bool => Ok(bool_of(field).map(Cell::Bool)),
+        CellType::Text => Ok(Some(Cell::Text(Text::from_str(alloc, field)?))),
         CellType::Wide | CellType::Frac => Ok(None),
     }
 }

@@ -2,23 +2,30 @@
 //!
 //! [`parse_records`] and [`read_records`] read the records of a CSV file, as texts in a schema's
 //! columns; [`type_chunk`] makes a chunk of some of them, [`type_piece`] of one piece of a file.
+//! [`CsvSource`] is a source of the chunks of all pieces.
 //! [`read_limited`] reads bytes up to a limit.
 #![tactic(auto)]
 
 mod csv_fault;
 mod csv_header;
 mod csv_rows;
+mod csv_source;
 mod fields;
 mod limited;
 mod pieces;
+mod reading;
 mod records;
 mod typed;
 
 pub use csv_fault::CsvFault;
+pub use csv_source::CsvSource;
 pub use limited::{ReadLimitedFault, read_limited};
 pub use pieces::{count_pieces, type_piece};
-pub use records::{MOST_BYTES_OF_FILE, Records, parse_records, read_records};
+pub use reading::{MOST_BYTES_OF_FILE, parse_records, read_records};
+pub use records::Records;
 pub use typed::type_chunk;
 
 #[cfg(test)]
 mod tests;
+#[cfg(test)]
+mod tests_limits;

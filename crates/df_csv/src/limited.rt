@@ -28,7 +28,8 @@ impl From<AllocError> for ReadLimitedFault {
     }
 }
 
-/// All bytes that a reader has left, which are at most `limit`.
+/// All bytes that a reader has left, which are at most `limit`. It takes up to 65,536 bytes a read, and
+/// makes at most `limit` + 1 reads.
 ///
 /// `Failed` where a read fails, `TooLarge` where more than `limit` bytes were left, `Memory` where
 /// they do not fit into memory. At a fault the reader may have given some of its bytes.
@@ -43,7 +44,7 @@ pub fn read_limited<R: Read>(
         IfSome (R.remaining reader.old) (λ xs. limit < length xs)) }
 {
     let mut bytes = Vec::new(alloc);
-    let mut buffer = [0u8; 4096];
+    let mut buffer = [0u8; 65_536];
     while bytes.len() <= limit {
         let Ok(taken) = reader.read(&mut buffer) else {
             return Err(ReadLimitedFault::Failed);

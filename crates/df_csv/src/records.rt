@@ -1,132 +1,88 @@
-//! The records of a CSV file, by the names of its header.
-ghost use Rattle.std.specs.Prelude.{◌≡◌, ◌↔◌, ◌≢◌, ◌≤◌, IsTrue, IfOk, IfSome, IsUtf8, length};
-ghost use Rattle.df_csv.specs.Header.{without_marks};
-ghost use Rattle.df_csv.specs.Records.{Gives, GivesRead, IsRecords, file_records, records_of};
+//! The records of a CSV file, their fields in one buffer.
+ghost use Rattle.std.specs.Prelude.{◌≡◌, ◌↔◌, ◌<◌, ◌*◌, [], IsTrue, Some, length, slice_get};
+ghost use Rattle.csv.specs.Records.{fields_of};
+ghost use Rattle.df_csv.specs.Records.{record_at, rows_in};
 
-use crate::csv_fault::CsvFault;
-use crate::csv_header::{names_of, places_of, skip_marks};
-use crate::csv_rows::{Taken, next_row, read_rows};
-use crate::limited::{ReadLimitedFault, read_limited};
-use csv::{ByteRecord, ReaderBuilder};
-use df_value::{CellType, List, Schema, Text};
+use csv::StringRecord;
 use std::alloc::Global;
-use std::io::Read;
 use std::marker::Model;
 
-/// The most bytes of a CSV file.
-pub const MOST_BYTES_OF_FILE: usize = 67_108_864;
-
 /// The records of a CSV file: of each the fields of a schema's columns, in the schema's order.
+///
+/// The fields of all records stand in one buffer, each record's behind those of the one before it.
 #[derive(Debug, Drop)]
 pub struct Records {
-    rows: List<List<Text>>,
+    fields: StringRecord,
+    width: usize,
+    count: usize,
 }
 
 impl Model for Records {
-    ghost use Rattle.std.specs.Prelude.{List as Seq, ℕ};
+    ghost use Rattle.std.specs.Prelude.{◌≡◌, ◌*◌, ◌^◌, ◌<◌, List as Seq, ℕ, length};
+    ghost use Rattle.csv.specs.Records.{fields_of};
+    ghost use Rattle.df_csv.specs.Records.{rows_in};
 
     ghost Value = { Seq (Seq (Seq ℕ)) };
 
-    ghost view = { λ r. r.rows };
+    ghost view = { λ r. rows_in r.width r.count (fields_of r.fields) };
+
+    ghost invariant = { λ r. (length (fields_of r.fields) ≡ r.count * r.width) × (length (fields_of r.fields) < 2 ^ 64) };
 }
 
 impl Records {
-    /// The records by rising number.
-    pub fn rows(&self) -> &List<List<Text>>
-        ensures { result.now ≡ self.now }
+    /// No records.
+    pub(crate) fn new(alloc: Global) -> Records
+        ensures { result ≡ [] }
     {
-        &self.rows
+        Records::from_fields(StringRecord::new(alloc), 0, 0)
+    }
+
+    /// The `count` records of `width` fields each whose fields are these.
+    pub(crate) fn from_fields(fields: StringRecord, width: usize, count: usize) -> Records
+        requires { length (fields_of fields) ≡ count * width }
+        ensures { result ≡ rows_in width count (fields_of fields) }
+    {
+        // The number of fields is a `usize`, so that the place of each is one.
+        let _size = fields.len();
+        Records {
+            fields,
+            width,
+            count,
+        }
+    }
+
+    /// The field of a record, from 0, in a column, from 0.
+    pub fn field(&self, row: usize, column: usize) -> &str
+        requires in_rows { row < length self.now }
+        requires in_columns { column < length (record_at self.now row) }
+        ensures { slice_get (record_at self.now row) column ≡ Some result.now }
+    {
+        let place = row * self.width + column;
+        match self.fields.get(place) {
+            Some(field) => field,
+            None => unreachable!(),
+        }
+    }
+
+    /// The number of fields of a record, from 0.
+    pub fn record_len(&self, row: usize) -> usize
+        requires { row < length self.now }
+        ensures { result ≡ length (record_at self.now row) }
+    {
+        self.width
     }
 
     /// The number of records.
     pub fn len(&self) -> usize
         ensures { result ≡ length self.now }
     {
-        self.rows.len()
+        self.count
     }
 
     /// Whether there is no record.
     pub fn is_empty(&self) -> bool
         ensures { IsTrue result ↔ (length self.now ≡ 0) }
     {
-        self.rows.is_empty()
-    }
-}
-
-/// The records of a text without marks.
-fn read_text(
-    alloc: Global,
-    bytes: &[u8],
-    text: &[u8],
-    columns: &[(Text, CellType)],
-) -> Result<List<List<Text>>, CsvFault>
-    requires marks { text.now ≡ without_marks bytes.now }
-    requires utf8 { IsUtf8 text.now }
-    ensures { Gives result (records_of bytes.now columns.now) }
-{
-    let mut reader = ReaderBuilder::new()
-        .has_headers(false)
-        .from_reader(alloc, text);
-    let mut row = ByteRecord::new(alloc);
-    match next_row(&mut reader, &mut row) {
-        Taken::Row => {
-            let Ok(header) = names_of(alloc, &row) else {
-                return Err(CsvFault::Memory);
-            };
-            match places_of(alloc, header.as_slice(), columns) {
-                Ok(places) => read_rows(alloc, &mut reader, places.as_slice(), row.len()),
-                Err(e) => Err(e),
-            }
-        }
-        Taken::End => match places_of(alloc, &[], columns) {
-            Ok(_) => Ok(List::from_vec(Vec::new(alloc))),
-            Err(e) => Err(e),
-        },
-        Taken::Unlike => unreachable!(),
-        Taken::Memory => Err(CsvFault::Memory),
-    }
-}
-
-/// The records of a CSV text: of each the fields of the schema's columns.
-///
-/// Byte order marks at the start are taken off. Fields are separated by commas and may stand in double
-/// quotes; blank lines are passed over. The first record is the header, whose names say which fields
-/// are whose; other columns are passed over.
-///
-/// The first of these is answered: `NotText`; `DoubledHeader` of the first column of the schema that
-/// the header names twice; `MissingColumn` of the first that it does not name; then, by the records
-/// in order, `BadRecord` of one that is not as long as the header, and `TooManyRecords` at the record
-/// with the number 1,048,577. `Memory` comes where memory was refused.
-pub fn parse_records(alloc: Global, bytes: &[u8], schema: &Schema) -> Result<Records, CsvFault>
-    ensures value { Gives result (records_of bytes.now schema.now) }
-    ensures sound { IfOk result (λ records. IsRecords (length schema.now) records) }
-{
-    let text = skip_marks(bytes);
-    let Ok(_) = str::from_utf8(text) else {
-        return Err(CsvFault::NotText);
-    };
-    match read_text(alloc, bytes, text, schema.columns().as_slice()) {
-        Ok(rows) => Ok(Records { rows }),
-        Err(e) => Err(e),
-    }
-}
-
-/// The records of what a reader has left, as [`parse_records`] has them.
-///
-/// Before all else come `ReadFault`, where a read failed, and `TooLarge`, where there are more than
-/// 67,108,864 bytes.
-pub fn read_records<R: Read>(
-    alloc: Global,
-    reader: &mut R,
-    schema: &Schema,
-) -> Result<Records, CsvFault>
-    ensures value { IfSome (R.remaining reader.old) (λ bytes. GivesRead result (file_records bytes schema.now)) }
-    ensures sound { IfOk result (λ records. IsRecords (length schema.now) records) }
-{
-    match read_limited(alloc, reader, MOST_BYTES_OF_FILE) {
-        Ok(bytes) => parse_records(alloc, bytes.as_slice(), schema),
-        Err(ReadLimitedFault::Failed) => Err(CsvFault::ReadFault),
-        Err(ReadLimitedFault::TooLarge) => Err(CsvFault::TooLarge),
-        Err(ReadLimitedFault::Memory) => Err(CsvFault::Memory),
+        self.count == 0
     }
 }

@@ -1,9 +1,9 @@
 //! Worked rows of the CSV profile, each public call once with ample memory, and readers that fail.
 use crate::{
-    CsvFault, ReadLimitedFault, Records, count_pieces, parse_records, read_limited, read_records,
-    type_chunk, type_piece,
+    CsvFault, CsvSource, ReadLimitedFault, Records, count_pieces, parse_records, read_limited,
+    read_records, type_chunk, type_piece,
 };
-use df_value::{Cell, CellType, Duplicate, List, Made, Schema, Text};
+use df_value::{Cell, CellType, Duplicate, List, Made, Schema, Source, Text};
 use std::alloc::{AllocError, Global};
 use std::io::{self, ErrorKind, Read};
 use std::test::Fail;
@@ -21,14 +21,8 @@ fn sales(alloc: Global) -> Result<Schema, Fail> {
 }
 
 /// Whether a field of a record is this text.
-fn field_is(records: &Records, record: usize, field: usize, text: &str) -> bool {
-    match records.rows().get(record) {
-        Some(row) => match row.get(field) {
-            Some(found) => found.as_str() == text,
-            None => false,
-        },
-        None => false,
-    }
+fn field_is(records: &Records, row: usize, column: usize, text: &str) -> bool {
+    row < records.len() && column < records.record_len(row) && records.field(row, column) == text
 }
 
 #[test]
@@ -180,6 +174,23 @@ fn pieces_of_a_file(rt: HostRuntime) -> Result<(), Fail> {
 }
 
 #[test]
+fn source_of_a_file(rt: HostRuntime) -> Result<(), Fail> {
+    let alloc = rt.alloc();
+    let schema = columns_of(alloc, &[("x", CellType::Int)])?;
+    let records = parse_records(alloc, b"x\n1x\n5\n7\n", &schema)?;
+    assert!(rt; schema.is_base());
+    let source = CsvSource::new(records, schema, 2);
+    assert_eq!(rt; source.chunks(), 2);
+    for n in 0..source.chunks() {
+        let made = source.chunk(alloc, n)?;
+        assert_eq!(rt; is_bad(&made), n == 0);
+        assert_eq!(rt; is_cell(&made, &Cell::Int(7)), n == 1);
+        assert_eq!(rt; source.start(n) as u64, n.wrapping_mul(2));
+    }
+    Ok(())
+}
+
+#[test]
 fn bad_chunk(rt: HostRuntime) -> Result<(), Fail> {
     let alloc = rt.alloc();
     let schema = columns_of(alloc, &[("x", CellType::Int)])?;
@@ -207,15 +218,25 @@ fn first_bad_cell(rt: HostRuntime) -> Result<(), Fail> {
     Ok(())
 }
 
-// Gives one byte a call, then fails or ends.
+// Gives one byte a call, then fails or ends, and counts its calls.
 #[derive(Drop)]
 struct SlowReader {
     left: usize,
     fails: bool,
+    reads: usize,
+}
+
+fn slow(left: usize, fails: bool) -> SlowReader {
+    SlowReader {
+        left,
+        fails,
+        reads: 0,
+    }
 }
 
 impl Read for SlowReader {
     fn read(&mut self, buf: &mut [u8]) -> io::Result<usize> {
+        self.reads = self.reads.wrapping_add(1);
         if buf.is_empty() {
             return Ok(0);
         }
@@ -235,35 +256,30 @@ impl Read for SlowReader {
 #[test]
 fn reads(rt: HostRuntime) -> Result<(), Fail> {
     let alloc = rt.alloc();
-    let bytes = read_limited(
-        alloc,
-        &mut SlowReader {
-            left: 5,
-            fails: false,
-        },
-        5,
-    )?;
+    let mut full = slow(5, false);
+    let bytes = read_limited(alloc, &mut full, 5)?;
     assert_eq!(rt; bytes.as_slice(), &b"xxxxx"[..]);
-    let large = read_limited(
-        alloc,
-        &mut SlowReader {
-            left: 6,
-            fails: false,
-        },
-        5,
-    );
+    assert_eq!(rt; full.reads, 6);
+    let mut over = slow(9, false);
+    let large = read_limited(alloc, &mut over, 5);
     assert!(rt; matches!(large, Err(ReadLimitedFault::TooLarge)));
-    let failed = read_limited(
-        alloc,
-        &mut SlowReader {
-            left: 3,
-            fails: true,
-        },
-        5,
-    );
+    assert_eq!(rt; over.reads, 6);
+    let failed = read_limited(alloc, &mut slow(3, true), 5);
     assert!(rt; matches!(failed, Err(ReadLimitedFault::Failed)));
     let mut memory: &[u8] = b"in memory";
     let bytes = read_limited(alloc, &mut memory, 100)?;
     assert_eq!(rt; bytes.as_slice(), &b"in memory"[..]);
+    Ok(())
+}
+
+#[test]
+fn faults_of_a_reader(rt: HostRuntime) -> Result<(), Fail> {
+    let alloc = rt.alloc();
+    let sales = sales(alloc)?;
+    let fault = read_records(alloc, &mut slow(3, true), &sales).err();
+    assert!(rt; fault == Some(CsvFault::ReadFault));
+    let mut bytes: &[u8] = b"\xFF";
+    let fault = read_records(alloc, &mut bytes, &sales).err();
+    assert!(rt; fault == Some(CsvFault::NotText));
     Ok(())
 }

@@ -1,8 +1,8 @@
 //! The typed pieces of a CSV file.
-ghost use Rattle.std.specs.Prelude.{◌≡◌, ◌+◌, ◌<◌, ◌≤◌, ◌^◌, All, IfOk, None, drop, length, take};
+ghost use Rattle.std.specs.Prelude.{◌≡◌, ◌+◌, ◌<◌, ◌≤◌, IfOk, None, drop, length, take};
 ghost use Rattle.df_value.specs.Chunks.{MakesChunk};
 ghost use Rattle.df_value.specs.ChunkFaults.{chunk_fault};
-ghost use Rattle.df_csv.specs.Records.{IsRecords};
+ghost use Rattle.df_csv.specs.Records.{IsRecords, record_at};
 ghost use Rattle.df_csv.specs.Typed.{piece_of, row_of, rows_typed};
 
 use crate::fields::cell_of;
@@ -28,14 +28,16 @@ pub enum TypedRows {
 fn type_row(
     alloc: Global,
     columns: &[(Text, CellType)],
-    fields: &[Text],
+    records: &Records,
+    row: usize,
 ) -> Result<TypedRow, AllocError>
-    requires { length fields.now ≡ length columns.now }
-    ensures { IfOk result (λ row. row ≡ row_of columns.now fields.now) }
+    requires within { row < length records.now }
+    requires even { length (record_at records.now row) ≡ length columns.now }
+    ensures { IfOk result (λ cells. cells ≡ row_of columns.now (record_at records.now row)) }
 {
     let mut cells = Vec::with_capacity(alloc, columns.len())?;
     for i in 0..columns.len() {
-        let Some(cell) = cell_of(alloc, columns[i].1, &fields[i])? else {
+        let Some(cell) = cell_of(alloc, columns[i].1, records.field(row, i))? else {
             return Ok(TypedRow::Bad(i));
         };
         cells.push(cell)?;
@@ -43,23 +45,25 @@ fn type_row(
     Ok(TypedRow::Good(List::from_vec(cells)))
 }
 
-/// The rows of records, the first of which has this number.
+/// The rows of the `len` records behind the first `first`.
+#[tactic(auto, using(crate::proofs::RecordFacts::drop_record, crate::proofs::RecordFacts::record_even))]
 fn type_rows(
     alloc: Global,
     columns: &[(Text, CellType)],
-    records: &[List<Text>],
-    number: u64,
+    records: &Records,
+    first: usize,
+    len: usize,
 ) -> Result<TypedRows, AllocError>
-    requires even { All (λ r. length r ≡ length columns.now) records.now }
-    requires numbered { number + length records.now < 2 ^ 64 }
-    ensures { IfOk result (λ rows. rows ≡ rows_typed columns.now number records.now) }
+    requires sound { IsRecords (length columns.now) records.now }
+    requires within { first + len ≤ length records.now }
+    ensures { IfOk result (λ rows. rows ≡ rows_typed columns.now (first + 1) (take len (drop first records.now))) }
 {
-    let mut rows = Vec::with_capacity(alloc, records.len())?;
-    for i in 0..records.len() {
-        match type_row(alloc, columns, records[i].as_slice())? {
+    let mut rows = Vec::with_capacity(alloc, len)?;
+    for i in 0..len {
+        match type_row(alloc, columns, records, first + i)? {
             TypedRow::Good(row) => rows.push(row)?,
             TypedRow::Bad(column) => {
-                let number = number + i as u64;
+                let number = (first + i) as u64 + 1;
                 return Ok(TypedRows::Bad(BadCell { number, column }));
             }
         }
@@ -86,15 +90,6 @@ fn chunk_of(
     }
 }
 
-/// The `len` records behind the first `first`.
-fn part(records: &[List<Text>], first: usize, len: usize) -> &[List<Text>]
-    requires { first + len ≤ length records.now }
-    ensures { result.now ≡ take len (drop first records.now) }
-{
-    let rest = &records[first..];
-    &rest[..len]
-}
-
 /// The typed piece of the `len` records behind the first `first`: the chunk of their rows, whose first
 /// number is `first`, or their first bad cell, by record and then by column.
 ///
@@ -113,13 +108,8 @@ pub fn type_chunk(
     requires short { len ≤ 65536 }
     ensures { IfOk result (λ made. made ≡ piece_of schema.now first (take len (drop first records.now))) }
 {
-    let records = part(records.rows().as_slice(), first as usize, len);
-    match type_rows(
-        alloc,
-        schema.columns().as_slice(),
-        records,
-        first as u64 + 1,
-    )? {
+    let columns = schema.columns().as_slice();
+    match type_rows(alloc, columns, records, first as usize, len)? {
         TypedRows::Good(rows) => Ok(Made::Good(chunk_of(alloc, schema, first, rows)?)),
         TypedRows::Bad(cell) => Ok(Made::Bad(cell)),
     }

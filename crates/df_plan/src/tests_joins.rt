@@ -153,11 +153,22 @@ fn a_left_join_keeps_every_left_row(rt: HostRuntime) -> Result<(), Fail> {
 }
 
 #[test]
+fn a_row_without_a_match_stands_beside_nulls(rt: HostRuntime) -> Result<(), Fail> {
+    let alloc = rt.alloc();
+    let plan = join_on_k(alloc, How::Left, &["k"], &["k", "v"])?;
+    let left: [&[&str]; 1] = [&["7"]];
+    let expected: [&[&str]; 1] = [&["7", ""]];
+    assert!(rt; gives(alloc, &plan, &left, &[], &expected)?);
+    Ok(())
+}
+
+#[test]
 fn the_null_row_stands_only_without_a_match(rt: HostRuntime) -> Result<(), Fail> {
     let alloc = rt.alloc();
     let plan = join_on_k(alloc, How::Left, &["k"], &["k", "v"])?;
-    assert!(rt; gives(alloc, &plan, &[&["7"]], &[], &[&["7", ""]])?);
-    assert!(rt; gives(alloc, &plan, &[&["7"]], &[&["7", "1"]], &[&["7", "1"]])?);
+    let left: [&[&str]; 1] = [&["7"]];
+    let matched: [&[&str]; 1] = [&["7", "1"]];
+    assert!(rt; gives(alloc, &plan, &left, &matched, &matched)?);
     Ok(())
 }
 

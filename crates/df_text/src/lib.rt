@@ -28,8 +28,8 @@ mod views_fault;
 mod window_steps;
 
 pub use df_csv::{
-    CsvFault, MOST_BYTES_OF_FILE, ReadLimitedFault, Records, count_pieces, parse_records,
-    read_limited, read_records, type_chunk, type_piece,
+    CsvFault, CsvSource, MOST_BYTES_OF_FILE, ReadLimitedFault, Records, count_pieces,
+    parse_records, read_limited, read_records, type_chunk, type_piece,
 };
 pub use df_print::{WriteFault, column_width, escape, print_table, write_text};
 pub use document::{FrameSource, FrameSpec, Place, ViewSpec, Views};

@@ -11,6 +11,7 @@ mod frac;
 mod list;
 mod ordering;
 mod schema;
+mod source;
 mod text;
 mod traits;
 
@@ -20,6 +21,7 @@ pub use frac::Frac;
 pub use list::List;
 pub use ordering::{compare, order};
 pub use schema::{MOST_COLUMNS, Schema, SchemaFault, doubled, place_of, type_of};
+pub use source::Source;
 pub use sqlite_items::Boxed;
 pub use text::Text;
 pub use traits::{Duplicate, Exact, same};

@@ -1,6 +1,7 @@
 use Rattle.std.proofs.Common.{◌*◌, arith, sym, ap, ◌∙◌, Some}
 use Rattle.df_csv.specs.Typed.{piece_of}
-use Rattle.df_csv.proofs.PieceFacts.{piece_at, starts_within, take_left}
+use Rattle.df_csv.specs.PieceStarts.{piece_at}
+use Rattle.df_csv.proofs.PieceFacts.{starts_within, take_left}
 use Rattle.df_csv.proofs.pieces.type_piece.Goals as goal
 
 pub overflow_mul-first : goal.overflow_mul-first

@@ -4,5 +4,5 @@ use Rattle.df_csv.proofs.typed.type_chunk.Goals as goal
 
 pub chunk_of-requires : goal.chunk_of-requires
 chunk_of-requires c =
-    let typed = rw (c.as_slice-2.ensures, c.columns.ensures.value, c.part-records.ensures, c.as_slice.ensures, c.rows.ensures) at (sym c.in_ok-rows.ensures ∙ c.in-Good.is) in
+    let typed = rw (c.as_slice-columns.ensures, c.columns.ensures.value) at (sym c.in_ok-rows.ensures ∙ c.in-Good.is) in
     no_fault c.args.schema.now c.args.first _ c.args.len c.args.records.now c.in-Good.rows c.requires.sound.even typed c.requires.short (omega (arith, c.requires.within, c.requires.sound.few))

@@ -3,9 +3,9 @@ use Rattle.std.specs.Prelude.{unwrap_or}
 use Rattle.csv.specs.Records.{fields_of}
 use Rattle.df_csv.proofs.HeaderFacts.{unwrap_now}
 use Rattle.df_csv.proofs.TextFields.{text_at}
-use Rattle.df_csv.proofs.csv_header.field_of.Goals as goal
+use Rattle.df_csv.proofs.csv_header.field_in.Goals as goal
 
-pub text_of-requires : goal.text_of-requires
-text_of-requires c =
+pub from_utf8_unchecked-requires : goal.from_utf8_unchecked-requires
+from_utf8_unchecked-requires c =
     let e = ap (λ (b : Bor (List ℕ)). b.now) c.unwrap_or-field.ensures ∙ unwrap_now c.get.result _ ∙ ap (λ o. unwrap_or o []) c.get.ensures.value in
     rw e (text_at (fields_of c.args.row.now) c.args.place c.requires)

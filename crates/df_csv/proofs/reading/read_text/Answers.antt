@@ -4,7 +4,7 @@ use Rattle.csv.specs.Records.{fields_of}
 use Rattle.df_csv.specs.Rows.{rows_left}
 use Rattle.df_csv.proofs.TextFields.{texts_next}
 use Rattle.df_csv.proofs.TopFacts.{every_text, opened, row_gives, top_row_fault, top_end, top_end_fault}
-use Rattle.df_csv.proofs.records.read_text.Goals as goal
+use Rattle.df_csv.proofs.reading.read_text.Goals as goal
 
 pub names_of-requires : goal.names_of-requires
 names_of-requires c =
@@ -39,7 +39,7 @@ returns-in-Ok-places_of-2 c =
     let all = opened (λ (s : Bor (List ℕ)). Some s.now) c.from_reader-reader.result c.args.bytes.now c.from_reader-reader.ensures.state (c.from_reader-reader.ensures.source ∙ ap (λ t. Some (strip_bom t)) c.requires.marks) in
     let utf8 = rw c.requires.marks at c.requires.utf8 in
     let h = c.in-Ok-places_of-2.ensures in
-    rw (c.from_vec.ensures, c.new-in-Ok-places_of-2.ensures.items) (top_end c.args.bytes.now c.args.columns.now _ utf8 all c.in-End.ensures h.0)
+    rw c.new-in-Ok-places_of-2.ensures (top_end c.args.bytes.now c.args.columns.now _ utf8 all c.in-End.ensures h.0)
 
 pub returns-in-End : goal.returns-in-End
 returns-in-End c =

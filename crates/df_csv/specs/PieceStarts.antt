@@ -1,0 +1,54 @@
+-- That each piece stands at its place, and that a good one begins with the row that its source says: facts for the
+-- laws of a source.
+use Rattle.std.specs.Prelude.{◌≡◌, ◌+◌, ◌*◌, ◌<◌, ℕ, zero, suc, List, length, map, take, drop, Option, Some, option_map, slice_get}
+use Rattle.std.specs.List.{range_with_len}
+use Rattle.std.proofs.Common.{ap, arith, refl, sym, ◌∙◌, zero-add}
+use Rattle.std.proofs.lemmas.List.{length-map}
+use Rattle.std.proofs.lemmas.Option.{same_Some, slice_get-map, slice_get_within}
+use Rattle.df_value.specs.Chunks.{ChunkParts}
+use Rattle.df_value.specs.declared.cell.CellType.{CellType}
+use Rattle.df_value.specs.declared.chunk.Made.{Made}
+use Rattle.df_value.specs.declared.chunk.Made.TheVariants as made
+use Rattle.df_csv.specs.declared.typed.TypedRows.{TypedRows}
+use Rattle.df_csv.specs.declared.typed.TypedRows.TheVariants as all
+use Rattle.df_csv.specs.Records.{Rows}
+use Rattle.df_csv.specs.Sources.{CsvParts, chunks_of, start_of}
+use Rattle.df_csv.specs.Typed.{made_of, piece_count, piece_of, pieces_of}
+
+pub range_length : (a m : ℕ) → length (range_with_len a m) ≡ m
+range_length a zero = refl
+range_length a (suc m) = ap suc (range_length (a + 1) m)
+
+pub range_at : (a m n : ℕ) → n < m → slice_get (range_with_len a m) n ≡ Some (a + n)
+range_at a zero n h = absurd (omega arith)
+range_at a (suc m) zero h = ap Some (omega arith)
+range_at a (suc m) (suc n) h = range_at (a + 1) m n (omega arith) ∙ ap Some (omega arith)
+
+pub pieces_length : (schema : List (List ℕ × CellType)) (k : ℕ) (records : Rows) → length (pieces_of schema k records) ≡ piece_count k (length records)
+pieces_length schema k records =
+    length-map (range_with_len 0 (piece_count k (length records))) (λ (i : ℕ). piece_of schema (i * k) (take k (drop (i * k) records)))
+    ∙ range_length 0 (piece_count k (length records))
+
+pub piece_at : (schema : List (List ℕ × CellType)) (k n : ℕ) (records : Rows) → n < piece_count k (length records)
+    → slice_get (pieces_of schema k records) n ≡ Some (piece_of schema (n * k) (take k (drop (n * k) records)))
+piece_at schema k n records h =
+    let f : ℕ → Made = λ i. piece_of schema (i * k) (take k (drop (i * k) records)) in
+    slice_get-map f (range_with_len 0 (piece_count k (length records))) n
+    ∙ ap (option_map f) (range_at 0 (piece_count k (length records)) n h) ∙ ap (λ i. Some (f i)) (zero-add n)
+
+-- the first number of a good chunk
+abbrev first_of : Made → ℕ → ℕ
+first_of (made.Good chunk) other = chunk.first
+first_of (made.Bad cell) other = other
+
+made_first : (schema : List (List ℕ × CellType)) (first : ℕ) (rows : TypedRows) → first_of (made_of schema first rows) first ≡ first
+made_first schema first (all.Good rows) = refl
+made_first schema first (all.Bad cell) = refl
+
+-- a good chunk begins with the row that its source says
+pub starts_there : (source : CsvParts) (n : ℕ) (chunk : ChunkParts) → slice_get (chunks_of source) n ≡ Some (made.Good chunk) → chunk.first ≡ start_of source n
+starts_there source n chunk e =
+    let within : n < piece_count source.size (length source.records) =
+    omega (arith, slice_get_within (chunks_of source) n (made.Good chunk) e, pieces_length source.schema source.size source.records) in
+    let is = same_Some _ _ (sym (piece_at source.schema source.size n source.records within) ∙ e) in
+    sym (ap (λ m. first_of m (n * source.size)) is) ∙ made_first source.schema (n * source.size) _

@@ -1,0 +1,31 @@
+//! Where the rows of a frame come from.
+ghost use Rattle.std.specs.Prelude.{◌≡◌, ◌<◌, ℕ, IfOk, List, Some, length, slice_get};
+ghost use Rattle.df_value.specs.Chunks.{ChunkParts};
+ghost use Rattle.df_value.specs.declared.chunk.Made.{Made};
+ghost use Rattle.df_value.specs.declared.chunk.Made.TheVariants as made_as;
+
+use crate::chunk::Made;
+use std::alloc::{AllocError, Global};
+
+/// A finite list of made chunks, the same at each call.
+pub trait Source {
+    ghost made: { Self → List Made };
+
+    ghost start_of: { Self → ℕ → ℕ };
+
+    /// How many chunks there are.
+    fn chunks(&self) -> u64
+        ensures { result ≡ length (made self.now) };
+
+    /// The chunk at this place, from 0. `Err` says that memory was refused.
+    fn chunk(&self, alloc: Global, n: u64) -> Result<Made, AllocError>
+        requires { n < length (made self.now) }
+        ensures { IfOk result (λ chunk. slice_get (made self.now) n ≡ Some chunk) };
+
+    /// The number of the first row of the chunk at this place, which is known of a bad one too.
+    fn start(&self, n: u64) -> u32
+        requires { n < length (made self.now) }
+        ensures { result ≡ start_of self.now n };
+
+    ghost starts: { (source : Self) (n : ℕ) (chunk : ChunkParts) → slice_get (made source) n ≡ Some (made_as.Good chunk) → chunk.first ≡ start_of source n };
+}
