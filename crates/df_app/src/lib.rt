@@ -1,17 +1,21 @@
 //! A run of `dfviews`: the bytes of a view document in, the bytes of its printed views out.
 #![tactic(auto)]
 
+mod command_line;
 mod fault;
 mod fault_texts;
 mod outcome;
 mod output;
 mod pieces;
+mod reading_words;
 mod refused;
 mod running;
 
+pub use command_line::Words;
 pub use fault::RunFault;
 pub use fault_texts::fault_text;
 pub use outcome::Outcome;
+pub use reading_words::words;
 pub use running::{MOST_BYTES_OF_DOCUMENT, run};
 
 #[cfg(test)]
@@ -24,3 +28,5 @@ mod tests_joins;
 mod tests_steps;
 #[cfg(test)]
 mod tests_windows;
+#[cfg(test)]
+mod tests_words;
