@@ -1,14 +1,15 @@
--- The frames of a view document: each has the keys `name` and `text`, both texts, and `columns`, an array of
--- columns, each an array of a name and the word of a type.
+-- The frames of a view document: each has the keys `name`, a text, and `columns`, an array of columns, each an array of
+-- a name and the word of a type, and exactly one of `path` (of a file) and `text` (the CSV itself), both texts.
 use Rattle.std.specs.Prelude.{◌||◌, ℕ, Bool, List, [], length, codes, Option, Some, None, Result, Ok, Err, if◌then◌else◌}
 use Rattle.std.specs.List.{list_any}
 use Rattle.std.specs.Str.{bytes_eq}
-use Rattle.toml.specs.Data.{Data, Members}
+use Rattle.toml.specs.Data.{Data, Members, get_member}
 use Rattle.df_value.specs.declared.cell.CellType.{CellType}
 use Rattle.df_value.specs.declared.cell.CellType.TheVariants as kind
 use Rattle.df_value.specs.declared.schema.SchemaFault.{SchemaFault}
 use Rattle.df_value.specs.SchemaFaults.{schema_fault}
 use Rattle.df_text.specs.declared.document.FrameSpec.{FrameSpec}
+use Rattle.df_text.specs.declared.document.FrameSource.{FrameSource}
 use Rattle.df_text.specs.declared.document.FrameSource.TheVariants as source
 use Rattle.df_text.specs.declared.document.Place.{Place}
 use Rattle.df_text.specs.declared.document.Place.TheVariants as place
@@ -18,22 +19,32 @@ use Rattle.df_text.specs.Reading.{then_read, read_after, read_each}
 use Rattle.df_text.specs.Tree.{keys_pass, value_at, text_in, array_in, table_in, pair_in}
 
 abbrev pub is_frame_key : List ℕ → Bool
-is_frame_key k = bytes_eq k (codes "name") || (bytes_eq k (codes "columns") || bytes_eq k (codes "text"))
+is_frame_key k =
+    bytes_eq k (codes "name") || (bytes_eq k (codes "columns") || (bytes_eq k (codes "path") || bytes_eq k (codes "text")))
+
+-- where the records come from, by what stands at `path` and at `text`: one of them is there, and is a text
+abbrev pub one_source : Place → Option Data → Option Data → Result FrameSource ViewsFault
+one_source at (Some p) None = then_read (text_in at p) (λ path. Ok (source.Path path))
+one_source at None (Some t) = then_read (text_in at t) (λ text. Ok (source.Text text))
+one_source at (Some p) (Some t) = Err (fault.Shape at)
+one_source at None None = Err (fault.Shape at)
+
+abbrev pub source_of : Place → Members → Result FrameSource ViewsFault
+source_of at ms = one_source at (get_member (codes "path") ms) (get_member (codes "text") ms)
 
 -- what stands at the keys of a frame
 pub record FrameEntries : Type 0 where
   pub name : List ℕ
   pub columns : List Data
-  pub text : List ℕ
+  pub source : FrameSource
 
--- exactly the three keys, each with a value of its kind
+-- the keys of a frame and no other, each with a value of its kind (a fault in any of these is the same one)
 abbrev pub entries_of_frame : Place → Members → Result FrameEntries ViewsFault
 entries_of_frame at ms =
     if keys_pass is_frame_key ms then
     then_read (value_at at (codes "name") ms) (λ n. then_read (text_in at n) (λ name.
     then_read (value_at at (codes "columns") ms) (λ c. then_read (array_in at c) (λ columns.
-    then_read (value_at at (codes "text") ms) (λ t. then_read (text_in at t) (λ text.
-    Ok (record { name = name; columns = columns; text = text })))))))
+    then_read (source_of at ms) (λ source. Ok (record { name = name; columns = columns; source = source }))))))
     else Err (fault.Shape at)
 
 -- the type that a word names
@@ -71,7 +82,7 @@ frame_of before d =
     then_read (read_each (column_of at) entries.columns) (λ columns.
     then_read (schema_of (length before) columns) (λ schema.
     then_read (new_name at entries.name before) (λ name.
-    Ok (record { name = name; schema = schema; source = source.Text entries.text }))))))
+    Ok (record { name = name; schema = schema; source = entries.source }))))))
 
 abbrev pub frames_of : List Data → Result (List FrameSpec) ViewsFault
 frames_of ds = read_after frame_of [] ds

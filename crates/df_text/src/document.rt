@@ -20,6 +20,8 @@ pub struct FrameSpec {
 /// Where the records of a frame come from.
 #[derive(Debug, Drop)]
 pub enum FrameSource {
+    /// The path of a file that has the CSV, as the document writes it.
+    Path(Text),
     /// The CSV itself.
     Text(Text),
 }

@@ -1,26 +1,27 @@
 //! The frames of a view document.
-ghost use Rattle.std.specs.Prelude.{◌≡◌, [], MatchResult, Ok, Err, map, length, string_bytes, codes};
+ghost use Rattle.std.specs.Prelude.{◌≡◌, ◌≢◌, [], MatchResult, Ok, Err, map, length, string_bytes, codes};
 ghost use Rattle.std.specs.List.{list_any, list_all};
 ghost use Rattle.std.specs.Map.{keys_of};
 ghost use Rattle.std.specs.Str.{bytes_eq};
 ghost use Rattle.toml.specs.View.{table_view, view};
 ghost use Rattle.df_text.specs.Reading.{Answers, read_each};
-ghost use Rattle.df_text.specs.Tree.{keys_pass};
-ghost use Rattle.df_text.specs.Frames.{is_frame_key as is_key_of_frame, entries_of_frame, type_of_word, column_of, schema_of, frame_of, frames_of};
+ghost use Rattle.df_text.specs.declared.views_fault.ViewsFault.TheVariants.{Memory};
+ghost use Rattle.df_text.specs.Tree.{keys_pass, text_in as text_of};
+ghost use Rattle.df_text.specs.Frames.{is_frame_key as is_key_of_frame, source_of, entries_of_frame, type_of_word, column_of, schema_of, frame_of, frames_of};
 
 use crate::document::{FrameSource, FrameSpec, Place};
-use crate::tree::{array_in, pair_in, table_in, text_in, value_at};
+use crate::tree::{array_in, find, pair_in, table_in, text_in, value_at};
 use crate::views_fault::ViewsFault;
 use df_value::{CellType, List, Schema, Text};
 use std::alloc::Global;
 use toml::{Table, Value};
 
 /// What stands at the keys of a frame.
-#[derive(Clone, Copy)]
+#[derive(Drop)]
 struct FrameEntries<'a> {
     name: &'a str,
     columns: &'a [Value],
-    text: &'a str,
+    source: FrameSource,
 }
 
 /// The frames of these tables, or the first fault.
@@ -40,39 +41,56 @@ fn read_frame(alloc: Global, before: &[FrameSpec], value: &Value) -> Result<Fram
     ensures { Answers (frame_of before.now (view value.now)) result }
 {
     let place = Place::Frame(before.len());
-    let entries = frame_entries(place, table_in(place, value)?)?;
+    let entries = frame_entries(alloc, place, table_in(place, value)?)?;
     let columns = read_columns(alloc, place, entries.columns)?;
     let schema = read_schema(before.len(), columns)?;
     if has_frame(before, entries.name) {
         return Err(ViewsFault::Doubled(place));
     }
     let name = Text::from_str(alloc, entries.name)?;
-    let source = FrameSource::Text(Text::from_str(alloc, entries.text)?);
     Ok(FrameSpec {
         name,
         schema,
-        source,
+        source: entries.source,
     })
 }
 
-/// What stands at the keys of a frame, if they are its three keys.
-fn frame_entries(place: Place, table: &Table) -> Result<FrameEntries<'_>, ViewsFault>
+/// What stands at the keys of a frame, if it has no others.
+fn frame_entries(alloc: Global, place: Place, table: &Table) -> Result<FrameEntries<'_>, ViewsFault>
     ensures { MatchResult result
         (λ e. entries_of_frame place (table_view table.now)
-        ≡ Ok (record { name = e.name.now; columns = map view e.columns.now; text = e.text.now }))
-        (λ f. entries_of_frame place (table_view table.now) ≡ Err f) }
+        ≡ Ok (record { name = e.name.now; columns = map view e.columns.now; source = e.source }))
+        (λ f. f ≢ Memory → entries_of_frame place (table_view table.now) ≡ Err f) }
 {
     if !has_frame_keys(table) {
         return Err(ViewsFault::Shape(place));
     }
     let name = text_in(place, value_at(place, table, "name")?)?;
     let columns = array_in(place, value_at(place, table, "columns")?)?;
-    let text = text_in(place, value_at(place, table, "text")?)?;
+    let source = read_source(alloc, place, table)?;
     Ok(FrameEntries {
         name,
         columns,
-        text,
+        source,
     })
+}
+
+/// Where the records of a frame come from: exactly one of the keys `path` and `text` says it.
+fn read_source(alloc: Global, place: Place, table: &Table) -> Result<FrameSource, ViewsFault>
+    ensures { Answers (source_of place (table_view table.now)) result }
+{
+    match (find(table, "path"), find(table, "text")) {
+        (Some(path), None) => Ok(FrameSource::Path(copied_text(alloc, place, path)?)),
+        (None, Some(text)) => Ok(FrameSource::Text(copied_text(alloc, place, text)?)),
+        (Some(_), Some(_)) | (None, None) => Err(ViewsFault::Shape(place)),
+    }
+}
+
+/// A copy of the text that a value is.
+fn copied_text(alloc: Global, place: Place, value: &Value) -> Result<Text, ViewsFault>
+    ensures { Answers (text_of place (view value.now)) result }
+{
+    Ok(Text::from_str(alloc, text_in(place, value)?)?)
 }
 
 /// Whether a table has no key but those of a frame.
@@ -91,7 +109,7 @@ fn all_frame_keys(table: &Table) -> bool
 fn is_frame_key(key: &str) -> bool
     ensures { result ≡ is_key_of_frame key.now }
 {
-    key == "name" || key == "columns" || key == "text"
+    key == "name" || key == "columns" || key == "path" || key == "text"
 }
 
 /// The columns of a frame, from left to right.

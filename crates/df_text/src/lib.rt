@@ -44,3 +44,5 @@ mod tests_joins;
 mod tests_steps;
 #[cfg(test)]
 mod tests_views;
+#[cfg(test)]
+mod tests_windows;

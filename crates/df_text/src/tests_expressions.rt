@@ -139,7 +139,10 @@ fn write_plan(alloc: Global, plan: &Plan, out: &mut String) -> Result<(), AllocE
             write_plan(alloc, input.get(), out)?;
             out.push_str(", groups")
         }
-        Plan::Join(_, _, _, _) => out.push_str("join"),
+        Plan::Join(_, _, _, _)
+        | Plan::Rolling(_, _, _, _, _, _)
+        | Plan::CumSum(_, _, _)
+        | Plan::Rank(_, _, _, _) => out.push_str("another plan"),
     }
 }
 

@@ -60,6 +60,12 @@ fn write_plan(alloc: Global, plan: &Plan, out: &mut String) -> Result<(), AllocE
             out.push_str(")")?;
             write_keys(*how, keys, out)
         }
+        Plan::Rolling(input, _, _, _, _, _)
+        | Plan::CumSum(input, _, _)
+        | Plan::Rank(input, _, _, _) => {
+            write_plan(alloc, input.get(), out)?;
+            out.push_str(", window")
+        }
     }
 }
 
@@ -102,6 +108,10 @@ fn plans_of_joins(rt: HostRuntime) -> Result<(), Fail> {
             "['join','inner',['k'],{from='b',steps=[['join','left',['j'],
             {from='a',steps=[['filter',true]]}],['group_by',['k']]]}],['select']",
             "0, join (1, join (0, filter) left on j, group) inner on k, select",
+        ),
+        (
+            "['cum_sum','s','k'],['join','left',['s'],{from='b',steps=[['rank','s','dense','j']]}]",
+            "0, window, join (1, window) left on s",
         ),
     ];
     for (steps, want) in rows {

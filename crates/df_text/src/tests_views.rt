@@ -59,7 +59,9 @@ fn are_sales(frames: &List<FrameSpec>) -> bool {
     let Some(frame) = frames.get(0) else {
         return false;
     };
-    let FrameSource::Text(text) = &frame.source;
+    let FrameSource::Text(text) = &frame.source else {
+        return false;
+    };
     frames.len() == 1
         && frame.name.as_str() == "sales"
         && text.as_str() == "region,qty\nnorth,3\nsouth,\nnorth,-1\n"
@@ -132,7 +134,17 @@ fn empty(rt: HostRuntime) -> Result<(), Fail> {
 #[test]
 fn not_toml(rt: HostRuntime) -> Result<(), Fail> {
     assert!(rt; matches!(read_views(rt.alloc(), &[255]), Err(ViewsFault::NotToml)));
-    assert!(rt; refuses(rt.alloc(), "frame = ", &ViewsFault::NotToml));
+    let texts = [
+        "frame = ",
+        "other = 9223372036854775808",
+        "frame = [{name='a',name='b'}]",
+        "[[frame]]\n[frame]",
+    ];
+    for text in texts {
+        assert!(rt; refuses(rt.alloc(), text, &ViewsFault::NotToml), "{text}");
+    }
+    let deep = repeated(rt.alloc(), "other = ", "[", 81, "")?;
+    assert!(rt; refuses(rt.alloc(), deep.as_str(), &ViewsFault::NotToml));
     Ok(())
 }
 
@@ -201,6 +213,39 @@ fn top(rt: HostRuntime) -> Result<(), Fail> {
     Ok(())
 }
 
+// Whether a frame's records come from this path, or else are this text.
+fn comes_from(source: &FrameSource, is_path: bool, want: &str) -> bool {
+    match source {
+        FrameSource::Path(path) => is_path && path.as_str() == want,
+        FrameSource::Text(text) => !is_path && text.as_str() == want,
+    }
+}
+
+#[test]
+fn sources(rt: HostRuntime) -> Result<(), Fail> {
+    let rows = [
+        (
+            "name='t',columns=[['x','Int']],path='a/b.csv'",
+            true,
+            "a/b.csv",
+        ),
+        ("path='',columns=[['x','Int']],name='t'", true, ""),
+        (
+            "text='x',columns=[['x','Int'],['y','Bool']],name='t'",
+            false,
+            "x",
+        ),
+        ("columns=[['x','Int']],text='',name=''", false, ""),
+    ];
+    for row in &rows {
+        let text = repeated(rt.alloc(), "frame = [{", row.0, 1, "}]")?;
+        let said = read_views(rt.alloc(), text.as_bytes())?;
+        let frame = said.frames.get(0).ok_or("no frame")?;
+        assert!(rt; comes_from(&frame.source, row.1, row.2), "{}", row.0);
+    }
+    Ok(())
+}
+
 // The frame `t`, and another one of that name with these entries; then a view without a key.
 fn with_frame(alloc: Global, entries: &str) -> Result<String, AllocError> {
     let mut text = String::new(alloc);
@@ -214,8 +259,14 @@ fn with_frame(alloc: Global, entries: &str) -> Result<String, AllocError> {
 fn shapes_of_frames(rt: HostRuntime) -> Result<(), Fail> {
     let shapes = [
         "columns=[],text='',path='p'",
+        "path='p',columns=[['x','No']],text=1",
+        "columns=[['x','No']],path=1,text=''",
+        "columns=[['x','No']],path=1",
+        "columns=[['x','No']],path=['p']",
+        "columns=[['x','No']],path='p',more=1",
         "columns=[['x','No']],more=1,text=''",
         "columns=[['x','No']]",
+        "path='p'",
         "columns=[['x','No']],text=1979-05-27",
         "columns={},text=''",
         "columns=['x'],text=''",
@@ -252,6 +303,10 @@ fn other_faults_of_frames(rt: HostRuntime) -> Result<(), Fail> {
         ),
         (
             "columns=[['x','Int']],text=''",
+            ViewsFault::Doubled(Place::Frame(1)),
+        ),
+        (
+            "path='',columns=[['x','Int']]",
             ViewsFault::Doubled(Place::Frame(1)),
         ),
     ];

@@ -44,13 +44,16 @@ struct ViewEntries<'a> {
 /// The frames and views that a document names, in its order.
 ///
 /// A document is TOML 1.1. Its top has at most the keys `frame` and `view`, each an array of tables; a
-/// missing one is empty. A frame has the keys `name`, `text` (the CSV itself) and `columns`, an array of
-/// arrays of a name and one of the words `Int`, `Text`, `Bool`. A view has the keys `name`, `from` (a
-/// frame's name) and perhaps `steps`, an array of at most 64 steps, which are applied in order; without
-/// one the view is the frame. Whether a frame has the columns that a plan names is not asked here.
+/// missing one is empty. A frame has the keys `name`, `columns`, an array of arrays of a name and one of
+/// the words `Int`, `Text`, `Bool`, and exactly one of `path` (a file's, which is not opened here) and
+/// `text` (the CSV itself). A view has the keys `name`, `from` (a frame's name) and perhaps `steps`, an
+/// array of at most 64 steps, which are applied in order; without one the view is the frame. Whether a
+/// frame has the columns that a plan names is not asked here.
 ///
 /// The steps are `["filter", expression]`, `["select", [output, expression], ..]`, `["with_columns",
-/// [output, expression], ..]`, `["group_by", [key, ..], [output, "len"], [output, "sum", column], ..]` and
+/// [output, expression], ..]`, `["group_by", [key, ..], [output, "len"], [output, "sum", column], ..]`,
+/// `["rolling_sum", output, column, rows, least]` (also `rolling_min`, `rolling_max`; a missing `least` is
+/// `rows`), `["cum_sum", output, column]`, `["rank", output, "dense", column]` and
 /// `["join", kind, [key, ..], right]`, where the kind is `inner` or `left`, and the right side a frame's
 /// name or a table with the keys `from` and perhaps `steps`, as a view has them: its steps, too, may join.
 /// An expression is an integer, a Boolean or a text, which stands for itself; `["col", name]`; `["null",
@@ -58,7 +61,8 @@ struct ViewEntries<'a> {
 /// `<`, `<=`, `>`, `>=`, `&`, `|`, `eq_missing`, `fill_null` before two.
 ///
 /// Answered is the first fault in this order: `NotToml`; of the top `Shape`, `TooManyFrames` above 8,
-/// `TooManyViews` above 32; frame by frame `Shape` of its keys, column by column `Shape` before `Word`,
+/// `TooManyViews` above 32; frame by frame `Shape` of its keys (also of both or none of `path` and
+/// `text`), column by column `Shape` before `Word`,
 /// then `Schema`, then `Doubled`; view by view `Shape` of its keys (also of more than 64 steps),
 /// `Doubled`, `NoFrame`, then step by step. Of a step and of an expression comes the word (`Shape`, then
 /// `Word`), then the number of items, then the items from left to right, each with its inside. Of an

@@ -40,7 +40,12 @@ pub fn rolling(
 }
 
 /// A cumulative sum: output, column.
-pub fn cum_sum(alloc: Global, place: Place, input: Plan, items: &[Value]) -> Result<Plan, ViewsFault>
+pub fn cum_sum(
+    alloc: Global,
+    place: Place,
+    input: Plan,
+    items: &[Value],
+) -> Result<Plan, ViewsFault>
     ensures { Answers (cum_sum_of place input (map view items.now)) result }
 {
     let input = Boxed::new(alloc, input)?;
