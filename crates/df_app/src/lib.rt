@@ -4,6 +4,7 @@
 mod command_line;
 mod fault;
 mod fault_texts;
+mod files;
 mod outcome;
 mod output;
 mod pieces;
@@ -14,6 +15,7 @@ mod running;
 pub use command_line::Words;
 pub use fault::RunFault;
 pub use fault_texts::fault_text;
+pub use files::Files;
 pub use outcome::Outcome;
 pub use reading_words::words;
 pub use running::{MOST_BYTES_OF_DOCUMENT, run};
@@ -22,6 +24,8 @@ pub use running::{MOST_BYTES_OF_DOCUMENT, run};
 mod tests;
 #[cfg(test)]
 mod tests_aggregates;
+#[cfg(test)]
+mod tests_files;
 #[cfg(test)]
 mod tests_joins;
 #[cfg(test)]
