@@ -143,8 +143,19 @@ fn not_toml(rt: HostRuntime) -> Result<(), Fail> {
     for text in texts {
         assert!(rt; refuses(rt.alloc(), text, &ViewsFault::NotToml), "{text}");
     }
-    let deep = repeated(rt.alloc(), "other = ", "[", 81, "")?;
-    assert!(rt; refuses(rt.alloc(), deep.as_str(), &ViewsFault::NotToml));
+    Ok(())
+}
+
+#[test]
+fn deepest(rt: HostRuntime) -> Result<(), Fail> {
+    for (depth, fault) in [
+        (80, ViewsFault::Shape(Place::Top)),
+        (81, ViewsFault::NotToml),
+    ] {
+        let ends = repeated(rt.alloc(), "", "]", depth, "")?;
+        let text = repeated(rt.alloc(), "other = ", "[", depth, ends.as_str())?;
+        assert!(rt; refuses(rt.alloc(), text.as_str(), &fault), "{depth}");
+    }
     Ok(())
 }
 
