@@ -1,6 +1,6 @@
 //! Worked documents, and readers and writers that fail.
 use crate::tests_files::HeldFiles;
-use crate::{Outcome, RunFault, fault_text, run};
+use crate::{MOST_BYTES_OF_DOCUMENT, Outcome, RunFault, fault_text, run};
 use df_text::{CsvFault, ViewsFault};
 use df_value::Text;
 use std::alloc::Global;
@@ -226,6 +226,18 @@ fn limits(rt: HostRuntime) -> Result<(), Fail> {
         "{SALES}text = \"region,qty\"\n[[view]]\nname = \"v\"\nfrom = \"sales\"\nsteps = [[\"group_by\", [\"qty\"]{outputs}]]\n"
     )?;
     fails(&rt, alloc, wide.as_str(), "v: P8")
+}
+
+#[test]
+fn bytes_of_a_document(rt: HostRuntime) -> Result<(), Fail> {
+    let alloc = rt.alloc();
+    let mut document = String::new(alloc);
+    for _ in 0..MOST_BYTES_OF_DOCUMENT {
+        document.push('\n')?;
+    }
+    writes(&rt, alloc, document.as_str(), 1000, ("", Outcome::Clean))?;
+    document.push('\n')?;
+    fails(&rt, alloc, document.as_str(), "V9")
 }
 
 // Gives at most so many bytes a call; the call of this number fails.
