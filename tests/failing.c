@@ -1,8 +1,8 @@
-// A library to preload under the program: it makes one allocation, one read of standard input or one write
-// to standard output fail, as if the system had refused it.
+// A library to preload under the program: it makes one allocation, one read of standard input or of a file,
+// or one write to standard output fail, as if the system had refused it.
 //
-// FAIL_ALLOC, FAIL_READ, FAIL_WRITE: the number of the call that fails, from 1. SHORT: reads and writes of
-// several bytes move one. COUNTS: a file that gets the numbers of these calls at the end.
+// FAIL_ALLOC, FAIL_READ, FAIL_FILE_READ, FAIL_WRITE: the number of the call that fails, from 1. SHORT: reads
+// and writes of several bytes move one. COUNTS: a file that gets the numbers of these calls at the end.
 //
 // It stands on no header, so that the toolchain's own compiler is enough: the numbers are those of Linux on
 // x86-64.
@@ -24,7 +24,7 @@ extern void *__libc_calloc(size_t count, size_t size);
 extern void *__libc_realloc(void *block, size_t size);
 extern void *__libc_memalign(size_t align, size_t size);
 
-static long allocs, reads, writes;
+static long allocs, reads, file_reads, writes;
 
 static long number(const char *name) {
     const char *text = getenv(name);
@@ -58,11 +58,11 @@ int posix_memalign(void **block, size_t align, size_t size) {
 static size_t moved(size_t size) { return number("SHORT") && size > 1 ? 1 : size; }
 
 ssize_t read(int file, void *bytes, size_t size) {
-    if (file == 0 && refused(&reads, "FAIL_READ")) {
+    if (file == 0 ? refused(&reads, "FAIL_READ") : refused(&file_reads, "FAIL_FILE_READ")) {
         *__errno_location() = INPUT_OUTPUT;
         return -1;
     }
-    return syscall(CALL_READ, file, bytes, file == 0 ? moved(size) : size);
+    return syscall(CALL_READ, file, bytes, moved(size));
 }
 
 ssize_t write(int file, const void *bytes, size_t size) {
@@ -77,7 +77,7 @@ __attribute__((destructor)) static void count(void) {
     const char *path = getenv("COUNTS");
     if (!path) return;
     char line[80];
-    int length = snprintf(line, sizeof line, "%ld %ld %ld\n", allocs, reads, writes);
+    int length = snprintf(line, sizeof line, "%ld %ld %ld %ld\n", allocs, reads, file_reads, writes);
     int file = open(path, WRITE_CREATE_EMPTY, 0600);
     if (file >= 0) syscall(CALL_WRITE, file, line, (size_t)length);
 }

@@ -2,8 +2,9 @@
 # Runs a program over a document with each allocation, read and write refused in turn:
 # refusals.sh PROGRAM DOCUMENT, where DOCUMENT.stdout is its whole output and DOCUMENT.status, if it is there,
 # the status that goes with it. A refused allocation ends in
-# `dfviews: memory` or leaves the output as it is; a refused read is V10 and a refused write `write`, with
-# nothing or a prefix of the output written. Prints what went otherwise, and ends with a count.
+# `dfviews: memory` or leaves the output as it is; a refused read of the document is V10, one of a frame's file F1
+# and a refused write `write`, with nothing or a prefix of the output written. Prints what went otherwise, and ends
+# with a count.
 set -u
 program=$1
 document=$2
@@ -23,9 +24,9 @@ run() {
 
 whole() { [ "$status" -eq "$want_status" ] && cmp -s "$work/out" "$want" && [ ! -s "$work/err" ]; }
 
-# The fault of this text, with at most a prefix of the output written.
+# The fault of this pattern, with at most a prefix of the output written.
 faulted() {
-  [ "$status" -eq 2 ] && [ "$(cat "$work/err")" = "dfviews: $1" ] &&
+  [ "$status" -eq 2 ] && [[ "$(cat "$work/err")" == "dfviews: "$1 ]] &&
     cmp -s "$work/out" <(head -c "$(stat -c %s "$work/out")" "$want")
 }
 
@@ -37,7 +38,7 @@ other() {
 
 run COUNTS="$work/counts"
 whole || other "no refusal"
-read -r allocs reads writes < "$work/counts"
+read -r allocs reads file_reads writes < "$work/counts"
 for n in $(seq 1 "$allocs"); do
   run FAIL_ALLOC="$n"
   whole || { faulted memory && [ ! -s "$work/out" ]; } || other "allocation $n"
@@ -46,20 +47,28 @@ for n in $(seq 1 "$reads"); do
   run FAIL_READ="$n"
   { faulted V10 && [ ! -s "$work/out" ]; } || other "read $n"
 done
+for n in $(seq 1 "$file_reads"); do
+  run FAIL_FILE_READ="$n"
+  { faulted "*: F1" && [ ! -s "$work/out" ]; } || other "read $n of a file"
+done
 for n in $(seq 1 "$writes"); do
   run FAIL_WRITE="$n"
   faulted write || other "write $n"
 done
 run SHORT=1 COUNTS="$work/counts"
 whole || other "short reads and writes"
-read -r _ reads writes < "$work/counts"
+read -r _ reads file_reads writes < "$work/counts"
 for n in $(seq 1 "$reads"); do
   run SHORT=1 FAIL_READ="$n"
   { faulted V10 && [ ! -s "$work/out" ]; } || other "short read $n"
+done
+for n in $(seq 1 "$file_reads"); do
+  run SHORT=1 FAIL_FILE_READ="$n"
+  { faulted "*: F1" && [ ! -s "$work/out" ]; } || other "short read $n of a file"
 done
 for n in $(seq 1 "$writes"); do
   run SHORT=1 FAIL_WRITE="$n"
   faulted write || other "short write $n"
 done
-echo "$document: $allocs allocations, $reads reads and $writes writes refused in turn, $wrong otherwise"
+echo "$document: $allocs allocations, $reads reads, $file_reads of files and $writes writes refused in turn, $wrong otherwise"
 [ "$wrong" -eq 0 ]

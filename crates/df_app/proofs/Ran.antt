@@ -1,73 +1,100 @@
 -- What a run did, from what its document gave and what was then written.
-use Rattle.std.proofs.Common.{◌≡◌, ◌≢◌, ◌≤◌, ℕ, List, length, ap, sym, subst, ◌∙◌}
+use Rattle.std.proofs.Common.{◌≡◌, ◌≤◌, ℕ, List, length, ap, sym, subst, ◌∙◌}
 use Rattle.std.specs.Prelude.{Option, Some, None, IfSome, IfErr, Result, Ok, Err, Bool, cond, ◌<◌}
 use Rattle.std.proofs.lemmas.Bool.{le-ltb, lt-ltb}
 use Rattle.std.specs.Io.KnownBytes.{Keeps}
-use Rattle.df_app.specs.Output.{Answers, ComesFromBytes, output_from, output_of}
+use Rattle.df_csv.specs.declared.csv_fault.CsvFault.{CsvFault}
+use Rattle.df_csv.specs.declared.csv_fault.CsvFault.TheVariants as csv
+use Rattle.df_app.specs.Output.{Answers, ComesFromBytes, Contents, KnowsFiles, TellsOfBytes, output_from, output_of}
 use Rattle.df_app.specs.Ran.{Gave, KeepsUnlessWrite, RanOn, Stopped, Tells, Wrote}
 use Rattle.df_app.specs.declared.fault.RunFault.{RunFault}
 use Rattle.df_app.specs.declared.fault.RunFault.TheVariants as fault
 use Rattle.df_app.specs.declared.outcome.Outcome.{Outcome}
 use Rattle.df_app.specs.declared.outcome.Output.{Output}
 
-stopped : (bytes : List ℕ) (chunk : ℕ) (old new : Option (List ℕ)) (f : RunFault) → Tells bytes chunk f → Keeps old new → Stopped bytes chunk old new f
-stopped bytes chunk old new (fault.Views f) told kept = (told, kept)
-stopped bytes chunk old new (fault.Plan view f) told kept = (told, kept)
-stopped bytes chunk old new (fault.Csv frame f) told kept = (told, kept)
-stopped bytes chunk old new fault.Memory told kept = (told, kept)
-stopped bytes chunk old new fault.ReadFault told kept = (told, kept)
-stopped bytes chunk old new fault.TooLarge told kept = (told, kept)
-stopped bytes chunk old new fault.Write told kept = absurd told
+stopped : (bytes : List ℕ) (contents : Contents) (chunk : ℕ) (old new : Option (List ℕ)) (f : RunFault) → Tells bytes contents chunk f → Keeps old new
+    → Stopped bytes contents chunk old new f
+stopped bytes contents chunk old new (fault.Views f) told kept = (told, kept)
+stopped bytes contents chunk old new (fault.Plan view f) told kept = (told, kept)
+stopped bytes contents chunk old new (fault.Csv frame f) told kept = (told, kept)
+stopped bytes contents chunk old new fault.Memory told kept = (told, kept)
+stopped bytes contents chunk old new fault.ReadFault told kept = (told, kept)
+stopped bytes contents chunk old new fault.TooLarge told kept = (told, kept)
+stopped bytes contents chunk old new fault.Write told kept = absurd told
 
 -- a run that ends before it writes
 pub ran_to_fault :
-    (bytes : Option (List ℕ)) (chunk : ℕ) (old new : Option (List ℕ)) (f : RunFault) →
-    IfSome bytes (λ b. Gave b chunk (Err f)) → Keeps old new → IfSome bytes (λ b. RanOn b chunk old new (Err f))
-ran_to_fault None chunk old new f told kept = told
-ran_to_fault (Some b) chunk old new f told kept = stopped b chunk old new f told kept
+    (bytes : Option (List ℕ)) (contents : Contents) (chunk : ℕ) (old new : Option (List ℕ)) (f : RunFault) →
+    IfSome bytes (λ b. KnowsFiles contents b → Gave b contents chunk (Err f)) → Keeps old new →
+    IfSome bytes (λ b. KnowsFiles contents b → RanOn b contents chunk old new (Err f))
+ran_to_fault None contents chunk old new f told kept = told
+ran_to_fault (Some b) contents chunk old new f told kept = λ knows. stopped b contents chunk old new f (told knows) kept
 
-ran_on : (b : List ℕ) (chunk : ℕ) (old new : Option (List ℕ)) (o : Output) (r : Result Outcome RunFault) → Gave b chunk (Ok o) → Wrote o old new r → RanOn b chunk old new r
-ran_on b chunk old new o (Ok outcome) gave wrote = (o, gave, wrote.0, wrote.1)
-ran_on b chunk old new o (Err f) gave wrote = subst (Stopped b chunk old new) (sym wrote.0) (o, gave, wrote.1, wrote.2, wrote.3)
+ran_on : (b : List ℕ) (contents : Contents) (chunk : ℕ) (old new : Option (List ℕ)) (o : Output) (r : Result Outcome RunFault)
+    → Gave b contents chunk (Ok o) → Wrote o old new r → RanOn b contents chunk old new r
+ran_on b contents chunk old new o (Ok outcome) gave wrote = (o, gave, wrote.0, wrote.1)
+ran_on b contents chunk old new o (Err f) gave wrote =
+    subst (Stopped b contents chunk old new) (sym wrote.0) (o, gave, wrote.1, wrote.2, wrote.3)
 
 -- a run that writes
 pub ran_to_write :
-    (bytes : Option (List ℕ)) (chunk : ℕ) (old new : Option (List ℕ)) (o : Output) (r : Result Outcome RunFault) →
-    IfSome bytes (λ b. Gave b chunk (Ok o)) → Wrote o old new r → IfSome bytes (λ b. RanOn b chunk old new r)
-ran_to_write None chunk old new o r gave wrote = gave
-ran_to_write (Some b) chunk old new o r gave wrote = ran_on b chunk old new o r gave wrote
+    (bytes : Option (List ℕ)) (contents : Contents) (chunk : ℕ) (old new : Option (List ℕ)) (o : Output) (r : Result Outcome RunFault) →
+    IfSome bytes (λ b. KnowsFiles contents b → Gave b contents chunk (Ok o)) → Wrote o old new r →
+    IfSome bytes (λ b. KnowsFiles contents b → RanOn b contents chunk old new r)
+ran_to_write None contents chunk old new o r gave wrote = gave
+ran_to_write (Some b) contents chunk old new o r gave wrote = λ knows. ran_on b contents chunk old new o r (gave knows) wrote
 
 -- bytes that are not too many have the output that is made of them
-within : (b : List ℕ) (chunk : ℕ) → length b ≤ 1048576 → output_of b chunk ≡ output_from b chunk
-within b chunk few = ap (λ (t : Bool). cond {A = Result Output RunFault} t (Err fault.TooLarge) (output_from b chunk)) (le-ltb 1048576 (length b) few)
+within : (b : List ℕ) (contents : Contents) (chunk : ℕ) → length b ≤ 1048576 → output_of b contents chunk ≡ output_from b contents chunk
+within b contents chunk few =
+    ap (λ (t : Bool). cond {A = Result Output RunFault} t (Err fault.TooLarge) (output_from b contents chunk)) (le-ltb 1048576 (length b) few)
 
-too_large : (b : List ℕ) (chunk : ℕ) → 1048576 < length b → output_of b chunk ≡ Err fault.TooLarge
-too_large b chunk many = ap (λ (t : Bool). cond {A = Result Output RunFault} t (Err fault.TooLarge) (output_from b chunk)) (lt-ltb 1048576 (length b) many)
+too_large : (b : List ℕ) (contents : Contents) (chunk : ℕ) → 1048576 < length b → output_of b contents chunk ≡ Err fault.TooLarge
+too_large b contents chunk many =
+    ap (λ (t : Bool). cond {A = Result Output RunFault} t (Err fault.TooLarge) (output_from b contents chunk)) (lt-ltb 1048576 (length b) many)
 
-tells : (b : List ℕ) (chunk : ℕ) (f : RunFault) → ComesFromBytes f → (f ≢ fault.Memory → output_of b chunk ≡ Err f) → Tells b chunk f
-tells b chunk (fault.Views f) is said = said (λ e. cc)
-tells b chunk (fault.Plan view f) is said = said (λ e. cc)
-tells b chunk (fault.Csv frame f) is said = said (λ e. cc)
-tells b chunk fault.Memory is said = tt
-tells b chunk fault.ReadFault is said = tt
-tells b chunk fault.TooLarge is said = absurd is
-tells b chunk fault.Write is said = absurd is
+-- a fault of a frame's records
+tells_csv : (b : List ℕ) (contents : Contents) (chunk : ℕ) (frame : List ℕ) (f : CsvFault)
+    → (TellsOfBytes (fault.Csv frame f) → output_of b contents chunk ≡ Err (fault.Csv frame f)) → Tells b contents chunk (fault.Csv frame f)
+tells_csv b contents chunk frame csv.ReadFault said = tt
+tells_csv b contents chunk frame csv.TooLarge said = said ((λ e. cc), (λ n e. cc))
+tells_csv b contents chunk frame csv.NotText said = said ((λ e. cc), (λ n e. cc))
+tells_csv b contents chunk frame (csv.BadRecord k) said = said ((λ e. cc), (λ n e. cc))
+tells_csv b contents chunk frame (csv.MissingColumn c) said = said ((λ e. cc), (λ n e. cc))
+tells_csv b contents chunk frame (csv.DoubledHeader c) said = said ((λ e. cc), (λ n e. cc))
+tells_csv b contents chunk frame csv.TooManyRecords said = said ((λ e. cc), (λ n e. cc))
+tells_csv b contents chunk frame csv.Memory said = said ((λ e. cc), (λ n e. cc))
 
-gave_answer : (b : List ℕ) (chunk : ℕ) (r : Result Output RunFault) → length b ≤ 1048576 → Answers (output_from b chunk) r → Gave b chunk r
-gave_answer b chunk (Ok o) few answers = within b chunk few ∙ answers
-gave_answer b chunk (Err f) few answers = tells b chunk f answers.0 (λ other. within b chunk few ∙ answers.1 other)
+tells : (b : List ℕ) (contents : Contents) (chunk : ℕ) (f : RunFault) → ComesFromBytes f → (TellsOfBytes f → output_of b contents chunk ≡ Err f)
+    → Tells b contents chunk f
+tells b contents chunk (fault.Views f) is said = said ((λ e. cc), (λ n e. cc))
+tells b contents chunk (fault.Plan view f) is said = said ((λ e. cc), (λ n e. cc))
+tells b contents chunk (fault.Csv frame f) is said = tells_csv b contents chunk frame f said
+tells b contents chunk fault.Memory is said = tt
+tells b contents chunk fault.ReadFault is said = tt
+tells b contents chunk fault.TooLarge is said = absurd is
+tells b contents chunk fault.Write is said = absurd is
+
+gave_answer : (b : List ℕ) (contents : Contents) (chunk : ℕ) (r : Result Output RunFault) → length b ≤ 1048576 → Answers (output_from b contents chunk) r
+    → Gave b contents chunk r
+gave_answer b contents chunk (Ok o) few answers = within b contents chunk few ∙ answers
+gave_answer b contents chunk (Err f) few answers =
+    tells b contents chunk f answers.0 (λ other. within b contents chunk few ∙ answers.1 other)
 
 -- what the bytes that were read gave
 pub gave_read :
-    (bytes : Option (List ℕ)) (read : List ℕ) (chunk : ℕ) (r : Result Output RunFault) →
-    IfSome bytes (λ b. read ≡ b) → length read ≤ 1048576 → Answers (output_from read chunk) r → IfSome bytes (λ b. Gave b chunk r)
-gave_read None read chunk r is few answers = is
-gave_read (Some b) read chunk r is few answers = subst (λ (x : List ℕ). Gave x chunk r) is (gave_answer read chunk r few answers)
+    (bytes : Option (List ℕ)) (contents : Contents) (read : List ℕ) (chunk : ℕ) (r : Result Output RunFault) →
+    IfSome bytes (λ b. read ≡ b) → length read ≤ 1048576 → (KnowsFiles contents read → Answers (output_from read contents chunk) r) →
+    IfSome bytes (λ b. KnowsFiles contents b → Gave b contents chunk r)
+gave_read None contents read chunk r is few answers = is
+gave_read (Some b) contents read chunk r is few answers =
+    subst (λ (x : List ℕ). KnowsFiles contents x → Gave x contents chunk r) is (λ knows. gave_answer read contents chunk r few (answers knows))
 
 pub gave_too_large :
-    (bytes : Option (List ℕ)) (chunk : ℕ) → IfSome bytes (λ b. 1048576 < length b) → IfSome bytes (λ b. Gave b chunk (Err fault.TooLarge))
-gave_too_large None chunk many = many
-gave_too_large (Some b) chunk many = too_large b chunk many
+    (bytes : Option (List ℕ)) (contents : Contents) (chunk : ℕ) → IfSome bytes (λ b. 1048576 < length b) →
+    IfSome bytes (λ b. KnowsFiles contents b → Gave b contents chunk (Err fault.TooLarge))
+gave_too_large None contents chunk many = many
+gave_too_large (Some b) contents chunk many = λ knows. too_large b contents chunk many
 
 -- a fault before anything was written
 pub keeps_before : (old new : Option (List ℕ)) (f : RunFault) → Keeps old new → KeepsUnlessWrite old new f

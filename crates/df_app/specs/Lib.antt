@@ -1,3 +1,4 @@
+pub mod CommandLine
 pub mod Output
 pub mod Ran
 pub mod Texts

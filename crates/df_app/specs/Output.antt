@@ -1,6 +1,6 @@
 -- What a run of a view document writes: the tables of its views over its frames, and the chunks that were
 -- refused, or the first fault.
-use Rattle.std.specs.Prelude.{◌≡◌, ◌≢◌, ◌*◌, ℕ, ⊤, MatchResult, Bool, true, false, List, [], ◌∷◌, ◌++◌, length, map, nat_lt, codes, decimal, option_map, unwrap_or, slice_get, flat_map, Result, Ok, Err, if◌then◌else◌}
+use Rattle.std.specs.Prelude.{◌≡◌, ◌≢◌, ◌*◌, ℕ, ⊤, MatchResult, Bool, true, false, List, [], ◌∷◌, ◌++◌, length, map, nat_lt, codes, decimal, option_map, unwrap_or, slice_get, flat_map, All, Option, Some, None, IsSome, IfOk, Result, Ok, Err, if◌then◌else◌}
 use Rattle.std.specs.List.{enumerate_from, join_by, list_all}
 use Rattle.df_value.specs.declared.cell.Cell.{Cell}
 use Rattle.df_value.specs.declared.chunk.Made.{Made}
@@ -8,9 +8,10 @@ use Rattle.df_value.specs.declared.chunk.Made.TheVariants as made
 use Rattle.df_plan.specs.CheckedParts.{CheckedParts}
 use Rattle.df_plan.specs.Checks.{Columns, Checked, checked}
 use Rattle.df_plan.specs.Meaning.{table_of}
-use Rattle.df_csv.specs.Records.{Rows as Records, records_of}
+use Rattle.df_csv.specs.Records.{Rows as Records, file_records, records_of}
 use Rattle.df_csv.specs.Typed.{pieces_of}
 use Rattle.df_csv.specs.declared.csv_fault.CsvFault.{CsvFault}
+use Rattle.df_csv.specs.declared.csv_fault.CsvFault.TheVariants as csv
 use Rattle.df_print.specs.Printed.{printed, escaped_text}
 use Rattle.df_text.specs.Document.{document_of}
 use Rattle.df_text.specs.declared.document.FrameSource.{FrameSource}
@@ -50,16 +51,27 @@ of_plan view schemas (Err f) = Err (fault.Plan view.name f)
 abbrev pub plan_of : List Columns → ViewSpec → Result CheckedParts RunFault
 plan_of schemas view = of_plan view schemas (checked view.plan schemas)
 
-abbrev pub csv_of : FrameSource → List ℕ
-csv_of (source.Text text) = text
+-- the bytes of the file under each path, where there is one
+abbrev pub Contents : Type 0
+Contents = List ℕ → Option (List ℕ)
+
+-- the records of a file; where there is none, it cannot be read
+abbrev pub records_of_file : Option (List ℕ) → Columns → Result Records CsvFault
+records_of_file None columns = Err csv.ReadFault
+records_of_file (Some bytes) columns = file_records bytes columns
+
+-- the records of a frame: those of the file under its path, or those of its own text
+abbrev pub records_in : Contents → FrameSource → Columns → Result Records CsvFault
+records_in contents (source.Path path) columns = records_of_file (contents path) columns
+records_in contents (source.Text text) columns = records_of text columns
 
 abbrev pub of_records : ℕ → FrameSpec → Result Records CsvFault → Result (List Made) RunFault
 of_records chunk frame (Ok records) = Ok (pieces_of frame.schema chunk records)
 of_records chunk frame (Err f) = Err (fault.Csv frame.name f)
 
 -- a frame's records in pieces of so many, or the fault under the frame's name
-abbrev pub pieces_in : ℕ → FrameSpec → Result (List Made) RunFault
-pieces_in chunk frame = of_records chunk frame (records_of (csv_of frame.source) frame.schema)
+abbrev pub pieces_in : Contents → ℕ → FrameSpec → Result (List Made) RunFault
+pieces_in contents chunk frame = of_records chunk frame (records_in contents frame.source frame.schema)
 
 -- the rows of a chunk, and none where a cell is bad
 abbrev pub good_rows : Made → List (List Cell)
@@ -116,19 +128,32 @@ text_from document plans pieces chunk =
 
 -- the output of a document that was read: its plans are checked in the order of the views, then its frames are read
 -- in their order and typed in chunks of so many records
-abbrev pub output_in : Views → ℕ → Result Output RunFault
-output_in document chunk =
+abbrev pub output_in : Views → Contents → ℕ → Result Output RunFault
+output_in document contents chunk =
     then_run (each_after (plan_of (schemas_of document.frames)) [] document.views) (λ plans.
-    then_run (each_after (pieces_in chunk) [] document.frames) (λ pieces.
+    then_run (each_after (pieces_in contents chunk) [] document.frames) (λ pieces.
     Ok (record { text = text_from document plans pieces chunk; outcome = outcome_of pieces })))
 
 -- the output of the bytes of a document that is not too large
-abbrev pub output_from : List ℕ → ℕ → Result Output RunFault
-output_from bytes chunk = then_run (of_document (document_of bytes)) (λ document. output_in document chunk)
+abbrev pub output_from : List ℕ → Contents → ℕ → Result Output RunFault
+output_from bytes contents chunk = then_run (of_document (document_of bytes)) (λ document. output_in document contents chunk)
 
--- the output of a document's bytes, which are at most 1048576
-abbrev pub output_of : List ℕ → ℕ → Result Output RunFault
-output_of bytes chunk = if nat_lt 1048576 (length bytes) then Err fault.TooLarge else output_from bytes chunk
+-- the output of a document's bytes, which are at most 1048576, and of the files that it names
+abbrev pub output_of : List ℕ → Contents → ℕ → Result Output RunFault
+output_of bytes contents chunk =
+    if nat_lt 1048576 (length bytes) then Err fault.TooLarge else output_from bytes contents chunk
+
+-- the bytes of the file that a frame names are known
+abbrev pub IsKnown : Contents → FrameSource → Type 0
+IsKnown contents (source.Path path) = IsSome (contents path)
+IsKnown contents (source.Text text) = ⊤
+
+abbrev pub AreKnown : Contents → List FrameSpec → Type 0
+AreKnown contents frames = All (λ (f : FrameSpec). IsKnown contents f.source) frames
+
+-- the bytes of each file that a document names are known
+abbrev pub KnowsFiles : Contents → List ℕ → Type 0
+KnowsFiles contents bytes = IfOk (document_of bytes) (λ document. AreKnown contents document.frames)
 
 -- a fault that bytes can have which are not too many, or want of memory
 abbrev pub ComesFromBytes : RunFault → Type 0
@@ -140,6 +165,10 @@ ComesFromBytes fault.ReadFault = ⊥
 ComesFromBytes fault.TooLarge = ⊥
 ComesFromBytes fault.Write = ⊥
 
--- The call answers what is wanted, unless it answers that memory was refused.
+-- a fault that tells of the bytes: memory was not refused, and no file failed to open or to be read
+abbrev pub TellsOfBytes : RunFault → Type 0
+TellsOfBytes f = (f ≢ fault.Memory) × ((frame : List ℕ) → f ≢ fault.Csv frame csv.ReadFault)
+
+-- The call answers what is wanted, unless it answers that memory was refused or that a file cannot be read.
 abbrev pub Answers : {A : Type 0} → Result A RunFault → Result A RunFault → Type 0
-Answers want result = MatchResult result (λ x. want ≡ Ok x) (λ f. ComesFromBytes f × (f ≢ fault.Memory → want ≡ Err f))
+Answers want result = MatchResult result (λ x. want ≡ Ok x) (λ f. ComesFromBytes f × (TellsOfBytes f → want ≡ Err f))

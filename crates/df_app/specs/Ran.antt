@@ -1,24 +1,26 @@
--- What a run did, of a document whose bytes are known, to a writer.
+-- What a run did, of a document and of files whose bytes are known, to a writer.
 use Rattle.std.specs.Prelude.{◌≡◌, ◌<◌, ℕ, List, ⊤, length, take, Option, Result, Ok, Err}
 use Rattle.std.specs.Io.KnownBytes.{Appends, Keeps}
 use Rattle.df_app.specs.declared.fault.RunFault.{RunFault}
 use Rattle.df_app.specs.declared.fault.RunFault.TheVariants as fault
 use Rattle.df_app.specs.declared.outcome.Outcome.{Outcome}
 use Rattle.df_app.specs.declared.outcome.Output.{Output}
-use Rattle.df_app.specs.Output.{output_of}
+use Rattle.df_csv.specs.declared.csv_fault.CsvFault.TheVariants as csv
+use Rattle.df_app.specs.Output.{Contents, output_of}
 
--- What a fault says that comes before anything is written: but for a failed read and want of memory, it is the
--- fault that the document's bytes have in the place of an output.
-abbrev pub Tells : List ℕ → ℕ → RunFault → Type 0
-Tells bytes chunk fault.ReadFault = ⊤
-Tells bytes chunk fault.Memory = ⊤
-Tells bytes chunk fault.Write = ⊥
-Tells bytes chunk f = output_of bytes chunk ≡ Err f
+-- What a fault says that comes before anything is written: but for a failed read, of the document or of a file, and
+-- want of memory, it is the fault that the bytes have in the place of an output.
+abbrev pub Tells : List ℕ → Contents → ℕ → RunFault → Type 0
+Tells bytes contents chunk fault.ReadFault = ⊤
+Tells bytes contents chunk (fault.Csv frame csv.ReadFault) = ⊤
+Tells bytes contents chunk fault.Memory = ⊤
+Tells bytes contents chunk fault.Write = ⊥
+Tells bytes contents chunk f = output_of bytes contents chunk ≡ Err f
 
--- what the bytes of a document gave: its output, or a fault
-abbrev pub Gave : List ℕ → ℕ → Result Output RunFault → Type 0
-Gave bytes chunk (Ok o) = output_of bytes chunk ≡ Ok o
-Gave bytes chunk (Err f) = Tells bytes chunk f
+-- what the bytes of a document and of its files gave: its output, or a fault
+abbrev pub Gave : List ℕ → Contents → ℕ → Result Output RunFault → Type 0
+Gave bytes contents chunk (Ok o) = output_of bytes contents chunk ≡ Ok o
+Gave bytes contents chunk (Err f) = Tells bytes contents chunk f
 
 -- the whole of an output was written, or a prefix of it that is not the whole
 abbrev pub Wrote : Output → Option (List ℕ) → Option (List ℕ) → Result Outcome RunFault → Type 0
@@ -26,16 +28,16 @@ Wrote o old new (Ok outcome) = (o.outcome ≡ outcome) × Appends old new o.text
 Wrote o old new (Err f) = (f ≡ fault.Write) × (n : ℕ) × (n < length o.text) × Appends old new (take n o.text)
 
 -- at a write fault a prefix of the output was written, at any other fault nothing
-abbrev pub Stopped : List ℕ → ℕ → Option (List ℕ) → Option (List ℕ) → RunFault → Type 0
-Stopped bytes chunk old new fault.Write =
-    (o : Output) × (output_of bytes chunk ≡ Ok o) × (n : ℕ) × (n < length o.text) × Appends old new (take n o.text)
-Stopped bytes chunk old new f = Tells bytes chunk f × Keeps old new
+abbrev pub Stopped : List ℕ → Contents → ℕ → Option (List ℕ) → Option (List ℕ) → RunFault → Type 0
+Stopped bytes contents chunk old new fault.Write =
+    (o : Output) × (output_of bytes contents chunk ≡ Ok o) × (n : ℕ) × (n < length o.text) × Appends old new (take n o.text)
+Stopped bytes contents chunk old new f = Tells bytes contents chunk f × Keeps old new
 
 -- at Ok the whole output of the document was written, and nothing else
-abbrev pub RanOn : List ℕ → ℕ → Option (List ℕ) → Option (List ℕ) → Result Outcome RunFault → Type 0
-RanOn bytes chunk old new (Ok outcome) =
-    (o : Output) × (output_of bytes chunk ≡ Ok o) × (o.outcome ≡ outcome) × Appends old new o.text
-RanOn bytes chunk old new (Err f) = Stopped bytes chunk old new f
+abbrev pub RanOn : List ℕ → Contents → ℕ → Option (List ℕ) → Option (List ℕ) → Result Outcome RunFault → Type 0
+RanOn bytes contents chunk old new (Ok outcome) =
+    (o : Output) × (output_of bytes contents chunk ≡ Ok o) × (o.outcome ≡ outcome) × Appends old new o.text
+RanOn bytes contents chunk old new (Err f) = Stopped bytes contents chunk old new f
 
 -- whatever the reader gave: nothing was written, unless a write failed
 abbrev pub KeepsUnlessWrite : Option (List ℕ) → Option (List ℕ) → RunFault → Type 0

@@ -1,17 +1,23 @@
 //! A run of `dfviews`: the bytes of a view document in, the bytes of its printed views out.
 #![tactic(auto)]
 
+mod command_line;
 mod fault;
 mod fault_texts;
+mod files;
 mod outcome;
 mod output;
 mod pieces;
+mod reading_words;
 mod refused;
 mod running;
 
+pub use command_line::Words;
 pub use fault::RunFault;
 pub use fault_texts::fault_text;
+pub use files::Files;
 pub use outcome::Outcome;
+pub use reading_words::words;
 pub use running::{MOST_BYTES_OF_DOCUMENT, run};
 
 #[cfg(test)]
@@ -19,8 +25,12 @@ mod tests;
 #[cfg(test)]
 mod tests_aggregates;
 #[cfg(test)]
+mod tests_files;
+#[cfg(test)]
 mod tests_joins;
 #[cfg(test)]
 mod tests_steps;
 #[cfg(test)]
 mod tests_windows;
+#[cfg(test)]
+mod tests_words;

@@ -2,9 +2,10 @@
 ghost use Rattle.std.specs.Prelude.{◌≡◌, ◌++◌, ◌≤◌, [], IfOk, OnOk, codes, flat_map, length, map};
 ghost use Rattle.std.specs.List.{join_by};
 ghost use Rattle.df_text.specs.Document.{document_of};
-ghost use Rattle.df_app.specs.Output.{Answers, each_after, of_document, output_from, output_in as output_of_views, outcome_of, paired, plan_of, refused_block, schemas_of, table_in, text_from};
+ghost use Rattle.df_app.specs.Output.{Answers, AreKnown, KnowsFiles, each_after, of_document, output_from, output_in as output_of_views, outcome_of, paired, plan_of, refused_block, schemas_of, table_in, text_from};
 
 use crate::fault::RunFault;
+use crate::files::Files;
 use crate::outcome::Output;
 use crate::pieces::{all_pieces, all_rows, outcome};
 use crate::refused::refused_lines;
@@ -14,24 +15,38 @@ use df_value::{Duplicate, List, Made, Row, Schema};
 use std::alloc::{AllocError, Global};
 
 /// What a run over the bytes of a document writes, its frames typed in chunks of so many records.
-pub fn output(alloc: Global, bytes: &[u8], chunk: usize) -> Result<Output, RunFault>
+pub fn output<F: Files>(
+    alloc: Global,
+    bytes: &[u8],
+    files: &mut F,
+    chunk: usize,
+) -> Result<Output, RunFault>
     requires some { 1 ≤ chunk }
     requires few { chunk ≤ 65536 }
-    ensures { Answers (output_from bytes.now chunk) result }
+    ensures same { F.bytes_at files.new ≡ F.bytes_at files.old }
+    ensures value { KnowsFiles (F.bytes_at files.old) bytes.now →
+        Answers (output_from bytes.now (F.bytes_at files.old) chunk) result }
 {
     match read_document(alloc, bytes) {
-        Ok(document) => output_in(alloc, &document, chunk),
+        Ok(document) => output_in(alloc, &document, files, chunk),
         Err(fault) => Err(fault),
     }
 }
 
-fn output_in(alloc: Global, document: &Views, chunk: usize) -> Result<Output, RunFault>
+fn output_in<F: Files>(
+    alloc: Global,
+    document: &Views,
+    files: &mut F,
+    chunk: usize,
+) -> Result<Output, RunFault>
     requires some { 1 ≤ chunk }
     requires few { chunk ≤ 65536 }
-    ensures { Answers (output_of_views document.now chunk) result }
+    ensures same { F.bytes_at files.new ≡ F.bytes_at files.old }
+    ensures value { AreKnown (F.bytes_at files.old) document.now.frames →
+        Answers (output_of_views document.now (F.bytes_at files.old) chunk) result }
 {
     match checked_views(alloc, document) {
-        Ok(plans) => match all_pieces(alloc, document.frames.as_slice(), chunk) {
+        Ok(plans) => match all_pieces(alloc, files, document.frames.as_slice(), chunk) {
             Ok(pieces) => Ok(printed_output(alloc, document, plans.as_slice(), pieces, chunk)?),
             Err(fault) => Err(fault),
         },

@@ -1,40 +1,54 @@
 //! The frames of a document in pieces: chunks of rows, or bad cells.
-ghost use Rattle.std.specs.Prelude.{◌≡◌, ◌++◌, ◌≤◌, [], IfOk, OnOk, length, map};
+ghost use Rattle.std.specs.Prelude.{◌≡◌, ◌++◌, ◌≤◌, [], IfOk, IfSome, OnOk, length, map};
 ghost use Rattle.std.specs.List.{list_all};
-ghost use Rattle.df_csv.specs.Records.{IsRecords};
+ghost use Rattle.df_csv.specs.Records.{GivesRead, IsRecords, file_records};
 ghost use Rattle.df_csv.specs.Typed.{pieces_of};
-ghost use Rattle.df_app.specs.Output.{Answers, each_after, pieces_in, csv_of as csv_at, good_rows, is_good as is_good_piece, outcome_of, rows_of as rows_at};
+ghost use Rattle.df_app.specs.Output.{Answers, AreKnown, IsKnown, each_after, pieces_in, good_rows, is_good as is_good_piece, outcome_of, records_in, rows_of as rows_at};
 
 use crate::fault::RunFault;
+use crate::files::Files;
 use crate::outcome::Outcome;
-use df_text::{CsvFault, FrameSource, FrameSpec, Records, count_pieces, parse_records, type_piece};
+use df_text::{
+    CsvFault, FrameSource, FrameSpec, Records, count_pieces, parse_records, read_records,
+    type_piece,
+};
 use df_value::{Duplicate, List, Made, Row, Schema};
 use std::alloc::{AllocError, Global};
 
 /// The pieces of the frames, in their order.
-pub fn all_pieces(
+pub fn all_pieces<F: Files>(
     alloc: Global,
+    files: &mut F,
     frames: &[FrameSpec],
     chunk: usize,
 ) -> Result<List<List<Made>>, RunFault>
     requires some { 1 ≤ chunk }
     requires few { chunk ≤ 65536 }
-    ensures value { Answers (each_after (pieces_in chunk) [] frames.now) result }
+    ensures same { F.bytes_at files.new ≡ F.bytes_at files.old }
+    ensures value { AreKnown (F.bytes_at files.old) frames.now →
+        Answers (each_after (pieces_in (F.bytes_at files.old) chunk) [] frames.now) result }
     ensures each { IfOk result (λ pieces. length pieces ≡ length frames.now) }
 {
     let mut all = Vec::new(alloc);
     for frame in frames {
-        all.push(read_pieces(alloc, frame, chunk)?)?;
+        all.push(read_pieces(alloc, files, frame, chunk)?)?;
     }
     Ok(List::from_vec(all))
 }
 
-fn read_pieces(alloc: Global, frame: &FrameSpec, chunk: usize) -> Result<List<Made>, RunFault>
+fn read_pieces<F: Files>(
+    alloc: Global,
+    files: &mut F,
+    frame: &FrameSpec,
+    chunk: usize,
+) -> Result<List<Made>, RunFault>
     requires some { 1 ≤ chunk }
     requires few { chunk ≤ 65536 }
-    ensures { Answers (pieces_in chunk frame.now) result }
+    ensures same { F.bytes_at files.new ≡ F.bytes_at files.old }
+    ensures value { IsKnown (F.bytes_at files.old) frame.now.source →
+        Answers (pieces_in (F.bytes_at files.old) chunk frame.now) result }
 {
-    match parse_records(alloc, csv_of(&frame.source), &frame.schema) {
+    match read_frame(alloc, files, frame) {
         Ok(records) => match pieces(alloc, &records, &frame.schema, chunk) {
             Ok(pieces) => Ok(pieces),
             Err(_) => Err(RunFault::Memory),
@@ -47,11 +61,35 @@ fn read_pieces(alloc: Global, frame: &FrameSpec, chunk: usize) -> Result<List<Ma
     }
 }
 
-fn csv_of(source: &FrameSource) -> &[u8]
-    ensures { result.now ≡ csv_at source.now }
+fn read_frame<F: Files>(
+    alloc: Global,
+    files: &mut F,
+    frame: &FrameSpec,
+) -> Result<Records, CsvFault>
+    ensures same { F.bytes_at files.new ≡ F.bytes_at files.old }
+    ensures value { IsKnown (F.bytes_at files.old) frame.now.source →
+        GivesRead result (records_in (F.bytes_at files.old) frame.now.source frame.now.schema) }
+    ensures sound { IfOk result (λ records. IsRecords (length frame.now.schema) records) }
 {
-    match source {
-        FrameSource::Text(text) => text.as_str().as_bytes(),
+    match &frame.source {
+        FrameSource::Path(path) => read_file(alloc, files, path.as_str(), &frame.schema),
+        FrameSource::Text(text) => { parse_records(alloc, text.as_str().as_bytes(), &frame.schema) }
+    }
+}
+
+fn read_file<F: Files>(
+    alloc: Global,
+    files: &mut F,
+    path: &str,
+    schema: &Schema,
+) -> Result<Records, CsvFault>
+    ensures same { F.bytes_at files.new ≡ F.bytes_at files.old }
+    ensures value { IfSome (F.bytes_at files.old path.now) (λ bytes. GivesRead result (file_records bytes schema.now)) }
+    ensures sound { IfOk result (λ records. IsRecords (length schema.now) records) }
+{
+    match files.open(path) {
+        Some(mut file) => read_records(alloc, &mut file, schema),
+        None => Err(CsvFault::ReadFault),
     }
 }
 

@@ -1,8 +1,10 @@
 //! A run, from the bytes of a document to what is written.
-ghost use Rattle.std.specs.Prelude.{◌≤◌, IfErr, IfSome};
+ghost use Rattle.std.specs.Prelude.{◌≡◌, ◌≤◌, IfErr, IfSome};
+ghost use Rattle.df_app.specs.Output.{KnowsFiles};
 ghost use Rattle.df_app.specs.Ran.{Gave, KeepsUnlessWrite, RanOn, Wrote};
 
 use crate::fault::RunFault;
+use crate::files::Files;
 use crate::outcome::{Outcome, Output};
 use crate::output::output;
 use df_text::{ReadLimitedFault, read_limited, write_text};
@@ -12,38 +14,53 @@ use std::io::{Read, Write};
 /// The most bytes of a view document.
 pub const MOST_BYTES_OF_DOCUMENT: usize = 1_048_576;
 
-/// Reads a view document, and writes its views and the chunks that were refused.
+/// Reads a view document and the files that it names, and writes its views and the chunks that were
+/// refused.
 ///
 /// The document is read whole, at most 1,048,576 bytes; its plans are checked in the order of the
 /// views; its frames are read in their order and typed in chunks of `chunk` records, 1 to 65,536. A
-/// chunk with a bad cell does not enter its frame. Only then is anything written: the tables of the
-/// views in the document's order, then a line for each refused chunk. At a fault other than
-/// [`RunFault::Write`] nothing was written, at that one a prefix of the output.
-pub fn run<V: Read, W: Write>(
+/// file that cannot be opened, or of which a read fails, is a `ReadFault` of its frame. A chunk with a
+/// bad cell does not enter its frame. Only then is anything written: the tables of the views in the
+/// document's order, then a line for each refused chunk. At a fault other than [`RunFault::Write`]
+/// nothing was written, at that one a prefix of the output. What is written does not depend on
+/// `workers`, 1 to 16; one thread does the work.
+pub fn run<V: Read, F: Files, W: Write>(
     alloc: Global,
     reader: &mut V,
+    files: &mut F,
+    workers: usize,
     chunk: usize,
     writer: &mut W,
 ) -> Result<Outcome, RunFault>
+    requires workers { 1 ≤ workers }
+    requires few_workers { workers ≤ 16 }
     requires some { 1 ≤ chunk }
     requires few { chunk ≤ 65536 }
-    ensures ran { IfSome (V.remaining reader.old)
-        (λ bytes. RanOn bytes chunk (W.contents writer.old) (W.contents writer.new) result) }
+    ensures ran { IfSome (V.remaining reader.old) (λ bytes. KnowsFiles (F.bytes_at files.old) bytes →
+        RanOn bytes (F.bytes_at files.old) chunk (W.contents writer.old) (W.contents writer.new) result) }
     ensures nothing_else { IfErr result (KeepsUnlessWrite (W.contents writer.old) (W.contents writer.new)) }
+    ensures same { F.bytes_at files.new ≡ F.bytes_at files.old }
 {
-    match read_output(alloc, reader, chunk) {
+    match read_output(alloc, reader, files, chunk) {
         Ok(output) => write_output(writer, &output),
         Err(fault) => Err(fault),
     }
 }
 
-fn read_output<V: Read>(alloc: Global, reader: &mut V, chunk: usize) -> Result<Output, RunFault>
+fn read_output<V: Read, F: Files>(
+    alloc: Global,
+    reader: &mut V,
+    files: &mut F,
+    chunk: usize,
+) -> Result<Output, RunFault>
     requires some { 1 ≤ chunk }
     requires few { chunk ≤ 65536 }
-    ensures { IfSome (V.remaining reader.old) (λ bytes. Gave bytes chunk result) }
+    ensures same { F.bytes_at files.new ≡ F.bytes_at files.old }
+    ensures value { IfSome (V.remaining reader.old) (λ bytes. KnowsFiles (F.bytes_at files.old) bytes →
+        Gave bytes (F.bytes_at files.old) chunk result) }
 {
     match read_limited(alloc, reader, MOST_BYTES_OF_DOCUMENT) {
-        Ok(bytes) => output(alloc, bytes.as_slice(), chunk),
+        Ok(bytes) => output(alloc, bytes.as_slice(), files, chunk),
         Err(ReadLimitedFault::Failed) => Err(RunFault::ReadFault),
         Err(ReadLimitedFault::TooLarge) => Err(RunFault::TooLarge),
         Err(ReadLimitedFault::Memory) => Err(RunFault::Memory),

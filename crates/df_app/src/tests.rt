@@ -1,5 +1,6 @@
 //! Worked documents, and readers and writers that fail.
-use crate::{Outcome, RunFault, fault_text, run};
+use crate::tests_files::HeldFiles;
+use crate::{MOST_BYTES_OF_DOCUMENT, Outcome, RunFault, fault_text, run};
 use df_text::{CsvFault, ViewsFault};
 use df_value::Text;
 use std::alloc::Global;
@@ -33,7 +34,8 @@ pub fn writes(
     let mut input = document.as_bytes();
     let mut output = Vec::new(alloc);
     let chunk = chunk.clamp(1, 65_536);
-    let outcome = run(alloc, &mut input, chunk, &mut output);
+    let mut files = HeldFiles(&[]);
+    let outcome = run(alloc, &mut input, &mut files, 4, chunk, &mut output);
     assert!(rt; outcome == Ok(want.1), "{outcome:?} of {document}");
     assert!(rt;
         output.as_slice() == want.0.as_bytes(),
@@ -45,7 +47,8 @@ pub fn writes(
 pub fn fails(rt: &impl Abort, alloc: Global, document: &str, want: &str) -> Result<(), Fail> {
     let mut input = document.as_bytes();
     let mut output = Vec::new(alloc);
-    let Err(fault) = run(alloc, &mut input, 1000, &mut output) else {
+    let mut files = HeldFiles(&[]);
+    let Err(fault) = run(alloc, &mut input, &mut files, 4, 1000, &mut output) else {
         assert!(rt; false, "no fault of {document}");
         return Ok(());
     };
@@ -225,12 +228,24 @@ fn limits(rt: HostRuntime) -> Result<(), Fail> {
     fails(&rt, alloc, wide.as_str(), "v: P8")
 }
 
+#[test]
+fn bytes_of_a_document(rt: HostRuntime) -> Result<(), Fail> {
+    let alloc = rt.alloc();
+    let mut document = String::new(alloc);
+    for _ in 0..MOST_BYTES_OF_DOCUMENT {
+        document.push('\n')?;
+    }
+    writes(&rt, alloc, document.as_str(), 1000, ("", Outcome::Clean))?;
+    document.push('\n')?;
+    fails(&rt, alloc, document.as_str(), "V9")
+}
+
 // Gives at most so many bytes a call; the call of this number fails.
 #[derive(Drop)]
-struct TestReader<'a> {
-    bytes: &'a [u8],
-    size: usize,
-    calls_left: usize,
+pub struct TestReader<'a> {
+    pub bytes: &'a [u8],
+    pub size: usize,
+    pub calls_left: usize,
 }
 
 impl Read for TestReader<'_> {
@@ -287,7 +302,8 @@ fn reads_fail_in_turn(rt: HostRuntime) -> Result<(), Fail> {
             calls_left,
         };
         let mut output = Vec::new(alloc);
-        let answer = run(alloc, &mut reader, 1000, &mut output);
+        let mut files = HeldFiles(&[]);
+        let answer = run(alloc, &mut reader, &mut files, 4, 1000, &mut output);
         if document.len().div_ceil(100) < calls_left {
             assert!(rt; answer == Ok(Outcome::Clean));
             assert!(rt; output.as_slice() == GROUPS.as_bytes());
@@ -311,7 +327,8 @@ fn writes_fail_in_turn(rt: HostRuntime) -> Result<(), Fail> {
             calls_left,
             fails: calls_left % 2 == 0,
         };
-        let answer = run(alloc, &mut input, 1000, &mut writer);
+        let mut files = HeldFiles(&[]);
+        let answer = run(alloc, &mut input, &mut files, 4, 1000, &mut writer);
         if calls_left == GROUPS.len() {
             assert!(rt; answer == Ok(Outcome::Clean));
         } else {

@@ -92,7 +92,10 @@ fn faults_of_windows(rt: HostRuntime) -> Result<(), Fail> {
         ("[\"rolling_min\", \"s\", \"x\", 65537]", "v: P6"),
         ("[\"rolling_max\", \"s\", \"x\", 3, 0]", "v: P6"),
         ("[\"rolling_sum\", \"s\", \"nosuch\", 1]", "v: P2 E1 nosuch"),
-        ("[\"cum_sum\", \"s\", \"x\"], [\"cum_sum\", \"t\", \"s\"]", "v: P10 s"),
+        (
+            "[\"cum_sum\", \"s\", \"x\"], [\"cum_sum\", \"t\", \"s\"]",
+            "v: P10 s",
+        ),
         ("[\"rank\", \"r\", \"min\", \"x\"]", "V3 view 0"),
         ("[\"rank\", 1, \"bad\", \"v\"]", "V2 view 0"),
         ("[\"rolling_sum\", \"s\", \"x\"]", "V2 view 0"),

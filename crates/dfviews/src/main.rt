@@ -1,29 +1,115 @@
-//! `dfviews`: reads a view document from standard input and writes its printed views to standard output.
+//! `dfviews`: reads a view document and the files that it names, and writes the printed views to standard
+//! output.
 #![tactic(auto)]
 
-use df_app::{Outcome, RunFault, fault_text, run};
-use std::process::ExitCode;
+mod system_files;
 
-/// The records of a chunk.
-const CHUNK: usize = 1000;
+ghost use Rattle.std.specs.Prelude.{◌≤◌};
+
+use clap::error::ErrorKind;
+use df_app::{Outcome, RunFault, Words, fault_text, run, words};
+use std::alloc::AllocError;
+use std::io::Read;
+use std::process::ExitCode;
+use std::{env, io};
+use system_files::{SystemFiles, open};
 
 fn main(rt: HostRuntime) -> ExitCode {
-    let mut input = rt.stdin();
-    let mut output = rt.stdout();
-    match run(rt.alloc(), &mut input, CHUNK, &mut output) {
-        Ok(Outcome::Clean) => ExitCode::from(0),
-        Ok(Outcome::Refused) => ExitCode::from(1),
-        Err(fault) => {
-            report(&rt, &fault);
-            ExitCode::from(2)
-        }
+    match env::args(&rt) {
+        Ok(arguments) => match run_arguments(&rt, arguments) {
+            Ok(code) => code,
+            Err(_) => report(&rt, &RunFault::Memory),
+        },
+        Err(error) => refuse_arguments(&rt, &error),
     }
 }
 
+// The first argument is the program's name.
+fn run_arguments(rt: &HostRuntime, arguments: env::Args) -> Result<ExitCode, AllocError> {
+    let arguments: Vec<String> = arguments.skip(1).collect(rt.alloc())?;
+    let line: Vec<&str> = arguments
+        .iter()
+        .map(|word| word.as_str())
+        .collect(rt.alloc())?;
+    Ok(run_line(rt, line.as_slice()))
+}
+
+fn run_line(rt: &HostRuntime, line: &[&str]) -> ExitCode {
+    match words(rt.alloc(), line) {
+        Ok(words) => match run_words(rt, words) {
+            Ok(Outcome::Clean) => ExitCode::from(0),
+            Ok(Outcome::Refused) => ExitCode::from(1),
+            Err(fault) => report(rt, &fault),
+        },
+        Err(error) => answer(rt, &error),
+    }
+}
+
+// A view document that cannot be opened is one that cannot be read.
+fn run_words(rt: &HostRuntime, words: Words<'_>) -> Result<Outcome, RunFault>
+    requires some_workers { 1 ≤ words.workers }
+    requires few_workers { words.workers ≤ 16 }
+    requires some { 1 ≤ words.chunk }
+    requires few { words.chunk ≤ 65536 }
+{
+    match words.views {
+        Some(path) => match open(rt, path) {
+            Some(mut file) => run_reader(rt, &mut file, words),
+            None => Err(RunFault::ReadFault),
+        },
+        None => run_reader(rt, &mut rt.stdin(), words),
+    }
+}
+
+fn run_reader<V: Read>(
+    rt: &HostRuntime,
+    reader: &mut V,
+    words: Words<'_>,
+) -> Result<Outcome, RunFault>
+    requires some_workers { 1 ≤ words.workers }
+    requires few_workers { words.workers ≤ 16 }
+    requires some { 1 ≤ words.chunk }
+    requires few { words.chunk ≤ 65536 }
+{
+    let mut files = SystemFiles { rt };
+    let mut output = rt.stdout();
+    run(
+        rt.alloc(),
+        reader,
+        &mut files,
+        words.workers,
+        words.chunk,
+        &mut output,
+    )
+}
+
+// What clap answers in the place of words: help on standard output, or why it refuses them on standard
+// error.
+fn answer(rt: &HostRuntime, error: &clap::Error) -> ExitCode {
+    if error.kind() == ErrorKind::OutOfMemory {
+        return report(rt, &RunFault::Memory);
+    }
+    match error.print(rt) {
+        Ok(()) if error.use_stderr() => ExitCode::from(2),
+        Ok(()) => ExitCode::from(0),
+        Err(_) => report(rt, &RunFault::Write),
+    }
+}
+
+// Arguments that are no text, or for which there was no memory.
+fn refuse_arguments(rt: &HostRuntime, error: &io::Error) -> ExitCode {
+    if error.kind() == io::ErrorKind::OutOfMemory {
+        return report(rt, &RunFault::Memory);
+    }
+    let _ = eprintln!(rt; "error: an argument is not UTF-8");
+    ExitCode::from(2)
+}
+
 // One line on standard error. Where that cannot be written either, the status alone tells.
-fn report<R: Eprint + AllocGlobal>(rt: &R, fault: &RunFault) {
+fn report(rt: &HostRuntime, fault: &RunFault) -> ExitCode {
     let _ = match fault_text(rt.alloc(), fault) {
         Ok(text) => eprintln!(rt; "dfviews: {text}"),
         Err(_) => eprintln!(rt; "dfviews: memory"),
     };
+    ExitCode::from(2)
 }

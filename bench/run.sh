@@ -1,0 +1,31 @@
+#!/usr/bin/env bash
+# Times the built program over a file of N rows, beside other programs where they are installed: run.sh N [grouped].
+# See README.md.
+set -eu
+count=${1:?how many rows}
+here=$(cd "$(dirname "$0")" && pwd)
+program=$here/../crates/dfviews/out/dfviews
+work=$(mktemp -d)
+trap 'rm -rf "$work"' EXIT
+cd "$work"
+python3 "$here/make.py" "$count" "$work"
+measure() { python3 "$here/measure.py" "$@"; }
+
+echo "$count rows, $(stat -c %s rows.csv) bytes"
+measure "wc -l" wc -l rows.csv
+measure "dfviews filtered" "$program" filtered.toml
+if [ "${2:-}" = grouped ]; then
+  measure "dfviews grouped" "$program" grouped.toml
+fi
+
+filtered='SELECT key, amount, open, amount * 2 FROM rows WHERE open = "true" AND CAST(amount AS INTEGER) > 999000'
+grouped='SELECT key, count(*), sum(amount) FROM rows GROUP BY key'
+if command -v sqlite3 > /dev/null; then
+  measure "sqlite3 filtered" sqlite3 :memory: ".mode csv" ".import rows.csv rows" "$filtered"
+  measure "sqlite3 grouped" sqlite3 :memory: ".mode csv" ".import rows.csv rows" "$grouped"
+fi
+if command -v mlr > /dev/null; then
+  # shellcheck disable=SC2016
+  measure "miller filtered" mlr --icsv --ocsv filter '$open == "true" && $amount > 999000' then put '$double = $amount * 2' rows.csv
+  measure "miller grouped" mlr --icsv --ocsv stats1 -a count,sum -f amount -g key rows.csv
+fi

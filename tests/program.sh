@@ -1,0 +1,127 @@
+#!/usr/bin/env bash
+# Runs a program with words and files: program.sh PROGRAM. Each case has its words, its standard input, its
+# status, its standard output and its standard error. Prints what went otherwise, and ends with a count.
+set -u
+program=$(realpath "$1")
+work=$(mktemp -d)
+trap 'rm -rf "$work"' EXIT
+cd "$work" || exit 2
+
+cases=0
+wrong=0
+
+# ended NAME STATUS OUTPUT ERROR: how the last run ended. An ERROR of `any` is clap's own text.
+ended() {
+  cases=$((cases + 1))
+  printf '%s' "$3" > want
+  if [ "$4" = any ]; then
+    [ -s err ]
+  else
+    printf '%s' "$4" | cmp -s - err
+  fi
+  local same_error=$?
+  if [ "$status" -ne "$2" ] || ! cmp -s want out || [ "$same_error" -ne 0 ]; then
+    echo "otherwise at $1: status $status"
+    cat out err
+    wrong=$((wrong + 1))
+  fi
+}
+
+# with DOCUMENT WORDS..: a run with this file as standard input.
+with() {
+  local document=$1
+  shift
+  "$program" "$@" < "$document" > out 2> err
+  status=$?
+}
+
+mkdir folder
+cat > listed.toml << 'END'
+[[frame]]
+name = "t"
+columns = [["x", "Int"]]
+path = "t.csv"
+[[view]]
+name = "t"
+from = "t"
+END
+printf 'x\n5\n12x\n7\n' > t.csv
+sed 's/t.csv/nosuch.csv/' listed.toml > unopened.toml
+sed 's/t.csv/folder/' listed.toml > of_folder.toml
+cp listed.toml ./-dash.toml
+whole='t (0 x 1)
+x
+
+refused t 0: record 2, column x
+'
+single='t (2 x 1)
+x
+5
+7
+
+refused t 1: record 2, column x
+'
+
+# The view document.
+with /dev/null
+ended "an empty document" 0 "" ""
+with /dev/null listed.toml
+ended "a document by its path" 1 "$whole" ""
+with listed.toml
+ended "a document from standard input" 1 "$whole" ""
+with unopened.toml listed.toml
+ended "a document by its path, beside standard input" 1 "$whole" ""
+with /dev/null -- -dash.toml
+ended "a path that begins with a dash" 1 "$whole" ""
+with listed.toml nosuch.toml
+ended "a document that is not there" 2 "" "dfviews: V10
+"
+with listed.toml folder
+ended "a folder in the place of a document" 2 "" "dfviews: V10
+"
+with listed.toml ""
+ended "an empty path" 2 "" "dfviews: V10
+"
+
+# The files of frames.
+with unopened.toml
+ended "a file that is not there" 2 "" "dfviews: t: F1
+"
+with of_folder.toml
+ended "a folder in the place of a file" 2 "" "dfviews: t: F1
+"
+
+# Chunks and workers.
+for workers in 1 2 16; do
+  with listed.toml --workers "$workers" --chunk 3
+  ended "chunks of 3, $workers workers" 1 "$whole" ""
+  with listed.toml --chunk=1 --workers="$workers"
+  ended "chunks of 1, $workers workers" 1 "$single" ""
+done
+with listed.toml --chunk 65536
+ended "chunks of 65536" 1 "$whole" ""
+
+# Words that are refused.
+for words in "--workers 17" "--workers 0" "--workers" "--chunk 0" "--chunk 65537" "--chunk x" "--chunk -1" \
+  "listed.toml t.csv" "--threads 2" "--chunk 1 --chunk 1" "-x"; do
+  # shellcheck disable=SC2086
+  with listed.toml $words
+  ended "$words" 2 "" any
+done
+with listed.toml $'\xff'
+ended "an argument that is not UTF-8" 2 "" any
+
+# Help names each word.
+for words in --help -h; do
+  with /dev/null "$words"
+  cases=$((cases + 1))
+  if [ "$status" -ne 0 ] || [ -s err ] || ! grep -q '\[VIEWS\]' out || ! grep -q -e '--workers' out ||
+    ! grep -q -e '--chunk' out; then
+    echo "otherwise at $words: status $status"
+    cat out err
+    wrong=$((wrong + 1))
+  fi
+done
+
+echo "words and files: $cases runs, $wrong otherwise"
+[ "$wrong" -eq 0 ]
