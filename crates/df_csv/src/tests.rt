@@ -1,4 +1,6 @@
 //! Worked rows of the CSV profile, each public call once with ample memory, and readers that fail.
+ghost use Rattle.std.specs.Prelude.{◌≡◌, IfOk};
+
 use crate::{
     CsvFault, CsvSource, ReadLimitedFault, Records, count_pieces, parse_records, read_limited,
     read_records, type_chunk, type_piece,
@@ -173,6 +175,17 @@ fn pieces_of_a_file(rt: HostRuntime) -> Result<(), Fail> {
     Ok(())
 }
 
+/// All chunks of a source, by what the trait alone says of it.
+fn all_made<S: Source + Sync>(alloc: Global, source: &S) -> Result<Vec<Made>, AllocError>
+    ensures { IfOk result (λ all. all.items ≡ S.made source.now) }
+{
+    let mut all = Vec::new(alloc);
+    for n in 0..source.chunks() {
+        all.push(source.chunk(alloc, n)?)?;
+    }
+    Ok(all)
+}
+
 #[test]
 fn source_of_a_file(rt: HostRuntime) -> Result<(), Fail> {
     let alloc = rt.alloc();
@@ -181,6 +194,7 @@ fn source_of_a_file(rt: HostRuntime) -> Result<(), Fail> {
     assert!(rt; schema.is_base());
     let source = CsvSource::new(records, schema, 2);
     assert_eq!(rt; source.chunks(), 2);
+    assert_eq!(rt; all_made(alloc, &source)?.len(), 2);
     for n in 0..source.chunks() {
         let made = source.chunk(alloc, n)?;
         assert_eq!(rt; is_bad(&made), n == 0);
