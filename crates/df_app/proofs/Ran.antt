@@ -1,11 +1,12 @@
 -- What a run did, from what its document gave and what was then written.
-use Rattle.std.proofs.Common.{◌≡◌, ◌≤◌, ℕ, List, length, ap, sym, subst, ◌∙◌}
-use Rattle.std.specs.Prelude.{Option, Some, None, IfSome, IfErr, Result, Ok, Err, Bool, cond, ◌<◌}
+use Rattle.std.proofs.Common.{◌≡◌, ◌≤◌, ℕ, List, length, refl, ap, sym, subst, ◌∙◌}
+use Rattle.std.specs.Prelude.{Option, Some, None, IfSome, IfOk, IfErr, Result, Ok, Err, Bool, cond, ◌<◌}
 use Rattle.std.proofs.lemmas.Bool.{le-ltb, lt-ltb}
 use Rattle.std.specs.Io.KnownBytes.{Keeps}
+use Rattle.df_text.specs.Document.{document_of}
 use Rattle.df_csv.specs.declared.csv_fault.CsvFault.{CsvFault}
 use Rattle.df_csv.specs.declared.csv_fault.CsvFault.TheVariants as csv
-use Rattle.df_app.specs.Output.{Answers, ComesFromBytes, Contents, KnowsFiles, TellsOfBytes, output_from, output_of}
+use Rattle.df_app.specs.Output.{AnswersOrFails, ComesFromBytes, Contents, KnowsFiles, KnowsFilesOf, MayFailFrom, TellsOfBytes, output_from, output_of}
 use Rattle.df_app.specs.Ran.{Gave, KeepsUnlessWrite, RanOn, Stopped, Tells, Wrote}
 use Rattle.df_app.specs.declared.fault.RunFault.{RunFault}
 use Rattle.df_app.specs.declared.fault.RunFault.TheVariants as fault
@@ -54,41 +55,45 @@ too_large b contents chunk many =
     ap (λ (t : Bool). cond {A = Result Output RunFault} t (Err fault.TooLarge) (output_from b contents chunk)) (lt-ltb 1048576 (length b) many)
 
 -- a fault of a frame's records
-tells_csv : (b : List ℕ) (contents : Contents) (chunk : ℕ) (frame : List ℕ) (f : CsvFault)
-    → (TellsOfBytes (fault.Csv frame f) → output_of b contents chunk ≡ Err (fault.Csv frame f)) → Tells b contents chunk (fault.Csv frame f)
-tells_csv b contents chunk frame csv.ReadFault said = tt
-tells_csv b contents chunk frame csv.TooLarge said = said ((λ e. cc), (λ n e. cc))
-tells_csv b contents chunk frame csv.NotText said = said ((λ e. cc), (λ n e. cc))
-tells_csv b contents chunk frame (csv.BadRecord k) said = said ((λ e. cc), (λ n e. cc))
-tells_csv b contents chunk frame (csv.MissingColumn c) said = said ((λ e. cc), (λ n e. cc))
-tells_csv b contents chunk frame (csv.DoubledHeader c) said = said ((λ e. cc), (λ n e. cc))
-tells_csv b contents chunk frame csv.TooManyRecords said = said ((λ e. cc), (λ n e. cc))
-tells_csv b contents chunk frame csv.Memory said = said ((λ e. cc), (λ n e. cc))
+tells_csv :
+    (b : List ℕ) (contents : Contents) (chunk : ℕ) (frame : List ℕ) (f : CsvFault) → length b ≤ 1048576 →
+    (TellsOfBytes (fault.Csv frame f) → output_of b contents chunk ≡ Err (fault.Csv frame f)) →
+    ((name : List ℕ) → fault.Csv frame f ≡ fault.Csv name csv.ReadFault → MayFailFrom b contents chunk name) → Tells b contents chunk (fault.Csv frame f)
+tells_csv b contents chunk frame csv.ReadFault few said unread = (few, unread frame refl)
+tells_csv b contents chunk frame csv.TooLarge few said unread = said ((λ e. cc), (λ n e. cc))
+tells_csv b contents chunk frame csv.NotText few said unread = said ((λ e. cc), (λ n e. cc))
+tells_csv b contents chunk frame (csv.BadRecord k) few said unread = said ((λ e. cc), (λ n e. cc))
+tells_csv b contents chunk frame (csv.MissingColumn c) few said unread = said ((λ e. cc), (λ n e. cc))
+tells_csv b contents chunk frame (csv.DoubledHeader c) few said unread = said ((λ e. cc), (λ n e. cc))
+tells_csv b contents chunk frame csv.TooManyRecords few said unread = said ((λ e. cc), (λ n e. cc))
+tells_csv b contents chunk frame csv.Memory few said unread = said ((λ e. cc), (λ n e. cc))
 
-tells : (b : List ℕ) (contents : Contents) (chunk : ℕ) (f : RunFault) → ComesFromBytes f → (TellsOfBytes f → output_of b contents chunk ≡ Err f)
-    → Tells b contents chunk f
-tells b contents chunk (fault.Views f) is said = said ((λ e. cc), (λ n e. cc))
-tells b contents chunk (fault.Plan view f) is said = said ((λ e. cc), (λ n e. cc))
-tells b contents chunk (fault.Csv frame f) is said = tells_csv b contents chunk frame f said
-tells b contents chunk fault.Memory is said = tt
-tells b contents chunk fault.ReadFault is said = tt
-tells b contents chunk fault.TooLarge is said = absurd is
-tells b contents chunk fault.Write is said = absurd is
+tells :
+    (b : List ℕ) (contents : Contents) (chunk : ℕ) (f : RunFault) → length b ≤ 1048576 → ComesFromBytes f → (TellsOfBytes f → output_of b contents chunk ≡ Err f) →
+    ((name : List ℕ) → f ≡ fault.Csv name csv.ReadFault → MayFailFrom b contents chunk name) → Tells b contents chunk f
+tells b contents chunk (fault.Views f) few is said unread = said ((λ e. cc), (λ n e. cc))
+tells b contents chunk (fault.Plan view f) few is said unread = said ((λ e. cc), (λ n e. cc))
+tells b contents chunk (fault.Csv frame f) few is said unread = tells_csv b contents chunk frame f few said unread
+tells b contents chunk fault.Memory few is said unread = tt
+tells b contents chunk fault.ReadFault few is said unread = tt
+tells b contents chunk fault.TooLarge few is said unread = absurd is
+tells b contents chunk fault.Write few is said unread = absurd is
 
-gave_answer : (b : List ℕ) (contents : Contents) (chunk : ℕ) (r : Result Output RunFault) → length b ≤ 1048576 → Answers (output_from b contents chunk) r
-    → Gave b contents chunk r
+gave_answer : (b : List ℕ) (contents : Contents) (chunk : ℕ) (r : Result Output RunFault) → length b ≤ 1048576 →
+    AnswersOrFails (MayFailFrom b contents chunk) (output_from b contents chunk) r → Gave b contents chunk r
 gave_answer b contents chunk (Ok o) few answers = within b contents chunk few ∙ answers
 gave_answer b contents chunk (Err f) few answers =
-    tells b contents chunk f answers.0 (λ other. within b contents chunk few ∙ answers.1 other)
+    tells b contents chunk f few answers.0 (λ other. within b contents chunk few ∙ answers.1 other) answers.2
 
 -- what the bytes that were read gave
 pub gave_read :
     (bytes : Option (List ℕ)) (contents : Contents) (read : List ℕ) (chunk : ℕ) (r : Result Output RunFault) →
-    IfSome bytes (λ b. read ≡ b) → length read ≤ 1048576 → (KnowsFiles contents read → Answers (output_from read contents chunk) r) →
+    IfSome bytes (λ b. read ≡ b) → length read ≤ 1048576 →
+    (IfOk (document_of read) (KnowsFilesOf contents) → AnswersOrFails (MayFailFrom read contents chunk) (output_from read contents chunk) r) →
     IfSome bytes (λ b. KnowsFiles contents b → Gave b contents chunk r)
 gave_read None contents read chunk r is few answers = is
 gave_read (Some b) contents read chunk r is few answers =
-    subst (λ (x : List ℕ). KnowsFiles contents x → Gave x contents chunk r) is (λ knows. gave_answer read contents chunk r few (answers knows))
+    subst (λ (x : List ℕ). KnowsFiles contents x → Gave x contents chunk r) is (λ knows. gave_answer read contents chunk r few (answers (knows few)))
 
 pub gave_too_large :
     (bytes : Option (List ℕ)) (contents : Contents) (chunk : ℕ) → IfSome bytes (λ b. 1048576 < length b) →

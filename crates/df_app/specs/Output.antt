@@ -1,6 +1,6 @@
 -- What a run of a view document writes: the tables of its views over its frames, and the chunks that were
 -- refused, or the first fault.
-use Rattle.std.specs.Prelude.{◌≡◌, ◌≢◌, ◌*◌, ℕ, ⊤, MatchResult, Bool, true, false, List, [], ◌∷◌, ◌++◌, length, map, nat_lt, codes, decimal, option_map, unwrap_or, slice_get, flat_map, All, Option, Some, None, IsSome, IfOk, Result, Ok, Err, if◌then◌else◌}
+use Rattle.std.specs.Prelude.{◌≡◌, ◌≢◌, ◌≤◌, ◌*◌, ◌⊎◌, ℕ, ⊤, MatchResult, Bool, true, false, List, [], ◌∷◌, ◌++◌, length, map, nat_lt, codes, decimal, option_map, unwrap_or, slice_get, flat_map, All, Option, Some, None, IsSome, IfOk, IsOk, IsOkAnd, Result, Ok, Err, if◌then◌else◌}
 use Rattle.std.specs.List.{enumerate_from, join_by, list_all}
 use Rattle.df_value.specs.declared.cell.Cell.{Cell}
 use Rattle.df_value.specs.declared.chunk.Made.{Made}
@@ -126,11 +126,15 @@ text_from document plans pieces chunk =
     (map (table_in (map rows_of pieces)) (paired document.views plans)
     ++ refused_block (flat_map (refused_in chunk) (paired document.frames pieces)))
 
+-- the plans of a document's views, in their order, or the first fault
+abbrev pub plans_of : Views → Result (List CheckedParts) RunFault
+plans_of document = each_after (plan_of (schemas_of document.frames)) [] document.views
+
 -- the output of a document that was read: its plans are checked in the order of the views, then its frames are read
 -- in their order and typed in chunks of so many records
 abbrev pub output_in : Views → Contents → ℕ → Result Output RunFault
 output_in document contents chunk =
-    then_run (each_after (plan_of (schemas_of document.frames)) [] document.views) (λ plans.
+    then_run (plans_of document) (λ plans.
     then_run (each_after (pieces_in contents chunk) [] document.frames) (λ pieces.
     Ok (record { text = text_from document plans pieces chunk; outcome = outcome_of pieces })))
 
@@ -151,9 +155,30 @@ IsKnown contents (source.Text text) = ⊤
 abbrev pub AreKnown : Contents → List FrameSpec → Type 0
 AreKnown contents frames = All (λ (f : FrameSpec). IsKnown contents f.source) frames
 
--- the bytes of each file that a document names are known
+-- the bytes of each file that a document names are known, if its files are read at all
+abbrev pub KnowsFilesOf : Contents → Views → Type 0
+KnowsFilesOf contents document = IfOk (plans_of document) (λ plans. AreKnown contents document.frames)
+
 abbrev pub KnowsFiles : Contents → List ℕ → Type 0
-KnowsFiles contents bytes = IfOk (document_of bytes) (λ document. AreKnown contents document.frames)
+KnowsFiles contents bytes = length bytes ≤ 1048576 → IfOk (document_of bytes) (KnowsFilesOf contents)
+
+-- a frame's records stand in a file, which may fail to open or to be read
+abbrev pub IsFile : FrameSource → Type 0
+IsFile (source.Path path) = ⊤
+IsFile (source.Text text) = ⊥
+
+-- the frame of this name may be the first whose file cannot be read: those before it have their pieces
+abbrev pub MayFail : Contents → ℕ → List FrameSpec → List ℕ → Type 0
+MayFail contents chunk [] name = ⊥
+MayFail contents chunk (f ∷ frames) name =
+    ((f.name ≡ name) × IsFile f.source) ⊎ (IsOk (pieces_in contents chunk f) × MayFail contents chunk frames name)
+
+-- and the plans of the document check
+abbrev pub MayFailIn : Views → Contents → ℕ → List ℕ → Type 0
+MayFailIn document contents chunk name = IsOk (plans_of document) × MayFail contents chunk document.frames name
+
+abbrev pub MayFailFrom : List ℕ → Contents → ℕ → List ℕ → Type 0
+MayFailFrom bytes contents chunk name = IsOkAnd (document_of bytes) (λ document. MayFailIn document contents chunk name)
 
 -- a fault that bytes can have which are not too many, or want of memory
 abbrev pub ComesFromBytes : RunFault → Type 0
@@ -169,6 +194,13 @@ ComesFromBytes fault.Write = ⊥
 abbrev pub TellsOfBytes : RunFault → Type 0
 TellsOfBytes f = (f ≢ fault.Memory) × ((frame : List ℕ) → f ≢ fault.Csv frame csv.ReadFault)
 
--- The call answers what is wanted, unless it answers that memory was refused or that a file cannot be read.
+-- The call answers what is wanted, unless it answers that memory was refused or that the file of a frame of which F holds
+-- cannot be read.
+abbrev pub AnswersOrFails : {A : Type 0} → (List ℕ → Type 0) → Result A RunFault → Result A RunFault → Type 0
+AnswersOrFails F want result =
+    MatchResult result (λ x. want ≡ Ok x)
+    (λ f. ComesFromBytes f × (TellsOfBytes f → want ≡ Err f) × ((frame : List ℕ) → f ≡ fault.Csv frame csv.ReadFault → F frame))
+
+-- the same of a call that reads no file
 abbrev pub Answers : {A : Type 0} → Result A RunFault → Result A RunFault → Type 0
-Answers want result = MatchResult result (λ x. want ≡ Ok x) (λ f. ComesFromBytes f × (TellsOfBytes f → want ≡ Err f))
+Answers want result = AnswersOrFails (λ frame. ⊥) want result

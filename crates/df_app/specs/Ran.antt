@@ -1,18 +1,19 @@
 -- What a run did, of a document and of files whose bytes are known, to a writer.
-use Rattle.std.specs.Prelude.{◌≡◌, ◌<◌, ℕ, List, ⊤, length, take, Option, Result, Ok, Err}
+use Rattle.std.specs.Prelude.{◌≡◌, ◌<◌, ◌≤◌, ℕ, List, ⊤, length, take, Option, Result, Ok, Err}
 use Rattle.std.specs.Io.KnownBytes.{Appends, Keeps}
 use Rattle.df_app.specs.declared.fault.RunFault.{RunFault}
 use Rattle.df_app.specs.declared.fault.RunFault.TheVariants as fault
 use Rattle.df_app.specs.declared.outcome.Outcome.{Outcome}
 use Rattle.df_app.specs.declared.outcome.Output.{Output}
 use Rattle.df_csv.specs.declared.csv_fault.CsvFault.TheVariants as csv
-use Rattle.df_app.specs.Output.{Contents, output_of}
+use Rattle.df_app.specs.Output.{Contents, MayFailFrom, output_of}
 
--- What a fault says that comes before anything is written: but for a failed read, of the document or of a file, and
--- want of memory, it is the fault that the bytes have in the place of an output.
+-- What a fault says that comes before anything is written. But for a failed read of the document or of a file and for
+-- want of memory, it is the fault that the bytes have in the place of an output; and a file that cannot be read is that
+-- of a frame to which the run comes.
 abbrev pub Tells : List ℕ → Contents → ℕ → RunFault → Type 0
 Tells bytes contents chunk fault.ReadFault = ⊤
-Tells bytes contents chunk (fault.Csv frame csv.ReadFault) = ⊤
+Tells bytes contents chunk (fault.Csv frame csv.ReadFault) = (length bytes ≤ 1048576) × MayFailFrom bytes contents chunk frame
 Tells bytes contents chunk fault.Memory = ⊤
 Tells bytes contents chunk fault.Write = ⊥
 Tells bytes contents chunk f = output_of bytes contents chunk ≡ Err f

@@ -2,7 +2,7 @@
 ghost use Rattle.std.specs.Prelude.{◌≡◌, ◌++◌, ◌≤◌, [], IfOk, OnOk, codes, flat_map, length, map};
 ghost use Rattle.std.specs.List.{join_by};
 ghost use Rattle.df_text.specs.Document.{document_of};
-ghost use Rattle.df_app.specs.Output.{Answers, AreKnown, KnowsFiles, each_after, of_document, output_from, output_in as output_of_views, outcome_of, paired, plan_of, refused_block, schemas_of, table_in, text_from};
+ghost use Rattle.df_app.specs.Output.{Answers, AnswersOrFails, KnowsFilesOf, MayFailFrom, MayFailIn, each_after, of_document, output_from, output_in as output_of_views, outcome_of, paired, plan_of, plans_of, refused_block, schemas_of, table_in, text_from};
 
 use crate::fault::RunFault;
 use crate::files::Files;
@@ -24,8 +24,9 @@ pub fn output<F: Files>(
     requires some { 1 ≤ chunk }
     requires few { chunk ≤ 65536 }
     ensures same { F.bytes_at files.new ≡ F.bytes_at files.old }
-    ensures value { KnowsFiles (F.bytes_at files.old) bytes.now →
-        Answers (output_from bytes.now (F.bytes_at files.old) chunk) result }
+    ensures value { IfOk (document_of bytes.now) (KnowsFilesOf (F.bytes_at files.old)) →
+        AnswersOrFails (MayFailFrom bytes.now (F.bytes_at files.old) chunk)
+        (output_from bytes.now (F.bytes_at files.old) chunk) result }
 {
     match read_document(alloc, bytes) {
         Ok(document) => output_in(alloc, &document, files, chunk),
@@ -42,8 +43,9 @@ fn output_in<F: Files>(
     requires some { 1 ≤ chunk }
     requires few { chunk ≤ 65536 }
     ensures same { F.bytes_at files.new ≡ F.bytes_at files.old }
-    ensures value { AreKnown (F.bytes_at files.old) document.now.frames →
-        Answers (output_of_views document.now (F.bytes_at files.old) chunk) result }
+    ensures value { KnowsFilesOf (F.bytes_at files.old) document.now →
+        AnswersOrFails (MayFailIn document.now (F.bytes_at files.old) chunk)
+        (output_of_views document.now (F.bytes_at files.old) chunk) result }
 {
     match checked_views(alloc, document) {
         Ok(plans) => match all_pieces(alloc, files, document.frames.as_slice(), chunk) {
@@ -56,7 +58,7 @@ fn output_in<F: Files>(
 
 // The plans of the views, checked over the schemas of the frames.
 fn checked_views(alloc: Global, document: &Views) -> Result<List<CheckedPlan>, RunFault>
-    ensures value { Answers (each_after (plan_of (schemas_of document.now.frames)) [] document.now.views) result }
+    ensures value { Answers (plans_of document.now) result }
     ensures each { IfOk result (λ plans. length plans ≡ length document.now.views) }
 {
     let schemas = copy_schemas(alloc, document.frames.as_slice())?;

@@ -1,9 +1,9 @@
 //! The frames of a document in pieces: chunks of rows, or bad cells.
-ghost use Rattle.std.specs.Prelude.{◌≡◌, ◌++◌, ◌≤◌, [], IfOk, IfSome, OnOk, length, map};
+ghost use Rattle.std.specs.Prelude.{◌≡◌, ◌++◌, ◌≤◌, [], IfErr, IfOk, IfSome, OnOk, length, map};
 ghost use Rattle.std.specs.List.{list_all};
 ghost use Rattle.df_csv.specs.Records.{GivesRead, IsRecords, file_records};
 ghost use Rattle.df_csv.specs.Typed.{pieces_of};
-ghost use Rattle.df_app.specs.Output.{Answers, AreKnown, IsKnown, each_after, pieces_in, good_rows, is_good as is_good_piece, outcome_of, records_in, rows_of as rows_at};
+ghost use Rattle.df_app.specs.Output.{AnswersOrFails, AreKnown, IsFile, IsKnown, MayFail, each_after, pieces_in, good_rows, is_good as is_good_piece, outcome_of, records_in, rows_of as rows_at};
 
 use crate::fault::RunFault;
 use crate::files::Files;
@@ -26,7 +26,8 @@ pub fn all_pieces<F: Files>(
     requires few { chunk ≤ 65536 }
     ensures same { F.bytes_at files.new ≡ F.bytes_at files.old }
     ensures value { AreKnown (F.bytes_at files.old) frames.now →
-        Answers (each_after (pieces_in (F.bytes_at files.old) chunk) [] frames.now) result }
+        AnswersOrFails (MayFail (F.bytes_at files.old) chunk frames.now)
+        (each_after (pieces_in (F.bytes_at files.old) chunk) [] frames.now) result }
     ensures each { IfOk result (λ pieces. length pieces ≡ length frames.now) }
 {
     let mut all = Vec::new(alloc);
@@ -46,7 +47,8 @@ fn read_pieces<F: Files>(
     requires few { chunk ≤ 65536 }
     ensures same { F.bytes_at files.new ≡ F.bytes_at files.old }
     ensures value { IsKnown (F.bytes_at files.old) frame.now.source →
-        Answers (pieces_in (F.bytes_at files.old) chunk frame.now) result }
+        AnswersOrFails (λ name. (frame.now.name ≡ name) × IsFile frame.now.source)
+        (pieces_in (F.bytes_at files.old) chunk frame.now) result }
 {
     match read_frame(alloc, files, frame) {
         Ok(records) => match pieces(alloc, &records, &frame.schema, chunk) {
@@ -70,6 +72,7 @@ fn read_frame<F: Files>(
     ensures value { IsKnown (F.bytes_at files.old) frame.now.source →
         GivesRead result (records_in (F.bytes_at files.old) frame.now.source frame.now.schema) }
     ensures sound { IfOk result (λ records. IsRecords (length frame.now.schema) records) }
+    ensures of_file { IfErr result (λ fault. fault ≡ CsvFault.ReadFault → IsFile frame.now.source) }
 {
     match &frame.source {
         FrameSource::Path(path) => read_file(alloc, files, path.as_str(), &frame.schema),

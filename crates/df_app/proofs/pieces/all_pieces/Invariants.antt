@@ -1,5 +1,5 @@
-use Rattle.std.proofs.Common.{◌≡◌, [], drop, length}
-use Rattle.df_app.specs.Output.{AreKnown, each_after, pieces_in}
+use Rattle.std.proofs.Common.{◌≡◌, ℕ, List, [], drop, length}
+use Rattle.df_app.specs.Output.{AreKnown, MayFail, each_after, pieces_in}
 use Rattle.df_app.proofs.pieces.all_pieces.Given as goal
 
 abbrev pub invariant-loop-frame : goal.invariant-loop-frame
@@ -8,5 +8,8 @@ invariant-loop-frame g l = record {
   so_far : AreKnown (g.F.Files.bytes_at l.initial.files) l.frames →
       each_after (pieces_in (g.F.Files.bytes_at l.initial.files) l.chunk) [] l.frames
       ≡ each_after (pieces_in (g.F.Files.bytes_at l.initial.files) l.chunk) l.all.items (drop l.frame-index l.frames);
+  may_fail : AreKnown (g.F.Files.bytes_at l.initial.files) l.frames →
+      (name : List ℕ) → MayFail (g.F.Files.bytes_at l.initial.files) l.chunk (drop l.frame-index l.frames) name →
+      MayFail (g.F.Files.bytes_at l.initial.files) l.chunk l.frames name;
   each : length l.all.items ≡ l.frame-index;
 }
