@@ -75,14 +75,28 @@ fn names_a_frame_that_is_not_there(rt: HostRuntime) -> Result<(), Fail> {
     Ok(())
 }
 
+fn has_plan(alloc: Global, plan: &CheckedPlan) -> Result<bool, AllocError> {
+    Ok(*plan.plan() == sums(alloc, 0)?)
+}
+
+fn equals_its_copy(alloc: Global, plan: &CheckedPlan) -> Result<bool, AllocError> {
+    Ok(*plan == plan.copy(alloc)?)
+}
+
 #[test]
 fn keeps_its_parts(rt: HostRuntime) -> Result<(), Fail> {
     let alloc = rt.alloc();
     let plan = checked(alloc, sums(alloc, 0)?)?;
-    assert!(rt; *plan.plan() == sums(alloc, 0)?);
-    assert!(rt; plan.frames().len() == 1);
-    assert!(rt; plan.schema().columns().len() == 2);
-    assert!(rt; plan == plan.copy(alloc)?);
+    assert!(rt; has_plan(alloc, &plan)?);
+    assert!(rt; plan.frames().len() == 1 && plan.schema().columns().len() == 2);
+    Ok(())
+}
+
+#[test]
+fn is_copied(rt: HostRuntime) -> Result<(), Fail> {
+    let alloc = rt.alloc();
+    let plan = checked(alloc, sums(alloc, 0)?)?;
+    assert!(rt; equals_its_copy(alloc, &plan)?);
     Ok(())
 }
 
