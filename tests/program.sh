@@ -1,6 +1,6 @@
 #!/usr/bin/env bash
 # Runs a program with words and files: program.sh PROGRAM. Each case has its words, its standard input, its
-# status, its standard output and its standard error. Prints what went otherwise, and ends with a count.
+# status, its standard output and its standard error. Prints each case that differs, and ends with a count.
 set -u
 program=$(realpath "$1")
 work=$(mktemp -d)
@@ -21,7 +21,7 @@ ended() {
   fi
   local same_error=$?
   if [ "$status" -ne "$2" ] || ! cmp -s want out || [ "$same_error" -ne 0 ]; then
-    echo "otherwise at $1: status $status"
+    echo "differs at $1: status $status"
     cat out err
     wrong=$((wrong + 1))
   fi
@@ -33,6 +33,15 @@ with() {
   shift
   "$program" "$@" < "$document" > out 2> err
   status=$?
+}
+
+# unwritten DOCUMENT WORDS..: the same, with standard output on a device that is always full.
+unwritten() {
+  local document=$1
+  shift
+  "$program" "$@" < "$document" > /dev/full 2> err
+  status=$?
+  : > out
 }
 
 mkdir folder
@@ -49,6 +58,14 @@ printf 'x\n5\n12x\n7\n' > t.csv
 sed 's/t.csv/nosuch.csv/' listed.toml > unopened.toml
 sed 's/t.csv/folder/' listed.toml > of_folder.toml
 cp listed.toml ./-dash.toml
+cp listed.toml ./-
+mkdir apart
+sed 's/t.csv/here.csv/' listed.toml > apart/of_here.toml
+sed 's/t.csv/there.csv/' listed.toml > apart/of_there.toml
+cp t.csv here.csv
+cp t.csv apart/there.csv
+cp unopened.toml unopened_and_unchecked.toml
+echo 'steps = [["filter", ["col", "y"]]]' >> unopened_and_unchecked.toml
 whole='t (0 x 1)
 x
 
@@ -73,6 +90,10 @@ with unopened.toml listed.toml
 ended "a document by its path, beside standard input" 1 "$whole" ""
 with /dev/null -- -dash.toml
 ended "a path that begins with a dash" 1 "$whole" ""
+with unopened.toml -
+ended "a file named -" 1 "$whole" ""
+with unopened.toml -- -
+ended "a file named - behind --" 1 "$whole" ""
 with listed.toml nosuch.toml
 ended "a document that is not there" 2 "" "dfviews: V10
 "
@@ -89,6 +110,25 @@ ended "a file that is not there" 2 "" "dfviews: t: F1
 "
 with of_folder.toml
 ended "a folder in the place of a file" 2 "" "dfviews: t: F1
+"
+with /dev/null apart/of_here.toml
+ended "a file in the folder that the program runs in" 1 "$whole" ""
+with /dev/null apart/of_there.toml
+ended "a file in the folder of the document alone" 2 "" "dfviews: t: F1
+"
+with unopened_and_unchecked.toml
+ended "a file that is not there, beside a plan's fault" 2 "" "dfviews: t: P2 E1 y
+"
+
+# Standard output that takes nothing.
+unwritten listed.toml
+ended "an output that cannot be written" 2 "" "dfviews: write
+"
+unwritten /dev/null --help
+ended "a help that cannot be written" 2 "" "dfviews: write
+"
+unwritten unopened.toml
+ended "a fault before an output that cannot be written" 2 "" "dfviews: t: F1
 "
 
 # Chunks and workers.
@@ -109,7 +149,8 @@ for words in "--workers 17" "--workers 0" "--workers" "--chunk 0" "--chunk 65537
   ended "$words" 2 "" any
 done
 with listed.toml $'\xff'
-ended "an argument that is not UTF-8" 2 "" any
+ended "an argument that is not UTF-8" 2 "" "error: an argument is not UTF-8
+"
 
 # Help names each word.
 for words in --help -h; do
@@ -117,11 +158,11 @@ for words in --help -h; do
   cases=$((cases + 1))
   if [ "$status" -ne 0 ] || [ -s err ] || ! grep -q '\[VIEWS\]' out || ! grep -q -e '--workers' out ||
     ! grep -q -e '--chunk' out; then
-    echo "otherwise at $words: status $status"
+    echo "differs at $words: status $status"
     cat out err
     wrong=$((wrong + 1))
   fi
 done
 
-echo "words and files: $cases runs, $wrong otherwise"
+echo "words and files: $cases runs, $wrong differ"
 [ "$wrong" -eq 0 ]

@@ -6,7 +6,7 @@ use Rattle.clap.specs.Words.{App, Rule, first_of, matches_of, new_app, new_rule,
 use Rattle.clap.specs.declared.builder.value_parser.ValueParser.TheVariants as parser
 use Rattle.df_app.specs.declared.command_line.Words.{Words}
 
--- the program's name stands not among the words
+-- the program's name is not among the words
 abbrev pub named : App
 named = record (new_app (codes "dfviews")) { top = record (new_app (codes "dfviews")).top { no_binary_name = true } }
 

@@ -28,11 +28,12 @@ impl From<AllocError> for ReadLimitedFault {
     }
 }
 
-/// All bytes that a reader has left, which are at most `limit`. It takes up to 65,536 bytes a read, and
-/// makes at most `limit` + 1 reads.
+/// All bytes that a reader has left, which are at most `limit`. It takes up to 65,536 bytes a read,
+/// and makes at most `limit` + 1 reads.
 ///
 /// `Failed` where a read fails, `TooLarge` where more than `limit` bytes were left, `Memory` where
-/// they do not fit into memory. At a fault the reader may have given some of its bytes.
+/// they do not fit into memory. At a fault the reader may have given some of its bytes; at
+/// `TooLarge` it has given `limit` + 1 of them and up to 65,535 more.
 pub fn read_limited<R: Read>(
     alloc: Global,
     reader: &mut R,

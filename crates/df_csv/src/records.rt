@@ -42,7 +42,8 @@ impl Records {
         requires { length (fields_of fields) ≡ count * width }
         ensures { result ≡ rows_in width count (fields_of fields) }
     {
-        // The number of fields is a `usize`, so that the place of each is one.
+        // Asked for its contract alone: as a `usize`, the number of fields is below 2^64, which the
+        // invariant says.
         let _size = fields.len();
         Records {
             fields,

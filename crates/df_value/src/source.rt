@@ -9,8 +9,10 @@ use std::alloc::{AllocError, Global};
 
 /// A finite list of made chunks, the same at each call.
 pub trait Source {
+    // The chunks, in their order.
     ghost made: { Self → List Made };
 
+    // The number of the first row of the chunk at each place.
     ghost start_of: { Self → ℕ → ℕ };
 
     /// How many chunks there are.
@@ -27,5 +29,6 @@ pub trait Source {
         requires { n < length (made self.now) }
         ensures { result ≡ start_of self.now n };
 
+    // A good chunk begins with the row that `start_of` has for its place.
     ghost starts: { (source : Self) (n : ℕ) (chunk : ChunkParts) → slice_get (made source) n ≡ Some (made_as.Good chunk) → chunk.first ≡ start_of source n };
 }
