@@ -16,8 +16,10 @@ compiler=${CC:-$(command -v cc || echo "$(dirname "$(rt doc)")/toolchain/bin/cla
 cases=0
 wrong=0
 
-# ended NAME STATUS OUTPUT FAULT: how the last run ended; FAULT is its text, or nothing.
+# ended NAME STATUS OUTPUT FAULT: how the command before it ended; FAULT is its text, or nothing. Its words are to
+# run no command themselves.
 ended() {
+  local status=$?
   cases=$((cases + 1))
   printf '%s' "$3" > want
   printf '%s' "${4:+dfviews: $4$'\n'}" > want_err
@@ -32,7 +34,6 @@ ended() {
 # answers NAME STATUS OUTPUT [FAULT]: the file `document` as standard input ends so.
 answers() {
   "$program" < document > out 2> err
-  status=$?
   ended "$1" "$2" "$3" "${4-}"
 }
 
@@ -88,7 +89,6 @@ faults "a document of one byte more" V9
 filled 1048577 '\377' > document
 faults "a document of one byte more, no text" V9
 "$program" < /dev/zero > out 2> err
-status=$?
 ended "a document without an end" 2 "" V9
 
 { printf 'x\n'; filled 67108861 a; printf '\n'; } > t.csv
@@ -126,13 +126,13 @@ answers "a bad cell in the last record" 1 'refused t 1048000: record 1048576, co
 # Bytes that are no text, in a file, in a document, in a comment and in a name.
 for bytes in '\xff' '\xc0\x80' '\xed\xa0\x80' '\xf4\x90\x80\x80' '\xe6\x97'; do
   frame t "$text" 'path = "t.csv"' > document
-  printf "$bytes" > t.csv
+  printf '%b' "$bytes" > t.csv
   faults "a file of $bytes" "t: F3"
-  printf "x\na$bytes" > t.csv
+  printf 'x\na%b' "$bytes" > t.csv
   faults "a file that ends in $bytes" "t: F3"
-  printf "$bytes" > document
+  printf '%b' "$bytes" > document
   faults "a document of $bytes" V1
-  { cat by_region.toml; printf "# $bytes"; } > document
+  { cat by_region.toml; printf '# %b' "$bytes"; } > document
   faults "a comment with $bytes" V1
   sed "s/sales/a$bytes/" by_region.toml > document
   faults "a name with $bytes" V1
@@ -229,7 +229,7 @@ x
 # named NAME SHOWN WIDTH: a name, as a document writes it, in each place where a name is printed. In CSV it stands in
 # quotes, in which a quote stands twice.
 named() {
-  local name=$1 shown=$2 width=$3 quoted=${1//\\\"/\\\"\\\"} filters
+  local name=$1 shown=$2 width=$3 quoted=${1//\\\"/\\\"\\\"} fault step
   local column="[\"$name\", \"Int\"]" most=$((width > 1 ? width : 1))
   { frame "$name" "$column, $text" "text = \"x,\\\"$quoted\\\"\\n\\\"[$quoted]\\\",7\""; view "$name" "$name" ""
   } > document
@@ -250,7 +250,6 @@ $(printf '%*s  [%s]' "$most" 7 "$shown")
   faults "F5 of $name" "$shown: F5 $shown"
   frame "$name" "$column" "text = \"\\\"$quoted\\\",\\\"$quoted\\\"\"" > document
   faults "F6 of $name" "$shown: F6 $shown"
-  filters=$(listed 12 '["filter", true]')
   while IFS='|' read -r fault step; do
     { frame t "$text" 'text = "x"'; view "$name" t "$step"; } > document
     faults "$fault of $name" "$shown: $fault"
@@ -259,7 +258,7 @@ P2 E1 $shown|["cum_sum", "s", "$name"]
 P2 E2|["filter", "$name"]
 P3 $shown|["with_columns", ["$name", 1], ["$name", 2]]
 P4|["join", "left", ["x"], "t"], ["join", "left", ["x"], "t"], ["join", "left", ["x"], "t"]
-P5|$filters
+P5|$(listed 12 '["filter", true]')
 P6|["rolling_sum", "$name", "$name", 0]
 P7|["group_by", []]
 P9 $shown|["select", ["$name", 1]]
@@ -290,71 +289,62 @@ done
 cp by_region.toml document
 : > out
 "$program" < document >&- 2> err
-status=$?
 ended "standard output closed" 2 "" write
 "$program" document >&- 2> err
-status=$?
 ended "standard output closed, a document by its path" 2 "" write
 "$program" < document > /dev/full 2> err
-status=$?
 ended "standard output full" 2 "" write
 "$program" < document 1< document 2> err
-status=$?
 ended "standard output for reading" 2 "" write
 mkfifo pipe
-exec 3<> pipe 4> pipe 3>&-
+exec 3<> pipe
+exec 4> pipe
+exec 3>&-
 "$program" < document >&4 2> err
-status=$?
 ended "a pipe that nobody reads" 2 "" write
 exec 4>&-
 "$program" < /dev/null >&- 2> err
-status=$?
 ended "standard output closed, nothing to write" 0 "" ""
 for closed in '>&-' '> /dev/full'; do
   eval '"$program" --help 2> err '"$closed"
-  status=$?
   ended "help with $closed" 2 "" write
 done
 : > err
 for closed in '2>&-' '2> /dev/full'; do
   eval '"$program" < /dev/zero > out '"$closed"
-  status=$?
   ended "a fault with $closed" 2 "" ""
   eval '"$program" < document > out '"$closed"
-  status=$?
   ended "standard error not needed with $closed" 0 "$by_region" ""
 done
 
 { frame t "$text" "text = \"x\\n$(filled 500000 a)\""; view v t ""; } > document
 "$program" < document 2> err | head -c 11 > out
-status=${PIPESTATUS[0]}
+(exit "${PIPESTATUS[0]}")
 ended "a reader that ends early" 2 $'v (1 x 1)\nx' write
+start=$(printf 'v (1 x 1)\nx%1013s' '')
 (
   trap '' XFSZ
   ulimit -f 1
   "$program" < document > out 2> err
 )
-status=$?
-ended "a file that may not grow" 2 "$(printf 'v (1 x 1)\nx%1013s' '')" write
+ended "a file that may not grow" 2 "$start" write
 
 mkdir folder
 "$program" < folder > out 2> err
-status=$?
 ended "a folder as standard input" 2 "" V10
 "$program" <&- > out 2> err
-status=$?
 ended "standard input closed" 2 "" V10
 "$program" 0> unread > out 2> err
-status=$?
 ended "standard input for writing" 2 "" V10
 
 # piped NAME STATUS OUTPUT FAULT BYTES..: a writer gives these one by one through `pipe`, and ends.
 piped() {
   (for bytes in "${@:5}"; do printf '%s' "$bytes"; done) > pipe &
   timeout 60 "$program" < "$input" > out 2> err
-  status=$?
+  local status=$?
   kill $! 2> /dev/null
   wait
+  (exit "$status")
   ended "${@:1:4}"
 }
 input=pipe
@@ -381,7 +371,6 @@ shrinks() {
   printf '%s' "$csv" > sales.csv
   env LD_PRELOAD="$work/failing.so" SHORT=1 SHRINK=sales.csv SHRINK_TO="$5" "$program" < of_file.toml \
     > out 2> err
-  status=$?
   ended "${@:1:4}"
 }
 shrinks "a file that loses its last record" 0 'by_region (2 x 3)
