@@ -13,11 +13,9 @@ cd "$work" || exit 2
 compiler=${CC:-$(command -v cc || echo "$(dirname "$(rt doc)")/toolchain/bin/clang")}
 "$compiler" -O1 -shared -fPIC -nostdlib -o failing.so "$here/failing.c" || exit 2
 
-cases=0
-wrong=0
+cases=0 wrong=0
 
-# ended NAME STATUS OUTPUT FAULT: how the command before it ended; FAULT is its text, or nothing. Its words are to
-# run no command themselves.
+# ended NAME STATUS OUTPUT FAULT: how the last command ended (so its words run none); FAULT is a text, or nothing.
 ended() {
   local status=$?
   cases=$((cases + 1))
@@ -84,8 +82,12 @@ answers "the first example" 0 "$by_region"
 commented() { { cat by_region.toml; yes '# a comment'; } 2> /dev/null | head -c "$1"; }
 commented 1048576 > document
 answers "a document of the most bytes" 0 "$by_region"
+"$program" document > out 2> err
+ended "a document of the most bytes by its path" 0 "$by_region" ""
 commented 1048577 > document
 faults "a document of one byte more" V9
+"$program" document > out 2> err
+ended "a document of one byte more by its path" 2 "" V9
 filled 1048577 '\377' > document
 faults "a document of one byte more, no text" V9
 "$program" < /dev/zero > out 2> err
@@ -297,9 +299,7 @@ ended "standard output full" 2 "" write
 "$program" < document 1< document 2> err
 ended "standard output for reading" 2 "" write
 mkfifo pipe
-exec 3<> pipe
-exec 4> pipe
-exec 3>&-
+exec 3<> pipe; exec 4> pipe; exec 3>&-
 "$program" < document >&4 2> err
 ended "a pipe that nobody reads" 2 "" write
 exec 4>&-
