@@ -210,10 +210,10 @@ for step in '[]' '["filter"]' '["filter", true, true]' '[1]' '"filter"' 'true' '
   of_steps "$step"
   faults "the step $step" "V2 view 0"
 done
-for levels in 100 10000 500000; do
+while read -r levels fault; do
   { printf 'frame = '; filled "$levels" '['; filled "$levels" ']'; } > document
-  faults "an array of $levels levels" V1
-done
+  faults "an array of $levels levels" "$fault"
+done <<< $'80 V2 top\n81 V1\n500000 V1'
 
 # Control bytes stand in a document as escapes only, and in a file as they are.
 of_steps '["with_columns", ["y", "'$'\x1b''"]]'
