@@ -2,7 +2,8 @@
 // or one write to standard output fail, as if the system had refused it.
 //
 // FAIL_ALLOC, FAIL_READ, FAIL_FILE_READ, FAIL_WRITE: the number of the call that fails, from 1. SHORT: reads
-// and writes of several bytes move one. COUNTS: a file that gets the numbers of these calls at the end.
+// and writes of several bytes move one. SHRINK, SHRINK_TO: a file, and the size to which it is cut before the second
+// read of a file. COUNTS: a file that gets the numbers of these calls at the end.
 //
 // It stands on no header, so that the toolchain's own compiler is enough: the numbers are those of Linux on
 // x86-64.
@@ -16,6 +17,7 @@ extern char *getenv(const char *name);
 extern long atol(const char *text);
 extern int snprintf(char *line, size_t size, const char *format, ...);
 extern int open(const char *path, int flags, ...);
+extern int truncate(const char *path, long size);
 extern long syscall(long number, ...);
 extern int *__errno_location(void);
 
@@ -57,11 +59,17 @@ int posix_memalign(void **block, size_t align, size_t size) {
 
 static size_t moved(size_t size) { return number("SHORT") && size > 1 ? 1 : size; }
 
+static void shrink(void) {
+    const char *path = getenv("SHRINK");
+    if (path) truncate(path, number("SHRINK_TO"));
+}
+
 ssize_t read(int file, void *bytes, size_t size) {
     if (file == 0 ? refused(&reads, "FAIL_READ") : refused(&file_reads, "FAIL_FILE_READ")) {
         *__errno_location() = INPUT_OUTPUT;
         return -1;
     }
+    if (file != 0 && file_reads == 2) shrink();
     return syscall(CALL_READ, file, bytes, moved(size));
 }
 
