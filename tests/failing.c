@@ -1,8 +1,8 @@
 // A library to preload under the program: it makes one allocation, one read of standard input or of a file,
 // or one write to standard output fail, as if the system had refused it.
 //
-// FAIL_ALLOC, FAIL_READ, FAIL_FILE_READ, FAIL_WRITE: the number of the call that fails, from 1. SHORT: reads
-// and writes of several bytes move one. SHRINK, SHRINK_TO: a file, and the size to which it is cut before the second
+// FAIL_ALLOC, FAIL_READ, FAIL_FILE_READ, FAIL_WRITE: the number of the call that fails, from 1. EMPTY_WRITE: the
+// number of the write that takes no byte. SHORT: reads and writes of several bytes move one. SHRINK, SHRINK_TO: a file, and the size to which it is cut before the second
 // read of a file. COUNTS: a file that gets the numbers of these calls at the end.
 //
 // It stands on no header, so that the toolchain's own compiler is enough: the numbers are those of Linux on
@@ -78,6 +78,7 @@ ssize_t write(int file, const void *bytes, size_t size) {
         *__errno_location() = INPUT_OUTPUT;
         return -1;
     }
+    if (file == 1 && writes == number("EMPTY_WRITE")) return 0;
     return syscall(CALL_WRITE, file, bytes, file == 1 ? moved(size) : size);
 }
 

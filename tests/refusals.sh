@@ -3,8 +3,8 @@
 # refusals.sh PROGRAM DOCUMENT, where DOCUMENT.stdout is its whole output and DOCUMENT.status, if it is there,
 # the status that goes with it. A refused allocation ends in
 # `dfviews: memory` or leaves the output as it is; a refused read of the document is V10, one of a frame's file F1
-# and a refused write `write`, with nothing or a prefix of the output written. Prints what went otherwise, and ends
-# with a count.
+# and a refused write, or one that takes no byte, `write`, with nothing or a prefix of the output written. Prints what
+# went otherwise, and ends with a count.
 set -u
 program=$1
 document=$2
@@ -54,6 +54,8 @@ done
 for n in $(seq 1 "$writes"); do
   run FAIL_WRITE="$n"
   faulted write || other "write $n"
+  run EMPTY_WRITE="$n"
+  faulted write || other "write $n, which takes no byte"
 done
 run SHORT=1 COUNTS="$work/counts"
 whole || other "short reads and writes"
@@ -69,6 +71,8 @@ done
 for n in $(seq 1 "$writes"); do
   run SHORT=1 FAIL_WRITE="$n"
   faulted write || other "short write $n"
+  run SHORT=1 EMPTY_WRITE="$n"
+  faulted write || other "short write $n, which takes no byte"
 done
 echo "$document: $allocs allocations, $reads reads, $file_reads of files and $writes writes refused in turn, $wrong otherwise"
 [ "$wrong" -eq 0 ]
