@@ -296,7 +296,7 @@ ended "standard output closed" 2 "" write
 ended "standard output closed, a document by its path" 2 "" write
 "$program" < document > /dev/full 2> err
 ended "standard output full" 2 "" write
-"$program" < document 1< document 2> err
+"$program" 1< by_region.toml < document 2> err
 ended "standard output for reading" 2 "" write
 mkfifo pipe
 exec 3<> pipe; exec 4> pipe; exec 3>&-
@@ -318,7 +318,7 @@ for closed in '2>&-' '2> /dev/full'; do
 done
 
 { frame t "$text" "text = \"x\\n$(filled 500000 a)\""; view v t ""; } > document
-"$program" < document 2> err | head -c 11 > out
+"$program" 2> err < document | head -c 11 > out
 (exit "${PIPESTATUS[0]}")
 ended "a reader that ends early" 2 $'v (1 x 1)\nx' write
 start=$(printf 'v (1 x 1)\nx%1013s' '')
