@@ -296,7 +296,7 @@ ended "standard output closed" 2 "" write
 ended "standard output closed, a document by its path" 2 "" write
 "$program" < document > /dev/full 2> err
 ended "standard output full" 2 "" write
-"$program" 1< by_region.toml < document 2> err
+"$program" 2> err 1< by_region.toml < document
 ended "standard output for reading" 2 "" write
 mkfifo pipe
 exec 3<> pipe; exec 4> pipe; exec 3>&-
