@@ -1,0 +1,10 @@
+pub mod Members
+pub mod Rising
+pub mod FrameFacts
+pub mod ViewFacts
+pub mod Legal
+pub mod Refusing
+pub mod Counting
+pub mod RangeFacts
+pub mod StateFacts
+pub mod RunFacts

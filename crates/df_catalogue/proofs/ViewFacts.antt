@@ -1,0 +1,103 @@
+-- What stays of views when their tables are taken anew, and when one is added or taken out.
+use Rattle.std.proofs.Common.{◌≡◌, ℕ, ◌+◌, ◌<◌, ◌≤◌, Bool, true, false, zero, suc, cond, ◌∙◌, List, [], ◌∷◌, ◌++◌, map, filter, length, refl, ap, sym, subst, arith, length-append}
+use Rattle.std.specs.Prelude.{not, ◌||◌, bytes_eq, ⊤}
+use Rattle.std.specs.Cmp.Lexicographic.{nat_list_eq_equiv}
+use Rattle.std.specs.List.{list_any, IsDistinct, AllByRecursion}
+use Rattle.std.proofs.lemmas.List.{map-append}
+use Rattle.std.proofs.lemmas.Map.Keys.{IsDistinct-head, IsDistinct-tail, IsDistinct-cons, IsDistinct-push}
+use Rattle.df_plan.specs.CheckedParts.{CheckedParts}
+use Rattle.df_catalogue.specs.declared.state.FrameState.{FrameState}
+use Rattle.df_catalogue.specs.declared.state.ViewState.{ViewState}
+use Rattle.df_catalogue.specs.States.{value_over}
+use Rattle.df_catalogue.specs.Changes.{view_over, renewed, without_view}
+use Rattle.df_catalogue.specs.Refusals.{has_view}
+
+-- renewed views have their names
+pub renewed-names : (frames : List FrameState) (vs : List ViewState) → map (λ v. v.name) (renewed frames vs) ≡ map (λ v. v.name) vs
+renewed-names frames [] = refl
+renewed-names frames (v ∷ vs) = ap (λ ns. v.name ∷ ns) (renewed-names frames vs)
+
+pub renewed-has : (name : List ℕ) (frames : List FrameState) (vs : List ViewState) → has_view name (renewed frames vs) ≡ has_view name vs
+renewed-has name frames [] = refl
+renewed-has name frames (v ∷ vs) = ap (λ r. bytes_eq v.name name || r) (renewed-has name frames vs)
+
+-- and the values of their plans as tables
+pub renewed-tables : (frames : List FrameState) (vs : List ViewState) → map (λ v. v.table) (renewed frames vs) ≡ map (λ v. value_over frames v.plan) (renewed frames vs)
+renewed-tables frames [] = refl
+renewed-tables frames (v ∷ vs) = ap (λ ts. value_over frames v.plan ∷ ts) (renewed-tables frames vs)
+
+pub renewed-length : (frames : List FrameState) (vs : List ViewState) → length (renewed frames vs) ≡ length vs
+renewed-length frames [] = refl
+renewed-length frames (v ∷ vs) = ap suc (renewed-length frames vs)
+
+pub renewed-plans : (P : CheckedParts → Type 0) (frames : List FrameState) (vs : List ViewState) → AllByRecursion (λ v. P v.plan) vs → AllByRecursion (λ v. P v.plan) (renewed frames vs)
+renewed-plans P frames [] h = tt
+renewed-plans P frames (v ∷ vs) h = (h.0, renewed-plans P frames vs h.1)
+
+-- views whose tables are the values of their plans are renewed as they are
+pub renewed-same : (frames : List FrameState) (vs : List ViewState) → map (λ v. v.table) vs ≡ map (λ v. value_over frames v.plan) vs → renewed frames vs ≡ vs
+renewed-same frames [] h = refl
+renewed-same frames (v ∷ vs) h =
+    let here : v.table ≡ value_over frames v.plan = cc in
+    let later : map (λ v. v.table) vs ≡ map (λ v. value_over frames v.plan) vs = cc in
+    ap (λ t. record { name = v.name; plan = v.plan; table = t } ∷ renewed frames vs) (sym here) ∙ ap (λ ws. v ∷ ws) (renewed-same frames vs later)
+
+all-push : {T : Type 0} (P : T → Type 0) (xs : List T) (y : T) → AllByRecursion P xs → P y → AllByRecursion P (xs ++ y ∷ [])
+all-push P [] y h k = (k, tt)
+all-push P (x ∷ xs) y h k = (h.0, all-push P xs y h.1 k)
+
+pub plans-push : (P : CheckedParts → Type 0) (vs : List ViewState) (w : ViewState) → AllByRecursion (λ v. P v.plan) vs → P w.plan → AllByRecursion (λ v. P v.plan) (vs ++ w ∷ [])
+plans-push P vs w h k = all-push (λ v. P v.plan) vs w h k
+
+named-none : (name : List ℕ) (vs : List ViewState) → has_view name vs ≡ list_any (bytes_eq name) (map (λ v. v.name) vs)
+named-none name [] = refl
+named-none name (v ∷ vs) =
+    ap (λ b. b || has_view name vs) (nat_list_eq_equiv.symm v.name name)
+    ∙ ap (λ r. bytes_eq name v.name || r) (named-none name vs)
+
+-- a new name beside distinct ones
+pub names-push : (vs : List ViewState) (w : ViewState) → IsDistinct bytes_eq (map (λ v. v.name) vs) → has_view w.name vs ≡ false → IsDistinct bytes_eq (map (λ v. v.name) (vs ++ w ∷ []))
+names-push vs w h other =
+    subst (IsDistinct bytes_eq) (sym (map-append (λ v. v.name) vs (w ∷ [])))
+    (IsDistinct-push nat_list_eq_equiv (map (λ v. v.name) vs) w.name h (sym (named-none w.name vs) ∙ other))
+
+all-names-cond :
+    (P : List ℕ → Type 0) (b : Bool) (v : ViewState) (vs : List ViewState) →
+    P v.name → AllByRecursion P (map (λ v. v.name) vs) → AllByRecursion P (map (λ v. v.name) (cond b (v ∷ vs) vs))
+all-names-cond P true v vs h k = (h, k)
+all-names-cond P false v vs h k = k
+
+all-names : (P : List ℕ → Type 0) (p : ViewState → Bool) (vs : List ViewState) → AllByRecursion P (map (λ v. v.name) vs) → AllByRecursion P (map (λ v. v.name) (filter p vs))
+all-names P p [] h = tt
+all-names P p (v ∷ vs) h = all-names-cond P (p v) v (filter p vs) h.0 (all-names P p vs h.1)
+
+distinct-cond :
+    (b : Bool) (v : ViewState) (vs : List ViewState) → AllByRecursion (λ n. bytes_eq v.name n ≡ false) (map (λ v. v.name) vs) →
+    IsDistinct bytes_eq (map (λ v. v.name) vs) → IsDistinct bytes_eq (map (λ v. v.name) (cond b (v ∷ vs) vs))
+distinct-cond true v vs h k = IsDistinct-cons bytes_eq v.name (map (λ v. v.name) vs) h k
+distinct-cond false v vs h k = k
+
+-- of views with distinct names, those that a filter keeps have distinct names
+pub names-filter : (p : ViewState → Bool) (vs : List ViewState) → IsDistinct bytes_eq (map (λ v. v.name) vs) → IsDistinct bytes_eq (map (λ v. v.name) (filter p vs))
+names-filter p [] h = h
+names-filter p (v ∷ vs) h =
+    distinct-cond (p v) v (filter p vs)
+    (all-names (λ n. bytes_eq v.name n ≡ false) p vs (IsDistinct-head bytes_eq v.name (map (λ v. v.name) vs) h))
+    (names-filter p vs (IsDistinct-tail bytes_eq v.name (map (λ v. v.name) vs) h))
+
+plans-cond : (P : CheckedParts → Type 0) (b : Bool) (v : ViewState) (vs : List ViewState) → P v.plan → AllByRecursion (λ v. P v.plan) vs → AllByRecursion (λ v. P v.plan) (cond b (v ∷ vs) vs)
+plans-cond P true v vs h k = (h, k)
+plans-cond P false v vs h k = k
+
+pub plans-filter : (P : CheckedParts → Type 0) (p : ViewState → Bool) (vs : List ViewState) → AllByRecursion (λ v. P v.plan) vs → AllByRecursion (λ v. P v.plan) (filter p vs)
+plans-filter P p [] h = tt
+plans-filter P p (v ∷ vs) h = plans-cond P (p v) v (filter p vs) h.0 (plans-filter P p vs h.1)
+
+no-longer-cond : {T : Type 0} (b : Bool) (x : T) (xs : List T) → length (cond b (x ∷ xs) xs) ≤ 1 + length xs
+no-longer-cond true x xs = omega arith
+no-longer-cond false x xs = omega arith
+
+-- a filter makes a list no longer
+pub no-longer : {T : Type 0} (p : T → Bool) (xs : List T) → length (filter p xs) ≤ length xs
+no-longer p [] = omega arith
+no-longer p (x ∷ xs) = let h = no-longer-cond (p x) x (filter p xs) in let k = no-longer p xs in omega (arith, h, k)

@@ -1,0 +1,107 @@
+//! Whether a change is refused. None of this takes memory.
+ghost use Rattle.std.specs.Prelude.{◌≡◌, ◌≤◌, [], Some, length};
+ghost use Rattle.df_catalogue.specs.declared.change.Change.TheVariants.{Append, Delete, Register};
+ghost use Rattle.df_catalogue.specs.Answers.{Tells};
+ghost use Rattle.df_catalogue.specs.Refusals.{append_refusal, delete_refusal, doubled_after, has_view as has_view_of, refusal_of};
+
+use crate::catalogue::{Catalogue, MOST_VIEWS};
+use crate::copies::stands_in;
+use crate::fault::CatalogueFault;
+use crate::frame::Frame;
+use crate::likeness::{same_schema, same_schemas};
+use df_plan::CheckedPlan;
+use df_value::{Chunk, Schema};
+use std::sync::ledger::Ledger;
+
+impl<Acc: Ledger, Del: Ledger> Catalogue<Acc, Del> {
+    /// Whether a frame would take the chunk.
+    pub(crate) fn check_append(&self, frame: usize, chunk: &Chunk) -> Result<(), CatalogueFault>
+        ensures { Tells (refusal_of self.now (Append frame chunk.now)) result }
+    {
+        let Some(schema) = self.schemas.get(frame) else {
+            return Err(CatalogueFault::NoFrame);
+        };
+        match self.frames.get(frame) {
+            Some(frame) => check_chunk(schema, frame, chunk),
+            None => Err(CatalogueFault::NoFrame),
+        }
+    }
+
+    /// Whether the rows of these numbers can be taken out of a frame.
+    pub(crate) fn check_delete(&self, frame: usize, numbers: &[u32]) -> Result<(), CatalogueFault>
+        ensures { Tells (refusal_of self.now (Delete frame numbers.now)) result }
+    {
+        match self.frames.get(frame) {
+            Some(frame) => check_numbers(frame, numbers),
+            None => Err(CatalogueFault::NoFrame),
+        }
+    }
+
+    /// Whether a view of this name and plan can be added.
+    pub(crate) fn check_register(
+        &self,
+        name: &str,
+        plan: &CheckedPlan,
+    ) -> Result<(), CatalogueFault>
+        ensures { Tells (refusal_of self.now (Register name.now plan.now)) result }
+    {
+        if self.has_view(name) {
+            return Err(CatalogueFault::ViewExists);
+        }
+        if self.views.len() >= MOST_VIEWS {
+            return Err(CatalogueFault::TooManyViews);
+        }
+        if !same_schemas(plan.frames(), &self.schemas) {
+            return Err(CatalogueFault::PlanUnlike);
+        }
+        Ok(())
+    }
+
+    /// Whether there is a view of this name.
+    pub(crate) fn has_view(&self, name: &str) -> bool
+        ensures { result ≡ has_view_of name.now self.now.views }
+    {
+        self.views.iter().any(|v| v.name.as_str() == name)
+    }
+}
+
+fn check_chunk(schema: &Schema, frame: &Frame, chunk: &Chunk) -> Result<(), CatalogueFault>
+    requires { length frame.now.accepted ≤ 1048576 }
+    ensures { Tells (append_refusal chunk.now (Some schema.now) (Some frame.now)) result }
+{
+    if !same_schema(chunk.schema(), schema) {
+        return Err(CatalogueFault::SchemaUnlike);
+    }
+    if let Some(number) = frame.first_taken(chunk) {
+        return Err(CatalogueFault::Taken(number));
+    }
+    if frame.would_be_full(chunk) {
+        return Err(CatalogueFault::Full);
+    }
+    Ok(())
+}
+
+fn check_numbers(frame: &Frame, numbers: &[u32]) -> Result<(), CatalogueFault>
+    ensures { Tells (delete_refusal numbers.now (Some frame.now)) result }
+{
+    if let Some(number) = doubled(numbers) {
+        return Err(CatalogueFault::Doubled(number));
+    }
+    if let Some(number) = frame.first_not_live(numbers) {
+        return Err(CatalogueFault::NotLive(number));
+    }
+    Ok(())
+}
+
+// The first number that stands earlier in the list.
+fn doubled(numbers: &[u32]) -> Option<u32>
+    ensures { result ≡ doubled_after [] numbers.now }
+{
+    for i in 0..numbers.len() {
+        let number = numbers[i];
+        if stands_in(number, &numbers[..i]) {
+            return Some(number);
+        }
+    }
+    None
+}

@@ -1,0 +1,184 @@
+//! Desks: what was accepted and deleted through them, as shares of the ledgers over all frames.
+ghost use Rattle.std.specs.Prelude.{◌≡◌, ◌≢◌, ◌+◌, ◌<◌, ◌≤◌, ◌^◌, ◌↔◌, false, true, IfErr, IfNone, IfSome, IsNone, OnOk, OnSome};
+ghost use Rattle.df_catalogue.specs.Desks.{first_desk, given_half, having_accepted, having_deleted, joined, kept_half, may_join as joins};
+
+use std::marker::Model;
+use std::sync::ledger::{Book, Ledger, Share};
+
+/// The parts of each ledger that the first desk of a frame has.
+pub const PARTS_OF_FIRST_DESK: u64 = 65_536;
+
+/// The right to change one frame, with the numbers of rows that were accepted and deleted through it.
+///
+/// The numbers are shares of two ledgers, whose books the catalogue keeps. A desk has as many parts of
+/// the one as of the other, at least one.
+#[derive(Drop)]
+pub struct Desk<Acc: Ledger, Del: Ledger> {
+    frame: usize,
+    accepted: u64,
+    deleted: u64,
+    parts: u64,
+    accepted_share: Share<Acc>,
+    deleted_share: Share<Del>,
+}
+
+impl<Acc: Ledger, Del: Ledger> Model for Desk<Acc, Del> {
+    ghost use Rattle.df_catalogue.specs.Desks.{DeskParts};
+    ghost use Rattle.df_catalogue.specs.DeskShares.{IsDesk};
+
+    ghost Value = { DeskParts };
+
+    ghost view = { λ d. record { frame = d.frame; accepted = d.accepted; deleted = d.deleted; parts = d.parts } };
+
+    ghost invariant = { λ d. IsDesk d.accepted d.deleted d.parts
+        (d.accepted_share.parts, d.accepted_share.amount) (d.deleted_share.parts, d.deleted_share.amount) };
+}
+
+impl<Acc: Ledger, Del: Ledger> Desk<Acc, Del> {
+    /// The first desk of a frame, with 65,536 parts of each share, of which it has no amount yet.
+    pub(crate) fn first(
+        frame: usize,
+        accepted: &mut Share<Acc>,
+        deleted: &mut Share<Del>,
+    ) -> Desk<Acc, Del>
+        requires accepted { (65536 ≤ accepted.old.parts) × (accepted.old.amount ≡ 0) }
+        requires deleted { (65536 ≤ deleted.old.parts) × (deleted.old.amount ≡ 0) }
+        ensures desk { result ≡ first_desk frame }
+        ensures accepted_parts { accepted.new.parts + 65536 ≡ accepted.old.parts }
+        ensures accepted_amount { accepted.new.amount ≡ 0 }
+        ensures deleted_parts { deleted.new.parts + 65536 ≡ deleted.old.parts }
+        ensures deleted_amount { deleted.new.amount ≡ 0 }
+    {
+        Desk {
+            frame,
+            accepted: 0,
+            deleted: 0,
+            parts: PARTS_OF_FIRST_DESK,
+            accepted_share: accepted.split_off(PARTS_OF_FIRST_DESK, 0),
+            deleted_share: deleted.split_off(PARTS_OF_FIRST_DESK, 0),
+        }
+    }
+
+    /// The index of the frame.
+    pub fn frame(&self) -> usize
+        ensures { result ≡ self.now.frame }
+    {
+        self.frame
+    }
+
+    /// How many rows were accepted through the desk.
+    pub fn accepted(&self) -> u64
+        ensures { result ≡ self.now.accepted }
+    {
+        self.accepted
+    }
+
+    /// How many rows were deleted through the desk.
+    pub fn deleted(&self) -> u64
+        ensures { result ≡ self.now.deleted }
+    {
+        self.deleted
+    }
+
+    /// Its parts of each ledger.
+    pub fn parts(&self) -> u64
+        ensures value { result ≡ self.now.parts }
+        ensures some { 0 < result }
+    {
+        self.parts
+    }
+
+    /// A second desk of the frame, with nothing accepted or deleted yet and half of the parts, rounded
+    /// down. None, and no change, where the desk has one part.
+    pub fn split(&mut self) -> Option<Desk<Acc, Del>>
+        ensures one_part { IsNone result ↔ (self.old.parts ≡ 1) }
+        ensures same { IfNone result (self.new ≡ self.old) }
+        ensures given { IfSome result (λ desk. desk ≡ given_half self.old) }
+        ensures kept { OnSome result (self.new ≡ kept_half self.old) }
+    {
+        let half = self.parts / 2;
+        if half == 0 {
+            return None;
+        }
+        self.parts -= half;
+        Some(Desk {
+            frame: self.frame,
+            accepted: 0,
+            deleted: 0,
+            parts: half,
+            accepted_share: self.accepted_share.split_off(half, 0),
+            deleted_share: self.deleted_share.split_off(half, 0),
+        })
+    }
+
+    /// Adds the numbers and parts of another desk. A desk of another frame comes back, and so would
+    /// one with which a number passed 64 bits, which the desks of one catalogue cannot do.
+    pub fn join(&mut self, other: Desk<Acc, Del>) -> Result<(), Desk<Acc, Del>>
+        ensures joined { OnOk result (self.new ≡ joined self.old other) }
+        ensures back { IfErr result (λ desk. desk ≡ other) }
+        ensures same { IfErr result (λ _. self.new ≡ self.old) }
+        ensures refused { IfErr result (λ _. joins self.old other ≡ false) }
+        ensures accepted { OnOk result (joins self.old other ≡ true) }
+    {
+        if !self.may_join(&other) {
+            return Err(other);
+        }
+        let Desk {
+            frame: _,
+            accepted,
+            deleted,
+            parts,
+            accepted_share,
+            deleted_share,
+        } = other;
+        self.accepted += accepted;
+        self.deleted += deleted;
+        self.parts += parts;
+        self.accepted_share.merge(accepted_share);
+        self.deleted_share.merge(deleted_share);
+        Ok(())
+    }
+
+    fn may_join(&self, other: &Desk<Acc, Del>) -> bool
+        ensures { result ≡ joins self.now other.now }
+    {
+        self.frame == other.frame
+            && self.accepted.checked_add(other.accepted).is_some()
+            && self.deleted.checked_add(other.deleted).is_some()
+            && self.parts.checked_add(other.parts).is_some()
+    }
+
+    /// Books so many accepted rows.
+    pub(crate) fn count_accepted(&mut self, book: &mut Book<Acc>, rows: u64)
+        requires { book.old.total + rows < 2 ^ 64 }
+        ensures desk { self.new ≡ having_accepted rows self.old }
+        ensures book { book.new.total ≡ book.old.total + rows }
+    {
+        book.audit(&mut self.accepted_share);
+        book.add(&mut self.accepted_share, rows);
+        self.accepted += rows;
+    }
+
+    /// Books so many deleted rows.
+    pub(crate) fn count_deleted(&mut self, book: &mut Book<Del>, rows: u64)
+        requires { book.old.total + rows < 2 ^ 64 }
+        ensures desk { self.new ≡ having_deleted rows self.old }
+        ensures book { book.new.total ≡ book.old.total + rows }
+    {
+        book.audit(&mut self.deleted_share);
+        book.add(&mut self.deleted_share, rows);
+        self.deleted += rows;
+    }
+
+    /// Tells that the desk has accepted and deleted no more than the books have.
+    pub(crate) fn audit(&mut self, accepted: &mut Book<Acc>, deleted: &mut Book<Del>)
+        ensures same { self.new ≡ self.old }
+        ensures accepted { self.new.accepted ≤ accepted.old.total }
+        ensures deleted { self.new.deleted ≤ deleted.old.total }
+        ensures accepted_book { accepted.new.total ≡ accepted.old.total }
+        ensures deleted_book { deleted.new.total ≡ deleted.old.total }
+    {
+        accepted.audit(&mut self.accepted_share);
+        deleted.audit(&mut self.deleted_share);
+    }
+}

@@ -1,0 +1,156 @@
+//! One frame: its rows under their numbers, and the numbers that it accepted.
+ghost use Rattle.std.specs.Prelude.{◌≡◌, ◌≤◌, [], None, IfOk, false, length};
+ghost use Rattle.df_catalogue.specs.Frames.{IsNumbered, has_row as frame_has_row, numbers_of, rows_of, with_chunk as frame_with, without as frame_without};
+ghost use Rattle.df_catalogue.specs.States.{empty_frame};
+ghost use Rattle.df_catalogue.specs.Refusals.{doubled_after, first_not_live as not_live_in, first_taken as taken_in, would_be_full as full_with};
+
+use crate::copies::{
+    Numbered, copy_below, copy_from, copy_numbered, copy_numbers, copy_others, copy_rows,
+};
+use crate::ranges::Ranges;
+use df_value::{Chunk, Duplicate, List, Row};
+use std::alloc::{AllocError, Global};
+use std::marker::Model;
+
+/// The most numbers that a frame accepts.
+pub const MOST_ROWS: u64 = 1_048_576;
+
+/// Rows by rising number, the numbers that were accepted, and how many were accepted and deleted.
+#[derive(Debug, Drop)]
+pub struct Frame {
+    accepted: Ranges,
+    rows: Vec<Numbered>,
+    accepted_rows: u64,
+    deleted_rows: u64,
+}
+
+impl Model for Frame {
+    ghost use Rattle.df_catalogue.specs.declared.state.FrameState.{FrameState};
+    ghost use Rattle.df_catalogue.specs.FrameParts.{IsCounted, frame_from};
+
+    ghost Value = { FrameState };
+
+    ghost view = { λ f. frame_from f.accepted f.rows.items };
+
+    ghost invariant = { λ f. IsCounted f.accepted f.rows.items f.accepted_rows f.deleted_rows };
+}
+
+impl Frame {
+    /// A frame that has accepted nothing.
+    pub fn new(alloc: Global) -> Frame
+        ensures { result ≡ empty_frame }
+    {
+        Frame {
+            accepted: Ranges::new(alloc),
+            rows: Vec::new(alloc),
+            accepted_rows: 0,
+            deleted_rows: 0,
+        }
+    }
+
+    /// How many numbers were accepted.
+    pub fn accepted(&self) -> u64
+        ensures { result ≡ length self.now.accepted }
+    {
+        self.accepted_rows
+    }
+
+    /// How many of them were deleted.
+    pub fn deleted(&self) -> u64
+        ensures { result ≡ length self.now.deleted }
+    {
+        self.deleted_rows
+    }
+
+    /// How many rows there are.
+    pub fn live(&self) -> u64
+        ensures { result ≡ length self.now.rows }
+    {
+        self.rows.len() as u64
+    }
+
+    /// Copies of the rows, by rising number.
+    pub fn rows(&self, alloc: Global) -> Result<List<Row>, AllocError>
+        ensures { IfOk result (λ rows. rows ≡ rows_of self.now) }
+    {
+        copy_rows(alloc, self.rows.as_slice())
+    }
+
+    /// The numbers of the rows, rising.
+    pub fn numbers(&self, alloc: Global) -> Result<List<u32>, AllocError>
+        ensures { IfOk result (λ numbers. numbers ≡ numbers_of self.now) }
+    {
+        copy_numbers(alloc, self.rows.as_slice())
+    }
+
+    /// The least number of the chunk that was accepted before.
+    pub fn first_taken(&self, chunk: &Chunk) -> Option<u32>
+        ensures { result ≡ taken_in self.now chunk.now }
+    {
+        let rows = chunk.rows();
+        self.accepted.first_within(chunk.first(), rows.len())
+    }
+
+    /// Whether more than 1,048,576 numbers would have been accepted with the chunk.
+    pub fn would_be_full(&self, chunk: &Chunk) -> bool
+        requires { length self.now.accepted ≤ 1048576 }
+        ensures { result ≡ full_with self.now chunk.now }
+    {
+        let rows = chunk.rows();
+        self.accepted() + rows.len() as u64 > MOST_ROWS
+    }
+
+    /// Whether there is a row of this number.
+    pub fn has_row(&self, number: u32) -> bool
+        ensures { result ≡ frame_has_row self.now number }
+    {
+        self.rows.iter().any(|r| r.0 == number)
+    }
+
+    /// The first number of the list of which there is no row.
+    pub fn first_not_live(&self, numbers: &[u32]) -> Option<u32>
+        ensures { result ≡ not_live_in self.now numbers.now }
+    {
+        numbers.iter().copied().find(|n| !self.has_row(*n))
+    }
+
+    /// The frame once it has accepted the chunk, none of whose numbers it has accepted yet.
+    pub fn with_chunk(&self, alloc: Global, chunk: &Chunk) -> Result<Frame, AllocError>
+        requires sound { IsNumbered self.now }
+        requires room { full_with self.now chunk.now ≡ false }
+        requires free { taken_in self.now chunk.now ≡ None }
+        ensures { IfOk result (λ frame. frame ≡ frame_with chunk.now self.now) }
+    {
+        let first = chunk.first();
+        let added = chunk.rows().len();
+        let accepted = self.accepted.with(alloc, first, added)?;
+        let mut rows = Vec::with_capacity(alloc, self.rows.len())?;
+        copy_below(alloc, &mut rows, self.rows.as_slice(), first)?;
+        copy_numbered(alloc, &mut rows, first, chunk.rows().as_slice())?;
+        copy_from(alloc, &mut rows, self.rows.as_slice(), first)?;
+        Ok(Frame {
+            accepted,
+            rows,
+            accepted_rows: self.accepted_rows + added as u64,
+            deleted_rows: self.deleted_rows,
+        })
+    }
+
+    /// The frame without the rows of these numbers, each of which stands once in the list and has a row.
+    pub fn without(&self, alloc: Global, numbers: &[u32]) -> Result<Frame, AllocError>
+        requires sound { IsNumbered self.now }
+        requires once { doubled_after [] numbers.now ≡ None }
+        requires live { not_live_in self.now numbers.now ≡ None }
+        ensures { IfOk result (λ frame. frame ≡ frame_without numbers.now self.now) }
+    {
+        let accepted = self.accepted.copy(alloc)?;
+        let mut rows = Vec::with_capacity(alloc, self.rows.len())?;
+        copy_others(alloc, &mut rows, self.rows.as_slice(), numbers)?;
+        Ok(Frame {
+            accepted,
+            rows,
+            accepted_rows: self.accepted_rows,
+            deleted_rows: self.deleted_rows + numbers.len() as u64,
+        })
+    }
+}
