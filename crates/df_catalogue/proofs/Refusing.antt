@@ -1,6 +1,6 @@
 -- No reason to refuse a change is that memory was refused.
 use Rattle.std.proofs.Common.{◌≡◌, ◌≢◌, ℕ, Bool, true, false, List, [], ◌∷◌, refl, sym, ◌∙◌}
-use Rattle.std.specs.Prelude.{not, nat_le, length, Option, Some, None, option_map, slice_get}
+use Rattle.std.specs.Prelude.{IsTrue, not, nat_le, length, Option, Some, None, option_map, slice_get}
 use Rattle.df_value.specs.declared.cell.CellType.{CellType}
 use Rattle.df_value.specs.Chunks.{ChunkParts}
 use Rattle.df_catalogue.specs.declared.state.State.{State}
@@ -11,7 +11,7 @@ use Rattle.df_catalogue.specs.declared.fault.CatalogueFault.{CatalogueFault}
 use Rattle.df_catalogue.specs.declared.fault.CatalogueFault.TheVariants as fault
 use Rattle.df_catalogue.specs.Likeness.{same_schema, same_schemas}
 use Rattle.df_catalogue.specs.Refusals.{refusal_of, append_refusal, delete_refusal, first_reason, reason_if, first_taken, would_be_full, doubled_after, first_not_live, has_view}
-use Rattle.df_catalogue.specs.Answers.{RefusedBy}
+use Rattle.df_catalogue.specs.Answers.{RefusedBy, takes_memory}
 
 of-append :
     (b d : Bool) (o : Option ℕ) (f : CatalogueFault) →
@@ -60,8 +60,8 @@ never-memory s (DropView name) f h = of-drop (has_view name s.views) f h
 
 -- a reason is a refusal
 pub by-reason : (s : State) (c : Change) (f : CatalogueFault) → refusal_of s c ≡ Some f → RefusedBy s c f
-by-reason s c f h = record { exact = λ _. h; memory_last = λ m. absurd (never-memory s c f h m) }
+by-reason s c f h = record { exact = λ _. h; memory_last = λ m. absurd (never-memory s c f h m); memory_taken = λ m. absurd (never-memory s c f h m) }
 
--- and so is the refusal of memory, where nothing else refuses the change
-pub by-memory : (s : State) (c : Change) (f : CatalogueFault) → refusal_of s c ≡ None → f ≡ fault.Memory → RefusedBy s c f
-by-memory s c f h m = record { exact = λ no. absurd (no m); memory_last = λ _. h }
+-- and so is the refusal of memory to a change that takes it, where nothing else refuses the change
+pub by-memory : (s : State) (c : Change) (f : CatalogueFault) → refusal_of s c ≡ None → IsTrue (takes_memory c) → f ≡ fault.Memory → RefusedBy s c f
+by-memory s c f h taken m = record { exact = λ other. absurd (other m); memory_last = λ _. h; memory_taken = λ _. taken }

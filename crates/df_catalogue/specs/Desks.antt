@@ -1,4 +1,5 @@
--- Desks: who changes a frame, and what was accepted and deleted there. Shares of sums over all threads are this project's own.
+-- Desks: who changes a frame, and what was accepted and deleted through them. Shares of sums over all threads are this project's
+-- own.
 use Rattle.std.specs.Prelude.{ℕ, ◌+◌, ◌-◌, ◌/◌, ◌*◌, ◌^◌, Bool, ◌&&◌, ◌==◌, nat_lt, List, length, map, fold, sum_by}
 use Rattle.std.specs.List.{range_with_len}
 use Rattle.df_value.specs.declared.cell.CellType.{CellType}
@@ -50,10 +51,10 @@ joined d e = record {
   parts = d.parts + e.parts;
 }
 
--- whether two desks have one frame, and their sums are numbers of 64 bits, which the desks of one catalogue never pass
+-- whether two desks have one frame, and their amounts together are numbers of 64 bits, which those of one catalogue's desks are
 abbrev pub may_join : DeskParts → DeskParts → Bool
 may_join d e =
-    (d.frame == e.frame) && (nat_lt (d.accepted + e.accepted) (2 ^ 64) && (nat_lt (d.deleted + e.deleted) (2 ^ 64) && nat_lt (d.parts + e.parts) (2 ^ 64)))
+    (d.frame == e.frame) && (nat_lt (d.accepted + e.accepted) (2 ^ 64) && nat_lt (d.deleted + e.deleted) (2 ^ 64))
 
 -- the desks after a change that was not refused, where the desk of each frame stands at its index
 abbrev pub desks_after : List DeskParts → Change → List DeskParts

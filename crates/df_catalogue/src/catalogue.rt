@@ -72,6 +72,7 @@ impl<Acc: Ledger, Del: Ledger> Catalogue<Acc, Del> {
         requires deleted_parts { (deleted.parts ≡ Del.parts) × (deleted.parts ≡ 524288) }
         ensures sound { OnOk result (fault_of schemas ≡ None) }
         ensures opening { IfOk result (λ made. made.0 ≡ opening_of schemas) }
+        ensures legal { IfOk result (λ made. IsLegal made.0) }
         ensures desks { IfOk result (λ made. made.1.items ≡ first_desks (length schemas)) }
         ensures refused { IfErr result (λ fault. fault ≢ NewFault.Memory → fault_of schemas ≡ Some fault) }
     {
@@ -156,6 +157,7 @@ fn open_desks<Acc: Ledger, Del: Ledger>(
     deleted: &mut Share<Del>,
 ) -> Result<Vec<Desk<Acc, Del>>, AllocError>
     requires few { count ≤ 8 }
+    requires ledgers { (Acc.parts ≡ 524288) × (Del.parts ≡ 524288) }
     requires accepted { (accepted.old.parts ≡ 524288) × (accepted.old.amount ≡ 0) }
     requires deleted { (deleted.old.parts ≡ 524288) × (deleted.old.amount ≡ 0) }
     ensures desks { IfOk result (λ desks. desks.items ≡ first_desks count) }

@@ -19,8 +19,8 @@ use std::sync::ledger::Ledger;
 impl<Acc: Ledger, Del: Ledger> Catalogue<Acc, Del> {
     /// Adds the chunk's rows to the desk's frame, and takes every view's table anew.
     ///
-    /// Refused are, in this order: a desk whose frame is not here (C11, which no desk of this catalogue
-    /// is), another schema than the frame's (C1), a number that was accepted before (C2), more than
+    /// Refused are, in this order: a desk whose frame is not here (C11; no desk of this catalogue is
+    /// refused so), another schema than the frame's (C1), a number that was accepted before (C2), more than
     /// 1,048,576 accepted numbers (C3), the refusal of memory (C9). An empty chunk that fits is accepted.
     pub fn append(
         &mut self,
@@ -71,8 +71,8 @@ impl<Acc: Ledger, Del: Ledger> Catalogue<Acc, Del> {
 
     /// Takes the rows of these numbers out of the desk's frame, and takes every view's table anew.
     ///
-    /// Refused are, in this order: a desk whose frame is not here (C11, which no desk of this catalogue
-    /// is), a number that stands earlier in the list (C4), a number without a row (C5), the refusal of
+    /// Refused are, in this order: a desk whose frame is not here (C11; no desk of this catalogue is
+    /// refused so), a number that stands earlier in the list (C4), a number without a row (C5), the refusal of
     /// memory (C9). An empty list is accepted.
     pub fn delete(
         &mut self,

@@ -30,7 +30,7 @@ impl<Acc: Ledger, Del: Ledger> Model for Desk<Acc, Del> {
 
     ghost view = { λ d. record { frame = d.frame; accepted = d.accepted; deleted = d.deleted; parts = d.parts } };
 
-    ghost invariant = { λ d. IsDesk d.accepted d.deleted d.parts
+    ghost invariant = { λ d. IsDesk d.frame d.accepted d.deleted d.parts (Acc.parts, Del.parts)
         (d.accepted_share.parts, d.accepted_share.amount) (d.deleted_share.parts, d.deleted_share.amount) };
 }
 
@@ -41,6 +41,8 @@ impl<Acc: Ledger, Del: Ledger> Desk<Acc, Del> {
         accepted: &mut Share<Acc>,
         deleted: &mut Share<Del>,
     ) -> Desk<Acc, Del>
+        requires within { frame < 8 }
+        requires ledgers { (Acc.parts ≡ 524288) × (Del.parts ≡ 524288) }
         requires accepted { (65536 ≤ accepted.old.parts) × (accepted.old.amount ≡ 0) }
         requires deleted { (65536 ≤ deleted.old.parts) × (deleted.old.amount ≡ 0) }
         ensures desk { result ≡ first_desk frame }
@@ -61,7 +63,8 @@ impl<Acc: Ledger, Del: Ledger> Desk<Acc, Del> {
 
     /// The index of the frame.
     pub fn frame(&self) -> usize
-        ensures { result ≡ self.now.frame }
+        ensures value { result ≡ self.now.frame }
+        ensures within { result < 8 }
     {
         self.frame
     }
@@ -84,12 +87,13 @@ impl<Acc: Ledger, Del: Ledger> Desk<Acc, Del> {
     pub fn parts(&self) -> u64
         ensures value { result ≡ self.now.parts }
         ensures some { 0 < result }
+        ensures most { result ≤ 524288 }
     {
         self.parts
     }
 
     /// A second desk of the frame, with nothing accepted or deleted yet and half of the parts, rounded
-    /// down. None, and no change, where the desk has one part.
+    /// down. None, and no change, exactly where the desk has one part.
     pub fn split(&mut self) -> Option<Desk<Acc, Del>>
         ensures one_part { IsNone result ↔ (self.old.parts ≡ 1) }
         ensures same { IfNone result (self.new ≡ self.old) }
@@ -112,7 +116,8 @@ impl<Acc: Ledger, Del: Ledger> Desk<Acc, Del> {
     }
 
     /// Adds the numbers and parts of another desk. A desk of another frame comes back, and so would
-    /// one with which a number passed 64 bits, which the desks of one catalogue cannot do.
+    /// one with which an amount passed 64 bits: no desk of this catalogue is refused so, as
+    /// [`audit`](crate::Catalogue::audit) tells.
     pub fn join(&mut self, other: Desk<Acc, Del>) -> Result<(), Desk<Acc, Del>>
         ensures joined { OnOk result (self.new ≡ joined self.old other) }
         ensures back { IfErr result (λ desk. desk ≡ other) }
@@ -131,11 +136,11 @@ impl<Acc: Ledger, Del: Ledger> Desk<Acc, Del> {
             accepted_share,
             deleted_share,
         } = other;
+        self.accepted_share.merge(accepted_share);
+        self.deleted_share.merge(deleted_share);
         self.accepted += accepted;
         self.deleted += deleted;
         self.parts += parts;
-        self.accepted_share.merge(accepted_share);
-        self.deleted_share.merge(deleted_share);
         Ok(())
     }
 
@@ -145,7 +150,6 @@ impl<Acc: Ledger, Del: Ledger> Desk<Acc, Del> {
         self.frame == other.frame
             && self.accepted.checked_add(other.accepted).is_some()
             && self.deleted.checked_add(other.deleted).is_some()
-            && self.parts.checked_add(other.parts).is_some()
     }
 
     /// Books so many accepted rows.

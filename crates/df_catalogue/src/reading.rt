@@ -2,6 +2,7 @@
 ghost use Rattle.std.specs.Prelude.{◌≡◌, IfOk, IfSome, ◌<◌, length, position, bytes_eq, map};
 ghost use Rattle.std.specs.Option.{option_copied};
 ghost use Rattle.df_catalogue.specs.Answers.{Answers};
+ghost use Rattle.df_catalogue.specs.States.{IsLegal};
 ghost use Rattle.df_catalogue.specs.Reads.{accepted_of, deleted_of, frame_numbers_of, frame_rows_of, live_of, view_names_of, view_plan_of, view_rows_of, view_schema_of};
 
 use crate::catalogue::Catalogue;
@@ -14,7 +15,8 @@ use std::sync::ledger::Ledger;
 impl<Acc: Ledger, Del: Ledger> Catalogue<Acc, Del> {
     /// The rows of a frame by rising number, or that there is no such frame (C11).
     pub fn frame_rows(&self, alloc: Global, frame: usize) -> Result<List<Row>, CatalogueFault>
-        ensures { Answers (frame_rows_of self.now frame) result }
+        ensures answer { Answers (frame_rows_of self.now frame) result }
+        ensures legal { IsLegal self.now }
     {
         match self.frames.get(frame) {
             Some(frame) => Ok(frame.rows(alloc)?),
@@ -25,7 +27,8 @@ impl<Acc: Ledger, Del: Ledger> Catalogue<Acc, Del> {
     /// The numbers of the rows of a frame, rising, in step with
     /// [`frame_rows`](Catalogue::frame_rows), or that there is no such frame (C11).
     pub fn frame_numbers(&self, alloc: Global, frame: usize) -> Result<List<u32>, CatalogueFault>
-        ensures { Answers (frame_numbers_of self.now frame) result }
+        ensures answer { Answers (frame_numbers_of self.now frame) result }
+        ensures legal { IsLegal self.now }
     {
         match self.frames.get(frame) {
             Some(frame) => Ok(frame.numbers(alloc)?),
@@ -35,7 +38,8 @@ impl<Acc: Ledger, Del: Ledger> Catalogue<Acc, Del> {
 
     /// The table of a view, or that no view has the name (C8).
     pub fn view_rows(&self, alloc: Global, name: &str) -> Result<List<Row>, CatalogueFault>
-        ensures { Answers (view_rows_of self.now name.now) result }
+        ensures answer { Answers (view_rows_of self.now name.now) result }
+        ensures legal { IsLegal self.now }
     {
         match self.place_of(name) {
             Some(at) => Ok(self.tables[at].copy(alloc)?),
