@@ -1,7 +1,7 @@
 -- A sound frame stays sound when it accepts a chunk that is not refused, and when rows are taken out of it.
 use Rattle.std.proofs.Common.{◌≡◌, ℕ, ◌+◌, ◌<◌, ◌≤◌, Bool, true, false, zero, suc, cond, ◌∙◌, List, [], ◌∷◌, ◌++◌, map, filter, length, refl, ap, sym, subst, arith}
-use Rattle.std.specs.Prelude.{IsTrue, not, ◌&&◌, ◌||◌, ◌==◌, nat_lt, Option, Some, None}
-use Rattle.std.specs.List.{list_all, range_with_len, enumerate_from}
+use Rattle.std.specs.Prelude.{IsTrue, not, ◌&&◌, ◌||◌, ◌==◌, nat_lt, Option, Some, None, slice_get}
+use Rattle.std.specs.List.{list_all, range_with_len, enumerate_from, AllZip}
 use Rattle.std.proofs.lemmas.Bool.{and_parts, and_from, ltb-false, not_from_false}
 use Rattle.std.proofs.lemmas.List.{map-append}
 use Rattle.std.proofs.lemmas.List.Folds.{list_all-append}
@@ -166,3 +166,11 @@ deleted-gone f h =
 -- so a sound frame is made of its accepted numbers and its rows
 pub frame-parts : (f : FrameState) → IsNumbered f → frame_from f.accepted f.rows ≡ f
 frame-parts f h = ap (λ d. record { accepted = f.accepted; deleted = d; rows = f.rows }) (deleted-gone f h)
+
+-- the frame of an index of sound frames is sound
+pub numbered-at : (schemas : List Columns) (frames : List FrameState) (at : ℕ) (f : FrameState) → AllZip IsFrame schemas frames → slice_get frames at ≡ Some f → IsNumbered f
+numbered-at [] [] at f h e = cc
+numbered-at [] (x ∷ xs) at f h e = absurd h
+numbered-at (s ∷ ss) [] at f h e = cc
+numbered-at (s ∷ ss) (x ∷ xs) zero f h e = let same : x ≡ f = cc in subst IsNumbered same h.0.numbered
+numbered-at (s ∷ ss) (x ∷ xs) (suc at) f h e = numbered-at ss xs at f h.1 e

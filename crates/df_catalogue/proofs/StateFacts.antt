@@ -98,7 +98,7 @@ left-named name (w ∷ ws) d h =
     (IsDistinct-head bytes_eq w.name (map (λ v. v.name) ws) d)
     (λ k. left-named name ws (IsDistinct-tail bytes_eq w.name (map (λ v. v.name) ws) d) k)
 
-place-at : (a b at : ℕ) (t : Bool) → nat_lt a b ≡ t → cond t (Some a) None ≡ Some at → (a < b) × (a ≡ at)
+pub place-at : (a b at : ℕ) (t : Bool) → nat_lt a b ≡ t → cond t (Some a) None ≡ Some at → (a < b) × (a ≡ at)
 place-at a b at true e h = let same : a ≡ at = cc in (ltb-true a b e, same)
 place-at a b at false e h = cc
 

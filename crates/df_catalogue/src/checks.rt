@@ -1,7 +1,9 @@
 //! Whether a change is refused. None of this takes memory.
-ghost use Rattle.std.specs.Prelude.{◌≡◌, ◌≤◌, [], Some, length};
+ghost use Rattle.std.specs.Prelude.{◌≡◌, [], IfSome, Some, length, slice_get};
+ghost use Rattle.std.specs.Option.{option_copied};
 ghost use Rattle.df_catalogue.specs.declared.change.Change.TheVariants.{Append, Delete, Register};
 ghost use Rattle.df_catalogue.specs.Answers.{Tells};
+ghost use Rattle.df_catalogue.specs.Frames.{IsNumbered};
 ghost use Rattle.df_catalogue.specs.Refusals.{append_refusal, delete_refusal, doubled_after, has_view as has_view_of, refusal_of};
 
 use crate::catalogue::{Catalogue, MOST_VIEWS};
@@ -9,6 +11,7 @@ use crate::copies::stands_in;
 use crate::fault::CatalogueFault;
 use crate::frame::Frame;
 use crate::likeness::{same_schema, same_schemas};
+use crate::views::is_named;
 use df_plan::CheckedPlan;
 use df_value::{Chunk, Schema};
 use std::sync::ledger::Ledger;
@@ -18,12 +21,9 @@ impl<Acc: Ledger, Del: Ledger> Catalogue<Acc, Del> {
     pub(crate) fn check_append(&self, frame: usize, chunk: &Chunk) -> Result<(), CatalogueFault>
         ensures { Tells (refusal_of self.now (Append frame chunk.now)) result }
     {
-        let Some(schema) = self.schemas.get(frame) else {
-            return Err(CatalogueFault::NoFrame);
-        };
-        match self.frames.get(frame) {
-            Some(frame) => check_chunk(schema, frame, chunk),
-            None => Err(CatalogueFault::NoFrame),
+        match (self.schemas.get(frame), self.frame_at(frame)) {
+            (Some(schema), Some(frame)) => check_chunk(schema, frame, chunk),
+            _ => Err(CatalogueFault::NoFrame),
         }
     }
 
@@ -31,7 +31,7 @@ impl<Acc: Ledger, Del: Ledger> Catalogue<Acc, Del> {
     pub(crate) fn check_delete(&self, frame: usize, numbers: &[u32]) -> Result<(), CatalogueFault>
         ensures { Tells (refusal_of self.now (Delete frame numbers.now)) result }
     {
-        match self.frames.get(frame) {
+        match self.frame_at(frame) {
             Some(frame) => check_numbers(frame, numbers),
             None => Err(CatalogueFault::NoFrame),
         }
@@ -57,16 +57,24 @@ impl<Acc: Ledger, Del: Ledger> Catalogue<Acc, Del> {
         Ok(())
     }
 
+    // The frame of this index.
+    fn frame_at(&self, frame: usize) -> Option<&Frame>
+        ensures value { option_copied result ≡ slice_get self.now.frames frame }
+        ensures sound { IfSome result (λ frame. IsNumbered frame.now) }
+    {
+        self.frames.get(frame)
+    }
+
     /// Whether there is a view of this name.
     pub(crate) fn has_view(&self, name: &str) -> bool
         ensures { result ≡ has_view_of name.now self.now.views }
     {
-        self.views.iter().any(|v| v.name.as_str() == name)
+        is_named(self.views.as_slice(), name)
     }
 }
 
 fn check_chunk(schema: &Schema, frame: &Frame, chunk: &Chunk) -> Result<(), CatalogueFault>
-    requires { length frame.now.accepted ≤ 1048576 }
+    requires { IsNumbered frame.now }
     ensures { Tells (append_refusal chunk.now (Some schema.now) (Some frame.now)) result }
 {
     if !same_schema(chunk.schema(), schema) {

@@ -1,12 +1,13 @@
 //! What is read of a catalogue.
-ghost use Rattle.std.specs.Prelude.{◌≡◌, IfOk, IfSome, ◌<◌, length, position, bytes_eq, map};
+ghost use Rattle.std.specs.Prelude.{◌≡◌, ◌<◌, IfOk, IfSome, bytes_eq, length, option_map, position};
 ghost use Rattle.std.specs.Option.{option_copied};
 ghost use Rattle.df_catalogue.specs.Answers.{Answers};
 ghost use Rattle.df_catalogue.specs.States.{IsLegal};
-ghost use Rattle.df_catalogue.specs.Reads.{accepted_of, deleted_of, frame_numbers_of, frame_rows_of, live_of, view_names_of, view_plan_of, view_rows_of, view_schema_of};
+ghost use Rattle.df_catalogue.specs.Reads.{accepted_of, deleted_of, frame_numbers_of, frame_rows_of, live_of, view_named, view_names_of, view_plan_of, view_rows_of, view_schema_of};
 
 use crate::catalogue::Catalogue;
 use crate::fault::CatalogueFault;
+use crate::views::{names_of, place_of, plan_of};
 use df_plan::CheckedPlan;
 use df_value::{Duplicate, List, Row, Schema, Text};
 use std::alloc::{AllocError, Global};
@@ -41,8 +42,8 @@ impl<Acc: Ledger, Del: Ledger> Catalogue<Acc, Del> {
         ensures answer { Answers (view_rows_of self.now name.now) result }
         ensures legal { IsLegal self.now }
     {
-        match self.place_of(name) {
-            Some(at) => Ok(self.tables[at].copy(alloc)?),
+        match self.table_of(name) {
+            Some(table) => Ok(table.copy(alloc)?),
             None => Err(CatalogueFault::NoView),
         }
     }
@@ -72,21 +73,14 @@ impl<Acc: Ledger, Del: Ledger> Catalogue<Acc, Del> {
     pub fn view_names(&self, alloc: Global) -> Result<List<Text>, AllocError>
         ensures { IfOk result (λ names. names ≡ view_names_of self.now) }
     {
-        let mut names = Vec::with_capacity(alloc, self.views.len())?;
-        for view in self.views.as_slice() {
-            names.push(view.name.copy(alloc)?)?;
-        }
-        Ok(List::from_vec(names))
+        names_of(alloc, self.views.as_slice())
     }
 
     /// The plan of the view of this name.
     pub fn view_plan(&self, name: &str) -> Option<&CheckedPlan>
         ensures { option_copied result ≡ view_plan_of self.now name.now }
     {
-        self.views
-            .iter()
-            .find(|v| v.name.as_str() == name)
-            .map(|v| &v.plan)
+        plan_of(self.views.as_slice(), name)
     }
 
     /// The schema of the table of the view of this name.
@@ -96,11 +90,21 @@ impl<Acc: Ledger, Del: Ledger> Catalogue<Acc, Del> {
         self.view_plan(name).map(|p| p.schema())
     }
 
+    // The table of the view of this name.
+    fn table_of(&self, name: &str) -> Option<&List<Row>>
+        ensures table { option_copied result ≡ option_map (λ v. v.table) (view_named name.now self.now.views) }
+        ensures legal { IsLegal self.now }
+    {
+        let at = self.place_of(name)?;
+        self.tables.get(at)
+    }
+
     /// The place of the view of this name.
     pub(crate) fn place_of(&self, name: &str) -> Option<usize>
         ensures value { result ≡ position (λ v. bytes_eq v.name name.now) self.now.views }
         ensures within { IfSome result (λ at. at < length self.now.views) }
+        ensures legal { IsLegal self.now }
     {
-        self.views.iter().position(|v| v.name.as_str() == name)
+        place_of(self.views.as_slice(), name)
     }
 }

@@ -1,11 +1,13 @@
 //! Views, and the tables that they have over frames.
-ghost use Rattle.std.specs.Prelude.{◌≡◌, ◌<◌, IfOk, length, map, slice_set};
+ghost use Rattle.std.specs.Prelude.{◌≡◌, ◌<◌, IfOk, IfSome, bytes_eq, find, length, map, option_map, position, slice_set};
+ghost use Rattle.std.specs.List.{list_any};
+ghost use Rattle.std.specs.Option.{option_copied};
 ghost use Rattle.df_plan.specs.Meaning.{table_of};
 ghost use Rattle.df_catalogue.specs.States.{tables_of, value_over};
 
 use crate::frame::Frame;
 use df_plan::{CheckedPlan, evaluate};
-use df_value::{List, Row, Text};
+use df_value::{Duplicate, List, Row, Text};
 use std::alloc::{AllocError, Global};
 
 /// A view: its name and its plan.
@@ -13,6 +15,42 @@ use std::alloc::{AllocError, Global};
 pub struct View {
     pub name: Text,
     pub plan: CheckedPlan,
+}
+
+/// Whether a view has this name.
+pub fn is_named(views: &[View], name: &str) -> bool
+    ensures { result ≡ list_any (λ v. bytes_eq v.name name.now) views.now }
+{
+    views.iter().any(|v| v.name.as_str() == name)
+}
+
+/// The place of the view of this name.
+pub fn place_of(views: &[View], name: &str) -> Option<usize>
+    ensures value { result ≡ position (λ v. bytes_eq v.name name.now) views.now }
+    ensures within { IfSome result (λ at. at < length views.now) }
+{
+    views.iter().position(|v| v.name.as_str() == name)
+}
+
+/// The plan of the view of this name.
+pub fn plan_of<'a>(views: &'a [View], name: &str) -> Option<&'a CheckedPlan>
+    ensures { option_copied result ≡ option_map (λ v. v.plan) (find (λ v. bytes_eq v.name name.now) views.now) }
+{
+    views
+        .iter()
+        .find(|v| v.name.as_str() == name)
+        .map(|v| &v.plan)
+}
+
+/// The names of the views.
+pub fn names_of(alloc: Global, views: &[View]) -> Result<List<Text>, AllocError>
+    ensures { IfOk result (λ names. names ≡ map (λ v. v.name) views.now) }
+{
+    let mut names = Vec::with_capacity(alloc, views.len())?;
+    for view in views {
+        names.push(view.name.copy(alloc)?)?;
+    }
+    Ok(List::from_vec(names))
 }
 
 /// The rows of the frames.
