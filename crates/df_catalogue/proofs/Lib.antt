@@ -9,3 +9,4 @@ pub mod RangeFacts
 pub mod StateFacts
 pub mod RunFacts
 pub mod PartFacts
+pub mod ChangeFacts
