@@ -1,32 +1,36 @@
--- What a catalogue's parts are after a chunk was put in and after rows were taken out: the state after the change, and sound parts.
-use Rattle.std.proofs.Common.{◌≡◌, ℕ, ◌+◌, ◌*◌, ◌<◌, ◌≤◌, Bool, true, false, ◌∙◌, List, [], ◌∷◌, map, length, refl, ap, sym, subst, arith, get_or, sum_by}
-use Rattle.std.specs.Prelude.{Option, Some, None, option_map, slice_get, slice_set}
+-- What a catalogue's parts are after a change that is not refused: the parts of the state after it, and sound.
+use Rattle.std.proofs.Common.{◌≡◌, ℕ, ◌+◌, ◌*◌, ◌<◌, ◌≤◌, Bool, true, false, ◌∙◌, List, [], ◌∷◌, ◌++◌, map, length, refl, ap, sym, subst, arith, get_or, sum_by, length-append}
+use Rattle.std.specs.Prelude.{not, Ok, Option, Some, None, bytes_eq, option_map, position, remove, slice_get, slice_set}
 use Rattle.std.specs.List.{range_with_len}
 use Rattle.std.proofs.lemmas.Bool.{ltb-false}
 use Rattle.std.proofs.lemmas.Option.{slice_get_read, slice_get_within}
 use Rattle.std.proofs.lemmas.List.{length-map}
+use Rattle.std.proofs.lemmas.List.Edits.{length-remove}
 use Rattle.std.proofs.lemmas.List.FromFn.{length-range_with_len}
 use Rattle.df_value.specs.declared.cell.Cell.{Cell}
 use Rattle.df_value.specs.declared.cell.CellType.{CellType}
 use Rattle.df_value.specs.Chunks.{ChunkParts, IsChunk}
+use Rattle.df_plan.specs.Checks.{checked}
 use Rattle.df_catalogue.specs.declared.state.State.{State}
 use Rattle.df_catalogue.specs.declared.state.FrameState.{FrameState}
+use Rattle.df_catalogue.specs.declared.state.ViewState.{ViewState}
 use Rattle.df_catalogue.specs.declared.views.View.{View}
 use Rattle.df_catalogue.specs.declared.change.Change.TheVariants.{Append, Delete, Register, DropView}
 use Rattle.df_catalogue.specs.declared.fault.CatalogueFault.TheVariants as fault
 use Rattle.df_catalogue.specs.Numbers.{has_number}
 use Rattle.df_catalogue.specs.Frames.{with_chunk, without, chunk_numbers, IsNumbered}
 use Rattle.df_catalogue.specs.States.{value_over, IsLegal}
-use Rattle.df_catalogue.specs.Refusals.{refusal_of, append_refusal, delete_refusal, first_reason, first_taken, would_be_full, doubled_after, first_not_live}
-use Rattle.df_catalogue.specs.Changes.{after, change_at}
+use Rattle.df_catalogue.specs.Refusals.{refusal_of, append_refusal, delete_refusal, first_reason, reason_if, first_taken, would_be_full, doubled_after, first_not_live}
+use Rattle.df_catalogue.specs.Changes.{after, change_at, renewed, view_over, without_view}
 use Rattle.df_catalogue.specs.Desks.{accepted_in, deleted_in}
-use Rattle.df_catalogue.specs.Parts.{state_of, IsCatalogue}
+use Rattle.df_catalogue.specs.Parts.{state_of, views_of, IsCatalogue}
 use Rattle.df_catalogue.proofs.Counting.{accepted-few, deleted-few, deleted-more, sum-change, sum-same}
 use Rattle.df_catalogue.proofs.FrameFacts.{numbered-at, numbered-without}
 use Rattle.df_catalogue.proofs.Legal.{append-accepted, legal-after}
 use Rattle.df_catalogue.proofs.Rising.{length-put}
-use Rattle.df_catalogue.proofs.StateFacts.{state-frames}
-use Rattle.df_catalogue.proofs.ViewFacts.{no-longer}
+use Rattle.df_catalogue.proofs.PartFacts.{any-found, found-within}
+use Rattle.df_catalogue.proofs.StateFacts.{left-found, state-frames, views-length, views-push, views-remove}
+use Rattle.df_catalogue.proofs.ViewFacts.{no-longer, renewed-same, tables-filter}
 
 abbrev Columns : Type 0
 Columns = List (List ℕ × CellType)
@@ -152,6 +156,67 @@ removed schemas frames views tables now f ns x changed accepted deleted more of_
       in_step = sym (ap length new ∙ length-map views (λ v. value_over (slice_set frames f changed) v.plan));
       books_accepted = h.books_accepted ∙ (sym stays ∙ ap accepted_in (sym same));
       books_deleted = counted ∙ (ap (λ n. n + length ns) h.books_deleted ∙ (sym books ∙ ap deleted_in (sym same)));
+      spare_accepted = h.spare_accepted;
+      spare_deleted = h.spare_deleted;
+    })
+
+-- the views of a catalogue without that of one place: its name is there, and it is the state after it was dropped
+pub dropped :
+    (schemas : List Columns) (frames : List FrameState) (views : List View) (tables : List Rows) (at : ℕ) (name : List ℕ)
+    (accepted deleted : ℕ) (of_accepted of_deleted : ℕ × ℕ) →
+    IsCatalogue (state_of schemas frames views tables) (length views) (length tables) accepted deleted of_accepted of_deleted →
+    position (λ v. bytes_eq v.name name) (views_of views tables) ≡ Some at →
+    (refusal_of (state_of schemas frames views tables) (DropView name) ≡ None)
+    × (state_of schemas frames (remove views at) (remove tables at) ≡ after (state_of schemas frames views tables) (DropView name))
+    × IsCatalogue (state_of schemas frames (remove views at) (remove tables at)) (length (remove views at)) (length (remove tables at)) accepted deleted of_accepted of_deleted
+dropped schemas frames views tables at name accepted deleted of_accepted of_deleted h found =
+    let s : State = state_of schemas frames views tables in
+    let ws : List ViewState = views_of views tables in
+    let free : refusal_of s (DropView name) ≡ None = ap (λ b. reason_if (not b) fault.NoView) (any-found (λ v. bytes_eq v.name name) ws at found) in
+    let left : without_view name ws ≡ remove ws at = left-found name ws at h.legal.names found in
+    let renewed' : renewed frames (without_view name ws) ≡ without_view name ws =
+    renewed-same frames (without_view name ws) (tables-filter frames (λ v. not (bytes_eq v.name name)) ws h.legal.tables) in
+    let same : state_of schemas frames (remove views at) (remove tables at) ≡ after s (DropView name) =
+    ap (λ us. record { schemas = schemas; frames = frames; views = us }) (views-remove views tables at h.in_step ∙ (sym left ∙ sym renewed')) in
+    let long = found-within (λ v. bytes_eq v.name name) ws at found in
+    let views-long = views-length views tables h.in_step in
+    let step = h.in_step in
+    let fewer-views = length-remove views at (omega (arith, long, views-long)) in
+    let fewer-tables = length-remove tables at (omega (arith, long, views-long, step)) in
+    (free, same, record {
+      legal = subst IsLegal (sym same) (legal-after s (DropView name) h.legal tt free);
+      in_step = omega (arith, fewer-views, fewer-tables, step);
+      books_accepted = h.books_accepted;
+      books_deleted = h.books_deleted;
+      spare_accepted = h.spare_accepted;
+      spare_deleted = h.spare_deleted;
+    })
+
+-- the views of a catalogue with one more
+pub registered :
+    (schemas : List Columns) (frames : List FrameState) (views : List View) (tables : List Rows) (view : View) (table : Rows)
+    (accepted deleted : ℕ) (of_accepted of_deleted : ℕ × ℕ) →
+    IsCatalogue (state_of schemas frames views tables) (length views) (length tables) accepted deleted of_accepted of_deleted →
+    checked view.plan.plan view.plan.frames ≡ Ok view.plan.schema → refusal_of (state_of schemas frames views tables) (Register view.name view.plan) ≡ None →
+    table ≡ value_over frames view.plan →
+    (state_of schemas frames (views ++ view ∷ []) (tables ++ table ∷ []) ≡ after (state_of schemas frames views tables) (Register view.name view.plan))
+    × IsCatalogue (state_of schemas frames (views ++ view ∷ []) (tables ++ table ∷ [])) (length (views ++ view ∷ [])) (length (tables ++ table ∷ [])) accepted deleted of_accepted of_deleted
+registered schemas frames views tables view table accepted deleted of_accepted of_deleted h sound free is =
+    let s : State = state_of schemas frames views tables in
+    let ws : List ViewState = views_of views tables in
+    let same : state_of schemas frames (views ++ view ∷ []) (tables ++ table ∷ []) ≡ after s (Register view.name view.plan) =
+    ap (λ us. record { schemas = schemas; frames = frames; views = us })
+    (views-push views tables view table h.in_step
+    ∙ (ap (λ t. ws ++ record { name = view.name; plan = view.plan; table = t } ∷ []) is
+    ∙ ap (λ us. us ++ view_over frames view.name view.plan ∷ []) (sym (renewed-same frames ws h.legal.tables)))) in
+    let step = h.in_step in
+    let more-views = length-append views (view ∷ []) in
+    let more-tables = length-append tables (table ∷ []) in
+    (same, record {
+      legal = subst IsLegal (sym same) (legal-after s (Register view.name view.plan) h.legal sound free);
+      in_step = omega (arith, more-views, more-tables, step);
+      books_accepted = h.books_accepted;
+      books_deleted = h.books_deleted;
       spare_accepted = h.spare_accepted;
       spare_deleted = h.spare_deleted;
     })

@@ -1,8 +1,8 @@
 -- What is found by name among a catalogue's views, which stand beside their tables.
-use Rattle.std.proofs.Common.{◌≡◌, ℕ, ◌+◌, ◌<◌, ◌≤◌, Bool, true, false, zero, suc, cond, ◌∙◌, List, [], ◌∷◌, map, length, refl, ap, sym, arith}
+use Rattle.std.proofs.Common.{◌≡◌, ℕ, ◌+◌, ◌<◌, ◌≤◌, Bool, true, false, zero, suc, cond, ◌∙◌, List, [], ◌∷◌, map, length, ⊎_elim, refl, ap, sym, arith}
 use Rattle.std.specs.Prelude.{not, ◌||◌, nat_lt, Option, Some, None, find, option_map, position, slice_get, bytes_eq}
 use Rattle.std.specs.List.{list_any, position_or_len}
-use Rattle.std.proofs.lemmas.Bool.{ltb-false}
+use Rattle.std.proofs.lemmas.Bool.{cases_lt, le-ltb, lt-ltb, ltb-false}
 use Rattle.std.proofs.lemmas.List.Folds.{find_at}
 use Rattle.std.proofs.lemmas.Option.{slice_get_past, slice_get_read}
 use Rattle.std.specs.Slice.{IsItemAt}
@@ -82,3 +82,36 @@ pub none-named : {T : Type 0} (p : T → Bool) (xs : List T) → position p xs �
 none-named p xs h =
     find_at p xs
     ∙ slice_get_past xs (position_or_len p xs) (no-place (position_or_len p xs) (length xs) (nat_lt (position_or_len p xs) (length xs)) refl h)
+
+next-below : (n m : ℕ) → nat_lt n m ≡ nat_lt (1 + n) (suc m)
+next-below n m =
+    ⊎_elim
+    (λ (h : n < m). lt-ltb n m h ∙ sym (lt-ltb (1 + n) (suc m) (omega (arith, h))))
+    (λ (h : m ≤ n). le-ltb n m h ∙ sym (le-ltb (1 + n) (suc m) (omega (arith, h))))
+    (cases_lt n m)
+
+any-place-at : (b rest : Bool) (n m : ℕ) → rest ≡ nat_lt n m → (b || rest) ≡ nat_lt (cond (not b) (1 + n) 0) (suc m)
+any-place-at true rest n m e = sym (lt-ltb 0 (suc m) (omega arith))
+any-place-at false rest n m e = e ∙ next-below n m
+
+any-place : {T : Type 0} (p : T → Bool) (xs : List T) → list_any p xs ≡ nat_lt (position_or_len p xs) (length xs)
+any-place p [] = refl
+any-place p (x ∷ xs) = any-place-at (p x) (list_any p xs) (position_or_len p xs) (length xs) (any-place p xs)
+
+-- a view that has a place is there
+pub found-within : {T : Type 0} (p : T → Bool) (xs : List T) (at : ℕ) → position p xs ≡ Some at → at < length xs
+found-within p xs at h =
+    let found = place-at (position_or_len p xs) (length xs) at (nat_lt (position_or_len p xs) (length xs)) refl h in
+    let within = found.0 in
+    let same = found.1 in
+    omega (arith, within, same)
+
+pub any-found : {T : Type 0} (p : T → Bool) (xs : List T) (at : ℕ) → position p xs ≡ Some at → list_any p xs ≡ true
+any-found p xs at h =
+    let found = place-at (position_or_len p xs) (length xs) at (nat_lt (position_or_len p xs) (length xs)) refl h in
+    any-place p xs ∙ lt-ltb (position_or_len p xs) (length xs) found.0
+
+pub any-none : {T : Type 0} (p : T → Bool) (xs : List T) → position p xs ≡ None → list_any p xs ≡ false
+any-none p xs h =
+    any-place p xs
+    ∙ le-ltb (position_or_len p xs) (length xs) (no-place (position_or_len p xs) (length xs) (nat_lt (position_or_len p xs) (length xs)) refl h)

@@ -101,3 +101,17 @@ no-longer-cond false x xs = omega arith
 pub no-longer : {T : Type 0} (p : T → Bool) (xs : List T) → length (filter p xs) ≤ length xs
 no-longer p [] = omega arith
 no-longer p (x ∷ xs) = let h = no-longer-cond (p x) x (filter p xs) in let k = no-longer p xs in omega (arith, h, k)
+
+same-at : (frames : List FrameState) (b : Bool) (v : ViewState) (vs : List ViewState) → v.table ≡ value_over frames v.plan → map (λ v. v.table) vs ≡ map (λ v. value_over frames v.plan) vs →
+    map (λ v. v.table) (cond b (v ∷ vs) vs) ≡ map (λ v. value_over frames v.plan) (cond b (v ∷ vs) vs)
+same-at frames true v vs e h = ap (λ t. t ∷ map (λ v. v.table) vs) e ∙ ap (λ ts. value_over frames v.plan ∷ ts) h
+same-at frames false v vs e h = h
+
+-- of views whose tables are the values of their plans, those that a filter keeps have such tables
+pub tables-filter : (frames : List FrameState) (p : ViewState → Bool) (vs : List ViewState) → map (λ v. v.table) vs ≡ map (λ v. value_over frames v.plan) vs →
+    map (λ v. v.table) (filter p vs) ≡ map (λ v. value_over frames v.plan) (filter p vs)
+tables-filter frames p [] h = refl
+tables-filter frames p (v ∷ vs) h =
+    let here : v.table ≡ value_over frames v.plan = cc in
+    let later : map (λ v. v.table) vs ≡ map (λ v. value_over frames v.plan) vs = cc in
+    same-at frames (p v) v (filter p vs) here (tables-filter frames p vs later)

@@ -5,6 +5,7 @@ ghost use Rattle.df_catalogue.specs.declared.change.Change.TheVariants.{Append, 
 ghost use Rattle.df_catalogue.specs.Answers.{Tells};
 ghost use Rattle.df_catalogue.specs.Frames.{IsNumbered};
 ghost use Rattle.df_catalogue.specs.Refusals.{append_refusal, delete_refusal, doubled_after, has_view as has_view_of, refusal_of};
+ghost use Rattle.df_catalogue.specs.States.{IsLegal};
 
 use crate::catalogue::{Catalogue, MOST_VIEWS};
 use crate::copies::stands_in;
@@ -19,7 +20,8 @@ use std::sync::ledger::Ledger;
 impl<Acc: Ledger, Del: Ledger> Catalogue<Acc, Del> {
     /// Whether a frame would take the chunk.
     pub(crate) fn check_append(&self, frame: usize, chunk: &Chunk) -> Result<(), CatalogueFault>
-        ensures { Tells (refusal_of self.now (Append frame chunk.now)) result }
+        ensures answer { Tells (refusal_of self.now (Append frame chunk.now)) result }
+        ensures legal { IsLegal self.now }
     {
         match (self.schemas.get(frame), self.frame_at(frame)) {
             (Some(schema), Some(frame)) => check_chunk(schema, frame, chunk),
@@ -29,7 +31,8 @@ impl<Acc: Ledger, Del: Ledger> Catalogue<Acc, Del> {
 
     /// Whether the rows of these numbers can be taken out of a frame.
     pub(crate) fn check_delete(&self, frame: usize, numbers: &[u32]) -> Result<(), CatalogueFault>
-        ensures { Tells (refusal_of self.now (Delete frame numbers.now)) result }
+        ensures answer { Tells (refusal_of self.now (Delete frame numbers.now)) result }
+        ensures legal { IsLegal self.now }
     {
         match self.frame_at(frame) {
             Some(frame) => check_numbers(frame, numbers),
@@ -43,7 +46,8 @@ impl<Acc: Ledger, Del: Ledger> Catalogue<Acc, Del> {
         name: &str,
         plan: &CheckedPlan,
     ) -> Result<(), CatalogueFault>
-        ensures { Tells (refusal_of self.now (Register name.now plan.now)) result }
+        ensures answer { Tells (refusal_of self.now (Register name.now plan.now)) result }
+        ensures legal { IsLegal self.now }
     {
         if self.has_view(name) {
             return Err(CatalogueFault::ViewExists);
@@ -61,13 +65,15 @@ impl<Acc: Ledger, Del: Ledger> Catalogue<Acc, Del> {
     fn frame_at(&self, frame: usize) -> Option<&Frame>
         ensures value { option_copied result ≡ slice_get self.now.frames frame }
         ensures sound { IfSome result (λ frame. IsNumbered frame.now) }
+        ensures legal { IsLegal self.now }
     {
         self.frames.get(frame)
     }
 
     /// Whether there is a view of this name.
     pub(crate) fn has_view(&self, name: &str) -> bool
-        ensures { result ≡ has_view_of name.now self.now.views }
+        ensures value { result ≡ has_view_of name.now self.now.views }
+        ensures legal { IsLegal self.now }
     {
         is_named(self.views.as_slice(), name)
     }
