@@ -1,5 +1,5 @@
 -- A sound frame stays sound when it accepts a chunk that is not refused, and when rows are taken out of it.
-use Rattle.std.proofs.Common.{◌≡◌, ℕ, ◌+◌, ◌<◌, ◌≤◌, Bool, true, false, zero, suc, cond, ◌∙◌, List, [], ◌∷◌, ◌++◌, map, filter, length, refl, ap, sym, subst, arith}
+use Rattle.std.proofs.Common.{◌≡◌, ℕ, ◌+◌, ◌<◌, ◌≤◌, Bool, true, false, zero, suc, cond, ◌∙◌, List, [], ◌∷◌, ◌++◌, map, filter, length, take, get_or, refl, ap, sym, subst, arith}
 use Rattle.std.specs.Prelude.{IsTrue, not, ◌&&◌, ◌||◌, ◌==◌, nat_lt, Option, Some, None}
 use Rattle.std.specs.List.{list_all, range_with_len, enumerate_from}
 use Rattle.std.proofs.lemmas.Bool.{and_parts, and_from, ltb-false, not_from_false}
@@ -13,7 +13,7 @@ use Rattle.df_value.specs.Rows.{rows_fit, row_fits}
 use Rattle.df_catalogue.specs.declared.state.FrameState.{FrameState}
 use Rattle.df_catalogue.specs.Numbers.{has_number, is_rising, put_from}
 use Rattle.df_catalogue.specs.Frames.{rows_of, numbers_of, chunk_numbers, with_chunk, without, IsNumbered, IsFrame}
-use Rattle.df_catalogue.specs.FrameParts.{gone, frame_from}
+use Rattle.df_catalogue.specs.FrameParts.{gone, frame_from, IsCounted}
 use Rattle.df_catalogue.specs.Refusals.{first_taken, would_be_full}
 use Rattle.df_catalogue.proofs.Members.{has-filter, filter-same, filter-all, filter-none, filter-filter, find-none}
 use Rattle.df_catalogue.proofs.Rising.{rising-filter, rising-put, filter-put, put-nothing, map-put, map-filter, length-put}
@@ -29,6 +29,19 @@ enumerated-numbers a (x ∷ xs) = ap (λ ns. a ∷ ns) (enumerated-numbers (a + 
 pub enumerated-items : {T : Type 0} (a : ℕ) (xs : List T) → map (λ r. r.1) (enumerate_from a xs) ≡ xs
 enumerated-items a [] = refl
 enumerated-items a (x ∷ xs) = ap (λ ys. x ∷ ys) (enumerated-items (a + 1) xs)
+
+enumerated-suc :
+    {T : Type 0} (a n : ℕ) (xs : List T) (d : T) → n < length xs → enumerate_from a (take (suc n) xs) ≡ enumerate_from a (take n xs) ++ (a + n, get_or xs n d) ∷ []
+enumerated-suc a n [] d h = absurd (omega (arith, h))
+enumerated-suc a zero (x ∷ xs) d h = let e : a + zero ≡ a = omega arith in rw e refl
+enumerated-suc a (suc n) (x ∷ xs) d h =
+    let e : a + suc n ≡ (a + 1) + n = omega arith in
+    rw e (ap (λ rs. (a, x) ∷ rs) (enumerated-suc (a + 1) n xs d (omega (arith, h))))
+
+-- numbered in turn, one more of the list is one pair more
+pub enumerated-more :
+    {T : Type 0} (a n : ℕ) (xs : List T) (d : T) → n < length xs → enumerate_from a (take (n + 1) xs) ≡ enumerate_from a (take n xs) ++ (a + n, get_or xs n d) ∷ []
+enumerated-more a n xs d h = let e : n + 1 ≡ suc n = omega arith in rw e (enumerated-suc a n xs d h)
 
 all-map-cond :
     {S T : Type 0} (q : T → Bool) (g : S → T) (b : Bool) (x : S) (xs : List S) →
@@ -166,3 +179,22 @@ deleted-gone f h =
 -- so a sound frame is made of its accepted numbers and its rows
 pub frame-parts : (f : FrameState) → IsNumbered f → frame_from f.accepted f.rows ≡ f
 frame-parts f h = ap (λ d. record { accepted = f.accepted; deleted = d; rows = f.rows }) (deleted-gone f h)
+
+-- a frame whose parts are those of a sound frame is that frame
+pub frame-made :
+    (f : FrameState) → IsNumbered f → (accepted : List ℕ) (rows : List (ℕ × List Cell)) → accepted ≡ f.accepted → rows ≡ f.rows → frame_from accepted rows ≡ f
+frame-made f h accepted rows a r = ap (λ ns. frame_from ns rows) a ∙ (ap (frame_from f.accepted) r ∙ frame-parts f h)
+
+-- and it is counted, where its numbers are
+pub frame-counted :
+    (f : FrameState) → IsNumbered f → (accepted : List ℕ) (rows : List (ℕ × List Cell)) → accepted ≡ f.accepted → rows ≡ f.rows →
+    (accepted_rows deleted_rows : ℕ) → accepted_rows ≡ length f.accepted → deleted_rows ≡ length f.deleted → IsCounted accepted rows accepted_rows deleted_rows
+frame-counted f h accepted rows a r accepted_rows deleted_rows n m = record {
+  counts_accepted = n ∙ ap length (sym a);
+  counts_deleted = m ∙ ap (λ g. length g.deleted) (sym (frame-made f h accepted rows a r));
+}
+
+-- how many numbers a frame with a chunk has accepted
+pub accepted-more : (c : ChunkParts) (f : FrameState) → length (with_chunk c f).accepted ≡ length f.accepted + length c.rows
+accepted-more c f =
+    length-put (λ n. n) c.first (chunk_numbers c) f.accepted ∙ ap (λ k. length f.accepted + k) (length-range_with_len c.first (length c.rows))

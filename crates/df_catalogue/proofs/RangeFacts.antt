@@ -91,3 +91,7 @@ meeting a (suc m) n =
     let e : suc m + n ≡ suc (m + n) = omega arith in
     let f : a + suc m ≡ (a + 1) + m = omega arith in
     rw (e, f) (ap (λ ns. a ∷ ns) (meeting (a + 1) m n))
+
+-- a block that is one longer
+pub range-more : (a n : ℕ) → range_with_len a (n + 1) ≡ range_with_len a n ++ (a + n) ∷ []
+range-more a n = meeting a n 1
