@@ -127,6 +127,15 @@ deleted-more f ns h once live =
     ∙ (ap (λ ds. length ds + length (filter listed f.accepted)) h.deleted
     ∙ ap (λ k. length f.deleted + k) (as-many [] ns f.accepted h.rising once (λ n l. (known n l).0)))
 
+-- so many are few
+pub deleted-fit :
+    (f : FrameState) (ns : List ℕ) → IsNumbered f → doubled_after [] ns ≡ None → first_not_live f ns ≡ None → length f.deleted + length ns ≤ 1048576
+deleted-fit f ns h once live =
+    let more = deleted-more f ns h once live in
+    let part = no-longer (λ n. has_number f.deleted n || has_number ns n) f.accepted in
+    let few = h.few in
+    omega (arith, more, part, few)
+
 -- a sum over frames of which one changes by so much
 pub sum-change :
     {T : Type 0} (size : T → ℕ) (more : ℕ) (i : ℕ) (change : T → T) (xs : List T) (x : T) → slice_get xs i ≡ Some x → size (change x) ≡ size x + more →

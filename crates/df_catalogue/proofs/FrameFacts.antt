@@ -3,7 +3,7 @@ use Rattle.std.proofs.Common.{◌≡◌, ℕ, ◌+◌, ◌<◌, ◌≤◌, Bool,
 use Rattle.std.specs.Prelude.{IsTrue, not, ◌&&◌, ◌||◌, ◌==◌, nat_lt, Option, Some, None}
 use Rattle.std.specs.List.{list_all, range_with_len, enumerate_from}
 use Rattle.std.proofs.lemmas.Bool.{and_parts, and_from, ltb-false, not_from_false}
-use Rattle.std.proofs.lemmas.List.{map-append}
+use Rattle.std.proofs.lemmas.List.{map-append, append_assoc}
 use Rattle.std.proofs.lemmas.List.Folds.{list_all-append}
 use Rattle.std.proofs.lemmas.List.FromFn.{length-range_with_len}
 use Rattle.df_value.specs.declared.cell.Cell.{Cell}
@@ -198,3 +198,13 @@ frame-counted f h accepted rows a r accepted_rows deleted_rows n m = record {
 pub accepted-more : (c : ChunkParts) (f : FrameState) → length (with_chunk c f).accepted ≡ length f.accepted + length c.rows
 accepted-more c f =
     length-put (λ n. n) c.first (chunk_numbers c) f.accepted ∙ ap (λ k. length f.accepted + k) (length-range_with_len c.first (length c.rows))
+
+-- a list that is built of what lies below a number, a block, and the rest has the block put in
+pub put-built :
+    {T : Type 0} (number : T → ℕ) (first : ℕ) (block items none below more all : List T) → none ≡ [] → below ≡ none ++ filter (λ x. nat_lt (number x) first) items →
+    more ≡ below ++ block → all ≡ more ++ filter (λ x. not (nat_lt (number x) first)) items → all ≡ put_from number first block items
+put-built number first block items none below more all e b m a =
+    let lower = filter (λ x. nat_lt (number x) first) items in
+    let upper = filter (λ x. not (nat_lt (number x) first)) items in
+    let all-below : below ≡ lower = b ∙ ap (λ xs. xs ++ lower) e in
+    a ∙ (ap (λ xs. xs ++ upper) (m ∙ ap (λ xs. xs ++ block) all-below) ∙ append_assoc lower block upper)
