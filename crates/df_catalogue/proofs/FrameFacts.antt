@@ -1,7 +1,7 @@
 -- A sound frame stays sound when it accepts a chunk that is not refused, and when rows are taken out of it.
-use Rattle.std.proofs.Common.{◌≡◌, ℕ, ◌+◌, ◌<◌, ◌≤◌, Bool, true, false, zero, suc, cond, ◌∙◌, List, [], ◌∷◌, ◌++◌, map, filter, length, take, get_or, refl, ap, sym, subst, arith}
+use Rattle.std.proofs.Common.{◌≡◌, ℕ, ◌+◌, ◌<◌, ◌≤◌, Bool, true, false, zero, suc, cond, ◌∙◌, List, [], ◌∷◌, ◌++◌, map, filter, length, take, get_or, replicate, refl, ap, sym, subst, arith}
 use Rattle.std.specs.Prelude.{IsTrue, not, ◌&&◌, ◌||◌, ◌==◌, nat_lt, Option, Some, None}
-use Rattle.std.specs.List.{list_all, range_with_len, enumerate_from}
+use Rattle.std.specs.List.{list_all, range_with_len, enumerate_from, AllZip}
 use Rattle.std.proofs.lemmas.Bool.{and_parts, and_from, ltb-false, not_from_false}
 use Rattle.std.proofs.lemmas.List.{map-append, append_assoc}
 use Rattle.std.proofs.lemmas.List.Folds.{list_all-append}
@@ -13,6 +13,7 @@ use Rattle.df_value.specs.Rows.{rows_fit, row_fits}
 use Rattle.df_catalogue.specs.declared.state.FrameState.{FrameState}
 use Rattle.df_catalogue.specs.Numbers.{has_number, is_rising, put_from}
 use Rattle.df_catalogue.specs.Frames.{rows_of, numbers_of, chunk_numbers, with_chunk, without, IsNumbered, IsFrame}
+use Rattle.df_catalogue.specs.States.{empty_frame}
 use Rattle.df_catalogue.specs.FrameParts.{gone, frame_from, IsCounted}
 use Rattle.df_catalogue.specs.Refusals.{first_taken, would_be_full}
 use Rattle.df_catalogue.proofs.Members.{has-filter, filter-same, filter-all, filter-none, filter-filter, find-none}
@@ -208,3 +209,14 @@ put-built number first block items none below more all e b m a =
     let upper = filter (λ x. not (nat_lt (number x) first)) items in
     let all-below : below ≡ lower = b ∙ ap (λ xs. xs ++ lower) e in
     a ∙ (ap (λ xs. xs ++ upper) (m ∙ ap (λ xs. xs ++ block) all-below) ∙ append_assoc lower block upper)
+
+-- an empty frame is sound
+pub empty-sound : (schema : Columns) → IsFrame schema empty_frame
+empty-sound schema = record {
+  numbered = record { rising = refl; few = omega arith; deleted = refl; left = refl };
+  fitting = refl;
+}
+
+pub empty-frames : (schemas : List Columns) → AllZip IsFrame schemas (replicate (length schemas) empty_frame)
+empty-frames [] = tt
+empty-frames (s ∷ ss) = (empty-sound s, empty-frames ss)

@@ -1,8 +1,8 @@
 -- Which numbers are in a list, and filters that agree on its numbers.
-use Rattle.std.proofs.Common.{◌≡◌, ℕ, ◌+◌, ◌<◌, ◌≤◌, Bool, true, false, zero, suc, cond, ◌∙◌, List, [], ◌∷◌, ◌++◌, map, filter, refl, ap, sym, subst, arith}
-use Rattle.std.specs.Prelude.{not, ◌&&◌, ◌||◌, ◌==◌, find, Option, Some, None}
-use Rattle.std.specs.List.{list_all, list_any, range_with_len}
-use Rattle.std.proofs.lemmas.Bool.{and_parts, and_from, or_left, or_right, eqb-true, eq-eqb, lt-ltb, le-ltb, ltb-true, false≢true}
+use Rattle.std.proofs.Common.{◌≡◌, ℕ, ◌+◌, ◌<◌, ◌≤◌, Bool, true, false, zero, suc, cond, ◌∙◌, List, [], ◌∷◌, ◌++◌, map, filter, length, refl, ap, sym, subst, arith}
+use Rattle.std.specs.Prelude.{not, ◌&&◌, ◌||◌, ◌==◌, nat_lt, find, position, Option, Some, None}
+use Rattle.std.specs.List.{list_all, list_any, range_with_len, position_or_len}
+use Rattle.std.proofs.lemmas.Bool.{and_parts, and_from, or_left, or_right, eqb-true, eq-eqb, lt-ltb, le-ltb, ltb-true, ltb-false, false≢true}
 use Rattle.std.proofs.lemmas.List.Folds.{list_any-append}
 use Rattle.df_catalogue.specs.Numbers.{has_number}
 
@@ -110,3 +110,21 @@ find-none p [] h n m = absurd (false≢true m)
 find-none p (x ∷ xs) h n m =
     let here = found-none p x (p x) (find p xs) refl h in
     fails-at p x n (x == n) (has_number xs n) refl here.0 m (λ k. find-none p xs here.1 n k)
+
+passes-all : (b : Bool) (n k : ℕ) (rest : Bool) → suc n ≤ cond (not (not b)) (1 + k) 0 → (n ≤ k → rest ≡ true) → (b && rest) ≡ true
+passes-all true n k rest h later = later (omega (arith, h))
+passes-all false n k rest h later = absurd (omega (arith, h))
+
+-- all pass where no place of one that does not was found
+pub all-pass : {T : Type 0} (q : T → Bool) (xs : List T) → length xs ≤ position_or_len (λ x. not (q x)) xs → list_all q xs ≡ true
+all-pass q [] h = refl
+all-pass q (x ∷ xs) h = passes-all (q x) (length xs) (position_or_len (λ x. not (q x)) xs) (list_all q xs) h (all-pass q xs)
+
+no-place : (n k : ℕ) (b : Bool) → nat_lt k n ≡ b → cond b (Some k) None ≡ None → n ≤ k
+no-place n k true e h = cc
+no-place n k false e h = ltb-false k n e
+
+pub position-none : {T : Type 0} (q : T → Bool) (xs : List T) → position (λ x. not (q x)) xs ≡ None → list_all q xs ≡ true
+position-none q xs h =
+    let k = position_or_len (λ x. not (q x)) xs in
+    all-pass q xs (no-place (length xs) k (nat_lt k (length xs)) refl h)
