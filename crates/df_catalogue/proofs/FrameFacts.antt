@@ -1,6 +1,6 @@
 -- A sound frame stays sound when it accepts a chunk that is not refused, and when rows are taken out of it.
-use Rattle.std.proofs.Common.{◌≡◌, ℕ, ◌+◌, ◌<◌, ◌≤◌, Bool, true, false, zero, suc, cond, ◌∙◌, List, [], ◌∷◌, ◌++◌, map, filter, length, take, get_or, replicate, refl, ap, sym, subst, arith}
-use Rattle.std.specs.Prelude.{IsTrue, not, ◌&&◌, ◌||◌, ◌==◌, nat_lt, Option, Some, None}
+use Rattle.std.proofs.Common.{◌≡◌, ℕ, ◌+◌, ◌<◌, Bool, true, false, zero, suc, cond, ◌∙◌, List, [], ◌∷◌, ◌++◌, map, filter, length, take, get_or, replicate, refl, ap, sym, arith}
+use Rattle.std.specs.Prelude.{IsTrue, not, ◌&&◌, ◌||◌, nat_lt, None}
 use Rattle.std.specs.List.{list_all, range_with_len, enumerate_from, AllZip}
 use Rattle.std.proofs.lemmas.Bool.{and_parts, and_from, ltb-false, not_from_false}
 use Rattle.std.proofs.lemmas.List.{map-append, append_assoc}
@@ -8,11 +8,11 @@ use Rattle.std.proofs.lemmas.List.Folds.{list_all-append}
 use Rattle.std.proofs.lemmas.List.FromFn.{length-range_with_len}
 use Rattle.df_value.specs.declared.cell.Cell.{Cell}
 use Rattle.df_value.specs.declared.cell.CellType.{CellType}
-use Rattle.df_value.specs.Chunks.{ChunkParts, IsChunk}
+use Rattle.df_value.specs.Chunks.{ChunkParts}
 use Rattle.df_value.specs.Rows.{rows_fit, row_fits}
 use Rattle.df_catalogue.specs.declared.state.FrameState.{FrameState}
 use Rattle.df_catalogue.specs.Numbers.{has_number, is_rising, put_from}
-use Rattle.df_catalogue.specs.Frames.{rows_of, numbers_of, chunk_numbers, with_chunk, without, IsNumbered, IsFrame}
+use Rattle.df_catalogue.specs.Frames.{numbers_of, chunk_numbers, with_chunk, without, IsNumbered, IsFrame}
 use Rattle.df_catalogue.specs.States.{empty_frame}
 use Rattle.df_catalogue.specs.FrameParts.{gone, frame_from, IsCounted}
 use Rattle.df_catalogue.specs.Refusals.{first_taken, would_be_full}

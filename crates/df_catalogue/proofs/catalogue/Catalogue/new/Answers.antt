@@ -5,16 +5,12 @@ use Rattle.std.proofs.lemmas.List.Folds.{sum_by-replicate}
 use Rattle.std.proofs.lemmas.Map.Keys.{IsDistinct-from_apart}
 use Rattle.df_value.specs.Schemas.{is_base}
 use Rattle.df_value.specs.declared.cell.CellType.{CellType}
-use Rattle.df_catalogue.specs.declared.fault.NewFault.{NewFault}
 use Rattle.df_catalogue.specs.declared.fault.NewFault.TheVariants as fault
 use Rattle.df_catalogue.specs.declared.state.FrameState.{FrameState}
-use Rattle.df_catalogue.specs.declared.state.State.{State}
-use Rattle.df_catalogue.specs.declared.views.View.{View}
-use Rattle.df_value.specs.declared.cell.Cell.{Cell}
 use Rattle.df_catalogue.specs.New.{new_fault}
 use Rattle.df_catalogue.specs.States.{empty_frame, opening_of, IsLegal}
 use Rattle.df_catalogue.specs.Desks.{accepted_in, deleted_in, spare_parts}
-use Rattle.df_catalogue.specs.Parts.{IsCatalogue, state_of}
+use Rattle.df_catalogue.specs.Parts.{state_of}
 use Rattle.df_catalogue.proofs.Members.{position-none}
 use Rattle.df_catalogue.proofs.FrameFacts.{empty-frames}
 use Rattle.df_catalogue.proofs.catalogue.Catalogue.new.Goals as goal
