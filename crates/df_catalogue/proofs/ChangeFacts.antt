@@ -1,12 +1,10 @@
 -- What a catalogue's parts are after a change that is not refused: the parts of the state after it, and sound.
 use Rattle.std.proofs.Common.{◌≡◌, ℕ, ◌+◌, ◌*◌, ◌<◌, ◌≤◌, Bool, true, false, ◌∙◌, List, [], ◌∷◌, ◌++◌, map, length, refl, ap, sym, subst, arith, get_or, sum_by, length-append}
 use Rattle.std.specs.Prelude.{not, Ok, Option, Some, None, bytes_eq, option_map, position, remove, slice_get, slice_set}
-use Rattle.std.specs.List.{range_with_len}
 use Rattle.std.proofs.lemmas.Bool.{ltb-false}
 use Rattle.std.proofs.lemmas.Option.{slice_get_read, slice_get_within}
 use Rattle.std.proofs.lemmas.List.{length-map}
 use Rattle.std.proofs.lemmas.List.Edits.{length-remove}
-use Rattle.std.proofs.lemmas.List.FromFn.{length-range_with_len}
 use Rattle.df_value.specs.declared.cell.Cell.{Cell}
 use Rattle.df_value.specs.declared.cell.CellType.{CellType}
 use Rattle.df_value.specs.Chunks.{ChunkParts, IsChunk}
@@ -18,16 +16,15 @@ use Rattle.df_catalogue.specs.declared.views.View.{View}
 use Rattle.df_catalogue.specs.declared.change.Change.TheVariants.{Append, Delete, Register, DropView}
 use Rattle.df_catalogue.specs.declared.fault.CatalogueFault.TheVariants as fault
 use Rattle.df_catalogue.specs.Numbers.{has_number}
-use Rattle.df_catalogue.specs.Frames.{with_chunk, without, chunk_numbers, IsNumbered}
+use Rattle.df_catalogue.specs.Frames.{with_chunk, without, IsNumbered}
 use Rattle.df_catalogue.specs.States.{value_over, IsLegal}
 use Rattle.df_catalogue.specs.Refusals.{refusal_of, append_refusal, delete_refusal, first_reason, reason_if, first_taken, would_be_full, doubled_after, first_not_live}
 use Rattle.df_catalogue.specs.Changes.{after, change_at, renewed, view_over, without_view}
 use Rattle.df_catalogue.specs.Desks.{accepted_in, deleted_in}
 use Rattle.df_catalogue.specs.Parts.{state_of, views_of, IsCatalogue}
 use Rattle.df_catalogue.proofs.Counting.{accepted-few, deleted-few, deleted-more, sum-change, sum-same}
-use Rattle.df_catalogue.proofs.FrameFacts.{numbered-at, numbered-without}
+use Rattle.df_catalogue.proofs.FrameFacts.{accepted-more, numbered-at, numbered-without}
 use Rattle.df_catalogue.proofs.Legal.{append-accepted, legal-after}
-use Rattle.df_catalogue.proofs.Rising.{length-put}
 use Rattle.df_catalogue.proofs.PartFacts.{any-found, found-within}
 use Rattle.df_catalogue.proofs.StateFacts.{left-found, state-frames, views-length, views-push, views-remove}
 use Rattle.df_catalogue.proofs.ViewFacts.{no-longer, renewed-same, tables-filter}
@@ -56,12 +53,6 @@ append-known s f c x h free lent =
     let known = append-accepted c there.0 x (ap (λ o. append_refusal c o (Some x)) (sym there.2) ∙ (ap (append_refusal c (slice_get s.schemas f)) (sym at) ∙ free)) in
     (within, at, numbered-at s.schemas s.frames f x h.frames at, known.1, known.2)
 
-longer : (c : ChunkParts) (x : FrameState) → length (with_chunk c x).accepted ≡ length x.accepted + length c.rows
-longer c x =
-    let put = length-put (λ n. n) c.first (chunk_numbers c) x.accepted in
-    let block = length-range_with_len c.first (length c.rows) in
-    omega (arith, put, block)
-
 -- the book of the accepted rows has room
 pub accepted-room :
     (s : State) (f : ℕ) (c : ChunkParts) (x : FrameState) → IsLegal s → would_be_full x c ≡ false → accepted_in s + length c.rows < 18446744073709551616
@@ -86,7 +77,7 @@ appended schemas frames views tables now f c x changed accepted more deleted of_
     let same : state_of schemas (slice_set frames f changed) views now ≡ after s (Append f c) =
     ap (λ y. state_of schemas (slice_set frames f y) views now) is ∙ state-frames schemas frames views tables now f (with_chunk c) x known.1 h.in_step new' in
     let books : accepted_in (after s (Append f c)) ≡ accepted_in s + length c.rows =
-    sum-change (λ y. length y.accepted) (length c.rows) f (with_chunk c) frames x known.1 (longer c x) in
+    sum-change (λ y. length y.accepted) (length c.rows) f (with_chunk c) frames x known.1 (accepted-more c x) in
     let gone : deleted_in (after s (Append f c)) ≡ deleted_in s = sum-same (λ y. length y.deleted) f (with_chunk c) frames (λ y. refl) in
     let was = h.books_accepted in
     (same, record {

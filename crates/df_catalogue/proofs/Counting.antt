@@ -1,8 +1,8 @@
 -- How many numbers of a frame are deleted, and the books of all frames.
-use Rattle.std.proofs.Common.{◌≡◌, ℕ, ◌+◌, ◌*◌, ◌<◌, ◌≤◌, Bool, true, false, zero, suc, cond, ◌∙◌, List, [], ◌∷◌, ◌++◌, map, filter, length, refl, ap, sym, subst, arith, sum_by}
-use Rattle.std.specs.Prelude.{not, ◌&&◌, ◌||◌, ◌==◌, nat_lt, find, Option, Some, None, slice_get}
+use Rattle.std.proofs.Common.{◌≡◌, ℕ, ◌+◌, ◌*◌, ◌≤◌, Bool, true, false, zero, suc, cond, ◌∙◌, List, [], ◌∷◌, ◌++◌, map, filter, length, refl, ap, sym, subst, arith, sum_by}
+use Rattle.std.specs.Prelude.{not, ◌||◌, ◌==◌, nat_lt, Some, None, slice_get}
 use Rattle.std.specs.List.{list_all, list_any, AllZip}
-use Rattle.std.proofs.lemmas.Bool.{and_parts, or_parts, ltb-true, eqb-true, eqb-false, eq-eqb, ne_eqb, false_from_ne_true, not-true, not-false, true≢false, false≢true, cases_Bool}
+use Rattle.std.proofs.lemmas.Bool.{and_parts, or_parts, ltb-true, eqb-true, eqb-false, eq-eqb, ne_eqb, false_from_ne_true, not-true, not-false, true≢false, false≢true}
 use Rattle.std.proofs.lemmas.List.Sums.{sum_by-cons}
 use Rattle.df_value.specs.declared.cell.CellType.{CellType}
 use Rattle.df_catalogue.specs.declared.state.FrameState.{FrameState}
@@ -11,7 +11,7 @@ use Rattle.df_catalogue.specs.Frames.{has_row, numbers_of, without, IsNumbered, 
 use Rattle.df_catalogue.specs.Refusals.{doubled_after, first_not_live}
 use Rattle.df_catalogue.specs.Changes.{change_at}
 use Rattle.df_catalogue.proofs.ViewFacts.{no-longer}
-use Rattle.df_catalogue.proofs.Members.{has-here, has-later, has-append, has-filter, all-to, filter-same, filter-none, find-none}
+use Rattle.df_catalogue.proofs.Members.{has-here, has-later, has-append, has-filter, all-to, filter-none, find-none}
 
 length-cond : (b : Bool) (x : ℕ) (xs : List ℕ) → length (cond b (x ∷ xs) xs) ≡ cond b 1 0 + length xs
 length-cond true x xs = omega arith
@@ -126,6 +126,15 @@ deleted-more f ns h once live =
     length-either was listed f.accepted (λ n m d. false_from_ne_true (has_number ns n) (λ l. true≢false (sym d ∙ (known n l).1)))
     ∙ (ap (λ ds. length ds + length (filter listed f.accepted)) h.deleted
     ∙ ap (λ k. length f.deleted + k) (as-many [] ns f.accepted h.rising once (λ n l. (known n l).0)))
+
+-- so many are few
+pub deleted-fit :
+    (f : FrameState) (ns : List ℕ) → IsNumbered f → doubled_after [] ns ≡ None → first_not_live f ns ≡ None → length f.deleted + length ns ≤ 1048576
+deleted-fit f ns h once live =
+    let more = deleted-more f ns h once live in
+    let part = no-longer (λ n. has_number f.deleted n || has_number ns n) f.accepted in
+    let few = h.few in
+    omega (arith, more, part, few)
 
 -- a sum over frames of which one changes by so much
 pub sum-change :

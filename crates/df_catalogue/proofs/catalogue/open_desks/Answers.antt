@@ -1,4 +1,29 @@
+use Rattle.std.proofs.Common.{◌≡◌, ℕ, ◌+◌, ◌∙◌, List, [], ◌∷◌, ◌++◌, map, ap, sym, arith}
+use Rattle.std.specs.List.{range_with_len}
+use Rattle.std.proofs.lemmas.List.{map-append}
+use Rattle.df_catalogue.specs.Desks.{DeskParts, first_desk, first_desks}
+use Rattle.df_catalogue.proofs.RangeFacts.{range-more}
 use Rattle.df_catalogue.proofs.catalogue.open_desks.Goals as goal
 
+-- the first desks with that of one more frame
+desks-more : (n : ℕ) → first_desks (n + 1) ≡ first_desks n ++ first_desk n ∷ []
+desks-more n =
+    let same : 0 + n ≡ n = omega arith in
+    ap (map first_desk) (range-more 0 n)
+    ∙ (map-append first_desk (range_with_len 0 n) ((0 + n) ∷ []) ∙ ap (λ k. first_desks n ++ first_desk k ∷ []) same)
+
+one-more :
+    (all before : List DeskParts) (last : DeskParts) (n : ℕ) → all ≡ before ++ last ∷ [] → last ≡ first_desk n → before ≡ first_desks n → all ≡ first_desks (n + 1)
+one-more all before last n pushed first was =
+    pushed ∙ (ap (λ d. before ++ d ∷ []) first ∙ (ap (λ ds. ds ++ first_desk n ∷ []) was ∙ sym (desks-more n)))
+
 pub loop-frame-preserved : goal.loop-frame-preserved
-loop-frame-preserved g c = ?
+loop-frame-preserved g c =
+    let was = c.loop-frame.invariant in
+    let now = c.first.ensures in record {
+      desks = one-more _ _ _ c.loop-frame.frame c.in_ok-push.ensures.items now.desk was.desks;
+      accepted_parts = omega (arith, was.accepted_parts, now.accepted_parts);
+      accepted_amount = now.accepted_amount;
+      deleted_parts = omega (arith, was.deleted_parts, now.deleted_parts);
+      deleted_amount = now.deleted_amount;
+    }
