@@ -3,6 +3,7 @@ use Rattle.std.proofs.Common.{◌≡◌, ◌≢◌, ℕ, Bool, true, false, List
 use Rattle.std.specs.Prelude.{IsTrue, not, nat_le, length, Option, Some, None, option_map, slice_get}
 use Rattle.df_value.specs.declared.cell.CellType.{CellType}
 use Rattle.df_value.specs.Chunks.{ChunkParts}
+use Rattle.df_plan.specs.CheckedParts.{CheckedParts}
 use Rattle.df_catalogue.specs.declared.state.State.{State}
 use Rattle.df_catalogue.specs.declared.state.FrameState.{FrameState}
 use Rattle.df_catalogue.specs.declared.change.Change.{Change}
@@ -10,7 +11,7 @@ use Rattle.df_catalogue.specs.declared.change.Change.TheVariants.{Append, Delete
 use Rattle.df_catalogue.specs.declared.fault.CatalogueFault.{CatalogueFault}
 use Rattle.df_catalogue.specs.declared.fault.CatalogueFault.TheVariants as fault
 use Rattle.df_catalogue.specs.Likeness.{same_schema, same_schemas}
-use Rattle.df_catalogue.specs.Refusals.{refusal_of, append_refusal, delete_refusal, first_reason, reason_if, first_taken, would_be_full, doubled_after, first_not_live, has_view}
+use Rattle.df_catalogue.specs.Refusals.{refusal_of, append_refusal, delete_refusal, register_refusal, first_reason, reason_if, first_taken, would_be_full, doubled_after, first_not_live, has_view}
 use Rattle.df_catalogue.specs.Answers.{RefusedBy, takes_memory}
 
 of-append :
@@ -65,3 +66,9 @@ by-reason s c f h = record { exact = λ _. h; memory_last = λ m. absurd (never-
 -- and so is the refusal of memory to a change that takes it, where nothing else refuses the change
 pub by-memory : (s : State) (c : Change) (f : CatalogueFault) → refusal_of s c ≡ None → IsTrue (takes_memory c) → f ≡ fault.Memory → RefusedBy s c f
 by-memory s c f h taken m = record { exact = λ other. absurd (other m); memory_last = λ _. h; memory_taken = λ _. taken }
+
+-- why a view is refused, by what is known of its name, of the number of views and of its plan
+pub register-answer :
+    (name : List ℕ) (p : CheckedParts) (s : State) (b d e : Bool) → has_view name s.views ≡ b → nat_le 32 (length s.views) ≡ d → same_schemas p.frames s.schemas ≡ e →
+    register_refusal name p s ≡ first_reason (reason_if b fault.ViewExists ∷ reason_if d fault.TooManyViews ∷ reason_if (not e) fault.PlanUnlike ∷ [])
+register-answer name p s b d e x y z = rw (x, y, z) refl
