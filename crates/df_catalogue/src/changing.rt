@@ -1,18 +1,19 @@
 //! The changes of a catalogue. Each growth comes before the first thing that is changed.
-ghost use Rattle.std.specs.Prelude.{◌≡◌, None, Some, IfErr, OnErr, OnOk, length};
+ghost use Rattle.std.specs.Prelude.{◌≡◌, None, Ok, Some, IfErr, IfOk, OnErr, OnOk, length};
+ghost use Rattle.df_plan.specs.Checks.{checked};
 ghost use Rattle.df_catalogue.specs.declared.change.Change.TheVariants.{Append, Delete, Register, DropView};
 ghost use Rattle.df_catalogue.specs.Answers.{RefusedBy};
 ghost use Rattle.df_catalogue.specs.Changes.{after};
 ghost use Rattle.df_catalogue.specs.Desks.{having_accepted, having_deleted};
 ghost use Rattle.df_catalogue.specs.Refusals.{refusal_of};
-ghost use Rattle.df_catalogue.specs.States.{IsLegal};
+ghost use Rattle.df_catalogue.specs.States.{IsLegal, value_over};
 
 use crate::catalogue::Catalogue;
 use crate::desk::Desk;
 use crate::fault::CatalogueFault;
 use crate::views::{View, table_over, tables_with};
 use df_plan::CheckedPlan;
-use df_value::{Chunk, Text};
+use df_value::{Chunk, List, Row, Text};
 use std::alloc::{AllocError, Global};
 use std::sync::ledger::Ledger;
 
@@ -138,22 +139,30 @@ impl<Acc: Ledger, Del: Ledger> Catalogue<Acc, Del> {
         ensures legal { IsLegal self.new }
     {
         self.check_register(name.as_str(), &plan)?;
-        Ok(self.add_view(alloc, View { name, plan })?)
+        let table = self.value_of(alloc, &plan)?;
+        Ok(self.add_view(View { name, plan }, table)?)
     }
 
-    // Adds a view that is not refused.
-    fn add_view(&mut self, alloc: Global, view: View) -> Result<(), AllocError>
-        requires { refusal_of self.old (Register view.name view.plan) ≡ None }
+    // The table that a plan gives over the frames.
+    fn value_of(&self, alloc: Global, plan: &CheckedPlan) -> Result<List<Row>, AllocError>
+        ensures value { IfOk result (λ table. table ≡ value_over self.now.frames plan.now) }
+        ensures legal { IsLegal self.now }
+    {
+        table_over(alloc, plan, self.frames.as_slice())
+    }
+
+    // Adds a view that is not refused, with its table.
+    fn add_view(&mut self, view: View, table: List<Row>) -> Result<(), AllocError>
+        requires free { refusal_of self.old (Register view.name view.plan) ≡ None }
+        requires sound { checked view.plan.plan view.plan.frames ≡ Ok view.plan.schema }
+        requires table { table ≡ value_over self.old.frames view.plan }
         ensures after { OnOk result (self.new ≡ after self.old (Register view.name view.plan)) }
         ensures same { OnErr result (self.new ≡ self.old) }
         ensures legal { IsLegal self.new }
     {
-        let table = table_over(alloc, &view.plan, self.frames.as_slice())?;
+        self.views.reserve(1)?;
         self.tables.push(table)?;
-        if self.views.push(view).is_err() {
-            self.tables.pop();
-            return Err(AllocError);
-        }
+        self.views.push_reserved(view);
         Ok(())
     }
 

@@ -1,6 +1,7 @@
 //! Whether a change is refused. None of this takes memory.
-ghost use Rattle.std.specs.Prelude.{◌≡◌, [], IfSome, Some, length, slice_get};
+ghost use Rattle.std.specs.Prelude.{◌≡◌, [], IfSome, Ok, Some, slice_get};
 ghost use Rattle.std.specs.Option.{option_copied};
+ghost use Rattle.df_plan.specs.Checks.{checked};
 ghost use Rattle.df_catalogue.specs.declared.change.Change.TheVariants.{Append, Delete, Register};
 ghost use Rattle.df_catalogue.specs.Answers.{Tells};
 ghost use Rattle.df_catalogue.specs.Frames.{IsNumbered};
@@ -47,15 +48,17 @@ impl<Acc: Ledger, Del: Ledger> Catalogue<Acc, Del> {
         plan: &CheckedPlan,
     ) -> Result<(), CatalogueFault>
         ensures answer { Tells (refusal_of self.now (Register name.now plan.now)) result }
+        ensures sound { checked plan.now.plan plan.now.frames ≡ Ok plan.now.schema }
         ensures legal { IsLegal self.now }
     {
+        let frames = plan.frames();
         if self.has_view(name) {
             return Err(CatalogueFault::ViewExists);
         }
         if self.views.len() >= MOST_VIEWS {
             return Err(CatalogueFault::TooManyViews);
         }
-        if !same_schemas(plan.frames(), &self.schemas) {
+        if !same_schemas(frames, &self.schemas) {
             return Err(CatalogueFault::PlanUnlike);
         }
         Ok(())

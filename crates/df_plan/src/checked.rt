@@ -78,7 +78,8 @@ impl CheckedPlan {
 
     /// The schemas of the frames that the plan was checked over.
     pub fn frames(&self) -> &List<Schema>
-        ensures { result.now ≡ self.now.frames }
+        ensures value { result.now ≡ self.now.frames }
+        ensures sound { checked self.now.plan self.now.frames ≡ Ok self.now.schema }
     {
         &self.frames
     }

@@ -24,7 +24,7 @@ returns-then-not-same_schemas-clause-answer g c =
     let few = c.if-len-ge-MOST_VIEWS.false in
     let alike : same_schemas c.args.plan.now.frames c.args.self.now.schemas ≡ false =
     ap (λ ss. same_schemas c.args.plan.now.frames ss) (sym (ap (λ s. s.schemas) c.self.view_is))
-    ∙ (ap (λ ss. same_schemas ss parts.schemas) (sym c.frames.ensures) ∙ (sym c.same_schemas.ensures ∙ c.if-not-same_schemas.true)) in
+    ∙ (ap (λ ss. same_schemas ss parts.schemas) (sym c.frames-frames.ensures.value) ∙ (sym c.same_schemas.ensures ∙ c.if-not-same_schemas.true)) in
     register-answer c.args.name.now c.args.plan.now c.args.self.now false false false (sym c.if-has_view.ensures.value) (lt-leb 32 (length c.args.self.now.views) (omega (arith, counted, few))) alike
 
 pub returns-clause-answer : goal.returns-clause-answer
@@ -36,5 +36,5 @@ returns-clause-answer g c =
     let few = c.if-len-ge-MOST_VIEWS.false in
     let alike : same_schemas c.args.plan.now.frames c.args.self.now.schemas ≡ true =
     ap (λ ss. same_schemas c.args.plan.now.frames ss) (sym (ap (λ s. s.schemas) c.self.view_is))
-    ∙ (ap (λ ss. same_schemas ss parts.schemas) (sym c.frames.ensures) ∙ (sym c.same_schemas.ensures ∙ c.if-not-same_schemas.false)) in
+    ∙ (ap (λ ss. same_schemas ss parts.schemas) (sym c.frames-frames.ensures.value) ∙ (sym c.same_schemas.ensures ∙ c.if-not-same_schemas.false)) in
     register-answer c.args.name.now c.args.plan.now c.args.self.now false false true (sym c.if-has_view.ensures.value) (lt-leb 32 (length c.args.self.now.views) (omega (arith, counted, few))) alike
