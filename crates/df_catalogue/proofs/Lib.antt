@@ -8,3 +8,4 @@ pub mod Counting
 pub mod RangeFacts
 pub mod StateFacts
 pub mod RunFacts
+pub mod DeskFacts

@@ -87,7 +87,7 @@ impl<Acc: Ledger, Del: Ledger> Catalogue<Acc, Del> {
         ensures same_shares { OnErr result (desks.new ≡ desks.old) }
         ensures legal { IsLegal self.new }
     {
-        if frame >= desks.len() {
+        if frame >= self.frames.len() {
             return Err(CatalogueFault::NoFrame);
         }
         self.append(alloc, &mut desks[frame], chunk)
@@ -110,7 +110,7 @@ impl<Acc: Ledger, Del: Ledger> Catalogue<Acc, Del> {
         ensures same_shares { OnErr result (desks.new ≡ desks.old) }
         ensures legal { IsLegal self.new }
     {
-        if frame >= desks.len() {
+        if frame >= self.frames.len() {
             return Err(CatalogueFault::NoFrame);
         }
         self.delete(alloc, &mut desks[frame], numbers)
