@@ -1,10 +1,10 @@
 -- Desks that stand each at the index of its frame.
-use Rattle.std.proofs.Common.{◌≡◌, ℕ, ◌+◌, ◌<◌, ◌≤◌, zero, suc, ◌∙◌, List, [], ◌∷◌, map, length, refl, ap, sym, arith}
-use Rattle.std.specs.Prelude.{Some, None, option_map, slice_get, slice_set, slice_index_or}
+use Rattle.std.proofs.Common.{◌≡◌, ℕ, ◌+◌, ◌<◌, zero, suc, ◌∙◌, List, [], ◌∷◌, map, length, refl, ap, sym, arith}
+use Rattle.std.specs.Prelude.{Some, slice_get, slice_index_or}
 use Rattle.std.specs.List.{range_with_len}
 use Rattle.std.proofs.lemmas.List.{length-map}
 use Rattle.std.proofs.lemmas.List.FromFn.{length-range_with_len}
-use Rattle.std.proofs.lemmas.Option.{slice_get-get_or, slice_get_past}
+use Rattle.std.proofs.lemmas.Option.{slice_get-get_or}
 use Rattle.std.proofs.lemmas.Slice.Zip.{AllZip-long}
 use Rattle.df_catalogue.specs.declared.state.State.{State}
 use Rattle.df_catalogue.specs.declared.change.Change.{Change}
@@ -13,7 +13,6 @@ use Rattle.df_catalogue.specs.Changes.{after, change_at}
 use Rattle.df_catalogue.specs.Desks.{DeskParts, desks_after, having_accepted, having_deleted}
 use Rattle.df_catalogue.specs.Frames.{IsFrame}
 use Rattle.df_catalogue.specs.States.{IsLegal}
-use Rattle.df_catalogue.proofs.StateFacts.{change-set}
 
 -- each desk stands at the index of its frame
 abbrev pub AreInOrder : List DeskParts → State → Type 0
@@ -68,7 +67,3 @@ desk-read desks s i d h legal within =
     let same = frames-long s legal in
     let at = slice_get-get_or desks i d (omega (arith, some, same, within)) in
     (at, desk-at desks s i (slice_index_or desks i d) h at)
-
--- where there is no such frame, there is no such schema either
-pub no-schema : (s : State) (i : ℕ) → IsLegal s → length s.frames ≤ i → slice_get s.schemas i ≡ None
-no-schema s i legal past = let same = frames-long s legal in slice_get_past s.schemas i (omega (arith, same, past))
