@@ -10,3 +10,4 @@ pub mod StateFacts
 pub mod RunFacts
 pub mod PartFacts
 pub mod ChangeFacts
+pub mod DeskFacts
