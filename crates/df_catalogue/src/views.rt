@@ -1,5 +1,5 @@
 //! Views, and the tables that they have over frames.
-ghost use Rattle.std.specs.Prelude.{◌≡◌, ◌<◌, ◌++◌, ◌∷◌, [], IfOk, OnOk, OnErr, length, map, slice_set, vec_len, vec_capacity};
+ghost use Rattle.std.specs.Prelude.{◌≡◌, ◌<◌, IfOk, length, map, slice_set};
 ghost use Rattle.df_plan.specs.Meaning.{table_of};
 ghost use Rattle.df_catalogue.specs.States.{tables_of, value_over};
 
@@ -70,30 +70,4 @@ pub fn table_over(
 {
     let rows = frame_tables(alloc, frames)?;
     evaluate(alloc, plan, rows.as_slice())
-}
-
-/// Adds a view and its table last, or neither.
-pub fn push_view(
-    views: &mut Vec<View>,
-    tables: &mut Vec<List<Row>>,
-    view: View,
-    table: List<Row>,
-) -> Result<(), AllocError>
-    ensures added { OnOk result ((views.new.items ≡ views.old.items ++ view ∷ []) × (tables.new.items ≡ tables.old.items ++ table ∷ [])) }
-    ensures same { OnErr result ((views.new.items ≡ views.old.items) × (tables.new.items ≡ tables.old.items)) }
-{
-    make_room(views, tables)?;
-    views.push_reserved(view);
-    tables.push_reserved(table);
-    Ok(())
-}
-
-// Room for one view more and its table.
-fn make_room(views: &mut Vec<View>, tables: &mut Vec<List<Row>>) -> Result<(), AllocError>
-    ensures views { views.new.items ≡ views.old.items }
-    ensures tables { tables.new.items ≡ tables.old.items }
-    ensures room { OnOk result ((vec_len views.new < vec_capacity views.new) × (vec_len tables.new < vec_capacity tables.new)) }
-{
-    views.reserve(1)?;
-    tables.reserve(1)
 }
