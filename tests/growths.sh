@@ -11,8 +11,11 @@ trap 'rm -rf "$work"' EXIT
 compiler=${CC:-$(command -v cc || echo "$(dirname "$(rt doc)")/toolchain/bin/clang")}
 "$compiler" -O1 -shared -fPIC -nostdlib -o "$work/failing.so" "$here/failing.c" || exit 2
 
-# Runs the test with these variables set.
-run() { env LD_PRELOAD="$work/failing.so" "$@" "$program" "$test" > "$work/out" 2>&1; }
+# Runs the test with these variables set, in a shell of its own, which tells of a signal in the same file.
+run() { (
+  env LD_PRELOAD="$work/failing.so" "$@" "$program" "$test"
+  exit $?
+) > "$work/out" 2>&1; }
 
 wrong=0
 other() {
