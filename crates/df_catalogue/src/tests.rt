@@ -143,11 +143,12 @@ fn numbers(alloc: Global, number: u32) -> Result<List<u32>, AllocError> {
 
 fn changes(alloc: Global) -> Result<List<Change>, AllocError> {
     let rows = [("a", 7), ("b", 8)];
-    let mut changes = Vec::with_capacity(alloc, 7)?;
+    let mut changes = Vec::with_capacity(alloc, 8)?;
     changes.push(Change::Append(0, chunk(alloc, 0, &rows)?))?;
     changes.push(Change::Delete(0, numbers(alloc, 5)?))?;
     changes.push(Change::Delete(0, numbers(alloc, 0)?))?;
     changes.push(Change::Append(9, chunk(alloc, 0, &rows)?))?;
+    changes.push(Change::Delete(9, numbers(alloc, 0)?))?;
     changes.push(Change::DropView(text(alloc, "v")?))?;
     changes.push(Change::Register(text(alloc, "v")?, checked(alloc, 1, Plan::Scan(0))?))?;
     changes.push(Change::DropView(text(alloc, "v")?))?;
@@ -188,6 +189,7 @@ fn changes_are_answered_in_turn(rt: HostRuntime) -> Result<(), Fail> {
         None,
         Some(CatalogueFault::NotLive(5)),
         None,
+        Some(CatalogueFault::NoFrame),
         Some(CatalogueFault::NoFrame),
         Some(CatalogueFault::NoView),
         None,
