@@ -35,4 +35,12 @@ pub use state::{FrameState, State, ViewState};
 #[cfg(test)]
 mod tests;
 #[cfg(test)]
+mod tests_desks;
+#[cfg(test)]
+mod tests_frames;
+#[cfg(test)]
 mod tests_limits;
+#[cfg(test)]
+mod tests_memory;
+#[cfg(test)]
+mod tests_views;
