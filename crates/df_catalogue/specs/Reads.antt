@@ -1,10 +1,9 @@
 -- What is read of a state: the rows and numbers of frames, and views by name.
-use Rattle.std.specs.Prelude.{◌≡◌, ℕ, List, length, map, Option, Result, option_map, ok_or, find, slice_get, bytes_eq}
+use Rattle.std.specs.Prelude.{ℕ, List, length, map, Option, Result, option_map, ok_or, find, slice_get, bytes_eq}
 use Rattle.df_value.specs.declared.cell.Cell.{Cell}
 use Rattle.df_value.specs.declared.cell.CellType.{CellType}
 use Rattle.df_plan.specs.CheckedParts.{CheckedParts}
 use Rattle.df_catalogue.specs.declared.state.State.{State}
-use Rattle.df_catalogue.specs.declared.state.FrameState.{FrameState}
 use Rattle.df_catalogue.specs.declared.state.ViewState.{ViewState}
 use Rattle.df_catalogue.specs.declared.fault.CatalogueFault.{CatalogueFault}
 use Rattle.df_catalogue.specs.declared.fault.CatalogueFault.TheVariants as fault

@@ -1,5 +1,6 @@
 //! The catalogue: frames, views and books.
-ghost use Rattle.std.specs.Prelude.{◌≡◌, ◌≢◌, ◌≤◌, None, Some, IfErr, IfOk, OnOk, MatchResult, length, replicate};
+ghost use Rattle.std.specs.Prelude.{◌≡◌, ◌≢◌, ◌≤◌, None, Some, IfErr, IfOk, OnOk, MatchResult, length, map, replicate};
+ghost use Rattle.std.specs.List.{range_with_len};
 ghost use Rattle.df_catalogue.specs.New.{new_fault as fault_of};
 ghost use Rattle.df_catalogue.specs.States.{empty_frame, opening_of, IsLegal};
 ghost use Rattle.df_catalogue.specs.Desks.{accepted_in, deleted_in, first_desks, spare_parts};
@@ -74,6 +75,7 @@ impl<Acc: Ledger, Del: Ledger> Catalogue<Acc, Del> {
         ensures opening { IfOk result (λ made. made.0 ≡ opening_of schemas) }
         ensures legal { IfOk result (λ made. IsLegal made.0) }
         ensures desks { IfOk result (λ made. made.1.items ≡ first_desks (length schemas)) }
+        ensures in_order { IfOk result (λ made. map (λ d. d.frame) made.1.items ≡ range_with_len 0 (length made.0.schemas)) }
         ensures refused { IfErr result (λ fault. fault ≢ NewFault.Memory → fault_of schemas ≡ Some fault) }
     {
         check_schemas(schemas.as_slice())?;
