@@ -1,6 +1,6 @@
 //! Texts as they are printed.
-ghost use Rattle.std.specs.Prelude.{◌≡◌, ◌≤◌, IfOk, string_bytes};
-ghost use Rattle.df_print.specs.Printed.{escaped_text, hex_digit};
+ghost use Rattle.std.specs.Prelude.{◌≡◌, ◌≤◌, ◌++◌, ◌∷◌, ◌/◌, ◌%◌, [], IfOk, OnOk, string_bytes};
+ghost use Rattle.df_print.specs.Printed.{escaped_char, escaped_text, hex_digit};
 
 use std::alloc::{AllocError, Global};
 
@@ -18,17 +18,30 @@ pub fn escape(alloc: Global, text: &str) -> Result<String, AllocError>
 {
     let mut out = String::with_capacity(alloc, text.len())?;
     for c in text.chars() {
-        if c == '\\' {
-            out.push_str("\\\\")?;
-        } else if c < ' ' || c == '\x7F' {
-            let code = c as u32 as u8;
-            out.push('\\')?;
-            out.push('x')?;
-            out.push(char::from(hex(code / 16)))?;
-            out.push(char::from(hex(code % 16)))?;
-        } else {
-            out.push(c)?;
-        }
+        push_escaped(&mut out, c)?;
     }
     Ok(out)
+}
+
+// Adds a character as it is printed.
+fn push_escaped(out: &mut String, c: char) -> Result<(), AllocError>
+    ensures { OnOk result (string_bytes out.new ≡ string_bytes out.old ++ escaped_char c) }
+{
+    if c == '\\' {
+        out.push_str("\\\\")
+    } else if c < ' ' || c == '\x7F' {
+        push_code(out, c as u32 as u8)
+    } else {
+        out.push(c)
+    }
+}
+
+// Adds the code of a character.
+fn push_code(out: &mut String, code: u8) -> Result<(), AllocError>
+    ensures { OnOk result (string_bytes out.new ≡ string_bytes out.old ++ 92 ∷ 120 ∷ hex_digit (code / 16) ∷ hex_digit (code % 16) ∷ []) }
+{
+    out.push('\\')?;
+    out.push('x')?;
+    out.push(char::from(hex(code / 16)))?;
+    out.push(char::from(hex(code % 16)))
 }

@@ -4,6 +4,7 @@ pub mod Partition
 pub mod Beside
 pub mod PlacedFacts
 pub mod RowWiseLaws
+pub mod Steps
 pub mod JoinLaws
 pub mod WindowFacts
 pub mod WindowLaws

@@ -1,8 +1,10 @@
 use Rattle.std.proofs.Common.{◌≡◌, ℕ, ◌∙◌, ◌++◌, List, [], ◌∷◌, length, drop, min, zero, suc, refl, ap, sym, arith, append-nil}
-use Rattle.std.proofs.lemmas.Slice.Zip.{zip_end}
+use Rattle.std.proofs.lemmas.Slice.Zip.{zip_end, zip_turn}
+use Rattle.std.proofs.lemmas.List.{length_push}
 use Rattle.df_value.specs.declared.cell.Cell.{Cell}
 use Rattle.df_value.specs.declared.cell.CellType.{CellType}
-use Rattle.df_table.specs.RowWise.{put_rows}
+use Rattle.df_table.specs.RowWise.{put_row, put_rows}
+use Rattle.df_table.proofs.Steps.{zipped_more}
 use Rattle.df_table.proofs.put_column.put_rows.Goals as goal
 
 -- past the end of one of the two there is no row
@@ -29,3 +31,15 @@ returns c =
     ∙ (sym (append-nil c.loop-row.out.items)
     ∙ (ap (λ (rest : List (List Cell)). c.loop-row.out.items ++ rest) (sym (no_more columns name rows cells (length c.loop-row.yielded) n))
     ∙ sym c.loop-row.invariant))
+
+pub loop-row-preserved : goal.loop-row-preserved
+loop-row-preserved c =
+    let columns = c.args.columns.now in
+    let name = c.args.name.now in
+    let rows = c.args.rows.now in
+    let cells = c.args.cells.now in
+    let turn =
+    zip_turn rows cells c.loop-row.yielded c.into_iter-row-iterator.result c.loop-row.row-iterator c.next.new.self c.next.result
+    (cc) (cc) c.loop-row.yielded_by _ c.in-Some.is c.next.ensures.steps in
+    zipped_more (put_row columns name) (put_rows columns name) (λ _ _ _ _. refl) rows cells (length c.loop-row.yielded) _ _ _ _ _ _ _
+    turn.0 turn.1 (turn.2 _) (turn.3 _) (length_push c.loop-row.yielded _) c.loop-row.invariant c.in_ok-put_row.ensures c.in_ok-push.ensures.items

@@ -1,5 +1,4 @@
 use Rattle.std.proofs.lemmas.Result.{IfOk-weaker}
-use Rattle.df_table.specs.Ranks.{RanksAgree, RanksRise, RanksWithin, GreatestCounts}
 use Rattle.df_table.proofs.RankLaws.{agree, rise, within, greatest}
 use Rattle.df_table.proofs.ranks.dense_rank.Goals as goal
 

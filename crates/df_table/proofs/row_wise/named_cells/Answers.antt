@@ -1,8 +1,10 @@
 use Rattle.std.proofs.Common.{◌≡◌, ℕ, ◌∙◌, ◌++◌, List, [], ◌∷◌, length, drop, min, zero, suc, refl, ap, sym, arith, append-nil}
-use Rattle.std.proofs.lemmas.Slice.Zip.{zip_end}
+use Rattle.std.proofs.lemmas.Slice.Zip.{zip_end, zip_turn}
+use Rattle.std.proofs.lemmas.List.{length_push}
 use Rattle.df_value.specs.declared.cell.Cell.{Cell}
 use Rattle.df_value.specs.declared.cell.CellType.{CellType}
 use Rattle.df_table.specs.RowWise.{named_cells}
+use Rattle.df_table.proofs.Steps.{paired, zipped_more}
 use Rattle.df_table.proofs.row_wise.named_cells.Goals as goal
 
 -- past the end of one of the two there is no pair
@@ -26,3 +28,14 @@ returns c =
     sym (append-nil c.loop-column.named.items)
     ∙ (ap (λ (rest : List (List ℕ × Cell)). c.loop-column.named.items ++ rest) (sym (no_more columns cells (length c.loop-column.yielded) n))
     ∙ sym c.loop-column.invariant)
+
+pub loop-column-preserved : goal.loop-column-preserved
+loop-column-preserved c =
+    let columns = c.args.columns.now in
+    let cells = c.args.cells.now in
+    let turn =
+    zip_turn columns cells c.loop-column.yielded c.into_iter-column-iterator.result c.loop-column.column-iterator c.next.new.self c.next.result
+    (cc) (cc) c.loop-column.yielded_by _ c.in-Some.is c.next.ensures.steps in
+    zipped_more (λ (k : List ℕ × CellType) (v : Cell). (k.0, v)) named_cells (λ _ _ _ _. refl) columns cells (length c.loop-column.yielded) _ _ _ _ _ _ _
+    turn.0 turn.1 (turn.2 _) (turn.3 _) (length_push c.loop-column.yielded _) c.loop-column.invariant
+    (paired c.in_ok-copy.ensures c.in_ok-copy-2.ensures) c.in_ok-push.ensures.items

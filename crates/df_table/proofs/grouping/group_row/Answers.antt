@@ -1,0 +1,12 @@
+use Rattle.std.proofs.Common.{arith, ◌∙◌, ap}
+use Rattle.df_table.proofs.Steps.{mapped_behind}
+use Rattle.df_table.specs.Tables.{aggregate_of}
+use Rattle.df_table.proofs.grouping.group_row.Goals as goal
+
+pub loop-agg-preserved : goal.loop-agg-preserved
+loop-agg-preserved c =
+    mapped_behind _ _ _ _ _ _ _ _ (omega arith) c.agg-item.is c.loop-agg.invariant
+    (c.in_ok-aggregate.ensures
+    ∙ (ap (λ columns. aggregate_of columns c.as_slice-in-loop-agg-2.result.now c.agg-item.result.1) c.as_slice-in-loop-agg.ensures
+    ∙ ap (λ group. aggregate_of c.args.table.now.columns group c.agg-item.result.1) c.as_slice-in-loop-agg-2.ensures.value))
+    c.in_ok-push.ensures.items

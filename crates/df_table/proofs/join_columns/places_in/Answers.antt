@@ -1,0 +1,6 @@
+use Rattle.std.proofs.Common.{arith}
+use Rattle.df_table.proofs.Steps.{mapped_more}
+use Rattle.df_table.proofs.join_columns.places_in.Goals as goal
+
+pub loop-name-preserved : goal.loop-name-preserved
+loop-name-preserved c = mapped_more _ _ _ _ _ _ _ (omega arith) c.name-item.is c.loop-name.invariant (cc) c.in_ok-push.ensures.items

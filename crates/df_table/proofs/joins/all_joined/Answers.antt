@@ -1,0 +1,12 @@
+use Rattle.std.proofs.Common.{arith, [], ◌∙◌, ◌++◌, ap, append-nil, sym}
+use Rattle.df_table.proofs.Steps.{joined_more}
+use Rattle.std.proofs.lemmas.Grind.{flat_map-append}
+use Rattle.df_table.specs.Joins.{joined_row, joined_rows}
+use Rattle.df_table.proofs.joins.all_joined.Goals as goal
+
+pub loop-left-preserved : goal.loop-left-preserved
+loop-left-preserved c =
+    joined_more (λ lefts. joined_rows c.args.how c.args.sides.now lefts c.args.rights.now)
+    (flat_map-append (joined_row c.args.how c.args.sides.now c.args.rights.now))
+    [] c.args.lefts.now _ _ _ _ (omega arith) c.left-item.is c.loop-left.invariant
+    (c.in_ok-add_joined.ensures ∙ ap (λ end. c.loop-left.rows.items ++ end) (sym (append-nil _)))

@@ -1,0 +1,8 @@
+use Rattle.std.proofs.Common.{arith, ◌∙◌, ◌++◌, ap}
+use Rattle.df_table.proofs.Steps.{mapped_more}
+use Rattle.df_table.proofs.joins.each_beside.Goals as goal
+
+pub loop-rest-preserved : goal.loop-rest-preserved
+loop-rest-preserved c =
+    mapped_more _ _ _ _ _ _ _ (omega arith) c.rest-item.is c.loop-rest.invariant
+    (c.in_ok-row_beside.ensures ∙ ap (λ rest. c.args.left.now ++ rest) c.as_slice.ensures) c.in_ok-push.ensures.items

@@ -1,0 +1,16 @@
+use Rattle.std.proofs.Common.{arith, [], ◌∙◌, ap, map}
+use Rattle.df_table.proofs.Steps.{joined_more}
+use Rattle.std.proofs.lemmas.List.{map-append}
+use Rattle.std.proofs.lemmas.List.Elements.{filter-append}
+use Rattle.df_table.specs.Groups.{key_of}
+use Rattle.df_table.specs.Joins.{keys_match, matches_of}
+use Rattle.df_table.proofs.joins.matched_rests.Goals as goal
+
+pub loop-right-preserved : goal.loop-right-preserved
+loop-right-preserved c =
+    let places = c.args.places.now in
+    let rest = c.args.rest.now in
+    let key = c.args.key.now in
+    joined_more (λ rights. map (key_of rest) (matches_of places key rights))
+    (λ xs ys. ap (map (key_of rest)) (filter-append (λ r. keys_match key (key_of places r)) xs ys) ∙ map-append (key_of rest) _ _)
+    [] c.args.rights.now _ _ _ _ (omega arith) c.right-item.is c.loop-right.invariant c.in_ok-add_rest.ensures

@@ -1,0 +1,17 @@
+use Rattle.std.proofs.Common.{arith, []}
+use Rattle.df_table.proofs.Steps.{joined_more}
+use Rattle.std.proofs.lemmas.List.Elements.{filter-append}
+use Rattle.df_table.specs.RowWise.{keeps, filtered}
+use Rattle.df_table.proofs.RowWiseLaws.{filtered_twice}
+use Rattle.df_table.proofs.row_wise.filtered.Goals as goal
+
+pub loop-row-preserved : goal.loop-row-preserved
+loop-row-preserved c =
+    joined_more (filtered c.args.columns.now c.args.predicate.now) (filter-append (keeps c.args.columns.now c.args.predicate.now))
+    [] c.args.rows.now _ _ _ _ (omega arith) c.row-item.is c.loop-row.invariant c.in_ok-keep.ensures
+
+pub returns-in_err-keep-clause-twice : goal.returns-in_err-keep-clause-twice
+returns-in_err-keep-clause-twice c again = filtered_twice c.args.columns.now c.args.predicate.now c.args.rows.now again
+
+pub returns-clause-twice : goal.returns-clause-twice
+returns-clause-twice c again = filtered_twice c.args.columns.now c.args.predicate.now c.args.rows.now again

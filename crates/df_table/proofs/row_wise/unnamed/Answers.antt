@@ -1,0 +1,6 @@
+use Rattle.std.proofs.Common.{arith}
+use Rattle.df_table.proofs.Steps.{mapped_more}
+use Rattle.df_table.proofs.row_wise.unnamed.Goals as goal
+
+pub loop-cell-preserved : goal.loop-cell-preserved
+loop-cell-preserved c = mapped_more _ _ _ _ _ _ _ (omega arith) c.cell-item.is c.loop-cell.invariant c.in_ok-copy.ensures c.in_ok-push.ensures.items

@@ -1,0 +1,13 @@
+use Rattle.std.proofs.Common.{arith, ◌∙◌, [], ◌∷◌, ◌++◌, ap}
+use Rattle.df_table.proofs.Steps.{mapped_more}
+use Rattle.std.specs.Prelude.{ℤ}
+use Rattle.std.specs.Int.{w128}
+use Rattle.std.proofs.lemmas.Int.{ints, to_z-of_z}
+use Rattle.df_table.specs.Aggregates.{cells_of, sum_of}
+use Rattle.df_table.proofs.totals.sums_of_groups.Goals as goal
+
+pub loop-key-preserved : goal.loop-key-preserved
+loop-key-preserved c =
+    mapped_more _ _ _ _ _ _ _ (omega arith) c.key-item.is c.loop-key.invariant
+    (c.sum_of.ensures ∙ ap (λ rows. sum_of (cells_of c.args.place rows)) (c.as_slice.ensures.value ∙ c.in_ok-group.ensures))
+    (c.in_ok-push.ensures.items ∙ ap (λ (v : ℤ). c.loop-key.sums.items ++ v ∷ []) (to_z-of_z w128 c.sum_of.result (omega (arith, ints))))
