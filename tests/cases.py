@@ -21,6 +21,8 @@ import tomllib
 
 # The keys that are no parts of a text.
 RESERVED = {"name", "document", "words", "files", "prints", "fault", "status", "each"}
+# A run that takes longer has no answer.
+SECONDS = 60
 
 
 class Case:
@@ -57,7 +59,12 @@ class Case:
                 file.parent.mkdir(parents=True, exist_ok=True)
                 file.write_bytes(contents)
             line = [program, *self.words]
-            run = subprocess.run(line, input=self.document, capture_output=True, cwd=folder, timeout=60, check=False)
+            try:
+                run = subprocess.run(
+                    line, input=self.document, capture_output=True, cwd=folder, timeout=SECONDS, check=False
+                )
+            except subprocess.TimeoutExpired:
+                return f"differs: {self.name}\n  no answer within {SECONDS} seconds\n"
         came = (run.returncode, run.stdout, run.stderr)
         if came == self.wanted:
             return None
@@ -99,14 +106,18 @@ def export(folder, cases):
             name.with_suffix(".args").write_text("".join(f"{word}\n" for word in case.words))
 
 
-def main(program, *rest):
+def cases_of_files(paths):
     folder = pathlib.Path(__file__).parent / "cases"
-    files = [pathlib.Path(file) for file in rest[program == "--export" :]] or sorted(folder.glob("*.toml"))
-    cases = [case for file in files for case in cases_of(file)]
-    if program == "--export":
-        export(pathlib.Path(rest[0]), cases)
+    files = [pathlib.Path(path) for path in paths] or sorted(folder.glob("*.toml"))
+    return [case for file in files for case in cases_of(file)]
+
+
+def main(first, *rest):
+    if first == "--export":
+        export(pathlib.Path(rest[0]), cases_of_files(rest[1:]))
         return 0
-    program = os.path.realpath(program)
+    program = os.path.realpath(first)
+    cases = cases_of_files(rest)
     with concurrent.futures.ThreadPoolExecutor(os.cpu_count()) as pool:
         differences = [text for text in pool.map(lambda case: case.run(program), cases) if text]
     print("".join(differences) + f"cases: {len(cases)} runs, {len(differences)} differ")
