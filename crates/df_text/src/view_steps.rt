@@ -44,7 +44,10 @@ pub fn apply_table(
 {
     match array_or_none(place, table, "steps") {
         Ok(steps) => apply_steps(alloc, place, frames, input, steps),
-        Err(fault) => refused(input, fault),
+        Err(fault) => {
+            drop(input);
+            Err(fault)
+        }
     }
 }
 
@@ -79,15 +82,11 @@ fn apply_step(
 {
     match step_in(place, step) {
         Ok((word, items)) => apply(alloc, place, frames, word, input, items),
-        Err(fault) => refused(input, fault),
+        Err(fault) => {
+            drop(input);
+            Err(fault)
+        }
     }
-}
-
-/// The fault of a step, in place of the plan before it.
-fn refused(_input: Plan, fault: ViewsFault) -> Result<Plan, ViewsFault>
-    ensures { result ≡ Err fault }
-{
-    Err(fault)
 }
 
 /// The step that a value names, and the items after its word.

@@ -39,8 +39,8 @@ apply_step-returns-in-Ok t c =
     rw (step_by_word c.args.place c.args.frames.now c.args.input (view c.args.step.now), c.in-Ok.ensures) c.apply.ensures
 
 pub apply_step-returns-in-Err : goal.apply_step-returns-in-Err
-apply_step-returns-in-Err t c =
-    rw c.refused.ensures (λ given. rw (step_by_word c.args.place c.args.frames.now c.args.input (view c.args.step.now), c.in-Err.ensures) refl)
+apply_step-returns-in-Err t c given =
+    rw (step_by_word c.args.place c.args.frames.now c.args.input (view c.args.step.now), c.in-Err.ensures) refl
 
 pub apply_steps-apply_step-requires : goal.apply_steps-apply_step-requires
 apply_steps-apply_step-requires t c =
@@ -70,5 +70,5 @@ apply_table-returns-in-Ok t c =
     rw (steps_by_key c.args.place c.args.frames.now c.args.input (table_view c.args.table.now), c.in-Ok.ensures) c.apply_steps.ensures
 
 pub apply_table-returns-in-Err : goal.apply_table-returns-in-Err
-apply_table-returns-in-Err t c =
-    rw c.refused.ensures (λ given. rw (steps_by_key c.args.place c.args.frames.now c.args.input (table_view c.args.table.now), c.in-Err.ensures) refl)
+apply_table-returns-in-Err t c given =
+    rw (steps_by_key c.args.place c.args.frames.now c.args.input (table_view c.args.table.now), c.in-Err.ensures) refl
