@@ -118,9 +118,9 @@ fn copy_all(alloc: Global, schemas: &[Schema]) -> Result<List<Schema>, AllocErro
 
 impl Duplicate for CheckedPlan {
     fn copy(&self, alloc: Global) -> Result<CheckedPlan, AllocError> {
-        let plan = self.plan.copy(alloc)?;
         let frames = self.frames.copy(alloc)?;
         let schema = self.schema.copy(alloc)?;
+        let plan = self.plan.copy(alloc)?;
         Ok(CheckedPlan {
             plan,
             frames,
