@@ -55,16 +55,16 @@ impl CheckedPlan {
         ensures ok { IfOk result (λ p. (p.plan ≡ plan) × (p.frames ≡ frames.now) × (checked plan frames.now ≡ Ok p.schema)) }
         ensures fault { IfErr result (λ f. f ≢ PlanFault.Memory → checked plan frames.now ≡ Err f) }
     {
-        match check(alloc, &plan, frames) {
-            Ok(schema) => match copy_all(alloc, frames) {
-                Ok(frames) => Ok(CheckedPlan {
-                    plan,
-                    frames,
-                    schema,
-                }),
-                Err(_) => Err(PlanFault::Memory),
-            },
-            Err(fault) => Err(fault),
+        match checked_parts(alloc, &plan, frames) {
+            Ok((frames, schema)) => Ok(CheckedPlan {
+                plan,
+                frames,
+                schema,
+            }),
+            Err(fault) => {
+                drop(plan);
+                Err(fault)
+            }
         }
     }
 
@@ -93,6 +93,19 @@ impl CheckedPlan {
     }
 }
 
+// Copies of the frames' schemas, and the schema of the plan's result over them.
+fn checked_parts(
+    alloc: Global,
+    plan: &Plan,
+    frames: &[Schema],
+) -> Result<(List<Schema>, Schema), PlanFault>
+    ensures ok { IfOk result (λ p. (p.0 ≡ frames.now) × (checked plan.now frames.now ≡ Ok p.1)) }
+    ensures fault { IfErr result (λ f. f ≢ PlanFault.Memory → checked plan.now frames.now ≡ Err f) }
+{
+    let schema = check(alloc, plan, frames)?;
+    Ok((copy_all(alloc, frames)?, schema))
+}
+
 fn copy_all(alloc: Global, schemas: &[Schema]) -> Result<List<Schema>, AllocError>
     ensures { IfOk result (λ copies. copies ≡ schemas.now) }
 {
@@ -105,9 +118,9 @@ fn copy_all(alloc: Global, schemas: &[Schema]) -> Result<List<Schema>, AllocErro
 
 impl Duplicate for CheckedPlan {
     fn copy(&self, alloc: Global) -> Result<CheckedPlan, AllocError> {
-        let plan = self.plan.copy(alloc)?;
         let frames = self.frames.copy(alloc)?;
         let schema = self.schema.copy(alloc)?;
+        let plan = self.plan.copy(alloc)?;
         Ok(CheckedPlan {
             plan,
             frames,

@@ -44,7 +44,10 @@ pub fn apply_table(
 {
     match array_or_none(place, table, "steps") {
         Ok(steps) => apply_steps(alloc, place, frames, input, steps),
-        Err(fault) => Err(fault),
+        Err(fault) => {
+            drop(input);
+            Err(fault)
+        }
     }
 }
 
@@ -79,7 +82,10 @@ fn apply_step(
 {
     match step_in(place, step) {
         Ok((word, items)) => apply(alloc, place, frames, word, input, items),
-        Err(fault) => Err(fault),
+        Err(fault) => {
+            drop(input);
+            Err(fault)
+        }
     }
 }
 

@@ -1,0 +1,34 @@
+use Rattle.std.proofs.Common.{◌≡◌, List, [], ◌∷◌, length, map, Err, refl, arith}
+use Rattle.std.specs.Prelude.{◌≢◌}
+use Rattle.toml.specs.View.{view}
+use Rattle.toml.specs.declared.value.Value.{Value}
+use Rattle.df_plan.specs.declared.plan.Plan.{Plan}
+use Rattle.df_table.specs.declared.kinds.RollKind.{RollKind}
+use Rattle.df_text.specs.declared.document.Place.{Place}
+use Rattle.df_text.specs.declared.views_fault.ViewsFault.TheVariants as fault
+use Rattle.df_text.specs.WindowSteps.{rolling_of}
+use Rattle.df_text.proofs.window_steps.rolling.Goals as goal
+use Rattle.df_text.proofs.window_steps.rolling.Goals.{in_default-via-then-items-lt3, in_default-via-else-items-lt3+else-items-lt4+else-items-lt5}
+
+-- a window has three items or four
+other_count :
+    (at : Place) (kind : RollKind) (input : Plan) (vs : List Value) → length vs ≢ 3 → length vs ≢ 4 →
+    rolling_of at kind input (map view vs) ≡ Err (fault.Shape at)
+other_count at kind input [] h k = refl
+other_count at kind input (a ∷ []) h k = refl
+other_count at kind input (a ∷ b ∷ []) h k = refl
+other_count at kind input (a ∷ b ∷ c ∷ []) h k = absurd (h refl)
+other_count at kind input (a ∷ b ∷ c ∷ d ∷ []) h k = absurd (k refl)
+other_count at kind input (a ∷ b ∷ c ∷ d ∷ e ∷ vs) h k = refl
+
+pub returns-in_default : goal.returns-in_default
+returns-in_default c _ =
+    other_count c.args.place c.args.kind c.args.input c.args.items.now (λ n.
+    elim c.in_default.branch [
+      | in_default-via-then-items-lt3 w ↦ grind arith
+      | in_default-via-else-items-lt3+else-items-lt4+else-items-lt5 w ↦ grind arith
+    ]) (λ n.
+    elim c.in_default.branch [
+      | in_default-via-then-items-lt3 w ↦ grind arith
+      | in_default-via-else-items-lt3+else-items-lt4+else-items-lt5 w ↦ grind arith
+    ])
