@@ -19,18 +19,3 @@ pub use files::Files;
 pub use outcome::Outcome;
 pub use reading_words::words;
 pub use running::{MOST_BYTES_OF_DOCUMENT, run};
-
-#[cfg(test)]
-mod tests;
-#[cfg(test)]
-mod tests_aggregates;
-#[cfg(test)]
-mod tests_files;
-#[cfg(test)]
-mod tests_joins;
-#[cfg(test)]
-mod tests_steps;
-#[cfg(test)]
-mod tests_windows;
-#[cfg(test)]
-mod tests_words;

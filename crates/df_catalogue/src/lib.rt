@@ -31,16 +31,3 @@ pub use desk::Desk;
 pub use fault::{CatalogueFault, NewFault};
 pub use frame::MOST_ROWS;
 pub use state::{FrameState, State, ViewState};
-
-#[cfg(test)]
-mod tests;
-#[cfg(test)]
-mod tests_desks;
-#[cfg(test)]
-mod tests_frames;
-#[cfg(test)]
-mod tests_limits;
-#[cfg(test)]
-mod tests_memory;
-#[cfg(test)]
-mod tests_views;

@@ -24,8 +24,3 @@ pub use pieces::{count_pieces, type_piece};
 pub use reading::{MOST_BYTES_OF_FILE, parse_records, read_records};
 pub use records::Records;
 pub use typed::type_chunk;
-
-#[cfg(test)]
-mod tests;
-#[cfg(test)]
-mod tests_limits;

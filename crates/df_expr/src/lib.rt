@@ -23,6 +23,3 @@ pub use logic::{kleene_and, kleene_not, kleene_or};
 pub use meter::Meter;
 pub use operators::{arith, comparison, eq_missing};
 pub use typing::{MOST_LEVELS, check, names_column};
-
-#[cfg(test)]
-mod tests;

@@ -25,10 +25,3 @@ pub use df_table::{Agg, How, RankKind, RollKind};
 pub use evaluation::evaluate;
 pub use fault::PlanFault;
 pub use plan::Plan;
-
-#[cfg(test)]
-mod tests;
-#[cfg(test)]
-mod tests_joins;
-#[cfg(test)]
-mod tests_windows;

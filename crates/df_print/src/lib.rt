@@ -12,6 +12,3 @@ pub use escapes::escape;
 pub use printing::print_table;
 pub use widths::column_width;
 pub use writing::{WriteFault, write_text};
-
-#[cfg(test)]
-mod tests;

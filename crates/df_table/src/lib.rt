@@ -41,12 +41,3 @@ pub use row_wise::{added_row, filter_table, filtered, select_table, selected_row
 pub use table::Table;
 pub use totals::group_sums;
 pub use windows::{cum_sum_table, roll_table, rolled_last, running_sum, size_of, type_of_roll};
-
-#[cfg(test)]
-mod tests;
-#[cfg(test)]
-mod tests_aggregates;
-#[cfg(test)]
-mod tests_joins;
-#[cfg(test)]
-mod tests_windows;

@@ -35,14 +35,3 @@ pub use df_print::{WriteFault, column_width, escape, print_table, write_text};
 pub use document::{FrameSource, FrameSpec, Place, ViewSpec, Views};
 pub use views::read_views;
 pub use views_fault::ViewsFault;
-
-#[cfg(test)]
-mod tests_expressions;
-#[cfg(test)]
-mod tests_joins;
-#[cfg(test)]
-mod tests_steps;
-#[cfg(test)]
-mod tests_views;
-#[cfg(test)]
-mod tests_windows;

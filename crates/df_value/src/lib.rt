@@ -25,6 +25,3 @@ pub use source::Source;
 pub use sqlite_items::Boxed;
 pub use text::Text;
 pub use traits::{Duplicate, Exact, same};
-
-#[cfg(test)]
-mod tests;

@@ -1,0 +1,87 @@
+//! Lists of changes.
+ghost use Rattle.std.specs.Prelude.{◌≡◌};
+
+use crate::given::{chunk, scan};
+use crate::openings::{PARTS, books, opened};
+use df_catalogue::{CatalogueFault, Change};
+use df_value::CellType::Int;
+use df_value::{List, Text};
+use std::alloc::{AllocError, Global};
+use std::marker::Brand;
+use std::process::Abort;
+use std::sync::ledger::{Blank, Ledger};
+use std::test::Fail;
+
+// A change of a frame, or of the view `v`.
+#[derive(Clone, Copy)]
+enum Step {
+    Append(usize),
+    Delete(usize, u32),
+    Drop,
+    Register,
+}
+
+fn change(alloc: Global, step: Step) -> Result<Change, AllocError> {
+    match step {
+        Step::Append(frame) => {
+            let chunk = chunk(alloc, 0, &[Some(7), Some(8)])?;
+            Ok(Change::Append(frame, chunk))
+        }
+        Step::Delete(frame, number) => {
+            let numbers = vec![in alloc; number]?;
+            Ok(Change::Delete(frame, List::from_vec(numbers)))
+        }
+        Step::Drop => Ok(Change::DropView(Text::from_str(alloc, "v")?)),
+        Step::Register => {
+            let plan = scan(alloc, &[Int])?;
+            Ok(Change::Register(Text::from_str(alloc, "v")?, plan))
+        }
+    }
+}
+
+// The changes and their answers.
+const STEPS: [(Step, Option<CatalogueFault>); 8] = [
+    (Step::Append(0), None),
+    (Step::Delete(0, 5), Some(CatalogueFault::NotLive(5))),
+    (Step::Delete(0, 0), None),
+    (Step::Append(9), Some(CatalogueFault::NoFrame)),
+    (Step::Delete(9, 0), Some(CatalogueFault::NoFrame)),
+    (Step::Drop, Some(CatalogueFault::NoView)),
+    (Step::Register, None),
+    (Step::Drop, None),
+];
+
+fn changes(alloc: Global) -> Result<List<Change>, AllocError> {
+    let mut changes = Vec::with_capacity(alloc, STEPS.len())?;
+    for step in STEPS {
+        changes.push(change(alloc, step.0)?)?;
+    }
+    Ok(List::from_vec(changes))
+}
+
+fn replayed<Acc: Ledger, Del: Ledger, R: Abort>(
+    rt: &R,
+    alloc: Global,
+    accepted: Blank,
+    deleted: Blank,
+) -> Result<(), Fail>
+    requires accepted_name { accepted.name ≡ Acc.name }
+    requires accepted_parts { (accepted.parts ≡ Acc.parts) × (accepted.parts ≡ 524288) }
+    requires deleted_name { deleted.name ≡ Del.name }
+    requires deleted_parts { (deleted.parts ≡ Del.parts) × (deleted.parts ≡ 524288) }
+{
+    let (mut catalogue, mut desks) = opened::<Acc, Del>(alloc, accepted, deleted, &[Int])?;
+    let answers = catalogue.replay(alloc, desks.as_mut_slice(), changes(alloc)?)?;
+    let wanted = STEPS.iter().map(|step| &step.1);
+    assert!(rt; answers.as_slice().iter().eq(wanted));
+    assert!(rt; catalogue.frame_numbers(alloc, 0)?.as_slice() == [1].as_slice());
+    assert!(rt; books(&catalogue, 0) == [Some(2), Some(1), Some(1)]);
+    let desk = desks.pop().ok_or("a desk")?;
+    assert!(rt; desk.accepted() == 2 && desk.deleted() == 1);
+    Ok(())
+}
+
+#[test]
+fn changes_are_answered_in_turn(rt: HostRuntime) -> Result<(), Fail> {
+    replayed::<Brand, Brand, _>(&rt, rt.alloc(), Blank::new(PARTS), Blank::new(PARTS))
+}

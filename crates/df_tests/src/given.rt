@@ -1,0 +1,43 @@
+//! What the tests are given: schemas, rows and chunks of one column `x`, and a plan.
+use df_plan::{CheckedPlan, Plan};
+use df_value::{Cell, CellType, Chunk, List, Row, Schema, Text};
+use std::alloc::{AllocError, Global};
+
+pub fn schema(alloc: Global, kind: CellType) -> Result<Schema, AllocError> {
+    let columns = vec![in alloc; (Text::from_str(alloc, "x")?, kind)]?;
+    Schema::new(List::from_vec(columns)).map_err(|_| AllocError)
+}
+
+/// A schema with a column of each of these types.
+pub fn schemas(alloc: Global, kinds: &[CellType]) -> Result<List<Schema>, AllocError> {
+    let mut schemas = Vec::with_capacity(alloc, kinds.len())?;
+    for kind in kinds {
+        schemas.push(schema(alloc, *kind)?)?;
+    }
+    Ok(List::from_vec(schemas))
+}
+
+/// The plan of the first frame itself, over frames with a column of these types.
+pub fn scan(alloc: Global, kinds: &[CellType]) -> Result<CheckedPlan, AllocError> {
+    let frames = schemas(alloc, kinds)?;
+    CheckedPlan::new(alloc, Plan::Scan(0), frames.as_slice()).map_err(|_| AllocError)
+}
+
+/// Rows of these numbers, or null.
+pub fn rows(alloc: Global, numbers: &[Option<i64>]) -> Result<List<Row>, AllocError> {
+    let mut rows = Vec::with_capacity(alloc, numbers.len())?;
+    for number in numbers {
+        let cell = match number {
+            Some(number) => Cell::Int(*number),
+            None => Cell::Null,
+        };
+        rows.push(List::from_vec(vec![in alloc; cell]?))?;
+    }
+    Ok(List::from_vec(rows))
+}
+
+/// A chunk of rows of these numbers.
+pub fn chunk(alloc: Global, first: u32, numbers: &[Option<i64>]) -> Result<Chunk, AllocError> {
+    let schema = schema(alloc, CellType::Int)?;
+    Chunk::new(alloc, &schema, first, rows(alloc, numbers)?).map_err(|_| AllocError)
+}

@@ -1,0 +1,60 @@
+//! Laws of the operators that no program calls, and rows that no operator makes.
+use crate::given::rows;
+use df_print::{column_width, print_table};
+use df_table::{
+    RollKind, count_of, extremes_of, group_lengths, group_sums, mean_of, rolled_last, running_sum,
+    size_of,
+};
+use df_value::{Cell, CellType, List, Schema, Text};
+use std::test::Fail;
+
+#[test]
+fn groups_add_up(rt: HostRuntime) -> Result<(), Fail> {
+    let alloc = rt.alloc();
+    let rows = rows(alloc, &[Some(5), Some(-3), Some(5), None])?;
+    let lengths = group_lengths(alloc, &[Some(0)], rows.as_slice())?;
+    assert!(rt; lengths.as_slice() == [2, 1, 1].as_slice());
+    let sums = group_sums(alloc, &[Some(0)], rows.as_slice(), Some(0))?;
+    assert!(rt; sums.as_slice() == [10, -3, 0].as_slice());
+    Ok(())
+}
+
+#[test]
+fn a_column_and_one_that_is_not_there(rt: HostRuntime) -> Result<(), Fail> {
+    let rows = rows(rt.alloc(), &[Some(5), Some(-3), Some(5), None])?;
+    let rows = rows.as_slice();
+    assert!(rt; extremes_of(Some(0), rows) == Some((&Cell::Int(-3), &Cell::Int(5))));
+    assert!(rt; extremes_of(None, rows) == None);
+    assert!(rt; count_of(None, rows) == 0 && mean_of(None, rows) == Cell::Null);
+    Ok(())
+}
+
+#[test]
+fn the_last_window_and_the_last_sum(rt: HostRuntime) -> Result<(), Fail> {
+    let alloc = rt.alloc();
+    let rows = rows(alloc, &[Some(1), None, Some(3), Some(4), Some(5)])?;
+    let last = rolled_last(alloc, RollKind::Min, 3, 1, Some(0), rows.as_slice())?;
+    assert!(rt; last == Cell::Int(3));
+    let sums = running_sum(alloc, Some(0), rows.as_slice())?;
+    assert!(rt; sums.as_slice().last() == Some(&Cell::Wide(13)));
+    assert!(rt; size_of(-1) == 0 && size_of(2) == 2);
+    Ok(())
+}
+
+// A row that is shorter than the schema, and a column that has no cell.
+#[test]
+fn cells_that_are_missing_print_as_null(rt: HostRuntime) -> Result<(), Fail> {
+    let alloc = rt.alloc();
+    let rows = rows(alloc, &[Some(-1)])?;
+    let columns = vec![in alloc;
+        (Text::from_str(alloc, "s")?, CellType::Int),
+        (Text::from_str(alloc, "b")?, CellType::Text),
+    ]?;
+    let schema = Schema::new(List::from_vec(columns))?;
+    let name = Text::from_str(alloc, "e\u{301}")?;
+    let printed = print_table(alloc, &name, &schema, rows.as_slice())?;
+    let want = "e\u{301} (1 x 2)\n s  b   \n-1  null\n";
+    assert!(rt; printed.as_slice() == want.as_bytes());
+    assert!(rt; column_width(alloc, 7, &name, &[])? == 1);
+    Ok(())
+}
