@@ -5,6 +5,7 @@ mod command_line;
 mod fault;
 mod fault_texts;
 mod files;
+mod opening;
 mod outcome;
 mod output;
 mod pieces;
@@ -14,11 +15,13 @@ mod running;
 
 pub use command_line::Words;
 pub use fault::RunFault;
-pub use fault_texts::fault_text;
+pub use fault_texts::{csv_text, fault_text};
 pub use files::Files;
+pub use opening::{MOST_BYTES_OF_DOCUMENT, OpenedDocument, open_document};
 pub use outcome::Outcome;
 pub use reading_words::words;
-pub use running::{MOST_BYTES_OF_DOCUMENT, run};
+pub use refused::refused_lines;
+pub use running::run;
 
 #[cfg(test)]
 mod tests;

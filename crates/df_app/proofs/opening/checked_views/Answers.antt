@@ -1,4 +1,4 @@
-use Rattle.df_app.proofs.output.checked_views.Goals as goal
+use Rattle.df_app.proofs.opening.checked_views.Goals as goal
 
 pub returns-clause-value : goal.returns-clause-value
 returns-clause-value c =

@@ -1,6 +1,6 @@
 use Rattle.std.proofs.Common.{◌≡◌, [], drop, length}
 use Rattle.df_app.specs.Output.{each_after, plan_of}
-use Rattle.df_app.proofs.output.check_views.Given as goal
+use Rattle.df_app.proofs.opening.check_views.Given as goal
 
 abbrev pub invariant-loop-view : goal.invariant-loop-view
 invariant-loop-view l = record {
