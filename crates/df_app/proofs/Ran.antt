@@ -6,12 +6,13 @@ use Rattle.std.specs.Io.KnownBytes.{Keeps}
 use Rattle.df_text.specs.Document.{document_of}
 use Rattle.df_csv.specs.declared.csv_fault.CsvFault.{CsvFault}
 use Rattle.df_csv.specs.declared.csv_fault.CsvFault.TheVariants as csv
-use Rattle.df_app.specs.Output.{AnswersOrFails, ComesFromBytes, Contents, KnowsFiles, KnowsFilesOf, MayFailFrom, TellsOfBytes, output_from, output_of}
-use Rattle.df_app.specs.Ran.{Gave, KeepsUnlessWrite, RanOn, Stopped, Tells, Wrote}
+use Rattle.df_app.specs.Output.{AnswersOrFails, ComesFromBytes, Contents, KnowsFiles, KnowsFilesOf, MayFailFrom, TellsOfBytes, opened_from, opened_of, outcome_of, output_made, output_of, text_from, then_run}
+use Rattle.df_app.specs.Ran.{Gave, KeepsUnlessWrite, Opened, RanOn, Stopped, Tells, Wrote}
 use Rattle.df_app.specs.declared.fault.RunFault.{RunFault}
 use Rattle.df_app.specs.declared.fault.RunFault.TheVariants as fault
 use Rattle.df_app.specs.declared.outcome.Outcome.{Outcome}
 use Rattle.df_app.specs.declared.outcome.Output.{Output}
+use Rattle.df_app.specs.declared.opening.OpenedDocument.{OpenedDocument}
 
 stopped : (bytes : List ℕ) (contents : Contents) (chunk : ℕ) (old new : Option (List ℕ)) (f : RunFault) → Tells bytes contents chunk f → Keeps old new
     → Stopped bytes contents chunk old new f
@@ -45,14 +46,22 @@ pub ran_to_write :
 ran_to_write None contents chunk old new o r gave wrote = gave
 ran_to_write (Some b) contents chunk old new o r gave wrote = λ knows. ran_on b contents chunk old new o r (gave knows) wrote
 
--- bytes that are not too many have the output that is made of them
-within : (b : List ℕ) (contents : Contents) (chunk : ℕ) → length b ≤ 1048576 → output_of b contents chunk ≡ output_from b contents chunk
+-- bytes that are not too many are opened as they are
+within : (b : List ℕ) (contents : Contents) (chunk : ℕ) → length b ≤ 1048576 → opened_of b contents chunk ≡ opened_from b contents chunk
 within b contents chunk few =
-    ap (λ (t : Bool). cond {A = Result Output RunFault} t (Err fault.TooLarge) (output_from b contents chunk)) (le-ltb 1048576 (length b) few)
+    ap (λ (t : Bool). cond {A = Result OpenedDocument RunFault} t (Err fault.TooLarge) (opened_from b contents chunk)) (le-ltb 1048576 (length b) few)
 
-too_large : (b : List ℕ) (contents : Contents) (chunk : ℕ) → 1048576 < length b → output_of b contents chunk ≡ Err fault.TooLarge
+too_large : (b : List ℕ) (contents : Contents) (chunk : ℕ) → 1048576 < length b → opened_of b contents chunk ≡ Err fault.TooLarge
 too_large b contents chunk many =
-    ap (λ (t : Bool). cond {A = Result Output RunFault} t (Err fault.TooLarge) (output_from b contents chunk)) (lt-ltb 1048576 (length b) many)
+    ap (λ (t : Bool). cond {A = Result OpenedDocument RunFault} t (Err fault.TooLarge) (opened_from b contents chunk)) (lt-ltb 1048576 (length b) many)
+
+-- the output of what a document was opened to
+abbrev output_opened : ℕ → Result OpenedDocument RunFault → Result Output RunFault
+output_opened chunk r = then_run r (λ (o : OpenedDocument). Ok (output_made chunk o))
+
+-- a document that does not open has its fault in the place of an output
+fault_of_output : (b : List ℕ) (contents : Contents) (chunk : ℕ) (f : RunFault) → opened_of b contents chunk ≡ Err f → output_of b contents chunk ≡ Err f
+fault_of_output b contents chunk f e = ap (output_opened chunk) e
 
 -- a fault of a frame's records
 tells_csv :
@@ -79,27 +88,51 @@ tells b contents chunk fault.ReadFault few is said unread = tt
 tells b contents chunk fault.TooLarge few is said unread = absurd is
 tells b contents chunk fault.Write few is said unread = absurd is
 
-gave_answer : (b : List ℕ) (contents : Contents) (chunk : ℕ) (r : Result Output RunFault) → length b ≤ 1048576 →
-    AnswersOrFails (MayFailFrom b contents chunk) (output_from b contents chunk) r → Gave b contents chunk r
-gave_answer b contents chunk (Ok o) few answers = within b contents chunk few ∙ answers
-gave_answer b contents chunk (Err f) few answers =
-    tells b contents chunk f few answers.0 (λ other. within b contents chunk few ∙ answers.1 other) answers.2
+opened_answer : (b : List ℕ) (contents : Contents) (chunk : ℕ) (r : Result OpenedDocument RunFault) → length b ≤ 1048576 →
+    AnswersOrFails (MayFailFrom b contents chunk) (opened_from b contents chunk) r → Opened b contents chunk r
+opened_answer b contents chunk (Ok o) few answers = within b contents chunk few ∙ answers
+opened_answer b contents chunk (Err f) few answers =
+    tells b contents chunk f few answers.0 (λ other. fault_of_output b contents chunk f (within b contents chunk few ∙ answers.1 other)) answers.2
 
 -- what the bytes that were read gave
-pub gave_read :
-    (bytes : Option (List ℕ)) (contents : Contents) (read : List ℕ) (chunk : ℕ) (r : Result Output RunFault) →
+pub opened_read :
+    (bytes : Option (List ℕ)) (contents : Contents) (read : List ℕ) (chunk : ℕ) (r : Result OpenedDocument RunFault) →
     IfSome bytes (λ b. read ≡ b) → length read ≤ 1048576 →
-    (IfOk (document_of read) (KnowsFilesOf contents) → AnswersOrFails (MayFailFrom read contents chunk) (output_from read contents chunk) r) →
-    IfSome bytes (λ b. KnowsFiles contents b → Gave b contents chunk r)
-gave_read None contents read chunk r is few answers = is
-gave_read (Some b) contents read chunk r is few answers =
-    subst (λ (x : List ℕ). KnowsFiles contents x → Gave x contents chunk r) is (λ knows. gave_answer read contents chunk r few (answers (knows few)))
+    (IfOk (document_of read) (KnowsFilesOf contents) → AnswersOrFails (MayFailFrom read contents chunk) (opened_from read contents chunk) r) →
+    IfSome bytes (λ b. KnowsFiles contents b → Opened b contents chunk r)
+opened_read None contents read chunk r is few answers = is
+opened_read (Some b) contents read chunk r is few answers =
+    subst (λ (x : List ℕ). KnowsFiles contents x → Opened x contents chunk r) is (λ knows. opened_answer read contents chunk r few (answers (knows few)))
 
-pub gave_too_large :
+pub opened_too_large :
     (bytes : Option (List ℕ)) (contents : Contents) (chunk : ℕ) → IfSome bytes (λ b. 1048576 < length b) →
-    IfSome bytes (λ b. KnowsFiles contents b → Gave b contents chunk (Err fault.TooLarge))
-gave_too_large None contents chunk many = many
-gave_too_large (Some b) contents chunk many = λ knows. too_large b contents chunk many
+    IfSome bytes (λ b. KnowsFiles contents b → Opened b contents chunk (Err fault.TooLarge))
+opened_too_large None contents chunk many = many
+opened_too_large (Some b) contents chunk many = λ knows. fault_of_output b contents chunk fault.TooLarge (too_large b contents chunk many)
+
+made_of_opened :
+    (b : List ℕ) (contents : Contents) (chunk : ℕ) (opened : OpenedDocument) (o : Output) → opened_of b contents chunk ≡ Ok opened →
+    o.text ≡ text_from opened.document opened.plans opened.pieces chunk → o.outcome ≡ outcome_of opened.pieces → output_of b contents chunk ≡ Ok o
+made_of_opened b contents chunk opened o e text outcome =
+    let with_text : List ℕ → Result Output RunFault = λ t. Ok (record { text = t; outcome = outcome_of opened.pieces }) in
+    let with_outcome : Outcome → Result Output RunFault = λ u. Ok (record { text = o.text; outcome = u }) in
+    ap (output_opened chunk) e ∙ (ap with_text (sym text) ∙ ap with_outcome (sym outcome))
+
+-- what an opened document gave
+pub gave_opened :
+    (bytes : Option (List ℕ)) (contents : Contents) (chunk : ℕ) (opened : OpenedDocument) (o : Output) →
+    IfSome bytes (λ b. KnowsFiles contents b → Opened b contents chunk (Ok opened)) →
+    (o.text ≡ text_from opened.document opened.plans opened.pieces chunk) × (o.outcome ≡ outcome_of opened.pieces) →
+    IfSome bytes (λ b. KnowsFiles contents b → Gave b contents chunk (Ok o))
+gave_opened None contents chunk opened o gave made = gave
+gave_opened (Some b) contents chunk opened o gave made = λ knows. made_of_opened b contents chunk opened o (gave knows) made.0 made.1
+
+-- a document that did not open
+pub gave_fault :
+    (bytes : Option (List ℕ)) (contents : Contents) (chunk : ℕ) (f : RunFault) → IfSome bytes (λ b. KnowsFiles contents b → Opened b contents chunk (Err f)) →
+    IfSome bytes (λ b. KnowsFiles contents b → Gave b contents chunk (Err f))
+gave_fault None contents chunk f gave = gave
+gave_fault (Some b) contents chunk f gave = gave
 
 -- a fault before anything was written
 pub keeps_before : (old new : Option (List ℕ)) (f : RunFault) → Keeps old new → KeepsUnlessWrite old new f

@@ -1,10 +1,10 @@
 -- The records of bytes that are there never want a read.
-use Rattle.std.proofs.Common.{◌≡◌, ◌≢◌, ℕ, subst, ◌+◌, ◌==◌, Bool, not, List, [], ◌∷◌, ◌++◌, length, map, ltb, IfErr}
+use Rattle.std.proofs.Common.{◌≡◌, ◌≢◌, ℕ, subst, ◌+◌, ◌==◌, not, List, [], ◌∷◌, length, map, IfErr}
 use Rattle.std.specs.Prelude.{Option, Some, None, Result, Ok, Err, nat_lt, option_map}
 use Rattle.std.specs.Option.{option_or}
 use Rattle.std.specs.Str.{is_utf8}
 use Rattle.df_value.specs.declared.cell.CellType.{CellType}
-use Rattle.df_csv.specs.Header.{doubled_column, header_fault, missing_column, place_of, without_marks}
+use Rattle.df_csv.specs.Header.{doubled_column, missing_column, place_of, without_marks}
 use Rattle.df_csv.specs.Records.{Gives, Rows, after_rows, if_sound, picked, records_of, rows_from, table_of}
 use Rattle.df_csv.specs.declared.csv_fault.CsvFault.{CsvFault}
 use Rattle.df_csv.specs.declared.csv_fault.CsvFault.TheVariants as csv

@@ -25,6 +25,7 @@ use Rattle.df_app.specs.declared.fault.RunFault.TheVariants as fault
 use Rattle.df_app.specs.declared.outcome.Outcome.{Outcome}
 use Rattle.df_app.specs.declared.outcome.Outcome.TheVariants as outcome
 use Rattle.df_app.specs.declared.outcome.Output.{Output}
+use Rattle.df_app.specs.declared.opening.OpenedDocument.{OpenedDocument}
 
 -- the next step's answer, or the fault
 abbrev pub then_run : {A B : Type 0} → Result A RunFault → (A → Result B RunFault) → Result B RunFault
@@ -130,22 +131,30 @@ text_from document plans pieces chunk =
 abbrev pub plans_of : Views → Result (List CheckedParts) RunFault
 plans_of document = each_after (plan_of (schemas_of document.frames)) [] document.views
 
--- the output of a document that was read: its plans are checked in the order of the views, then its frames are read
--- in their order and typed in chunks of so many records
-abbrev pub output_in : Views → Contents → ℕ → Result Output RunFault
-output_in document contents chunk =
+-- a document that was read, opened: its plans are checked in the order of the views, then its frames are read in their
+-- order and typed in chunks of so many records
+abbrev pub opened_in : Views → Contents → ℕ → Result OpenedDocument RunFault
+opened_in document contents chunk =
     then_run (plans_of document) (λ plans.
     then_run (each_after (pieces_in contents chunk) [] document.frames) (λ pieces.
-    Ok (record { text = text_from document plans pieces chunk; outcome = outcome_of pieces })))
+    Ok (record { document = document; plans = plans; pieces = pieces })))
 
--- the output of the bytes of a document that is not too large
-abbrev pub output_from : List ℕ → Contents → ℕ → Result Output RunFault
-output_from bytes contents chunk = then_run (of_document (document_of bytes)) (λ document. output_in document contents chunk)
+-- the bytes of a document that is not too large, opened
+abbrev pub opened_from : List ℕ → Contents → ℕ → Result OpenedDocument RunFault
+opened_from bytes contents chunk = then_run (of_document (document_of bytes)) (λ document. opened_in document contents chunk)
 
--- the output of a document's bytes, which are at most 1048576, and of the files that it names
+-- a document's bytes, which are at most 1048576, and the files that it names, opened
+abbrev pub opened_of : List ℕ → Contents → ℕ → Result OpenedDocument RunFault
+opened_of bytes contents chunk =
+    if nat_lt 1048576 (length bytes) then Err fault.TooLarge else opened_from bytes contents chunk
+
+-- what is written of an opened document, and how the run then ends
+abbrev pub output_made : ℕ → OpenedDocument → Output
+output_made chunk o = record { text = text_from o.document o.plans o.pieces chunk; outcome = outcome_of o.pieces }
+
+-- the output of a document's bytes and of the files that it names
 abbrev pub output_of : List ℕ → Contents → ℕ → Result Output RunFault
-output_of bytes contents chunk =
-    if nat_lt 1048576 (length bytes) then Err fault.TooLarge else output_from bytes contents chunk
+output_of bytes contents chunk = then_run (opened_of bytes contents chunk) (λ o. Ok (output_made chunk o))
 
 -- the bytes of the file that a frame names are known
 abbrev pub IsKnown : Contents → FrameSource → Type 0

@@ -6,7 +6,8 @@ use Rattle.df_app.specs.declared.fault.RunFault.TheVariants as fault
 use Rattle.df_app.specs.declared.outcome.Outcome.{Outcome}
 use Rattle.df_app.specs.declared.outcome.Output.{Output}
 use Rattle.df_csv.specs.declared.csv_fault.CsvFault.TheVariants as csv
-use Rattle.df_app.specs.Output.{Contents, MayFailFrom, output_of}
+use Rattle.df_app.specs.declared.opening.OpenedDocument.{OpenedDocument}
+use Rattle.df_app.specs.Output.{Contents, MayFailFrom, opened_of, output_of}
 
 -- What a fault says that comes before anything is written. But for a failed read of the document or of a file and for
 -- want of memory, it is the fault that the bytes have in the place of an output; and a file that cannot be read is that
@@ -18,7 +19,12 @@ Tells bytes contents chunk fault.Memory = ⊤
 Tells bytes contents chunk fault.Write = ⊥
 Tells bytes contents chunk f = output_of bytes contents chunk ≡ Err f
 
--- what the bytes of a document and of its files gave: its output, or a fault
+-- what the bytes of a document and of its files gave: the document, opened, or a fault
+abbrev pub Opened : List ℕ → Contents → ℕ → Result OpenedDocument RunFault → Type 0
+Opened bytes contents chunk (Ok o) = opened_of bytes contents chunk ≡ Ok o
+Opened bytes contents chunk (Err f) = Tells bytes contents chunk f
+
+-- or its output, or a fault
 abbrev pub Gave : List ℕ → Contents → ℕ → Result Output RunFault → Type 0
 Gave bytes contents chunk (Ok o) = output_of bytes contents chunk ≡ Ok o
 Gave bytes contents chunk (Err f) = Tells bytes contents chunk f

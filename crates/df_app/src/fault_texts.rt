@@ -133,7 +133,8 @@ fn plan_text(alloc: Global, fault: &PlanFault) -> Result<String, AllocError>
     }
 }
 
-fn csv_text(alloc: Global, fault: &CsvFault) -> Result<String, AllocError>
+/// The text of a fault of a frame's CSV, as it stands behind the frame's name.
+pub fn csv_text(alloc: Global, fault: &CsvFault) -> Result<String, AllocError>
     ensures { IfOk result (λ text. string_bytes text ≡ text_of_csv fault.now) }
 {
     match fault {

@@ -5,14 +5,12 @@ ghost use Rattle.df_app.specs.Ran.{Gave, KeepsUnlessWrite, RanOn, Wrote};
 
 use crate::fault::RunFault;
 use crate::files::Files;
+use crate::opening::open_document;
 use crate::outcome::{Outcome, Output};
 use crate::output::output;
-use df_text::{ReadLimitedFault, read_limited, write_text};
+use df_text::write_text;
 use std::alloc::Global;
 use std::io::{Read, Write};
-
-/// The most bytes of a view document.
-pub const MOST_BYTES_OF_DOCUMENT: usize = 1_048_576;
 
 /// Reads a view document and the files that it names, and writes its views and the chunks that were
 /// refused.
@@ -59,11 +57,9 @@ fn read_output<V: Read, F: Files>(
     ensures value { IfSome (V.remaining reader.old) (λ bytes. KnowsFiles (F.bytes_at files.old) bytes →
         Gave bytes (F.bytes_at files.old) chunk result) }
 {
-    match read_limited(alloc, reader, MOST_BYTES_OF_DOCUMENT) {
-        Ok(bytes) => output(alloc, bytes.as_slice(), files, chunk),
-        Err(ReadLimitedFault::Failed) => Err(RunFault::ReadFault),
-        Err(ReadLimitedFault::TooLarge) => Err(RunFault::TooLarge),
-        Err(ReadLimitedFault::Memory) => Err(RunFault::Memory),
+    match open_document(alloc, reader, files, chunk) {
+        Ok(opened) => Ok(output(alloc, opened, chunk)?),
+        Err(fault) => Err(fault),
     }
 }
 

@@ -1,4 +1,3 @@
-use Rattle.df_csv.specs.Records.{records_of}
 use Rattle.df_app.specs.Output.{IsFile}
 use Rattle.df_app.proofs.TextReads.{answer_is_read, text_is_read}
 use Rattle.df_app.proofs.pieces.read_frame.Goals as goal

@@ -1,0 +1,8 @@
+use Rattle.df_text.specs.Document.{document_of}
+use Rattle.df_app.proofs.Unread.{of_read}
+use Rattle.df_app.proofs.opening.open_bytes.Goals as goal
+
+pub returns-in-Ok-clause-value : goal.returns-in-Ok-clause-value
+returns-in-Ok-clause-value g c =
+    of_read (document_of c.args.bytes.now) (g.F.Files.bytes_at c.args.files.now) c.args.chunk c.in-Ok.document c.open_views.result
+    c.in-Ok.ensures c.open_views.ensures.value

@@ -1,8 +1,0 @@
-use Rattle.df_text.specs.Document.{document_of}
-use Rattle.df_app.proofs.Unread.{of_read}
-use Rattle.df_app.proofs.output.output.Goals as goal
-
-pub returns-in-Ok-clause-value : goal.returns-in-Ok-clause-value
-returns-in-Ok-clause-value g c =
-    of_read (document_of c.args.bytes.now) (g.F.Files.bytes_at c.args.files.now) c.args.chunk c.in-Ok.document c.output_in.result
-    c.in-Ok.ensures c.output_in.ensures.value

@@ -1,8 +1,0 @@
-use Rattle.df_app.proofs.Ran.{gave_read}
-use Rattle.df_app.proofs.running.read_output.Goals as goal
-
-pub returns-in-Ok-clause-value : goal.returns-in-Ok-clause-value
-returns-in-Ok-clause-value g c =
-    let answers = rw c.as_slice.ensures.value at c.output.ensures.value in
-    gave_read (g.V.Read.remaining c.args.reader.now) (g.F.Files.bytes_at c.args.files.now) c.in-Ok.bytes.items c.args.chunk c.output.result
-    c.in-Ok.ensures.bytes c.in-Ok.ensures.within answers

@@ -1,0 +1,160 @@
+//! The opening of a document: its plans are checked, and its frames are read.
+ghost use Rattle.std.specs.Prelude.{◌≡◌, ◌≤◌, [], IfOk, IfSome, length};
+ghost use Rattle.df_text.specs.Document.{document_of};
+ghost use Rattle.df_app.specs.Output.{Answers, AnswersOrFails, KnowsFiles, KnowsFilesOf, MayFailFrom, MayFailIn, each_after, of_document, opened_from, opened_in, plan_of, plans_of, schemas_of};
+ghost use Rattle.df_app.specs.Ran.{Opened};
+
+use crate::fault::RunFault;
+use crate::files::Files;
+use crate::pieces::all_pieces;
+use df_plan::{CheckedPlan, PlanFault};
+use df_text::{FrameSpec, ReadLimitedFault, ViewSpec, Views, ViewsFault, read_limited, read_views};
+use df_value::{Duplicate, List, Made, Schema};
+use std::alloc::{AllocError, Global};
+use std::io::Read;
+
+/// The most bytes of a view document.
+pub const MOST_BYTES_OF_DOCUMENT: usize = 1_048_576;
+
+/// A document that was read, with the checked plans of its views and the records of its frames in typed
+/// pieces, each in the document's order.
+#[derive(Debug, Drop)]
+pub struct OpenedDocument {
+    pub document: Views,
+    pub plans: List<CheckedPlan>,
+    pub pieces: List<List<Made>>,
+}
+
+/// Reads a view document and the files that it names.
+///
+/// The document is read whole, at most 1,048,576 bytes; its plans are checked in the order of the
+/// views; its frames are read in their order and typed in pieces of `chunk` records, 1 to 65,536. A
+/// file that cannot be opened, or of which a read fails, is a `ReadFault` of its frame.
+pub fn open_document<V: Read, F: Files>(
+    alloc: Global,
+    reader: &mut V,
+    files: &mut F,
+    chunk: usize,
+) -> Result<OpenedDocument, RunFault>
+    requires some { 1 ≤ chunk }
+    requires few { chunk ≤ 65536 }
+    ensures same { F.bytes_at files.new ≡ F.bytes_at files.old }
+    ensures value { IfSome (V.remaining reader.old) (λ bytes. KnowsFiles (F.bytes_at files.old) bytes →
+        Opened bytes (F.bytes_at files.old) chunk result) }
+    ensures plans { IfOk result (λ o. length o.plans ≡ length o.document.views) }
+    ensures pieces { IfOk result (λ o. length o.pieces ≡ length o.document.frames) }
+{
+    match read_limited(alloc, reader, MOST_BYTES_OF_DOCUMENT) {
+        Ok(bytes) => open_bytes(alloc, bytes.as_slice(), files, chunk),
+        Err(ReadLimitedFault::Failed) => Err(RunFault::ReadFault),
+        Err(ReadLimitedFault::TooLarge) => Err(RunFault::TooLarge),
+        Err(ReadLimitedFault::Memory) => Err(RunFault::Memory),
+    }
+}
+
+fn open_bytes<F: Files>(
+    alloc: Global,
+    bytes: &[u8],
+    files: &mut F,
+    chunk: usize,
+) -> Result<OpenedDocument, RunFault>
+    requires some { 1 ≤ chunk }
+    requires few { chunk ≤ 65536 }
+    ensures same { F.bytes_at files.new ≡ F.bytes_at files.old }
+    ensures value { IfOk (document_of bytes.now) (KnowsFilesOf (F.bytes_at files.old)) →
+        AnswersOrFails (MayFailFrom bytes.now (F.bytes_at files.old) chunk)
+        (opened_from bytes.now (F.bytes_at files.old) chunk) result }
+    ensures plans { IfOk result (λ o. length o.plans ≡ length o.document.views) }
+    ensures pieces { IfOk result (λ o. length o.pieces ≡ length o.document.frames) }
+{
+    match read_document(alloc, bytes) {
+        Ok(document) => open_views(alloc, document, files, chunk),
+        Err(fault) => Err(fault),
+    }
+}
+
+fn open_views<F: Files>(
+    alloc: Global,
+    document: Views,
+    files: &mut F,
+    chunk: usize,
+) -> Result<OpenedDocument, RunFault>
+    requires some { 1 ≤ chunk }
+    requires few { chunk ≤ 65536 }
+    ensures same { F.bytes_at files.new ≡ F.bytes_at files.old }
+    ensures value { KnowsFilesOf (F.bytes_at files.old) document →
+        AnswersOrFails (MayFailIn document (F.bytes_at files.old) chunk)
+        (opened_in document (F.bytes_at files.old) chunk) result }
+    ensures plans { IfOk result (λ o. length o.plans ≡ length o.document.views) }
+    ensures pieces { IfOk result (λ o. length o.pieces ≡ length o.document.frames) }
+{
+    match checked_views(alloc, &document) {
+        Ok(plans) => match all_pieces(alloc, files, document.frames.as_slice(), chunk) {
+            Ok(pieces) => Ok(OpenedDocument {
+                document,
+                plans,
+                pieces,
+            }),
+            Err(fault) => Err(fault),
+        },
+        Err(fault) => Err(fault),
+    }
+}
+
+// The plans of the views, checked over the schemas of the frames.
+fn checked_views(alloc: Global, document: &Views) -> Result<List<CheckedPlan>, RunFault>
+    ensures value { Answers (plans_of document.now) result }
+    ensures each { IfOk result (λ plans. length plans ≡ length document.now.views) }
+{
+    let schemas = copy_schemas(alloc, document.frames.as_slice())?;
+    check_views(alloc, schemas.as_slice(), document.views.as_slice())
+}
+
+fn read_document(alloc: Global, bytes: &[u8]) -> Result<Views, RunFault>
+    ensures { Answers (of_document (document_of bytes.now)) result }
+{
+    match read_views(alloc, bytes) {
+        Ok(document) => Ok(document),
+        Err(ViewsFault::Memory) => Err(RunFault::Memory),
+        Err(fault) => Err(RunFault::Views(fault)),
+    }
+}
+
+fn copy_schemas(alloc: Global, frames: &[FrameSpec]) -> Result<Vec<Schema>, AllocError>
+    ensures { IfOk result (λ schemas. schemas.items ≡ schemas_of frames.now) }
+{
+    let mut schemas = Vec::with_capacity(alloc, frames.len())?;
+    for frame in frames {
+        schemas.push(frame.schema.copy(alloc)?)?;
+    }
+    Ok(schemas)
+}
+
+fn check_views(
+    alloc: Global,
+    schemas: &[Schema],
+    views: &[ViewSpec],
+) -> Result<List<CheckedPlan>, RunFault>
+    ensures value { Answers (each_after (plan_of schemas.now) [] views.now) result }
+    ensures each { IfOk result (λ plans. length plans ≡ length views.now) }
+{
+    let mut plans = Vec::new(alloc);
+    for view in views {
+        plans.push(check_view(alloc, schemas, view)?)?;
+    }
+    Ok(List::from_vec(plans))
+}
+
+fn check_view(alloc: Global, schemas: &[Schema], view: &ViewSpec) -> Result<CheckedPlan, RunFault>
+    ensures { Answers (plan_of schemas.now view.now) result }
+{
+    let plan = view.plan.copy(alloc)?;
+    match CheckedPlan::new(alloc, plan, schemas) {
+        Ok(plan) => Ok(plan),
+        Err(PlanFault::Memory) => Err(RunFault::Memory),
+        Err(fault) => match view.name.copy(alloc) {
+            Ok(name) => Err(RunFault::Plan(name, fault)),
+            Err(_) => Err(RunFault::Memory),
+        },
+    }
+}

@@ -1,0 +1,2 @@
+pub mod OneChange
+pub mod WordFacts

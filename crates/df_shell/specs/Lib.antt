@@ -1,0 +1,4 @@
+pub mod Texts
+pub mod Changes
+pub mod Answers
+pub mod Words

@@ -1,0 +1,64 @@
+-- The texts of refusals. The codes are this project's own.
+use Rattle.std.specs.Prelude.{◌++◌, ℕ, List, codes, decimal}
+use Rattle.df_app.specs.Texts.{csv_text}
+use Rattle.df_catalogue.specs.declared.fault.CatalogueFault.{CatalogueFault}
+use Rattle.df_catalogue.specs.declared.fault.CatalogueFault.TheVariants as store
+use Rattle.df_catalogue.specs.declared.fault.NewFault.{NewFault}
+use Rattle.df_catalogue.specs.declared.fault.NewFault.TheVariants as opening
+use Rattle.df_print.specs.Printed.{escaped_text}
+use Rattle.df_value.specs.declared.chunk.ChunkFault.{ChunkFault}
+use Rattle.df_value.specs.declared.chunk.ChunkFault.TheVariants as chunk
+use Rattle.df_shell.specs.declared.refusal.Refusal.{Refusal}
+use Rattle.df_shell.specs.declared.refusal.Refusal.TheVariants as refusal
+use Rattle.df_shell.specs.declared.refusal.Mistake.{Mistake}
+use Rattle.df_shell.specs.declared.refusal.Mistake.TheVariants as mistake
+
+-- what is wrong with a line
+abbrev pub mistake_text : Mistake → List ℕ
+mistake_text mistake.NoCommand = codes "no such command: help lists them"
+mistake_text mistake.MissingWord = codes "a word is missing"
+mistake_text mistake.ExtraWord = codes "a word too many"
+mistake_text mistake.NotRowNumber = codes "a row number is a whole number below 4294967296"
+mistake_text mistake.NotCount = codes "COUNT is a whole number"
+mistake_text mistake.NotText = codes "the line is not UTF-8"
+mistake_text mistake.LongLine = codes "a line has more than 1048576 bytes"
+mistake_text mistake.MissingLines = codes "the input ends before the lines of the append"
+mistake_text mistake.NoView = codes "the document has no such view"
+
+-- the code of a catalogue's fault, and the number that it is about
+abbrev pub catalogue_text : CatalogueFault → List ℕ
+catalogue_text store.SchemaUnlike = codes "C1"
+catalogue_text (store.Taken n) = codes "C2 " ++ decimal n
+catalogue_text store.Full = codes "C3"
+catalogue_text (store.Doubled n) = codes "C4 " ++ decimal n
+catalogue_text (store.NotLive n) = codes "C5 " ++ decimal n
+catalogue_text store.ViewExists = codes "C6"
+catalogue_text store.TooManyViews = codes "C7"
+catalogue_text store.NoView = codes "C8"
+catalogue_text store.Memory = codes "memory"
+catalogue_text store.PlanUnlike = codes "C10"
+catalogue_text store.NoFrame = codes "C11"
+
+abbrev pub new_text : NewFault → List ℕ
+new_text opening.TooManyFrames = codes "N1"
+new_text (opening.DerivedType frame) = codes "N2 " ++ decimal frame
+new_text opening.Memory = codes "memory"
+
+abbrev pub chunk_text : ChunkFault → List ℕ
+chunk_text chunk.TooLong = codes "S5"
+chunk_text chunk.NumberTooLarge = codes "S6"
+chunk_text (chunk.RowUnlike row) = codes "S4"
+chunk_text chunk.Memory = codes "memory"
+
+-- a bad cell, by its record's number and its column's name
+abbrev pub text_of_cell : ℕ → List ℕ → List ℕ
+text_of_cell number column = codes "record " ++ (decimal number ++ (codes ", column " ++ escaped_text column))
+
+-- the text of a refusal
+abbrev pub text_of : Refusal → List ℕ
+text_of (refusal.Mistake m) = codes "? " ++ mistake_text m
+text_of (refusal.Store f) = catalogue_text f
+text_of (refusal.Csv f) = csv_text f
+text_of (refusal.Cell number column) = text_of_cell number column
+text_of (refusal.Chunk f) = chunk_text f
+text_of refusal.Memory = codes "memory"

@@ -1,0 +1,120 @@
+//! The answers to commands.
+ghost use Rattle.std.specs.Prelude.{◌≡◌, OnErr, OnOk};
+ghost use Rattle.df_shell.specs.Answers.{Answered, IsChanged};
+
+use crate::changing::{append, delete, drop_view, register};
+use crate::command::{AskedChange, Command, Question, read_command};
+use crate::definitions::Definitions;
+use crate::reading::{books, rows, show, views};
+use crate::refusal::Refusal;
+use crate::store::Store;
+use crate::words::read_words;
+use df_catalogue::Catalogue;
+use std::alloc::Global;
+use std::sync::ledger::Ledger;
+
+/// What a command is answered, where it is not refused.
+#[derive(Debug, Drop)]
+pub enum Answer {
+    /// The change was made.
+    Accepted,
+    /// What was asked for.
+    Told(Vec<u8>),
+    /// The commands.
+    Help,
+}
+
+const HELP: &str = "\
+append FRAME FIRST COUNT   and COUNT lines of CSV: adds rows, numbered from FIRST
+delete FRAME NUMBER ..     takes the rows of these numbers out
+register VIEW              adds the document's view of this name
+drop VIEW                  takes a view out
+show VIEW                  the table of a view
+rows FRAME                 the table of a frame, and the numbers of its rows
+books FRAME                how many rows were accepted and deleted, and how many there are
+views                      the names of the views
+help                       this list
+";
+
+impl Answer {
+    /// The bytes of the answer.
+    pub fn bytes(&self) -> &[u8] {
+        match self {
+            Answer::Accepted => b"ok\n",
+            Answer::Told(text) => text.as_slice(),
+            Answer::Help => HELP.as_bytes(),
+        }
+    }
+}
+
+/// Does what a line says. The lines behind an `append` have been read, or it is known why not.
+pub fn answer_line<Acc: Ledger, Del: Ledger>(
+    alloc: Global,
+    definitions: &Definitions,
+    store: &mut Store<Acc, Del>,
+    line: &[u8],
+    lines: Result<Vec<u8>, Refusal>,
+) -> Result<Answer, Refusal>
+    ensures { Answered store.old.catalogue store.new.catalogue result }
+{
+    let record = read_words(alloc, line)?;
+    let words: Vec<&str> = record.iter().collect(alloc)?;
+    let command = read_command(alloc, words.as_slice())?;
+    answer_command(alloc, definitions, store, command, lines)
+}
+
+fn answer_command<Acc: Ledger, Del: Ledger>(
+    alloc: Global,
+    definitions: &Definitions,
+    store: &mut Store<Acc, Del>,
+    command: Command<'_>,
+    lines: Result<Vec<u8>, Refusal>,
+) -> Result<Answer, Refusal>
+    ensures { Answered store.old.catalogue store.new.catalogue result }
+{
+    match command {
+        Command::Change(change) => {
+            answer_change(alloc, definitions, store, change, lines)?;
+            Ok(Answer::Accepted)
+        }
+        Command::Question(question) => {
+            Ok(Answer::Told(answer_question(alloc, definitions, &store.catalogue, question)?))
+        }
+        Command::Help => Ok(Answer::Help),
+    }
+}
+
+fn answer_change<Acc: Ledger, Del: Ledger>(
+    alloc: Global,
+    definitions: &Definitions,
+    store: &mut Store<Acc, Del>,
+    asked: AskedChange<'_>,
+    lines: Result<Vec<u8>, Refusal>,
+) -> Result<(), Refusal>
+    ensures changed { OnOk result (IsChanged store.old.catalogue store.new.catalogue) }
+    ensures same { OnErr result (store.new.catalogue ≡ store.old.catalogue) }
+{
+    match asked {
+        AskedChange::Append(frame, first) => {
+            let lines = lines?;
+            append(alloc, definitions, store, frame, first, lines.as_slice())
+        }
+        AskedChange::Delete(frame, numbers) => delete(alloc, definitions, store, frame, numbers),
+        AskedChange::Register(view) => register(alloc, definitions, store, view),
+        AskedChange::DropView(view) => drop_view(alloc, store, view),
+    }
+}
+
+fn answer_question<Acc: Ledger, Del: Ledger>(
+    alloc: Global,
+    definitions: &Definitions,
+    catalogue: &Catalogue<Acc, Del>,
+    question: Question<'_>,
+) -> Result<Vec<u8>, Refusal> {
+    match question {
+        Question::Show(view) => show(alloc, catalogue, view),
+        Question::Rows(frame) => rows(alloc, definitions, catalogue, frame),
+        Question::Books(frame) => books(alloc, definitions, catalogue, frame),
+        Question::Views => views(alloc, catalogue),
+    }
+}

@@ -1,0 +1,91 @@
+//! The commands that change the catalogue.
+ghost use Rattle.std.specs.Prelude.{◌≡◌, ℕ, Some, IfErr, OnErr, OnOk};
+ghost use Rattle.df_value.specs.Chunks.{ChunkParts};
+ghost use Rattle.df_plan.specs.CheckedParts.{CheckedParts};
+ghost use Rattle.df_catalogue.specs.declared.change.Change.TheVariants.{Append, Delete, DropView, Register};
+ghost use Rattle.df_shell.specs.Changes.{Made};
+ghost use Rattle.df_shell.specs.Answers.{RefusesAt, frame_index_of, plan_named};
+
+use crate::definitions::Definitions;
+use crate::refusal::{Mistake, Refusal};
+use crate::rows::read_chunk;
+use crate::store::Store;
+use df_catalogue::{CatalogueFault, Change};
+use df_value::{Duplicate, List, Text};
+use std::alloc::Global;
+use std::sync::ledger::Ledger;
+
+/// Adds the rows of lines of CSV to a frame.
+///
+/// The first of these is answered: `C11` where no frame has the name; why the lines make no chunk
+/// (`read_chunk`); the catalogue's refusal.
+pub fn append<Acc: Ledger, Del: Ledger>(
+    alloc: Global,
+    definitions: &Definitions,
+    store: &mut Store<Acc, Del>,
+    frame: &str,
+    first: u32,
+    lines: &[u8],
+) -> Result<(), Refusal>
+    ensures made { OnOk result ((at : ℕ) × (chunk : ChunkParts) × (frame_index_of definitions.now frame.now ≡ Some at)
+        × (chunk.first ≡ first) × Made store.old.catalogue store.new.catalogue (Append at chunk)) }
+    ensures same { OnErr result (store.new.catalogue ≡ store.old.catalogue) }
+{
+    let Some(at) = definitions.frame_index(frame) else {
+        return Err(Refusal::Store(CatalogueFault::NoFrame));
+    };
+    let schema = &definitions.document.frames.as_slice()[at].schema;
+    let chunk = read_chunk(alloc, schema, first, lines)?;
+    Ok(store.make(alloc, Change::Append(at, chunk))?)
+}
+
+/// Takes the rows of these numbers out of a frame. Where no frame has the name it is refused (`C11`).
+pub fn delete<Acc: Ledger, Del: Ledger>(
+    alloc: Global,
+    definitions: &Definitions,
+    store: &mut Store<Acc, Del>,
+    frame: &str,
+    numbers: List<u32>,
+) -> Result<(), Refusal>
+    ensures made { OnOk result ((at : ℕ) × (frame_index_of definitions.now frame.now ≡ Some at)
+        × Made store.old.catalogue store.new.catalogue (Delete at numbers)) }
+    ensures refused { IfErr result (RefusesAt store.old.catalogue (λ at. Delete at numbers) (frame_index_of definitions.now frame.now)) }
+    ensures same { OnErr result (store.new.catalogue ≡ store.old.catalogue) }
+{
+    let Some(at) = definitions.frame_index(frame) else {
+        return Err(Refusal::Store(CatalogueFault::NoFrame));
+    };
+    Ok(store.make(alloc, Change::Delete(at, numbers))?)
+}
+
+/// Adds the document's view of this name last. A name of no such view is a mistake.
+pub fn register<Acc: Ledger, Del: Ledger>(
+    alloc: Global,
+    definitions: &Definitions,
+    store: &mut Store<Acc, Del>,
+    view: &str,
+) -> Result<(), Refusal>
+    ensures made { OnOk result ((plan : CheckedParts) × (plan_named definitions.now view.now ≡ Some plan)
+        × Made store.old.catalogue store.new.catalogue (Register view.now plan)) }
+    ensures same { OnErr result (store.new.catalogue ≡ store.old.catalogue) }
+{
+    let Some(plan) = definitions.plan(view) else {
+        return Err(Refusal::Mistake(Mistake::NoView));
+    };
+    let name = Text::from_str(alloc, view)?;
+    let plan = plan.copy(alloc)?;
+    Ok(store.make(alloc, Change::Register(name, plan))?)
+}
+
+/// Takes the view of this name out.
+pub fn drop_view<Acc: Ledger, Del: Ledger>(
+    alloc: Global,
+    store: &mut Store<Acc, Del>,
+    view: &str,
+) -> Result<(), Refusal>
+    ensures made { OnOk result (Made store.old.catalogue store.new.catalogue (DropView view.now)) }
+    ensures same { OnErr result (store.new.catalogue ≡ store.old.catalogue) }
+{
+    let name = Text::from_str(alloc, view)?;
+    Ok(store.make(alloc, Change::DropView(name))?)
+}

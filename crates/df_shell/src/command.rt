@@ -1,0 +1,116 @@
+//! Commands, and the words that they are read of.
+ghost use Rattle.std.specs.Prelude.{◌≡◌};
+
+use crate::refusal::{Mistake, Refusal};
+use df_value::List;
+use std::alloc::Global;
+
+/// What a line asks for. Frames and views are named as in the document.
+#[derive(Debug, Drop)]
+pub enum Command<'a> {
+    Change(AskedChange<'a>),
+    Question(Question<'a>),
+    /// The commands.
+    Help,
+}
+
+/// A change that is asked for.
+#[derive(Debug, Drop)]
+pub enum AskedChange<'a> {
+    /// Adds rows to a frame, the first of which has this number.
+    Append(&'a str, u32),
+    /// Takes the rows of these numbers out of a frame.
+    Delete(&'a str, List<u32>),
+    /// Adds the document's view of this name last.
+    Register(&'a str),
+    /// Takes the view of this name out.
+    DropView(&'a str),
+}
+
+/// What is asked about the catalogue.
+#[derive(Clone, Copy, Debug)]
+pub enum Question<'a> {
+    /// The table of a view.
+    Show(&'a str),
+    /// The table of a frame and the numbers of its rows.
+    Rows(&'a str),
+    /// How many rows a frame accepted, how many were deleted, and how many it has.
+    Books(&'a str),
+    /// The names of the views.
+    Views,
+}
+
+/// The command that words say.
+pub fn read_command<'a>(alloc: Global, words: &[&'a str]) -> Result<Command<'a>, Refusal> {
+    match words {
+        [name, arguments @ ..] => command_of(alloc, name, arguments),
+        [] => Err(Refusal::Mistake(Mistake::MissingWord)),
+    }
+}
+
+fn command_of<'a>(
+    alloc: Global,
+    name: &str,
+    arguments: &[&'a str],
+) -> Result<Command<'a>, Refusal> {
+    match name {
+        "append" => Ok(Command::Change(read_append(arguments)?)),
+        "delete" => Ok(Command::Change(read_delete(alloc, arguments)?)),
+        "register" => Ok(Command::Change(AskedChange::Register(only(arguments)?))),
+        "drop" => Ok(Command::Change(AskedChange::DropView(only(arguments)?))),
+        "show" => Ok(Command::Question(Question::Show(only(arguments)?))),
+        "rows" => Ok(Command::Question(Question::Rows(only(arguments)?))),
+        "books" => Ok(Command::Question(Question::Books(only(arguments)?))),
+        "views" => bare(Command::Question(Question::Views), arguments),
+        "help" => bare(Command::Help, arguments),
+        _ => Err(Refusal::Mistake(Mistake::NoCommand)),
+    }
+}
+
+// The number of the lines is read with the lines.
+fn read_append<'a>(arguments: &[&'a str]) -> Result<AskedChange<'a>, Mistake> {
+    match arguments {
+        [frame, first, _count] => Ok(AskedChange::Append(frame, row_number(first)?)),
+        [_, _, _, ..] => Err(Mistake::ExtraWord),
+        _ => Err(Mistake::MissingWord),
+    }
+}
+
+fn read_delete<'a>(alloc: Global, arguments: &[&'a str]) -> Result<AskedChange<'a>, Refusal> {
+    match arguments {
+        [frame, numbers @ ..] => Ok(AskedChange::Delete(frame, row_numbers(alloc, numbers)?)),
+        [] => Err(Refusal::Mistake(Mistake::MissingWord)),
+    }
+}
+
+fn row_numbers(alloc: Global, words: &[&str]) -> Result<List<u32>, Refusal> {
+    let mut numbers = Vec::with_capacity(alloc, words.len())?;
+    for word in words {
+        numbers.push(row_number(word)?)?;
+    }
+    Ok(List::from_vec(numbers))
+}
+
+fn row_number(word: &str) -> Result<u32, Mistake> {
+    match word.parse::<u32>() {
+        Ok(number) => Ok(number),
+        Err(_) => Err(Mistake::NotRowNumber),
+    }
+}
+
+// The word of a command that takes one.
+fn only<'a>(arguments: &[&'a str]) -> Result<&'a str, Mistake> {
+    match arguments {
+        [word] => Ok(word),
+        [] => Err(Mistake::MissingWord),
+        _ => Err(Mistake::ExtraWord),
+    }
+}
+
+// A command that takes no word.
+fn bare<'a>(command: Command<'a>, arguments: &[&'a str]) -> Result<Command<'a>, Refusal> {
+    match arguments {
+        [] => Ok(command),
+        _ => Err(Refusal::Mistake(Mistake::ExtraWord)),
+    }
+}

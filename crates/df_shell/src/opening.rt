@@ -1,0 +1,90 @@
+//! The opening of a store: a catalogue of a document's frames with their first rows and all its views.
+ghost use Rattle.std.specs.Prelude.{◌≡◌};
+
+use crate::definitions::Definitions;
+use crate::fault::ShellFault;
+use crate::store::Store;
+use df_catalogue::{Catalogue, Change};
+use df_text::FrameSpec;
+use df_value::{Duplicate, List, Made, Schema};
+use std::alloc::{AllocError, Global};
+use std::sync::ledger::{Blank, Ledger};
+
+/// The store of a document, with the rows of these pieces and all of the document's views.
+pub fn open_store<Acc: Ledger, Del: Ledger>(
+    alloc: Global,
+    accepted: Blank,
+    deleted: Blank,
+    definitions: &Definitions,
+    pieces: List<List<Made>>,
+) -> Result<Store<Acc, Del>, ShellFault>
+    requires accepted_name { accepted.name ≡ Acc.name }
+    requires accepted_parts { (accepted.parts ≡ Acc.parts) × (accepted.parts ≡ 524288) }
+    requires deleted_name { deleted.name ≡ Del.name }
+    requires deleted_parts { (deleted.parts ≡ Del.parts) × (deleted.parts ≡ 524288) }
+{
+    let schemas = copy_schemas(alloc, definitions.document.frames.as_slice())?;
+    let (catalogue, desks) = Catalogue::new(alloc, accepted, deleted, schemas)?;
+    let mut store = Store { catalogue, desks };
+    enter_frames(alloc, &mut store, pieces)?;
+    register_views(alloc, &mut store, definitions)?;
+    Ok(store)
+}
+
+fn copy_schemas(alloc: Global, frames: &[FrameSpec]) -> Result<List<Schema>, AllocError> {
+    let mut schemas = Vec::with_capacity(alloc, frames.len())?;
+    for frame in frames {
+        schemas.push(frame.schema.copy(alloc)?)?;
+    }
+    Ok(List::from_vec(schemas))
+}
+
+fn enter_frames<Acc: Ledger, Del: Ledger>(
+    alloc: Global,
+    store: &mut Store<Acc, Del>,
+    pieces: List<List<Made>>,
+) -> Result<(), ShellFault> {
+    for (frame, of_frame) in pieces.into_vec().into_iter().enumerate() {
+        enter_pieces(alloc, store, frame, of_frame)?;
+    }
+    Ok(())
+}
+
+// The rows of a frame's good pieces.
+fn enter_pieces<Acc: Ledger, Del: Ledger>(
+    alloc: Global,
+    store: &mut Store<Acc, Del>,
+    frame: usize,
+    pieces: List<Made>,
+) -> Result<(), ShellFault> {
+    for made in pieces.into_vec() {
+        enter(alloc, store, frame, made)?;
+    }
+    Ok(())
+}
+
+fn enter<Acc: Ledger, Del: Ledger>(
+    alloc: Global,
+    store: &mut Store<Acc, Del>,
+    frame: usize,
+    made: Made,
+) -> Result<(), ShellFault> {
+    match made {
+        Made::Good(chunk) => Ok(store.make(alloc, Change::Append(frame, chunk))?),
+        Made::Bad(_) => Ok(()),
+    }
+}
+
+fn register_views<Acc: Ledger, Del: Ledger>(
+    alloc: Global,
+    store: &mut Store<Acc, Del>,
+    definitions: &Definitions,
+) -> Result<(), ShellFault> {
+    let views = definitions.document.views.as_slice();
+    for (view, plan) in views.iter().zip(definitions.plans.as_slice()) {
+        let name = view.name.copy(alloc)?;
+        let plan = plan.copy(alloc)?;
+        store.make(alloc, Change::Register(name, plan))?;
+    }
+    Ok(())
+}

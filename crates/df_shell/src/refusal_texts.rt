@@ -1,0 +1,94 @@
+//! The texts of refusals.
+ghost use Rattle.std.specs.Prelude.{◌≡◌, ◌++◌, IfOk, codes, string_bytes};
+ghost use Rattle.df_shell.specs.Texts.{catalogue_text as text_of_catalogue, chunk_text as text_of_chunk, mistake_text as text_of_mistake, new_text as text_of_new, text_of, text_of_cell};
+
+use crate::refusal::{Mistake, Refusal};
+use df_app::csv_text;
+use df_catalogue::{CatalogueFault, NewFault};
+use df_text::escape;
+use df_value::{ChunkFault, Text};
+use std::alloc::{AllocError, Global};
+
+/// The text of a refusal, as the shell answers it: the code and what it is about; or `?` and what is
+/// wrong with the line. Names are escaped as in a printed table.
+pub fn refusal_text(alloc: Global, refusal: &Refusal) -> Result<String, AllocError>
+    ensures { IfOk result (λ text. string_bytes text ≡ text_of refusal.now) }
+{
+    match refusal {
+        Refusal::Mistake(mistake) => {
+            let text = mistake_text(*mistake);
+            format!(in alloc; "? {text}")
+        }
+        Refusal::Store(fault) => catalogue_text(alloc, *fault),
+        Refusal::Csv(fault) => csv_text(alloc, fault),
+        Refusal::Cell(number, column) => cell_text(alloc, *number, column),
+        Refusal::Chunk(fault) => String::from_str(alloc, chunk_text(fault)),
+        Refusal::Memory => String::from_str(alloc, "memory"),
+    }
+}
+
+fn mistake_text(mistake: Mistake) -> &'static str
+    ensures { result.now ≡ text_of_mistake mistake }
+{
+    match mistake {
+        Mistake::NoCommand => "no such command: help lists them",
+        Mistake::MissingWord => "a word is missing",
+        Mistake::ExtraWord => "a word too many",
+        Mistake::NotRowNumber => "a row number is a whole number below 4294967296",
+        Mistake::NotCount => "COUNT is a whole number",
+        Mistake::NotText => "the line is not UTF-8",
+        Mistake::LongLine => "a line has more than 1048576 bytes",
+        Mistake::MissingLines => "the input ends before the lines of the append",
+        Mistake::NoView => "the document has no such view",
+    }
+}
+
+/// The text of a catalogue's fault: its code and what it is about.
+pub fn catalogue_text(alloc: Global, fault: CatalogueFault) -> Result<String, AllocError>
+    ensures { IfOk result (λ text. string_bytes text ≡ text_of_catalogue fault) }
+{
+    match fault {
+        CatalogueFault::SchemaUnlike => String::from_str(alloc, "C1"),
+        CatalogueFault::Taken(number) => format!(in alloc; "C2 {number}"),
+        CatalogueFault::Full => String::from_str(alloc, "C3"),
+        CatalogueFault::Doubled(number) => format!(in alloc; "C4 {number}"),
+        CatalogueFault::NotLive(number) => format!(in alloc; "C5 {number}"),
+        CatalogueFault::ViewExists => String::from_str(alloc, "C6"),
+        CatalogueFault::TooManyViews => String::from_str(alloc, "C7"),
+        CatalogueFault::NoView => String::from_str(alloc, "C8"),
+        CatalogueFault::Memory => String::from_str(alloc, "memory"),
+        CatalogueFault::PlanUnlike => String::from_str(alloc, "C10"),
+        CatalogueFault::NoFrame => String::from_str(alloc, "C11"),
+    }
+}
+
+/// The text of the fault of a catalogue that is not made.
+pub fn new_text(alloc: Global, fault: NewFault) -> Result<String, AllocError>
+    ensures { IfOk result (λ text. string_bytes text ≡ text_of_new fault) }
+{
+    match fault {
+        NewFault::TooManyFrames => String::from_str(alloc, "N1"),
+        NewFault::DerivedType(frame) => format!(in alloc; "N2 {frame}"),
+        NewFault::Memory => String::from_str(alloc, "memory"),
+    }
+}
+
+fn cell_text(alloc: Global, number: u64, column: &Text) -> Result<String, AllocError>
+    ensures { IfOk result (λ text. string_bytes text ≡ text_of_cell number column.now) }
+{
+    let name = escape(alloc, column.as_str())?;
+    let name = name.as_str();
+    format!(in alloc; "record {number}, column {name}")
+}
+
+// That a row does not fit its schema is not the answer to rows that were typed by it.
+fn chunk_text(fault: &ChunkFault) -> &'static str
+    ensures { result.now ≡ text_of_chunk fault.now }
+{
+    match fault {
+        ChunkFault::TooLong => "S5",
+        ChunkFault::NumberTooLarge => "S6",
+        ChunkFault::RowUnlike(_) => "S4",
+        ChunkFault::Memory => "memory",
+    }
+}

@@ -1,0 +1,99 @@
+//! The rows of an append: its lines as records of the frame, and those as a chunk.
+ghost use Rattle.std.specs.Prelude.{◌≡◌, IfOk, length};
+ghost use Rattle.df_csv.specs.Records.{IsRecords};
+
+use crate::refusal::Refusal;
+use df_text::{CsvFault, Records, count_pieces, parse_records, type_piece};
+use df_value::{BadCell, CellType, Chunk, ChunkFault, Duplicate, List, Made, Row, Schema, Text};
+use std::alloc::{AllocError, Global};
+
+/// The most records that are typed at once.
+const RECORDS_OF_PIECE: usize = 65_536;
+
+/// The chunk that lines of CSV make, whose cells stand in the schema's order; its first number is
+/// `first`.
+///
+/// Refused are, in this order: lines that are no text (F3), a record of another length than the
+/// schema's (F4, by its number from 1), the first bad cell, more than 65,536 records (S5), a row number of 2^32 or
+/// more (S6). Memory may be refused at any time.
+pub fn read_chunk(
+    alloc: Global,
+    schema: &Schema,
+    first: u32,
+    lines: &[u8],
+) -> Result<Chunk, Refusal>
+    ensures schema { IfOk result (λ chunk. chunk.schema ≡ schema.now) }
+    ensures first { IfOk result (λ chunk. chunk.first ≡ first) }
+{
+    let text = with_header(alloc, schema.columns().as_slice(), lines)?;
+    let records = match parse_records(alloc, text.as_slice(), schema) {
+        Ok(records) => records,
+        Err(fault) => return Err(refused_records(fault)),
+    };
+    let rows = type_rows(alloc, schema, &records)?;
+    match Chunk::new(alloc, schema, first, rows) {
+        Ok(chunk) => Ok(chunk),
+        Err(refused) => Err(Refusal::Chunk(refused.fault)),
+    }
+}
+
+// More records than a file may have are more than a chunk may have.
+fn refused_records(fault: CsvFault) -> Refusal {
+    match fault {
+        CsvFault::TooManyRecords => Refusal::Chunk(ChunkFault::TooLong),
+        CsvFault::Memory => Refusal::Memory,
+        fault => Refusal::Csv(fault),
+    }
+}
+
+// The lines under a header of the columns' names, each in double quotes.
+fn with_header(
+    alloc: Global,
+    columns: &[(Text, CellType)],
+    lines: &[u8],
+) -> Result<Vec<u8>, AllocError> {
+    let mut text = Vec::new(alloc);
+    for i in 0..columns.len() {
+        if i > 0 {
+            text.push(b',')?;
+        }
+        push_quoted(&mut text, columns[i].0.as_str())?;
+    }
+    text.push(b'\n')?;
+    text.extend_from_slice(lines)?;
+    Ok(text)
+}
+
+fn push_quoted(text: &mut Vec<u8>, name: &str) -> Result<(), AllocError> {
+    text.push(b'"')?;
+    for byte in name.as_bytes() {
+        if *byte == b'"' {
+            text.push(b'"')?;
+        }
+        text.push(*byte)?;
+    }
+    text.push(b'"')?;
+    Ok(())
+}
+
+// The rows of all records, or the first bad cell among them.
+fn type_rows(alloc: Global, schema: &Schema, records: &Records) -> Result<List<Row>, Refusal>
+    requires { IsRecords (length schema.now) records.now }
+{
+    let mut rows = Vec::new(alloc);
+    for n in 0..count_pieces(records, RECORDS_OF_PIECE) {
+        match type_piece(alloc, records, schema, RECORDS_OF_PIECE, n)? {
+            Made::Good(chunk) => rows.append(&mut chunk.into_rows().into_vec())?,
+            Made::Bad(cell) => return Err(bad_cell(alloc, schema, cell)?),
+        }
+    }
+    Ok(List::from_vec(rows))
+}
+
+fn bad_cell(alloc: Global, schema: &Schema, cell: BadCell) -> Result<Refusal, AllocError> {
+    let name = match schema.columns().get(cell.column) {
+        Some(column) => column.0.copy(alloc)?,
+        None => Text::from_str(alloc, "")?,
+    };
+    Ok(Refusal::Cell(cell.number, name))
+}

@@ -1,0 +1,163 @@
+//! The shell: from a document and the lines of input to the answers.
+ghost use Rattle.std.specs.Prelude.{◌≡◌, length};
+
+use crate::answering::answer_line;
+use crate::definitions::Definitions;
+use crate::fault::ShellFault;
+use crate::lines::{Line, line_buffer, read_line, read_lines, without_end};
+use crate::opening::open_store;
+use crate::refusal::{Mistake, Refusal};
+use crate::refusal_texts::refusal_text;
+use crate::store::Store;
+use crate::words::lines_behind;
+use df_app::{Files, OpenedDocument, open_document, refused_lines};
+use df_text::write_text;
+use std::alloc::Global;
+use std::io::{BufRead, Read, Write};
+use std::marker::Brand;
+use std::sync::ledger::{Blank, Ledger};
+
+/// The records of a chunk of the first rows.
+const RECORDS_OF_CHUNK: usize = 1000;
+
+/// The parts of each ledger.
+const PARTS: u64 = 524_288;
+
+/// Opens a document and answers the commands of `input`, each before the next one is read, to its end.
+///
+/// Of the document the frames enter with their first rows, in chunks of 1,000 records, and a line is
+/// written for each chunk that is refused; then all views are registered. Where memory is refused to a
+/// command, its answer is `memory`, the store is as before it, and the shell goes on.
+pub fn run_shell<V: Read, F: Files, I: BufRead, W: Write>(
+    alloc: Global,
+    document: &mut V,
+    files: &mut F,
+    input: &mut I,
+    output: &mut W,
+) -> Result<(), ShellFault> {
+    let opened = open_document(alloc, document, files, RECORDS_OF_CHUNK)?;
+    serve::<Brand, Brand, I, W>(
+        alloc,
+        Blank::new(PARTS),
+        Blank::new(PARTS),
+        opened,
+        input,
+        output,
+    )
+}
+
+// Opens the store, and answers the commands.
+fn serve<Acc: Ledger, Del: Ledger, I: BufRead, W: Write>(
+    alloc: Global,
+    accepted: Blank,
+    deleted: Blank,
+    opened: OpenedDocument,
+    input: &mut I,
+    output: &mut W,
+) -> Result<(), ShellFault>
+    requires accepted_name { accepted.name ≡ Acc.name }
+    requires accepted_parts { (accepted.parts ≡ Acc.parts) × (accepted.parts ≡ 524288) }
+    requires deleted_name { deleted.name ≡ Del.name }
+    requires deleted_parts { (deleted.parts ≡ Del.parts) × (deleted.parts ≡ 524288) }
+    requires pieces { length opened.pieces ≡ length opened.document.frames }
+{
+    let OpenedDocument {
+        document,
+        plans,
+        pieces,
+    } = opened;
+    let frames = document.frames.as_slice();
+    let refused = refused_lines(alloc, frames, pieces.as_slice(), RECORDS_OF_CHUNK)?;
+    let definitions = Definitions { document, plans };
+    let mut store = open_store::<Acc, Del>(alloc, accepted, deleted, &definitions, pieces)?;
+    let mut buffers = Buffers {
+        command: line_buffer(alloc)?,
+        record: line_buffer(alloc)?,
+    };
+    write_answer(output, refused.as_slice())?;
+    answer_all(alloc, &definitions, &mut store, &mut buffers, input, output)
+}
+
+// Room for the line of a command, and for a line of CSV behind it.
+#[derive(Drop)]
+struct Buffers {
+    command: Vec<u8>,
+    record: Vec<u8>,
+}
+
+fn answer_all<Acc: Ledger, Del: Ledger, I: BufRead, W: Write>(
+    alloc: Global,
+    definitions: &Definitions,
+    store: &mut Store<Acc, Del>,
+    buffers: &mut Buffers,
+    input: &mut I,
+    output: &mut W,
+) -> Result<(), ShellFault> {
+    for _ in 0..u64::MAX {
+        match read_line(input, &mut buffers.command) {
+            Ok(Line::Whole) => take_turn(alloc, definitions, store, buffers, input, output)?,
+            Ok(Line::TooLong) => {
+                write_refusal(alloc, output, &Refusal::Mistake(Mistake::LongLine))?;
+            }
+            Ok(Line::End) => return Ok(()),
+            Err(_) => return Err(ShellFault::Read),
+        }
+    }
+    Ok(())
+}
+
+// Reads what belongs to a command, does what it says and writes the answer.
+fn take_turn<Acc: Ledger, Del: Ledger, I: BufRead, W: Write>(
+    alloc: Global,
+    definitions: &Definitions,
+    store: &mut Store<Acc, Del>,
+    buffers: &mut Buffers,
+    input: &mut I,
+    output: &mut W,
+) -> Result<(), ShellFault> {
+    let line = without_end(buffers.command.as_slice());
+    if line.is_empty() || line.starts_with(b"#") {
+        return Ok(());
+    }
+    let lines = match lines_behind(line) {
+        Some(count) => match read_lines(alloc, input, &mut buffers.record, count) {
+            Ok(lines) => lines,
+            Err(_) => return Err(ShellFault::Read),
+        },
+        None => Err(Refusal::Mistake(Mistake::NotCount)),
+    };
+    match answer_line(alloc, definitions, store, line, lines) {
+        Ok(answer) => write_answer(output, answer.bytes()),
+        Err(refusal) => write_refusal(alloc, output, &refusal),
+    }
+}
+
+fn write_refusal<W: Write>(
+    alloc: Global,
+    output: &mut W,
+    refusal: &Refusal,
+) -> Result<(), ShellFault> {
+    match refusal_text(alloc, refusal) {
+        Ok(text) => {
+            write_all(output, text.as_bytes())?;
+            write_answer(output, b"\n")
+        }
+        Err(_) => write_answer(output, b"memory\n"),
+    }
+}
+
+// Writes the last part of an answer, so that whoever waits for it has it.
+fn write_answer<W: Write>(output: &mut W, text: &[u8]) -> Result<(), ShellFault> {
+    write_all(output, text)?;
+    match output.flush() {
+        Ok(()) => Ok(()),
+        Err(_) => Err(ShellFault::Write),
+    }
+}
+
+fn write_all<W: Write>(output: &mut W, text: &[u8]) -> Result<(), ShellFault> {
+    match write_text(output, text) {
+        Ok(()) => Ok(()),
+        Err(_) => Err(ShellFault::Write),
+    }
+}

@@ -1,0 +1,49 @@
+//! The catalogue behind a shell.
+ghost use Rattle.std.specs.Prelude.{◌≡◌, IfErr, OnErr, OnOk, length, map};
+ghost use Rattle.std.specs.List.{range_with_len};
+ghost use Rattle.df_catalogue.specs.States.{IsLegal};
+ghost use Rattle.df_shell.specs.Changes.{Made, Refuses, first_answer as first_answer_of};
+
+use df_catalogue::{Catalogue, CatalogueFault, Change, Desk};
+use df_value::List;
+use std::alloc::Global;
+use std::sync::ledger::Ledger;
+
+/// A catalogue with the desks of its frames, in their order.
+#[derive(Drop)]
+pub struct Store<Acc: Ledger, Del: Ledger> {
+    pub catalogue: Catalogue<Acc, Del>,
+    pub desks: Vec<Desk<Acc, Del>>,
+    ghost in_order: { map (λ d. d.frame) desks.items ≡ range_with_len 0 (length catalogue.schemas) },
+}
+
+impl<Acc: Ledger, Del: Ledger> Store<Acc, Del> {
+    /// Tells that the state of the catalogue is legal: each view's table is its plan's value over the frames.
+    pub fn tell_legal(&self)
+        ensures { IsLegal self.now.catalogue }
+    {
+        let _book = self.catalogue.accepted_book();
+    }
+
+    /// Makes a change. What needs memory comes first: where it is refused nothing was done.
+    pub fn make(&mut self, alloc: Global, change: Change) -> Result<(), CatalogueFault>
+        ensures made { OnOk result (Made self.old.catalogue self.new.catalogue change) }
+        ensures refused { IfErr result (Refuses self.old.catalogue change) }
+        ensures same { OnErr result (self.new.catalogue ≡ self.old.catalogue) }
+    {
+        let changes = List::from_vec(vec![in alloc; change]?);
+        let desks = self.desks.as_mut_slice();
+        let answers = self.catalogue.replay(alloc, desks, changes)?;
+        first_answer(answers.as_slice())
+    }
+}
+
+// The answer to the first of some changes.
+fn first_answer(answers: &[Option<CatalogueFault>]) -> Result<(), CatalogueFault>
+    ensures { result ≡ first_answer_of answers.now }
+{
+    match answers {
+        [Some(fault), ..] => Err(*fault),
+        _ => Ok(()),
+    }
+}
