@@ -21,6 +21,7 @@ import threading
 
 HERE = os.path.dirname(os.path.abspath(__file__))
 SECONDS = 120
+MEMORY = b"memory\n"
 
 
 class Session:
@@ -50,11 +51,14 @@ class Session:
 
 
 class Runner:
+    """Runs one session, and keeps what differs."""
+
     def __init__(self, program, session):
         self.command = [os.path.abspath(program), os.path.basename(session.path)[: -len("session")] + "toml"]
         self.folder = os.path.dirname(os.path.abspath(session.path))
         self.session = session
         self.wrong = []
+        self.cache = {}
 
     def start(self, **variables):
         pipe = subprocess.PIPE
@@ -112,8 +116,10 @@ class Runner:
         answers = self.session.answers
         said = b""
         for at, answer in enumerate(answers):
+            if at > 0 and output.startswith(said + MEMORY) and output == said + MEMORY + self.behind(at, said):
+                return True
             if not output.startswith(said + answer):
-                return at > 0 and output == said + b"memory\n" + self.behind(at, said)
+                return False
             said += answer
         return output == said
 
@@ -123,8 +129,6 @@ class Runner:
             output, _, _ = self.whole(self.session.without(at))
             self.cache[at] = output[len(said) :] if output.startswith(said) else None
         return self.cache[at] if self.cache[at] is not None else b"?"
-
-    cache = {}
 
 
 def send(shell, typed, last):
@@ -163,7 +167,6 @@ def failing_library(folder):
 def run(program, path, library, folder):
     session = Session(path)
     runner = Runner(program, session)
-    runner.cache = {}
     runner.converse()
     refused = 0
     if library and not runner.wrong:
