@@ -8,7 +8,7 @@ use crate::definitions::Definitions;
 use crate::reading::{books, rows, show, views};
 use crate::refusal::Refusal;
 use crate::store::Store;
-use crate::words::read_words;
+use csv::StringRecord;
 use df_catalogue::Catalogue;
 use std::alloc::Global;
 use std::sync::ledger::Ledger;
@@ -47,17 +47,18 @@ impl Answer {
     }
 }
 
-/// Does what a line says. The lines behind an `append` have been read, or it is known why not.
+/// Does what the words of a line say. They, and the lines behind an `append`, have been read, or it is known
+/// why not.
 pub fn answer_line<Acc: Ledger, Del: Ledger>(
     alloc: Global,
     definitions: &Definitions,
     store: &mut Store<Acc, Del>,
-    line: &[u8],
+    words: Result<StringRecord, Refusal>,
     lines: Result<Vec<u8>, Refusal>,
 ) -> Result<Answer, Refusal>
     ensures { Answered store.old.catalogue store.new.catalogue result }
 {
-    let record = read_words(alloc, line)?;
+    let record = words?;
     let words: Vec<&str> = record.iter().collect(alloc)?;
     let command = read_command(alloc, words.as_slice())?;
     answer_command(alloc, definitions, store, command, lines)
@@ -96,8 +97,7 @@ fn answer_change<Acc: Ledger, Del: Ledger>(
 {
     match asked {
         AskedChange::Append(frame, first) => {
-            let lines = lines?;
-            append(alloc, definitions, store, frame, first, lines.as_slice())
+            append(alloc, definitions, store, frame, first, lines)
         }
         AskedChange::Delete(frame, numbers) => delete(alloc, definitions, store, frame, numbers),
         AskedChange::Register(view) => register(alloc, definitions, store, view),

@@ -17,15 +17,15 @@ use std::sync::ledger::Ledger;
 
 /// Adds the rows of lines of CSV to a frame.
 ///
-/// The first of these is answered: `C11` where no frame has the name; why the lines make no chunk
-/// (`read_chunk`); the catalogue's refusal.
+/// The first of these is answered: `C11` where no frame has the name; why the lines could not be read; why they
+/// make no chunk (`read_chunk`); the catalogue's refusal.
 pub fn append<Acc: Ledger, Del: Ledger>(
     alloc: Global,
     definitions: &Definitions,
     store: &mut Store<Acc, Del>,
     frame: &str,
     first: u32,
-    lines: &[u8],
+    lines: Result<Vec<u8>, Refusal>,
 ) -> Result<(), Refusal>
     ensures made { OnOk result ((at : ℕ) × (chunk : ChunkParts) × (frame_index_of definitions.now frame.now ≡ Some at)
         × (chunk.first ≡ first) × Made store.old.catalogue store.new.catalogue (Append at chunk)) }
@@ -35,7 +35,8 @@ pub fn append<Acc: Ledger, Del: Ledger>(
         return Err(Refusal::Store(CatalogueFault::NoFrame));
     };
     let schema = &definitions.document.frames.as_slice()[at].schema;
-    let chunk = read_chunk(alloc, schema, first, lines)?;
+    let lines = lines?;
+    let chunk = read_chunk(alloc, schema, first, lines.as_slice())?;
     Ok(store.make(alloc, Change::Append(at, chunk))?)
 }
 

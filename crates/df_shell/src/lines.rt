@@ -33,8 +33,7 @@ pub fn read_line<I: BufRead>(input: &mut I, line: &mut Vec<u8>) -> io::Result<Li
     if taken == 0 {
         return Ok(Line::End);
     }
-    if taken == MOST_BYTES_OF_LINE && !line.ends_with(b"\n") {
-        input.skip_until(b'\n')?;
+    if taken == MOST_BYTES_OF_LINE && !line.ends_with(b"\n") && input.skip_until(b'\n')? > 0 {
         return Ok(Line::TooLong);
     }
     Ok(Line::Whole)

@@ -35,7 +35,7 @@ fn mistake_text(mistake: Mistake) -> &'static str
         Mistake::MissingWord => "a word is missing",
         Mistake::ExtraWord => "a word too many",
         Mistake::NotRowNumber => "a row number is a whole number below 4294967296",
-        Mistake::NotCount => "COUNT is a whole number",
+        Mistake::NotCount => "COUNT is a whole number below 18446744073709551616",
         Mistake::NotText => "the line is not UTF-8",
         Mistake::LongLine => "a line has more than 1048576 bytes",
         Mistake::MissingLines => "the input ends before the lines of the append",

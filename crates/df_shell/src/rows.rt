@@ -25,7 +25,7 @@ pub fn read_chunk(
     ensures schema { IfOk result (λ chunk. chunk.schema ≡ schema.now) }
     ensures first { IfOk result (λ chunk. chunk.first ≡ first) }
 {
-    let text = with_header(alloc, schema.columns().as_slice(), lines)?;
+    let text = with_header(alloc, schema.columns().as_slice(), without_marks(lines))?;
     let records = match parse_records(alloc, text.as_slice(), schema) {
         Ok(records) => records,
         Err(fault) => return Err(refused_records(fault)),
@@ -44,6 +44,18 @@ fn refused_records(fault: CsvFault) -> Refusal {
         CsvFault::Memory => Refusal::Memory,
         fault => Refusal::Csv(fault),
     }
+}
+
+// The lines without byte order marks at their start.
+fn without_marks(lines: &[u8]) -> &[u8] {
+    let mut rest = lines;
+    for _ in 0..lines.len() {
+        match rest.strip_prefix(b"\xEF\xBB\xBF") {
+            Some(behind) => rest = behind,
+            None => return rest,
+        }
+    }
+    rest
 }
 
 // The lines under a header of the columns' names, each in double quotes.

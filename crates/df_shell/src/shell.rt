@@ -9,7 +9,7 @@ use crate::opening::open_store;
 use crate::refusal::{Mistake, Refusal};
 use crate::refusal_texts::refusal_text;
 use crate::store::Store;
-use crate::words::lines_behind;
+use crate::words::{count_lines, read_words};
 use df_app::{Files, OpenedDocument, open_document, refused_lines};
 use df_text::write_text;
 use std::alloc::Global;
@@ -119,14 +119,15 @@ fn take_turn<Acc: Ledger, Del: Ledger, I: BufRead, W: Write>(
     if line.is_empty() || line.starts_with(b"#") {
         return Ok(());
     }
-    let lines = match lines_behind(line) {
-        Some(count) => match read_lines(alloc, input, &mut buffers.record, count) {
+    let words = read_words(alloc, line);
+    let lines = match count_lines(alloc, &words, line) {
+        Ok(count) => match read_lines(alloc, input, &mut buffers.record, count) {
             Ok(lines) => lines,
             Err(_) => return Err(ShellFault::Read),
         },
-        None => Err(Refusal::Mistake(Mistake::NotCount)),
+        Err(mistake) => Err(Refusal::Mistake(mistake)),
     };
-    match answer_line(alloc, definitions, store, line, lines) {
+    match answer_line(alloc, definitions, store, words, lines) {
         Ok(answer) => write_answer(output, answer.bytes()),
         Err(refusal) => write_refusal(alloc, output, &refusal),
     }

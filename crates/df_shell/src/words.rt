@@ -29,13 +29,43 @@ pub fn read_words(alloc: Global, line: &[u8]) -> Result<StringRecord, Refusal>
     }
 }
 
-/// How many lines of CSV stand behind a line: what its last word says, where its first one is `append`.
-/// It takes no memory, so that the lines can be passed over where memory is short.
-pub fn lines_behind(line: &[u8]) -> Option<u64> {
-    if !line.starts_with(b"append ") {
-        return None;
+/// How many lines of CSV stand behind a line: COUNT, where its first word is `append` and it has one. Where
+/// memory was refused to its words, they are read once more for this alone, so that the lines can be passed
+/// over; where they still cannot be read, the bytes behind the last blank are taken for COUNT.
+pub fn count_lines(
+    alloc: Global,
+    words: &Result<StringRecord, Refusal>,
+    line: &[u8],
+) -> Result<u64, Mistake> {
+    match words {
+        Ok(words) => count_in(words),
+        Err(_) => match read_words(alloc, line) {
+            Ok(words) => count_in(&words),
+            Err(_) if line.starts_with(b"append ") => count_of(last_word(line)),
+            Err(_) => Ok(0),
+        },
     }
+}
+
+fn count_in(words: &StringRecord) -> Result<u64, Mistake> {
+    match words.get(0) {
+        Some("append") => count_of(words.get(3)),
+        _ => Ok(0),
+    }
+}
+
+// Without a COUNT no line is read.
+fn count_of(word: Option<&str>) -> Result<u64, Mistake> {
+    match word {
+        Some(word) => match word.parse::<u64>() {
+            Ok(count) => Ok(count),
+            Err(_) => Err(Mistake::NotCount),
+        },
+        None => Ok(0),
+    }
+}
+
+fn last_word(line: &[u8]) -> Option<&str> {
     let blank = line.iter().rposition(|byte| *byte == b' ')?;
-    let last = str::from_utf8(&line[blank + 1..]).ok()?;
-    last.parse::<u64>().ok()
+    str::from_utf8(&line[blank + 1..]).ok()
 }

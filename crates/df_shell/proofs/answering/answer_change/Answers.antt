@@ -4,8 +4,8 @@ use Rattle.df_shell.proofs.answering.answer_change.Goals as goal
 
 -- the change that each of the commands makes
 
-pub returns-in_ok-lines-in-Append-clause-changed : goal.returns-in_ok-lines-in-Append-clause-changed
-returns-in_ok-lines-in-Append-clause-changed g c =
+pub returns-in-Append-clause-changed : goal.returns-in-Append-clause-changed
+returns-in-Append-clause-changed g c =
     on_ok_weaker c.append.result (λ e. (Append e.0 e.1, e.4)) c.append.ensures.made
 
 pub returns-in-Delete-clause-changed : goal.returns-in-Delete-clause-changed
