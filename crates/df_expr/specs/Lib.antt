@@ -2,3 +2,4 @@ pub mod Arithmetic
 pub mod Logic
 pub mod Value
 pub mod Typing
+pub mod Operators

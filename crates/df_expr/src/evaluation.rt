@@ -4,13 +4,13 @@ ghost use Rattle.df_value.specs.declared.cell.CellType.{CellType};
 ghost use Rattle.df_value.specs.Cells.{fits_type, is_text};
 ghost use Rattle.df_value.specs.Rows.{cell_at, row_fits};
 ghost use Rattle.df_expr.specs.Typing.{type_of, no_text};
-ghost use Rattle.df_expr.specs.Value.{value_of, is_null as is_null_cell};
+ghost use Rattle.df_expr.specs.Operators.{binary_of, unary_of};
+ghost use Rattle.df_expr.specs.Value.{value_of};
 
 use crate::expr::Expr;
-use crate::logic::{cell_of, kleene_and, kleene_not, kleene_or, truth_of};
 use crate::meter::Meter;
-use crate::operators::{arith, comparison, eq_missing};
-use df_value::{Cell, CellType, Row, Schema, Text, place_of};
+use crate::operators::{Binary, Unary};
+use df_value::{Boxed, Cell, CellType, Row, Schema, Text, place_of};
 use std::alloc::{AllocError, Global};
 
 /// The value of an expression in a row of a table with this schema. Counts one evaluation.
@@ -40,6 +40,7 @@ pub fn eval(
 
 /// As [`eval`], over columns that need not be a schema, and without a count: for the plain evaluation of
 /// whole tables, which counts no work.
+#[cycle(values)]
 pub fn value(
     alloc: Global,
     expr: &Expr,
@@ -54,35 +55,27 @@ pub fn value(
         Expr::Literal(cell, _) => cell.duplicate(alloc),
         Expr::Arith(op, a, b) => {
             let a = value(alloc, a.get(), columns, row)?;
-            let b = value(alloc, b.get(), columns, row)?;
-            Ok(arith(*op, &a, &b))
+            apply_binary(alloc, b, columns, row, Binary::Arith(*op), a)
         }
         Expr::Compare(op, a, b) => {
             let a = value(alloc, a.get(), columns, row)?;
-            let b = value(alloc, b.get(), columns, row)?;
-            Ok(comparison(*op, &a, &b))
+            apply_binary(alloc, b, columns, row, Binary::Compare(*op), a)
         }
         Expr::EqMissing(a, b) => {
             let a = value(alloc, a.get(), columns, row)?;
-            let b = value(alloc, b.get(), columns, row)?;
-            Ok(Cell::Bool(eq_missing(&a, &b)))
+            apply_binary(alloc, b, columns, row, Binary::EqMissing, a)
         }
         Expr::And(a, b) => {
             let a = value(alloc, a.get(), columns, row)?;
-            let b = value(alloc, b.get(), columns, row)?;
-            Ok(cell_of(kleene_and(truth_of(&a), truth_of(&b))))
+            apply_binary(alloc, b, columns, row, Binary::And, a)
         }
         Expr::Or(a, b) => {
             let a = value(alloc, a.get(), columns, row)?;
-            let b = value(alloc, b.get(), columns, row)?;
-            Ok(cell_of(kleene_or(truth_of(&a), truth_of(&b))))
+            apply_binary(alloc, b, columns, row, Binary::Or, a)
         }
-        Expr::Not(a) => {
-            let a = value(alloc, a.get(), columns, row)?;
-            Ok(cell_of(kleene_not(truth_of(&a))))
-        }
-        Expr::IsNull(a) => Ok(Cell::Bool(is_null(&value(alloc, a.get(), columns, row)?))),
-        Expr::IsNotNull(a) => Ok(Cell::Bool(!is_null(&value(alloc, a.get(), columns, row)?))),
+        Expr::Not(a) => apply_unary(alloc, a, columns, row, Unary::Not),
+        Expr::IsNull(a) => apply_unary(alloc, a, columns, row, Unary::IsNull),
+        Expr::IsNotNull(a) => apply_unary(alloc, a, columns, row, Unary::IsNotNull),
         Expr::FillNull(a, b) => match value(alloc, a.get(), columns, row)? {
             Cell::Null => value(alloc, b.get(), columns, row),
             a => Ok(a),
@@ -90,10 +83,38 @@ pub fn value(
     }
 }
 
-fn is_null(cell: &Cell) -> bool
-    ensures { result ≡ is_null_cell cell.now }
+// The value of an operator over the value of its operand.
+#[cycle(values)]
+fn apply_unary(
+    alloc: Global,
+    a: &Boxed<Expr>,
+    columns: &[(Text, CellType)],
+    row: &Row,
+    operator: Unary,
+) -> Result<Cell, AllocError>
+    ensures value { IfOk result (λ c. c ≡ unary_of operator (value_of a.now columns.now row.now)) }
+    ensures free { IsTrue (row_fits columns.now row.now) → IsTrue (no_text a.now columns.now) → IsOk result }
 {
-    matches!(cell, Cell::Null)
+    let a = value(alloc, a.get(), columns, row)?;
+    Ok(operator.apply(&a))
+}
+
+// The value of an operator over a left operand's value and the value of its right operand, which stands first:
+// by its depth the recursion ends.
+#[cycle(values)]
+fn apply_binary(
+    alloc: Global,
+    b: &Boxed<Expr>,
+    columns: &[(Text, CellType)],
+    row: &Row,
+    operator: Binary,
+    a: Cell,
+) -> Result<Cell, AllocError>
+    ensures value { IfOk result (λ c. c ≡ binary_of operator a (value_of b.now columns.now row.now)) }
+    ensures free { IsTrue (row_fits columns.now row.now) → IsTrue (no_text b.now columns.now) → IsOk result }
+{
+    let b = value(alloc, b.get(), columns, row)?;
+    Ok(operator.apply(&a, &b))
 }
 
 // A copy of the cell at a place, null where there is none.

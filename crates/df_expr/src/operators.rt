@@ -1,12 +1,14 @@
-//! Arithmetic, comparison and equality of cells.
+//! Arithmetic, comparison and equality of cells, and the operators of expressions.
 ghost use Rattle.std.specs.Prelude.{◌≡◌, ◌↔◌, IsTrue, Option};
 ghost use Rattle.df_value.specs.declared.cell.Cell.{Cell as AnyCell};
 ghost use Rattle.df_value.specs.declared.cell.Cell.TheVariants as cell;
 ghost use Rattle.df_value.specs.CellEq.{cell_eq};
 ghost use Rattle.df_value.specs.Order.{order_of};
-ghost use Rattle.df_expr.specs.Value.{arith_of, compare_of, holds};
+ghost use Rattle.df_expr.specs.Operators.{binary_of, unary_of};
+ghost use Rattle.df_expr.specs.Value.{arith_of, compare_of, holds, is_null as is_null_cell};
 
 use crate::expr::{ArithOp, CompareOp};
+use crate::logic::{cell_of, kleene_and, kleene_not, kleene_or, truth_of};
 use df_value::{Cell, compare};
 use std::cmp::Ordering;
 
@@ -55,4 +57,56 @@ pub fn eq_missing(a: &Cell, b: &Cell) -> bool
     ensures transitive { (c : AnyCell) → IsTrue (cell_eq a.now b.now) → IsTrue (cell_eq b.now c) → IsTrue (cell_eq a.now c) }
 {
     *a == *b
+}
+
+/// An operator of one operand.
+#[derive(Clone, Copy)]
+pub enum Unary {
+    Not,
+    IsNull,
+    IsNotNull,
+}
+
+impl Unary {
+    /// Its value over a cell.
+    pub fn apply(self, a: &Cell) -> Cell
+        ensures { result ≡ unary_of self a.now }
+    {
+        match self {
+            Unary::Not => cell_of(kleene_not(truth_of(a))),
+            Unary::IsNull => Cell::Bool(is_null(a)),
+            Unary::IsNotNull => Cell::Bool(!is_null(a)),
+        }
+    }
+}
+
+fn is_null(cell: &Cell) -> bool
+    ensures { result ≡ is_null_cell cell.now }
+{
+    matches!(cell, Cell::Null)
+}
+
+/// An operator of two operands, both of which are evaluated.
+#[derive(Clone, Copy)]
+pub enum Binary {
+    Arith(ArithOp),
+    Compare(CompareOp),
+    EqMissing,
+    And,
+    Or,
+}
+
+impl Binary {
+    /// Its value over two cells.
+    pub fn apply(self, a: &Cell, b: &Cell) -> Cell
+        ensures { result ≡ binary_of self a.now b.now }
+    {
+        match self {
+            Binary::Arith(op) => arith(op, a, b),
+            Binary::Compare(op) => comparison(op, a, b),
+            Binary::EqMissing => Cell::Bool(eq_missing(a, b)),
+            Binary::And => cell_of(kleene_and(truth_of(a), truth_of(b))),
+            Binary::Or => cell_of(kleene_or(truth_of(a), truth_of(b))),
+        }
+    }
 }

@@ -1,9 +1,11 @@
 //! The check of a plan.
-ghost use Rattle.std.specs.Prelude.{◌≡◌, ◌+◌, ◌<◌, ◌≤◌, ◌↔◌, [], IsTrue, MatchOption, None, slice_get};
+ghost use Rattle.std.specs.Prelude.{◌≡◌, ◌+◌, ◌<◌, ◌≤◌, ◌↔◌, [], Err, IsTrue, MatchOption, MatchResult, None, slice_get};
 ghost use Rattle.df_value.specs.Schemas.{doubled_after};
 ghost use Rattle.df_plan.specs.Checks.{checked, columns_of, levels, scans, settled as settled_columns, settled_at, filter_checked, select_checked, with_checked, put_checked, group_checked, frame_checked, Answers};
+ghost use Rattle.df_plan.specs.JoinChecks.{join_checked};
 ghost use Rattle.df_plan.specs.ItemChecks.{expr_type as type_of_expr};
 
+use crate::drops::then_drop;
 use crate::fault::PlanFault;
 use crate::items::{Added, Aggregates, Columns, Keys, Outputs, check_each, expr_type};
 use crate::join_checks::check_join;
@@ -86,39 +88,54 @@ fn check_node(alloc: Global, plan: &Plan, frames: &[Schema]) -> Result<Schema, P
         }
         Plan::Select(input, items) => {
             let columns = check_node(alloc, input.get(), frames)?;
-            check_select(alloc, &columns, items.as_slice())
+            then_drop(check_select(alloc, &columns, items.as_slice()), columns)
         }
         Plan::WithColumns(input, items) => {
             let columns = check_node(alloc, input.get(), frames)?;
-            check_added(alloc, &columns, items.as_slice())
+            then_drop(check_added(alloc, &columns, items.as_slice()), columns)
         }
         Plan::GroupBy(input, keys, aggs) => {
             let columns = check_node(alloc, input.get(), frames)?;
-            check_groups(alloc, &columns, keys.as_slice(), aggs.as_slice())
+            then_drop(
+                check_groups(alloc, &columns, keys.as_slice(), aggs.as_slice()),
+                columns,
+            )
         }
         Plan::Join(left, right, _, keys) => {
             let left = check_node(alloc, left.get(), frames)?;
-            match check_node(alloc, right.get(), frames) {
-                Ok(right) => check_join(alloc, &left, &right, keys.as_slice()),
-                Err(fault) => Err(fault),
-            }
+            let right = check_node(alloc, right.get(), frames);
+            check_inputs(alloc, left, right, keys.as_slice())
         }
         Plan::Rolling(input, output, kind, column, w, m) => {
             let columns = check_node(alloc, input.get(), frames)?;
-            check_rolling(alloc, &columns, output, *kind, column, *w, *m)
+            then_drop(
+                check_rolling(alloc, &columns, output, *kind, column, *w, *m),
+                columns,
+            )
         }
         Plan::CumSum(input, output, column) => {
             let columns = check_node(alloc, input.get(), frames)?;
-            check_cum_sum(alloc, &columns, output, column)
+            then_drop(check_cum_sum(alloc, &columns, output, column), columns)
         }
         Plan::Rank(input, output, _, column) => {
-            check_rank(
-                alloc,
-                &check_node(alloc, input.get(), frames)?,
-                output,
-                column,
-            )
+            let columns = check_node(alloc, input.get(), frames)?;
+            then_drop(check_rank(alloc, &columns, output, column), columns)
         }
+    }
+}
+
+// The check of a join after those of its inputs, of which the left is no fault.
+fn check_inputs(
+    alloc: Global,
+    left: Schema,
+    right: Result<Schema, PlanFault>,
+    keys: &[Text],
+) -> Result<Schema, PlanFault>
+    ensures { MatchResult right (λ columns. Answers (join_checked left columns keys.now) result) (λ f. result ≡ Err f) }
+{
+    match right {
+        Ok(right) => check_join(alloc, &left, &right, keys),
+        Err(fault) => Err(fault),
     }
 }
 
@@ -158,8 +175,10 @@ fn check_added(alloc: Global, input: &Schema, items: &[(Text, Expr)]) -> Result<
     ensures { Answers (with_checked input.now items.now) result }
 {
     let out = List::from_vec(Vec::new(alloc));
-    let added = check_each::<(Text, Expr), Added>(alloc, input, out, items)?;
-    put(alloc, input, &added)
+    match check_each::<(Text, Expr), Added>(alloc, input, out, items) {
+        Ok(added) => put(alloc, input, &added),
+        Err(fault) => Err(fault),
+    }
 }
 
 fn check_groups(

@@ -6,6 +6,7 @@ ghost use Rattle.df_table.specs.Tables.{roll_table as table_rolled};
 ghost use Rattle.df_table.specs.Windows.{size_of as size_in};
 
 use crate::checked::CheckedPlan;
+use crate::drops::{both, then_drop};
 use crate::plan::Plan;
 use df_table::{
     RollKind, Table, cum_sum_table, filter_table, group_by, join, rank_table, roll_table,
@@ -47,38 +48,40 @@ fn table_of_plan(
         Plan::Scan(frame) => copy_frame(alloc, schemas, frames, *frame),
         Plan::Filter(input, predicate) => {
             let input = table_of_plan(alloc, input.get(), schemas, frames)?;
-            filter_table(alloc, &input, predicate)
+            then_drop(filter_table(alloc, &input, predicate), input)
         }
         Plan::Select(input, items) => {
             let input = table_of_plan(alloc, input.get(), schemas, frames)?;
-            select_table(alloc, &input, items.as_slice())
+            then_drop(select_table(alloc, &input, items.as_slice()), input)
         }
         Plan::WithColumns(input, items) => {
             let input = table_of_plan(alloc, input.get(), schemas, frames)?;
-            with_table(alloc, &input, items.as_slice())
+            then_drop(with_table(alloc, &input, items.as_slice()), input)
         }
         Plan::GroupBy(input, keys, aggs) => {
             let input = table_of_plan(alloc, input.get(), schemas, frames)?;
-            group_by(alloc, &input, keys.as_slice(), aggs.as_slice())
+            then_drop(
+                group_by(alloc, &input, keys.as_slice(), aggs.as_slice()),
+                input,
+            )
         }
         Plan::Join(left, right, how, keys) => {
-            let left = table_of_plan(alloc, left.get(), schemas, frames)?;
-            match table_of_plan(alloc, right.get(), schemas, frames) {
-                Ok(right) => join(alloc, &left, &right, *how, keys.as_slice()),
-                Err(refused) => Err(refused),
-            }
+            let left = table_of_plan(alloc, left.get(), schemas, frames);
+            let (left, right) = both(left, table_of_plan(alloc, right.get(), schemas, frames))?;
+            let table = join(alloc, &left, &right, *how, keys.as_slice());
+            then_drop(table, (left, right))
         }
         Plan::Rolling(input, output, kind, column, w, m) => {
             let input = table_of_plan(alloc, input.get(), schemas, frames)?;
-            rolled(alloc, &input, output, *kind, column, *w, *m)
+            then_drop(rolled(alloc, &input, output, *kind, column, *w, *m), input)
         }
         Plan::CumSum(input, output, column) => {
             let input = table_of_plan(alloc, input.get(), schemas, frames)?;
-            cum_sum_table(alloc, &input, output, column)
+            then_drop(cum_sum_table(alloc, &input, output, column), input)
         }
         Plan::Rank(input, output, kind, column) => {
             let input = table_of_plan(alloc, input.get(), schemas, frames)?;
-            rank_table(alloc, &input, output, *kind, column)
+            then_drop(rank_table(alloc, &input, output, *kind, column), input)
         }
     }
 }

@@ -12,6 +12,7 @@
 
 mod checked;
 mod checks;
+mod drops;
 mod evaluation;
 mod fault;
 mod items;

@@ -1,6 +1,7 @@
 //! The forms of a plan.
 ghost use Rattle.std.specs.Prelude.{◌≡◌, ◌↔◌, IfOk, IsTrue};
 
+use crate::drops::both;
 use df_expr::Expr;
 use df_table::{Agg, How, RankKind, RollKind};
 use df_value::{Boxed, Duplicate, Exact, List, Text, same};
@@ -73,34 +74,39 @@ impl Duplicate for Plan {
     fn copy(&self, alloc: Global) -> Result<Plan, AllocError> {
         match self {
             Plan::Scan(frame) => Ok(Plan::Scan(*frame)),
-            Plan::Filter(input, e) => Ok(Plan::Filter(copy_of(alloc, input)?, e.copy(alloc)?)),
+            Plan::Filter(input, e) => {
+                let (input, e) = both(copy_of(alloc, input), e.copy(alloc))?;
+                Ok(Plan::Filter(input, e))
+            }
             Plan::Select(input, items) => {
-                Ok(Plan::Select(copy_of(alloc, input)?, items.copy(alloc)?))
+                let (input, items) = both(copy_of(alloc, input), items.copy(alloc))?;
+                Ok(Plan::Select(input, items))
             }
             Plan::WithColumns(input, items) => {
-                Ok(Plan::WithColumns(copy_of(alloc, input)?, items.copy(alloc)?))
+                let (input, items) = both(copy_of(alloc, input), items.copy(alloc))?;
+                Ok(Plan::WithColumns(input, items))
             }
             Plan::GroupBy(input, keys, aggs) => {
-                let input = copy_of(alloc, input)?;
-                Ok(Plan::GroupBy(input, keys.copy(alloc)?, aggs.copy(alloc)?))
+                let lists = both(keys.copy(alloc), aggs.copy(alloc));
+                let (input, (keys, aggs)) = both(copy_of(alloc, input), lists)?;
+                Ok(Plan::GroupBy(input, keys, aggs))
             }
             Plan::Join(left, right, how, keys) => {
-                let left = copy_of(alloc, left)?;
-                let right = copy_of(alloc, right)?;
-                Ok(Plan::Join(left, right, *how, keys.copy(alloc)?))
+                let inputs = both(copy_of(alloc, left), copy_of(alloc, right));
+                let ((left, right), keys) = both(inputs, keys.copy(alloc))?;
+                Ok(Plan::Join(left, right, *how, keys))
             }
             Plan::Rolling(input, output, kind, column, w, m) => {
-                let input = copy_of(alloc, input)?;
-                let output = output.copy(alloc)?;
-                Ok(Plan::Rolling(input, output, *kind, column.copy(alloc)?, *w, *m))
+                let (input, (output, column)) = copy_of_window(alloc, input, output, column)?;
+                Ok(Plan::Rolling(input, output, *kind, column, *w, *m))
             }
             Plan::CumSum(input, output, column) => {
-                let input = copy_of(alloc, input)?;
-                Ok(Plan::CumSum(input, output.copy(alloc)?, column.copy(alloc)?))
+                let (input, (output, column)) = copy_of_window(alloc, input, output, column)?;
+                Ok(Plan::CumSum(input, output, column))
             }
             Plan::Rank(input, output, kind, column) => {
-                let input = copy_of(alloc, input)?;
-                Ok(Plan::Rank(input, output.copy(alloc)?, *kind, column.copy(alloc)?))
+                let (input, (output, column)) = copy_of_window(alloc, input, output, column)?;
+                Ok(Plan::Rank(input, output, *kind, column))
             }
         }
     }
@@ -111,6 +117,20 @@ fn copy_of(alloc: Global, plan: &Boxed<Plan>) -> Result<Boxed<Plan>, AllocError>
     ensures { IfOk result (λ r. r ≡ plan.now) }
 {
     Ok(Boxed::new(alloc, plan.get().copy(alloc)?)?)
+}
+
+// Copies of a window's input, and of the names of its output and its column.
+#[cycle(copying)]
+fn copy_of_window(
+    alloc: Global,
+    input: &Boxed<Plan>,
+    output: &Text,
+    column: &Text,
+) -> Result<(Boxed<Plan>, (Text, Text)), AllocError>
+    ensures { IfOk result (λ r. (r.0 ≡ input.now) × (r.1.0 ≡ output.now) × (r.1.1 ≡ column.now)) }
+{
+    let names = both(output.copy(alloc), column.copy(alloc));
+    both(copy_of(alloc, input), names)
 }
 
 /// Whether two plans are one and the same.

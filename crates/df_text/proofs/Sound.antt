@@ -30,12 +30,12 @@ use Rattle.df_text.specs.declared.view_steps.StepWord.TheVariants as step_word
 use Rattle.df_text.specs.declared.views_fault.ViewsFault.{ViewsFault}
 use Rattle.df_text.specs.declared.views_fault.ViewsFault.TheVariants as fault
 use Rattle.df_text.specs.Reading.{read_each}
-use Rattle.df_text.specs.Tree.{keys_pass, text_in, array_in, table_in, first_in, only_in, pair_in, triple_in, list_of, tree_of}
+use Rattle.df_text.specs.Tree.{keys_pass, text_in, array_in, table_in, first_in, only_in, pair_in, list_of, tree_of}
 use Rattle.df_text.specs.Frames.{column_of, type_of_word, entries_of_frame, unless_fault, schema_of, new_name, frame_of, frames_of}
 use Rattle.df_text.specs.Expressions.{expr_of}
 use Rattle.df_text.specs.RowWiseSteps.{item_of}
 use Rattle.df_text.specs.AggregateItems.{aggregate_of}
-use Rattle.df_text.specs.WindowSteps.{int_in, names_in, rolling_of, rank_of_word}
+use Rattle.df_text.specs.WindowSteps.{names_in, rank_parts, rolling_of, window_parts}
 use Rattle.df_text.specs.Sources.{found_frame, frame_named, only_source_at}
 use Rattle.df_text.specs.Steps.{step_of_word, kind_and_keys, steps_after, step_of, applied, side_of, steps_at, all_steps}
 use Rattle.df_text.specs.Scans.{scans_below}
@@ -127,16 +127,8 @@ either_scans frames Equal r s g h = h
 either_scans frames Greater r s g h = g
 
 rolling_scans : (at : Place) (frames : List FrameSpec) (kind : RollKind) (input : Plan) (ds : List Data) → Reads frames input → IfOk (rolling_of at kind input ds) (Reads frames)
-rolling_scans at frames kind input [] h = tt
-rolling_scans at frames kind input (output ∷ []) h = tt
-rolling_scans at frames kind input (output ∷ column ∷ []) h = tt
-rolling_scans at frames kind input (output ∷ column ∷ w ∷ []) h =
-    then_gives _ (names_in at output column) _ (λ n _. then_gives _ (int_in at w) _ (λ rows _.
-    scans-Rolling (length frames) input n.0 kind n.1 rows rows ∙ h))
-rolling_scans at frames kind input (output ∷ column ∷ w ∷ m ∷ []) h =
-    then_gives _ (names_in at output column) _ (λ n _. then_gives _ (int_in at w) _ (λ rows _. then_gives _ (int_in at m) _ (λ least _.
-    scans-Rolling (length frames) input n.0 kind n.1 rows least ∙ h)))
-rolling_scans at frames kind input (output ∷ column ∷ w ∷ m ∷ d ∷ ds) h = tt
+rolling_scans at frames kind input ds h =
+    then_gives _ (window_parts at ds) _ (λ w _. scans-Rolling (length frames) input w.0.0 kind w.0.1 w.1.0 w.1.1 ∙ h)
 
 mutual
   steps_scans : (at : Place) (frames : List FrameSpec) (input : Plan) (ds : Items) → Reads frames input → IfOk (steps_after at frames input ds) (Reads frames)
@@ -170,8 +162,7 @@ mutual
   applied_scans at frames step_word.CumSum input ds h =
       then_gives _ (pair_in at (list_of ds)) _ (λ p _. then_gives _ (names_in at p.0 p.1) _ (λ n _. scans-CumSum (length frames) input n.0 n.1 ∙ h))
   applied_scans at frames step_word.Rank input ds h =
-      then_gives _ (triple_in at (list_of ds)) _ (λ t _. then_gives _ (text_in at t.0) _ (λ output _. then_gives _ (text_in at t.1) _ (λ w _.
-      then_gives _ (rank_of_word at w) _ (λ kind _. then_gives _ (text_in at t.2) _ (λ column _. scans-Rank (length frames) input output kind column ∙ h)))))
+      then_gives _ (rank_parts at (list_of ds)) _ (λ r _. scans-Rank (length frames) input r.0 r.1 r.2 ∙ h)
   applied_scans at frames step_word.Join input (item kind (item keys (item right no_items))) h =
       then_gives _ (kind_and_keys at kind keys) _ (λ how _. then_gives _ (side_of at frames right) _ (λ p is.
       scans-Join (length frames) input p how.0 how.1 h (given (Reads frames) (side_of at frames right) p (side_scans at frames right) is)))

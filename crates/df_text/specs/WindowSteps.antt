@@ -1,5 +1,5 @@
 -- The steps that put a column among those of their input: rolling windows, `cum_sum` and `rank`, by the items after their word.
-use Rattle.std.specs.Prelude.{ℕ, ℤ, List, [], ◌∷◌, codes, Result, Ok, Err, if◌then◌else◌}
+use Rattle.std.specs.Prelude.{ℕ, ℤ, List, [], ◌∷◌, codes, Option, Some, None, Result, Ok, Err, if◌then◌else◌}
 use Rattle.std.specs.Str.{bytes_eq}
 use Rattle.toml.specs.Data.{Data, integer}
 use Rattle.df_plan.specs.declared.plan.Plan.{Plan}
@@ -23,15 +23,27 @@ abbrev pub names_in : Place → Data → Data → Result (List ℕ × List ℕ) 
 names_in at output column =
     then_read (text_in at output) (λ o. then_read (text_in at column) (λ c. Ok (o, c)))
 
--- an output, a column, the number of rows of a window and, if wanted, of how many at least the cell must not be
--- null; where that is missing it is the number of rows
+-- the items of a rolling window: an output, a column, the number of rows and, if it stands there, the least number
+-- of them that are not null
+abbrev pub window_items : Place → List Data → Result (Data × Data × Data × Option Data) ViewsFault
+window_items at (output ∷ column ∷ rows ∷ []) = Ok (output, column, rows, None)
+window_items at (output ∷ column ∷ rows ∷ least ∷ []) = Ok (output, column, rows, Some least)
+window_items at _ = Err (fault.Shape at)
+
+-- the two numbers of a rolling window; where the least is not given it is the number of rows
+abbrev pub window_numbers : Place → Data → Option Data → Result (ℤ × ℤ) ViewsFault
+window_numbers at rows None = then_read (int_in at rows) (λ r. Ok (r, r))
+window_numbers at rows (Some least) = then_read (int_in at rows) (λ r. then_read (int_in at least) (λ l. Ok (r, l)))
+
+-- the names and the two numbers of a rolling window
+abbrev pub window_parts : Place → List Data → Result ((List ℕ × List ℕ) × (ℤ × ℤ)) ViewsFault
+window_parts at ds =
+    then_read (window_items at ds) (λ w. then_read (names_in at w.0 w.1) (λ n. then_read (window_numbers at w.2 w.3) (λ r. Ok (n, r))))
+
+-- a rolling window over a plan
 abbrev pub rolling_of : Place → RollKind → Plan → List Data → Result Plan ViewsFault
-rolling_of at kind input (output ∷ column ∷ w ∷ []) =
-    then_read (names_in at output column) (λ n. then_read (int_in at w) (λ rows. Ok (plan.Rolling input n.0 kind n.1 rows rows)))
-rolling_of at kind input (output ∷ column ∷ w ∷ m ∷ []) =
-    then_read (names_in at output column) (λ n. then_read (int_in at w) (λ rows. then_read (int_in at m) (λ least.
-    Ok (plan.Rolling input n.0 kind n.1 rows least))))
-rolling_of at kind input _ = Err (fault.Shape at)
+rolling_of at kind input ds =
+    then_read (window_parts at ds) (λ w. Ok (plan.Rolling input w.0.0 kind w.0.1 w.1.0 w.1.1))
 
 -- an output and a column
 abbrev pub cum_sum_of : Place → Plan → List Data → Result Plan ViewsFault
@@ -43,8 +55,12 @@ abbrev pub rank_of_word : Place → List ℕ → Result RankKind ViewsFault
 rank_of_word at w = if bytes_eq w (codes "dense") then Ok rank.Dense else Err (fault.Word at)
 
 -- an output, the kind of rank, and a column
-abbrev pub rank_of : Place → Plan → List Data → Result Plan ViewsFault
-rank_of at input ds =
+abbrev pub rank_parts : Place → List Data → Result (List ℕ × RankKind × List ℕ) ViewsFault
+rank_parts at ds =
     then_read (triple_in at ds) (λ t. then_read (text_in at t.0) (λ output.
     then_read (text_in at t.1) (λ w. then_read (rank_of_word at w) (λ kind.
-    then_read (text_in at t.2) (λ column. Ok (plan.Rank input output kind column))))))
+    then_read (text_in at t.2) (λ column. Ok (output, kind, column))))))
+
+-- a rank over a plan
+abbrev pub rank_of : Place → Plan → List Data → Result Plan ViewsFault
+rank_of at input ds = then_read (rank_parts at ds) (λ r. Ok (plan.Rank input r.0 r.1 r.2))

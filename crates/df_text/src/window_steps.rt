@@ -1,8 +1,8 @@
 //! The steps that add a column over a column's rows.
-ghost use Rattle.std.specs.Prelude.{◌≡◌, map, codes};
+ghost use Rattle.std.specs.Prelude.{◌≡◌, MatchResult, Ok, Err, map, codes, option_map};
 ghost use Rattle.toml.specs.View.{view};
 ghost use Rattle.df_text.specs.Reading.{Answers};
-ghost use Rattle.df_text.specs.WindowSteps.{int_in as int_of, names_in as names_of, rolling_of, cum_sum_of, rank_of_word, rank_of};
+ghost use Rattle.df_text.specs.WindowSteps.{int_in as int_of, names_in as names_of, window_numbers as numbers_of_window, window_items as items_of_window, window_parts, rolling_of, cum_sum_of, rank_of_word, rank_parts, rank_of};
 
 use crate::document::Place;
 use crate::tree::{pair_in, text_in, triple_in};
@@ -23,19 +23,63 @@ pub fn rolling(
     ensures { Answers (rolling_of place kind input (map view items.now)) result }
 {
     let input = Boxed::new(alloc, input)?;
-    match items {
-        [output, column, rows] => {
-            let (output, column) = names_in(alloc, place, output, column)?;
-            let rows = int_in(place, rows)?;
-            Ok(Plan::Rolling(input, output, kind, column, rows, rows))
-        }
-        [output, column, rows, least] => {
-            let (output, column) = names_in(alloc, place, output, column)?;
-            let rows = int_in(place, rows)?;
-            let least = int_in(place, least)?;
+    match read_window(alloc, place, items) {
+        Ok(((output, column), (rows, least))) => {
             Ok(Plan::Rolling(input, output, kind, column, rows, least))
         }
+        Err(fault) => {
+            drop(input);
+            Err(fault)
+        }
+    }
+}
+
+/// The names of a window's output and column, and its rows.
+fn read_window(
+    alloc: Global,
+    place: Place,
+    items: &[Value],
+) -> Result<((Text, Text), (i64, i64)), ViewsFault>
+    ensures { Answers (window_parts place (map view items.now)) result }
+{
+    let (output, column, rows, least) = window_items(place, items)?;
+    let names = names_in(alloc, place, output, column)?;
+    match window_numbers(place, rows, least) {
+        Ok(rows) => Ok((names, rows)),
+        Err(fault) => {
+            drop(names);
+            Err(fault)
+        }
+    }
+}
+
+/// An output, a column, rows and, if it stands there, how many of them must not be null.
+fn window_items(
+    place: Place,
+    items: &[Value],
+) -> Result<(&Value, &Value, &Value, Option<&Value>), ViewsFault>
+    ensures { MatchResult result
+        (λ w. items_of_window place (map view items.now)
+        ≡ Ok (view w.0.now, view w.1.now, view w.2.now, option_map (λ v. view v.now) w.3))
+        (λ f. items_of_window place (map view items.now) ≡ Err f) }
+{
+    match items {
+        [output, column, rows] => Ok((output, column, rows, None)),
+        [output, column, rows, least] => Ok((output, column, rows, Some(least))),
         _ => Err(ViewsFault::Shape(place)),
+    }
+}
+
+/// The rows of a window, and how many of them must not be null: all, where no number is given.
+fn window_numbers(place: Place, rows: &Value, least: Option<&Value>) -> Result<(i64, i64), ViewsFault>
+    ensures { MatchResult result
+        (λ r. numbers_of_window place (view rows.now) (option_map (λ v. view v.now) least.entry) ≡ Ok r)
+        (λ f. numbers_of_window place (view rows.now) (option_map (λ v. view v.now) least.entry) ≡ Err f) }
+{
+    let rows = int_in(place, rows)?;
+    match least {
+        Some(least) => Ok((rows, int_in(place, least)?)),
+        None => Ok((rows, rows)),
     }
 }
 
@@ -59,11 +103,35 @@ pub fn rank(alloc: Global, place: Place, input: Plan, items: &[Value]) -> Result
     ensures { Answers (rank_of place input (map view items.now)) result }
 {
     let input = Boxed::new(alloc, input)?;
+    match read_rank(alloc, place, items) {
+        Ok((output, kind, column)) => Ok(Plan::Rank(input, output, kind, column)),
+        Err(fault) => {
+            drop(input);
+            Err(fault)
+        }
+    }
+}
+
+/// A rank, apart from the plan that it is applied to.
+fn read_rank(
+    alloc: Global,
+    place: Place,
+    items: &[Value],
+) -> Result<(Text, RankKind, Text), ViewsFault>
+    ensures { Answers (rank_parts place (map view items.now)) result }
+{
     let (output, kind, column) = triple_in(place, items)?;
-    let output = Text::from_str(alloc, text_in(place, output)?)?;
+    let output = text_in(place, output)?;
     let kind = rank_named(place, text_in(place, kind)?)?;
-    let column = Text::from_str(alloc, text_in(place, column)?)?;
-    Ok(Plan::Rank(input, output, kind, column))
+    let column = text_in(place, column)?;
+    let output = Text::from_str(alloc, output)?;
+    match Text::from_str(alloc, column) {
+        Ok(column) => Ok((output, kind, column)),
+        Err(_) => {
+            drop(output);
+            Err(ViewsFault::Memory)
+        }
+    }
 }
 
 /// The kind of rank that a word names.

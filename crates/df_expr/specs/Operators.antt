@@ -1,0 +1,26 @@
+-- The values of the operators whose operands are all evaluated, as `value_step` gives them.
+use Rattle.std.specs.Prelude.{not}
+use Rattle.df_value.specs.declared.cell.Cell.{Cell}
+use Rattle.df_value.specs.declared.cell.Cell.TheVariants as cell
+use Rattle.df_value.specs.CellEq.{cell_eq}
+use Rattle.df_value.specs.Order.{order_of}
+use Rattle.df_expr.specs.Logic.{kleene_and, kleene_or, kleene_not}
+use Rattle.df_expr.specs.Value.{arith_of, compare_of, is_null, truth_of, cell_of}
+use Rattle.df_expr.specs.declared.operators.Unary.{Unary}
+use Rattle.df_expr.specs.declared.operators.Unary.TheVariants as unary
+use Rattle.df_expr.specs.declared.operators.Binary.{Binary}
+use Rattle.df_expr.specs.declared.operators.Binary.TheVariants as binary
+
+-- the value of an operator of one operand
+abbrev pub unary_of : Unary → Cell → Cell
+unary_of unary.Not a = cell_of (kleene_not (truth_of a))
+unary_of unary.IsNull a = cell.Bool (is_null a)
+unary_of unary.IsNotNull a = cell.Bool (not (is_null a))
+
+-- the value of an operator of two operands
+abbrev pub binary_of : Binary → Cell → Cell → Cell
+binary_of (binary.Arith op) a b = arith_of op a b
+binary_of (binary.Compare op) a b = compare_of op (order_of a b)
+binary_of binary.EqMissing a b = cell.Bool (cell_eq a b)
+binary_of binary.And a b = cell_of (kleene_and (truth_of a) (truth_of b))
+binary_of binary.Or a b = cell_of (kleene_or (truth_of a) (truth_of b))
