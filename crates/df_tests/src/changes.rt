@@ -1,11 +1,11 @@
 //! Lists of changes.
 ghost use Rattle.std.specs.Prelude.{◌≡◌};
 
-use crate::given::{chunk, scan};
+use crate::given::{chunk, scan, schema};
 use crate::openings::{PARTS, books, opened};
 use df_catalogue::{CatalogueFault, Change};
-use df_value::CellType::Int;
-use df_value::{List, Text};
+use df_value::CellType::{Bool, Int};
+use df_value::{Chunk, List, Text};
 use std::alloc::{AllocError, Global};
 use std::marker::Brand;
 use std::process::Abort;
@@ -16,6 +16,8 @@ use std::test::Fail;
 #[derive(Clone, Copy)]
 enum Step {
     Append(usize),
+    /// Of a chunk without rows, of another schema than the first frame's.
+    AppendUnlike,
     Delete(usize, u32),
     Drop,
     Register,
@@ -26,6 +28,11 @@ fn change(alloc: Global, step: Step) -> Result<Change, AllocError> {
         Step::Append(frame) => {
             let chunk = chunk(alloc, 0, &[Some(7), Some(8)])?;
             Ok(Change::Append(frame, chunk))
+        }
+        Step::AppendUnlike => {
+            let rows = List::from_vec(Vec::new(alloc));
+            let unlike = Chunk::new(alloc, &schema(alloc, Bool)?, 0, rows);
+            Ok(Change::Append(0, unlike.map_err(|_| AllocError)?))
         }
         Step::Delete(frame, number) => {
             let numbers = vec![in alloc; number]?;
@@ -40,8 +47,9 @@ fn change(alloc: Global, step: Step) -> Result<Change, AllocError> {
 }
 
 // The changes and their answers.
-const STEPS: [(Step, Option<CatalogueFault>); 8] = [
+const STEPS: [(Step, Option<CatalogueFault>); 9] = [
     (Step::Append(0), None),
+    (Step::AppendUnlike, Some(CatalogueFault::SchemaUnlike)),
     (Step::Delete(0, 5), Some(CatalogueFault::NotLive(5))),
     (Step::Delete(0, 0), None),
     (Step::Append(9), Some(CatalogueFault::NoFrame)),
