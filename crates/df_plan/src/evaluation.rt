@@ -1,5 +1,5 @@
 //! The plain evaluation of a plan, over whole tables.
-ghost use Rattle.std.specs.Prelude.{◌≡◌, IfOk, IsTrue, slice_get};
+ghost use Rattle.std.specs.Prelude.{◌≡◌, [], IfOk, IsTrue, slice_get};
 ghost use Rattle.df_value.specs.Rows.{rows_fit};
 ghost use Rattle.df_plan.specs.Meaning.{table_of, frame_from, frames_fit};
 ghost use Rattle.df_table.specs.Tables.{roll_table as table_rolled};
@@ -111,14 +111,29 @@ fn copy_frame(
     ensures { IfOk result (λ t. t ≡ frame_from (slice_get schemas.now frame) (slice_get frames.now frame)) }
 {
     match (schemas.get(frame), frames.get(frame)) {
-        (Some(schema), Some(rows)) => {
-            let columns = schema.columns().copy(alloc)?;
-            let rows = rows.copy(alloc)?;
-            Ok(Table { columns, rows })
+        (Some(schema), Some(rows)) => copy_rows(alloc, schema, rows),
+        _ => Ok(empty_table(alloc)),
+    }
+}
+
+fn copy_rows(alloc: Global, schema: &Schema, rows: &List<Row>) -> Result<Table, AllocError>
+    ensures { IfOk result (λ t. (t.columns ≡ schema.now) × (t.rows ≡ rows.now)) }
+{
+    let columns = schema.columns().copy(alloc)?;
+    match rows.copy(alloc) {
+        Ok(rows) => Ok(Table { columns, rows }),
+        Err(refused) => {
+            drop(columns);
+            Err(refused)
         }
-        _ => Ok(Table {
-            columns: List::from_vec(Vec::new(alloc)),
-            rows: List::from_vec(Vec::new(alloc)),
-        }),
+    }
+}
+
+fn empty_table(alloc: Global) -> Table
+    ensures { (result.columns ≡ []) × (result.rows ≡ []) }
+{
+    Table {
+        columns: List::from_vec(Vec::new(alloc)),
+        rows: List::from_vec(Vec::new(alloc)),
     }
 }
