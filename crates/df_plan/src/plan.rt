@@ -137,41 +137,62 @@ fn copy_of_window(
 fn same_plan(a: &Plan, b: &Plan) -> bool
     ensures { IsTrue result ↔ (a.now ≡ b.now) }
 {
-    match (a, b) {
-        (Plan::Scan(f), Plan::Scan(g)) => *f == *g,
-        (Plan::Filter(x, p), Plan::Filter(y, q)) => same_plan(x.get(), y.get()) && same(p, q),
-        (Plan::Select(x, items), Plan::Select(y, others))
-        | (Plan::WithColumns(x, items), Plan::WithColumns(y, others)) => {
-            same_plan(x.get(), y.get()) && same(items, others)
-        }
-        (Plan::GroupBy(x, keys, aggs), Plan::GroupBy(y, other_keys, other_aggs)) => {
-            same_plan(x.get(), y.get()) && same(keys, other_keys) && same(aggs, other_aggs)
-        }
-        (Plan::Join(x, z, how, keys), Plan::Join(y, w, other_how, other_keys)) => {
-            same_plan(x.get(), y.get())
-                && same_plan(z.get(), w.get())
-                && *how == *other_how
-                && same(keys, other_keys)
-        }
-        (
-            Plan::Rolling(x, output, kind, column, w, m),
-            Plan::Rolling(y, other, other_kind, other_column, other_w, other_m),
-        ) => {
-            same_plan(x.get(), y.get())
-                && *kind == *other_kind
-                && same_names(output, other, column, other_column)
-                && *w == *other_w
-                && *m == *other_m
-        }
-        (Plan::CumSum(x, output, column), Plan::CumSum(y, other, other_column)) => {
-            same_plan(x.get(), y.get()) && same_names(output, other, column, other_column)
-        }
-        (Plan::Rank(x, output, kind, column), Plan::Rank(y, other, other_kind, other_column)) => {
-            same_plan(x.get(), y.get())
-                && *kind == *other_kind
-                && same_names(output, other, column, other_column)
-        }
-        _ => false,
+    match a {
+        Plan::Scan(f) => match b {
+            Plan::Scan(g) => *f == *g,
+            _ => false,
+        },
+        Plan::Filter(x, p) => match b {
+            Plan::Filter(y, q) => same_plan(x.get(), y.get()) && same(p, q),
+            _ => false,
+        },
+        Plan::Select(x, items) => match b {
+            Plan::Select(y, others) => same_plan(x.get(), y.get()) && same(items, others),
+            _ => false,
+        },
+        Plan::WithColumns(x, items) => match b {
+            Plan::WithColumns(y, others) => same_plan(x.get(), y.get()) && same(items, others),
+            _ => false,
+        },
+        Plan::GroupBy(x, keys, aggs) => match b {
+            Plan::GroupBy(y, other_keys, other_aggs) => {
+                same_plan(x.get(), y.get()) && same(keys, other_keys) && same(aggs, other_aggs)
+            }
+            _ => false,
+        },
+        Plan::Join(x, z, how, keys) => match b {
+            Plan::Join(y, w, other_how, other_keys) => {
+                same_plan(x.get(), y.get())
+                    && same_plan(z.get(), w.get())
+                    && *how == *other_how
+                    && same(keys, other_keys)
+            }
+            _ => false,
+        },
+        Plan::Rolling(x, output, kind, column, w, m) => match b {
+            Plan::Rolling(y, other, other_kind, other_column, other_w, other_m) => {
+                same_plan(x.get(), y.get())
+                    && *kind == *other_kind
+                    && same_names(output, other, column, other_column)
+                    && *w == *other_w
+                    && *m == *other_m
+            }
+            _ => false,
+        },
+        Plan::CumSum(x, output, column) => match b {
+            Plan::CumSum(y, other, other_column) => {
+                same_plan(x.get(), y.get()) && same_names(output, other, column, other_column)
+            }
+            _ => false,
+        },
+        Plan::Rank(x, output, kind, column) => match b {
+            Plan::Rank(y, other, other_kind, other_column) => {
+                same_plan(x.get(), y.get())
+                    && *kind == *other_kind
+                    && same_names(output, other, column, other_column)
+            }
+            _ => false,
+        },
     }
 }
 
