@@ -14,8 +14,7 @@ whole arith.Mul a b = a *ℤ b
 abbrev pub wrapped : ℤ → ℤ
 wrapped z = int_wrap w64 z
 
--- a number is the 64-bit integer that equals z modulo 2^64: the two are the same once 2^64 is added to each often
--- enough
+-- n is the 64-bit integer that equals z modulo 2^64: with some multiple of 2^64 added to each, the two are the same
 pub record IsWrapped (z n : ℤ) : Type 0 where
   pub least : pos 0 ≤ℤ (n +ℤ pos (2 ^ 63))
   pub most : n <ℤ pos (2 ^ 63)

@@ -1,4 +1,5 @@
--- The values of the operators whose operands are all evaluated, as `value_step` gives them.
+-- The values of operators over the values of their operands, as `value_step` has them: of all operators but `fill_null`,
+-- whose second operand is evaluated only where the first is null.
 use Rattle.std.specs.Prelude.{not}
 use Rattle.df_value.specs.declared.cell.Cell.{Cell}
 use Rattle.df_value.specs.declared.cell.Cell.TheVariants as cell

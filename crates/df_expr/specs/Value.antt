@@ -24,7 +24,7 @@ abbrev pub arith_of : ArithOp → Cell → Cell → Cell
 arith_of op (cell.Int a) (cell.Int b) = cell.Int (wrapped (whole op a b))
 arith_of op _ _ = cell.Null
 
--- whether a comparison holds of two cells that compare so
+-- whether a comparison holds of two cells that stand in this order
 abbrev pub holds : CompareOp → Ordering → Bool
 holds compare.Eq o = is_eq o
 holds compare.Ne o = not (is_eq o)
@@ -33,7 +33,8 @@ holds compare.Le o = is_le o
 holds compare.Gt o = is_gt o
 holds compare.Ge o = is_ge o
 
--- the answer of a comparison; null where the cells do not compare, as where one is null
+-- the answer of a comparison; null where a cell is null, and for cells that have no order (means, two types), which the
+-- check refuses
 abbrev pub compare_of : CompareOp → Option Ordering → Cell
 compare_of op None = cell.Null
 compare_of op (Some o) = cell.Bool (holds op o)
@@ -57,8 +58,8 @@ abbrev pub fill_of : Cell → Cell → Cell
 fill_of cell.Null b = b
 fill_of a b = a
 
--- the value of one form, from the values of its operands; two cells are equal to `eq_missing` where they are
--- one and the same, null like any other
+-- the value of one form, from the values of its operands; `eq_missing` is true where the two are the same cell, null
+-- being a cell like any other
 abbrev pub value_step : List (List ℕ × CellType) → List Cell → Expr-F Cell → Cell
 value_step schema row (Expr-F.Column name) = cell_at (position_of name schema) row
 value_step schema row (Expr-F.Literal c k) = c

@@ -99,8 +99,8 @@ fn apply_unary(
     Ok(operator.apply(&a))
 }
 
-// The value of an operator over a left operand's value and the value of its right operand, which stands first:
-// by its depth the recursion ends.
+// The value of an operator over its left operand's value and the value of its right operand. The right operand
+// comes before all that is read of it, since the recursion ends by its depth.
 #[cycle(values)]
 fn apply_binary(
     alloc: Global,

@@ -11,7 +11,7 @@ use Rattle.df_table.specs.Windows.{rolled_type}
 use Rattle.df_plan.specs.ItemChecks.{Columns, Checked, Kind, key_type}
 use Rattle.df_plan.specs.Settled.{put_checked}
 
--- a window of 1 to 65536 rows, which wants 1 cell or more, and no more than it has rows
+-- a window: 1 <= w <= 65536 and 1 <= m <= w
 abbrev pub is_window : ℤ → ℤ → Bool
 is_window w m = int_le (pos 1) w && (int_le w (pos 65536) && (int_le (pos 1) m && int_le m w))
 

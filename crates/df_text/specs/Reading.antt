@@ -7,7 +7,7 @@ use Rattle.df_text.specs.declared.views_fault.ViewsFault.TheVariants as fault
 abbrev pub Answers : {A : Type 0} → Result A ViewsFault → Result A ViewsFault → Type 0
 Answers want result = MatchResult result (λ x. want ≡ Ok x) (λ f. f ≢ fault.Memory → want ≡ Err f)
 
--- what was read, and then the next reading of it
+-- the next reading, given what was read; or the fault, and nothing more is read
 abbrev pub then_read : {A B : Type 0} → Result A ViewsFault → (A → Result B ViewsFault) → Result B ViewsFault
 then_read (Ok x) next = next x
 then_read (Err f) next = Err f

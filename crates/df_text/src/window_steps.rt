@@ -34,7 +34,7 @@ pub fn rolling(
     }
 }
 
-/// The names of a window's output and column, and its rows.
+/// The names of a window's output and column, and its w and m.
 fn read_window(
     alloc: Global,
     place: Place,
@@ -53,7 +53,7 @@ fn read_window(
     }
 }
 
-/// An output, a column, rows and, if it stands there, how many of them must not be null.
+/// An output, a column, w and, if it stands there, m.
 fn window_items(
     place: Place,
     items: &[Value],
@@ -70,8 +70,12 @@ fn window_items(
     }
 }
 
-/// The rows of a window, and how many of them must not be null: all, where no number is given.
-fn window_numbers(place: Place, rows: &Value, least: Option<&Value>) -> Result<(i64, i64), ViewsFault>
+/// w and m of a window; without m, m is w.
+fn window_numbers(
+    place: Place,
+    rows: &Value,
+    least: Option<&Value>,
+) -> Result<(i64, i64), ViewsFault>
     ensures { MatchResult result
         (λ r. numbers_of_window place (view rows.now) (option_map (λ v. view v.now) least.entry) ≡ Ok r)
         (λ f. numbers_of_window place (view rows.now) (option_map (λ v. view v.now) least.entry) ≡ Err f) }
