@@ -1,6 +1,6 @@
 -- One more turn of a loop that makes a list of another, item by item.
-use Rattle.std.proofs.Common.{◌≡◌, ℕ, ◌+◌, ◌<◌, ◌∙◌, List, [], ◌∷◌, ◌++◌, length, get_or, map, take, drop, ap, sym, append_assoc, refl}
-use Rattle.std.proofs.lemmas.List.{map_more, take_more, drop_more}
+use Rattle.std.proofs.Common.{◌≡◌, ℕ, ◌+◌, ◌<◌, ◌≤◌, ◌∙◌, List, [], ◌∷◌, ◌++◌, length, get_or, map, take, drop, ap, sym, append_assoc, refl}
+use Rattle.std.proofs.lemmas.List.{map_more, take_all, take_more, drop_more}
 
 -- the loop pushes f of the next item
 pub mapped_more :
@@ -11,6 +11,22 @@ mapped_more f xs i out more x y h is so_far here pushed =
     ∙ (ap (λ o. o ++ y ∷ []) so_far
     ∙ (ap (λ v. map f (take i xs) ++ v ∷ []) (here ∙ ap f is)
     ∙ sym (map_more f xs i x h)))
+
+-- the loop pushes f of the next item, which is read by its index
+pub mapped_at :
+    {X Y : Type 0} (f : X → Y) (xs : List X) (i : ℕ) (out more : List Y) (d : X) (y : Y) →
+    i < length xs → out ≡ map f (take i xs) → y ≡ f (get_or xs i d) → more ≡ out ++ y ∷ [] → more ≡ map f (take (i + 1) xs)
+mapped_at f xs i out more d y h so_far here pushed =
+    pushed
+    ∙ (ap (λ o. o ++ y ∷ []) so_far
+    ∙ (ap (λ v. map f (take i xs) ++ v ∷ []) here
+    ∙ sym (map_more f xs i d h)))
+
+-- the loop has come to the end of the list
+pub all_done :
+    {X B : Type 0} (f : List X → B) (xs : List X) (i : ℕ) (out made : B) →
+    length xs ≤ i → out ≡ f (take i xs) → made ≡ out → made ≡ f xs
+all_done f xs i out made end so_far same = same ∙ (so_far ∙ ap f (take_all i xs end))
 
 -- and has pushed others before
 pub mapped_behind :

@@ -1,4 +1,4 @@
-use Rattle.std.proofs.Common.{arith, ◌∙◌, ap}
+use Rattle.std.proofs.Common.{arith, ◌∙◌, ap, sym, append-nil}
 use Rattle.df_table.proofs.Steps.{mapped_behind}
 use Rattle.df_table.specs.Tables.{aggregate_of}
 use Rattle.df_table.proofs.grouping.group_row.Goals as goal
@@ -10,3 +10,6 @@ loop-agg-preserved c =
     ∙ (ap (λ columns. aggregate_of columns c.as_slice-in-loop-agg-2.result.now c.agg-item.result.1) c.as_slice-in-loop-agg.ensures
     ∙ ap (λ group. aggregate_of c.args.table.now.columns group c.agg-item.result.1) c.as_slice-in-loop-agg-2.ensures.value))
     c.in_ok-push.ensures.items
+
+pub loop-agg-init : goal.loop-agg-init
+loop-agg-init c = c.into_vec-row.ensures ∙ (c.in_ok-copy.ensures ∙ sym (append-nil _))

@@ -1,6 +1,13 @@
-use Rattle.std.proofs.Common.{arith}
-use Rattle.df_table.proofs.Steps.{mapped_more}
+use Rattle.df_table.specs.Tables.{group_row}
+use Rattle.std.proofs.Common.{arith, map}
+use Rattle.df_table.proofs.Steps.{mapped_more, all_done}
 use Rattle.df_table.proofs.grouping.group_rows.Goals as goal
 
 pub loop-key-preserved : goal.loop-key-preserved
 loop-key-preserved c = mapped_more _ _ _ _ _ _ _ (omega arith) c.key-item.is c.loop-key.invariant c.in_ok-group_row.ensures c.in_ok-push.ensures.items
+
+pub returns : goal.returns
+returns c =
+    let table = c.args.table.now in
+    all_done (map (group_row table.columns c.args.places.now c.args.aggs.now table.rows)) c.args.found.now _ _ _
+    c.loop-key-test.false c.loop-key.invariant c.from_vec.ensures

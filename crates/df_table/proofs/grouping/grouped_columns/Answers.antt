@@ -1,5 +1,6 @@
-use Rattle.std.proofs.Common.{arith}
-use Rattle.df_table.proofs.Steps.{mapped_behind, mapped_more, paired}
+use Rattle.df_table.specs.Tables.{key_column, aggregate_column}
+use Rattle.std.proofs.Common.{arith, ◌++◌, map}
+use Rattle.df_table.proofs.Steps.{mapped_behind, mapped_more, paired, all_done}
 use Rattle.df_table.proofs.grouping.grouped_columns.Goals as goal
 
 pub loop-name-preserved : goal.loop-name-preserved
@@ -10,3 +11,9 @@ pub loop-agg-preserved : goal.loop-agg-preserved
 loop-agg-preserved c =
     mapped_behind _ _ _ _ _ _ _ _ (omega arith) c.agg-item.is c.loop-agg.invariant (paired c.in_ok-copy-2.ensures c.type_of_agg.ensures)
     c.in_ok-push-2.ensures.items
+
+pub returns : goal.returns
+returns c =
+    let columns = c.args.columns.now in
+    all_done (λ aggs. map (key_column columns) c.args.keys.now ++ map (aggregate_column columns) aggs) c.args.aggs.now _ _ _
+    c.loop-agg-test.false c.loop-agg.invariant c.from_vec.ensures

@@ -1,5 +1,5 @@
-use Rattle.std.proofs.Common.{arith, []}
-use Rattle.df_table.proofs.Steps.{joined_more}
+use Rattle.std.proofs.Common.{arith, [], refl}
+use Rattle.df_table.proofs.Steps.{joined_more, all_done}
 use Rattle.std.proofs.lemmas.List.Elements.{filter-append}
 use Rattle.df_value.specs.Rows.{row_eq}
 use Rattle.df_table.specs.Groups.{group_of, key_of}
@@ -10,3 +10,8 @@ loop-row-preserved c =
     joined_more (λ rows. group_of c.args.places.now rows c.args.key.now)
     (filter-append (λ r. row_eq (key_of c.args.places.now r) c.args.key.now))
     [] c.args.rows.now _ _ _ _ (omega arith) c.row-item.is c.loop-row.invariant c.in_ok-keep_in_group.ensures
+
+pub returns : goal.returns
+returns c =
+    all_done (λ rows. group_of c.args.places.now rows c.args.key.now) c.args.rows.now _ _ _
+    c.loop-row-test.false c.loop-row.invariant refl

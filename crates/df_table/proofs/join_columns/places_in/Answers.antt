@@ -1,6 +1,11 @@
+use Rattle.df_table.specs.Joins.{places_in}
 use Rattle.std.proofs.Common.{arith}
-use Rattle.df_table.proofs.Steps.{mapped_more}
+use Rattle.df_table.proofs.Steps.{mapped_more, all_done}
 use Rattle.df_table.proofs.join_columns.places_in.Goals as goal
 
 pub loop-name-preserved : goal.loop-name-preserved
 loop-name-preserved c = mapped_more _ _ _ _ _ _ _ (omega arith) c.name-item.is c.loop-name.invariant (cc) c.in_ok-push.ensures.items
+
+pub returns : goal.returns
+returns c =
+    all_done (places_in c.args.columns.now) c.args.names.now _ _ _ c.loop-name-test.false c.loop-name.invariant c.from_vec.ensures

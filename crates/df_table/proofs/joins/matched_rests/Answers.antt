@@ -1,5 +1,5 @@
-use Rattle.std.proofs.Common.{arith, [], ◌∙◌, ap, map}
-use Rattle.df_table.proofs.Steps.{joined_more}
+use Rattle.std.proofs.Common.{arith, [], ◌∙◌, ap, map, refl}
+use Rattle.df_table.proofs.Steps.{joined_more, all_done}
 use Rattle.std.proofs.lemmas.List.{map-append}
 use Rattle.std.proofs.lemmas.List.Elements.{filter-append}
 use Rattle.df_table.specs.Groups.{key_of}
@@ -14,3 +14,8 @@ loop-right-preserved c =
     joined_more (λ rights. map (key_of rest) (matches_of places key rights))
     (λ xs ys. ap (map (key_of rest)) (filter-append (λ r. keys_match key (key_of places r)) xs ys) ∙ map-append (key_of rest) _ _)
     [] c.args.rights.now _ _ _ _ (omega arith) c.right-item.is c.loop-right.invariant c.in_ok-add_rest.ensures
+
+pub returns : goal.returns
+returns c =
+    all_done (λ rights. map (key_of c.args.rest.now) (matches_of c.args.places.now c.args.key.now rights)) c.args.rights.now _ _ _
+    c.loop-right-test.false c.loop-right.invariant refl

@@ -1,4 +1,4 @@
-use Rattle.std.proofs.Common.{arith, filter, not}
+use Rattle.std.proofs.Common.{arith, filter, not, ◌∙◌, sym, append-nil}
 use Rattle.df_table.proofs.Steps.{joined_more}
 use Rattle.std.proofs.lemmas.List.Elements.{filter-append}
 use Rattle.df_table.specs.Placed.{has_name}
@@ -8,3 +8,6 @@ pub loop-item-preserved : goal.loop-item-preserved
 loop-item-preserved g c =
     joined_more (filter (λ a. not (has_name a.0 c.args.own.now))) (filter-append (λ a. not (has_name a.0 c.args.own.now)))
     _ c.args.added.now _ _ _ _ (omega arith) c.item-item.is c.loop-item.invariant c.in_ok-push_new.ensures
+
+pub loop-item-init : goal.loop-item-init
+loop-item-init g c = c.in_ok-out.ensures ∙ sym (append-nil _)

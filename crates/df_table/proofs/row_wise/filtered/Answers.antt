@@ -1,5 +1,5 @@
 use Rattle.std.proofs.Common.{arith, []}
-use Rattle.df_table.proofs.Steps.{joined_more}
+use Rattle.df_table.proofs.Steps.{joined_more, all_done}
 use Rattle.std.proofs.lemmas.List.Elements.{filter-append}
 use Rattle.df_table.specs.RowWise.{keeps, filtered}
 use Rattle.df_table.proofs.RowWiseLaws.{filtered_twice}
@@ -15,3 +15,7 @@ returns-in_err-keep-clause-twice c again = filtered_twice c.args.columns.now c.a
 
 pub returns-clause-twice : goal.returns-clause-twice
 returns-clause-twice c again = filtered_twice c.args.columns.now c.args.predicate.now c.args.rows.now again
+
+pub returns-clause-value : goal.returns-clause-value
+returns-clause-value c =
+    all_done (filtered c.args.columns.now c.args.predicate.now) c.args.rows.now _ _ _ c.loop-row-test.false c.loop-row.invariant c.from_vec.ensures

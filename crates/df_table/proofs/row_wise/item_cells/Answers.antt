@@ -1,6 +1,11 @@
-use Rattle.std.proofs.Common.{arith}
-use Rattle.df_table.proofs.Steps.{mapped_more, paired}
+use Rattle.df_table.specs.RowWise.{item_cell}
+use Rattle.std.proofs.Common.{arith, map, refl}
+use Rattle.df_table.proofs.Steps.{mapped_more, paired, all_done}
 use Rattle.df_table.proofs.row_wise.item_cells.Goals as goal
 
 pub loop-item-preserved : goal.loop-item-preserved
 loop-item-preserved c = mapped_more _ _ _ _ _ _ _ (omega arith) c.item-item.is c.loop-item.invariant (paired c.in_ok-copy.ensures c.in_ok-value.ensures.value) c.in_ok-push.ensures.items
+
+pub returns : goal.returns
+returns c =
+    all_done (map (item_cell c.args.columns.now c.args.row.now)) c.args.items.now _ _ _ c.loop-item-test.false c.loop-item.invariant refl

@@ -1,6 +1,18 @@
-use Rattle.std.proofs.Common.{arith}
-use Rattle.df_table.proofs.Steps.{mapped_more}
+use Rattle.df_table.specs.RowWise.{selected_row}
+use Rattle.df_expr.specs.Value.{value_of}
+use Rattle.std.proofs.lemmas.List.{length-map}
+use Rattle.std.proofs.Common.{arith, ◌∙◌, ap, length}
+use Rattle.df_table.proofs.Steps.{mapped_more, all_done}
 use Rattle.df_table.proofs.row_wise.selected_row.Goals as goal
 
 pub loop-item-preserved : goal.loop-item-preserved
 loop-item-preserved c = mapped_more _ _ _ _ _ _ _ (omega arith) c.item-item.is c.loop-item.invariant c.in_ok-value.ensures.value c.in_ok-push.ensures.items
+
+pub returns-clause-value : goal.returns-clause-value
+returns-clause-value c =
+    all_done (λ items. selected_row c.args.columns.now items c.args.row.now) c.args.items.now _ _ _
+    c.loop-item-test.false c.loop-item.invariant c.from_vec.ensures
+
+pub returns-clause-cells : goal.returns-clause-cells
+returns-clause-cells c =
+    ap length (returns-clause-value c) ∙ length-map c.args.items.now (λ i. value_of i.1 c.args.columns.now c.args.row.now)

@@ -1,4 +1,8 @@
-use Rattle.std.proofs.Common.{arith}
+use Rattle.df_table.specs.Running.{running_after}
+use Rattle.df_table.specs.Aggregates.{cells_of}
+use Rattle.std.proofs.lemmas.List.{at_drop_all}
+use Rattle.std.specs.Int.{w128}
+use Rattle.std.proofs.Common.{arith, ◌∙◌, ◌++◌, sym, append-nil, to_z}
 use Rattle.std.proofs.lemmas.Grind.{common_steps}
 use Rattle.std.proofs.lemmas.Int.{ints, to_z-of_z}
 use Rattle.df_table.proofs.WindowFacts.{next_row}
@@ -12,3 +16,11 @@ loop-row-preserved c =
       least = omega (arith, ints);
       most = omega (arith, ints);
     }
+
+pub returns : goal.returns
+returns c =
+    sym
+    (c.loop-row.invariant.so_far
+    ∙ (at_drop_all (λ rows. c.loop-row.cells.items ++ running_after (to_z w128 c.loop-row.sum-bits) (cells_of c.args.place rows)) c.args.rows.now
+    c.loop-row.row-index c.loop-row-test.false
+    ∙ append-nil c.loop-row.cells.items))
