@@ -1,5 +1,6 @@
 -- One more turn of a loop that makes a list of another, item by item.
-use Rattle.std.proofs.Common.{◌≡◌, ℕ, ◌+◌, ◌<◌, ◌≤◌, ◌∙◌, List, [], ◌∷◌, ◌++◌, length, get_or, map, take, drop, ap, sym, append_assoc, refl}
+use Rattle.std.proofs.Common.{◌≡◌, ℕ, ◌+◌, ◌<◌, ◌≤◌, ◌∙◌, List, [], ◌∷◌, ◌++◌, length, get_or, map, take, drop, ap, sym, append_assoc, refl, subst}
+use Rattle.std.specs.Prelude.{Result, Ok, IfOk}
 use Rattle.std.proofs.lemmas.List.{map_more, take_all, take_more, drop_more}
 
 -- the loop pushes f of the next item
@@ -57,6 +58,10 @@ paired {A} {B} {a} {b} {x} {y} e h =
     let first : ◌≡◌ {A = A × B} (a, x) (b, x) = ap (λ (k : A). (k, x)) e in
     let second : ◌≡◌ {A = A × B} (b, x) (b, y) = ap (λ (v : B). (b, v)) h in
     first ∙ second
+
+-- what was made is what it was to be
+pub made_is : {A E : Type 0} (made : Result A E) (x y : A) → IfOk made (λ r. r ≡ y) → made ≡ Ok x → x ≡ y
+made_is {A} {E} made x y h is = subst (λ (r : Result A E). IfOk r (λ v. v ≡ y)) is h
 
 -- the loop goes over two lists side by side and pushes f of the next two items
 pub zipped_more :

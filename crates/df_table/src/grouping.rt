@@ -1,12 +1,13 @@
 //! Group-by over plain tables.
 ghost use Rattle.std.specs.Prelude.{◌≡◌, IfOk, map};
-ghost use Rattle.df_table.specs.Tables.{grouped, grouped_columns as columns_of_groups, group_row as row_of_group, type_of_aggregate, places_of as places_at, type_at as type_at_name};
+ghost use Rattle.df_table.specs.Tables.{grouped, grouped_columns as columns_of_groups, group_row as row_of_group, grouped_rows as rows_of_groups, type_of_aggregate, type_at as type_at_name};
 
 use crate::aggregates::aggregate;
 use crate::groups::{group_of, keys_of};
+use crate::join_columns::places_in;
 use crate::kinds::Agg;
-use crate::table::Table;
-use df_value::{CellType, Duplicate, List, Row, Text, place_of, type_of};
+use crate::table::{Table, table_of};
+use df_value::{CellType, Duplicate, List, Row, Text, type_of};
 use std::alloc::{AllocError, Global};
 
 /// The groups of a table, by the first appearance of their keys.
@@ -19,24 +20,21 @@ pub fn group_by(
 ) -> Result<Table, AllocError>
     ensures { IfOk result (λ t. t ≡ grouped table.now keys.now aggs.now) }
 {
-    let places = places_of(alloc, &table.columns, keys)?;
-    let found = keys_of(alloc, places.as_slice(), table.rows.as_slice())?;
-    let columns = grouped_columns(alloc, &table.columns, keys, aggs)?;
-    let rows = group_rows(alloc, table, places.as_slice(), found.as_slice(), aggs)?;
-    Ok(Table { columns, rows })
+    let columns = grouped_columns(alloc, &table.columns, keys, aggs);
+    table_of(columns, grouped_rows(alloc, table, keys, aggs))
 }
 
-fn places_of(
+fn grouped_rows(
     alloc: Global,
-    columns: &List<(Text, CellType)>,
-    names: &[Text],
-) -> Result<Vec<Option<usize>>, AllocError>
-    ensures { IfOk result (λ places. places.items ≡ places_at columns.now names.now) }
+    table: &Table,
+    keys: &[Text],
+    aggs: &[(Text, Agg)],
+) -> Result<List<Row>, AllocError>
+    ensures { IfOk result (λ rows. rows ≡ rows_of_groups table.now keys.now aggs.now) }
 {
-    names
-        .iter()
-        .map(|name| place_of(name, columns.as_slice()))
-        .collect(alloc)
+    let places = places_in(alloc, table.columns.as_slice(), keys)?;
+    let found = keys_of(alloc, places.as_slice(), table.rows.as_slice())?;
+    group_rows(alloc, table, places.as_slice(), found.as_slice(), aggs)
 }
 
 fn grouped_columns(

@@ -29,7 +29,8 @@ pub fn sides_of(
     Ok(Sides { left, right, rest })
 }
 
-fn places_in(
+/// Where columns of these names stand.
+pub fn places_in(
     alloc: Global,
     columns: &[(Text, CellType)],
     names: &[Text],

@@ -9,7 +9,7 @@ ghost use Rattle.df_table.specs.Tables.{joined as table_joined};
 use crate::groups::key_of;
 use crate::join_columns::{Sides, joined_columns, sides_of};
 use crate::kinds::How;
-use crate::table::Table;
+use crate::table::{Table, table_of};
 use df_value::{Cell, Duplicate, List, Row, Text};
 use std::alloc::{AllocError, Global};
 
@@ -24,21 +24,33 @@ pub fn join(
 ) -> Result<Table, AllocError>
     ensures { IfOk result (λ t. t ≡ table_joined left.now right.now how keys.now) }
 {
+    let columns = joined_columns(alloc, &left.columns, right.columns.as_slice(), keys);
+    table_of(columns, rows_of_join(alloc, left, right, how, keys))
+}
+
+fn rows_of_join(
+    alloc: Global,
+    left: &Table,
+    right: &Table,
+    how: How,
+    keys: &[Text],
+) -> Result<List<Row>, AllocError>
+    ensures { IfOk result (λ rows. rows
+        ≡ rows_joined how (sides left.now.columns right.now.columns keys.now) left.now.rows right.now.rows) }
+{
     let sides = sides_of(
         alloc,
         left.columns.as_slice(),
         right.columns.as_slice(),
         keys,
     )?;
-    let columns = joined_columns(alloc, &left.columns, right.columns.as_slice(), keys)?;
-    let rows = joined_rows(
+    joined_rows(
         alloc,
         how,
         &sides,
         left.rows.as_slice(),
         right.rows.as_slice(),
-    )?;
-    Ok(Table { columns, rows })
+    )
 }
 
 /// The rows of a join, in left order, and for one left row in right order.

@@ -20,6 +20,7 @@ mod groups;
 mod join_columns;
 mod joins;
 mod kinds;
+mod pairs;
 mod placing;
 mod put_column;
 mod ranks;

@@ -1,11 +1,13 @@
 //! Putting a column of further cells among those of a table.
 ghost use Rattle.std.specs.Prelude.{◌≡◌, ◌∷◌, [], IfOk};
+ghost use Rattle.df_table.specs.Placed.{placed as placed_list};
 ghost use Rattle.df_table.specs.Tables.{put_column as column_put};
 ghost use Rattle.df_table.specs.RowWise.{put_row as row_put, put_rows as rows_put};
 
+use crate::pairs::both;
 use crate::placing::placed;
 use crate::row_wise::{named_cells, unnamed};
-use crate::table::Table;
+use crate::table::{Table, table_of};
 use df_value::{Cell, CellType, Duplicate, List, Row, Text};
 use std::alloc::{AllocError, Global};
 
@@ -20,16 +22,22 @@ pub fn put_column(
 ) -> Result<Table, AllocError>
     ensures { IfOk result (λ t. t ≡ column_put table.now name.now kind cells.now) }
 {
-    let added = vec![in alloc; (name.copy(alloc)?, kind)]?;
-    let columns = placed(alloc, table.columns.as_slice(), added.as_slice())?;
-    let rows = put_rows(
-        alloc,
-        table.columns.as_slice(),
-        name,
-        table.rows.as_slice(),
-        cells,
-    )?;
-    Ok(Table { columns, rows })
+    let columns = table.columns.as_slice();
+    let rows = put_rows(alloc, columns, name, table.rows.as_slice(), cells);
+    table_of(columns_with(alloc, columns, name, kind), rows)
+}
+
+// The columns with one more put among them.
+fn columns_with(
+    alloc: Global,
+    columns: &[(Text, CellType)],
+    name: &Text,
+    kind: CellType,
+) -> Result<List<(Text, CellType)>, AllocError>
+    ensures { IfOk result (λ cs. cs ≡ placed_list columns.now ((name.now, kind) ∷ [])) }
+{
+    let added = [(name.copy(alloc)?, kind)];
+    placed(alloc, columns, &added)
 }
 
 fn put_rows(
@@ -59,7 +67,19 @@ fn put_row(
     ensures { IfOk result (λ r. r ≡ row_put columns.now name.now row.now cell.now) }
 {
     let own = named_cells(alloc, columns, row.as_slice())?;
-    let added = vec![in alloc; (name.copy(alloc)?, cell.copy(alloc)?)]?;
-    let cells = placed(alloc, own.as_slice(), added.as_slice())?;
+    let cells = cells_with(alloc, own.as_slice(), name, cell)?;
     unnamed(alloc, cells.as_slice())
+}
+
+// The named cells with one more put among them.
+fn cells_with(
+    alloc: Global,
+    own: &[(Text, Cell)],
+    name: &Text,
+    cell: &Cell,
+) -> Result<List<(Text, Cell)>, AllocError>
+    ensures { IfOk result (λ cells. cells ≡ placed_list own.now ((name.now, cell.now) ∷ [])) }
+{
+    let added = [both(name.copy(alloc), cell.copy(alloc))?];
+    placed(alloc, own, &added)
 }

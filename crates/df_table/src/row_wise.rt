@@ -4,10 +4,11 @@ ghost use Rattle.df_value.specs.Rows.{row_fits};
 ghost use Rattle.df_expr.specs.declared.expr.Expr.{Expr as AnyExpr};
 ghost use Rattle.df_expr.specs.declared.expr.Expr.TheVariants as expr;
 ghost use Rattle.df_table.specs.Tables.{filter_table as table_filtered, select_table as table_selected, with_table as table_with};
-ghost use Rattle.df_table.specs.RowWise.{kind_of as kind_of_expr, item_column, item_cell, is_true as is_true_cell, filtered as rows_filtered, selected_row as row_selected, named_cells as cells_named, added_row as row_added, KeepsOthers};
+ghost use Rattle.df_table.specs.RowWise.{kind_of as kind_of_expr, item_column, item_cell, is_true as is_true_cell, filtered as rows_filtered, selected_row as row_selected, named_cells as cells_named, added_row as row_added, added_columns as columns_added, KeepsOthers};
 
+use crate::pairs::both;
 use crate::placing::placed;
-use crate::table::Table;
+use crate::table::{Table, table_of};
 use df_expr::{Expr, value};
 use df_value::{Cell, CellType, Duplicate, List, Row, Text, type_of};
 use std::alloc::{AllocError, Global};
@@ -22,9 +23,8 @@ pub fn filter_table(alloc: Global, table: &Table, predicate: &Expr) -> Result<Ta
         table.columns.as_slice(),
         predicate,
         table.rows.as_slice(),
-    )?;
-    let columns = table.columns.copy(alloc)?;
-    Ok(Table { columns, rows })
+    );
+    table_of(table.columns.copy(alloc), rows)
 }
 
 /// Copies of the rows whose predicate is true, in their order; a predicate that is null drops its row.
@@ -84,13 +84,24 @@ pub fn select_table(
 ) -> Result<Table, AllocError>
     ensures { IfOk result (λ t. t ≡ table_selected table.now items.now) }
 {
-    let columns = item_columns(alloc, table.columns.as_slice(), items)?;
-    let mut rows = Vec::with_capacity(alloc, table.rows.len())?;
-    for row in table.rows.as_slice() {
-        rows.push(selected_row(alloc, table.columns.as_slice(), items, row)?)?;
+    let columns = table.columns.as_slice();
+    let rows = selected_rows(alloc, columns, items, table.rows.as_slice());
+    table_of(item_columns(alloc, columns, items), rows)
+}
+
+fn selected_rows(
+    alloc: Global,
+    columns: &[(Text, CellType)],
+    items: &[(Text, Expr)],
+    rows: &[Row],
+) -> Result<List<Row>, AllocError>
+    ensures { IfOk result (λ selected. selected ≡ map (row_selected columns.now items.now) rows.now) }
+{
+    let mut selected = Vec::with_capacity(alloc, rows.len())?;
+    for row in rows {
+        selected.push(selected_row(alloc, columns, items, row)?)?;
     }
-    let rows = List::from_vec(rows);
-    Ok(Table { columns, rows })
+    Ok(List::from_vec(selected))
 }
 
 /// The items' values in a row.
@@ -115,14 +126,36 @@ pub fn selected_row(
 pub fn with_table(alloc: Global, table: &Table, items: &[(Text, Expr)]) -> Result<Table, AllocError>
     ensures { IfOk result (λ t. t ≡ table_with table.now items.now) }
 {
-    let added_columns = item_columns(alloc, table.columns.as_slice(), items)?;
-    let columns = placed(alloc, table.columns.as_slice(), added_columns.as_slice())?;
-    let mut rows = Vec::with_capacity(alloc, table.rows.len())?;
-    for row in table.rows.as_slice() {
-        rows.push(added_row(alloc, table.columns.as_slice(), items, row)?)?;
+    let columns = table.columns.as_slice();
+    let rows = added_rows(alloc, columns, items, table.rows.as_slice());
+    table_of(added_columns(alloc, columns, items), rows)
+}
+
+// The columns with the items' columns put among them.
+fn added_columns(
+    alloc: Global,
+    columns: &[(Text, CellType)],
+    items: &[(Text, Expr)],
+) -> Result<List<(Text, CellType)>, AllocError>
+    ensures { IfOk result (λ cs. cs ≡ columns_added columns.now items.now) }
+{
+    let added = item_columns(alloc, columns, items)?;
+    placed(alloc, columns, added.as_slice())
+}
+
+fn added_rows(
+    alloc: Global,
+    columns: &[(Text, CellType)],
+    items: &[(Text, Expr)],
+    rows: &[Row],
+) -> Result<List<Row>, AllocError>
+    ensures { IfOk result (λ added. added ≡ map (row_added columns.now items.now) rows.now) }
+{
+    let mut added = Vec::with_capacity(alloc, rows.len())?;
+    for row in rows {
+        added.push(added_row(alloc, columns, items, row)?)?;
     }
-    let rows = List::from_vec(rows);
-    Ok(Table { columns, rows })
+    Ok(List::from_vec(added))
 }
 
 /// The row with the items' values put among its cells: each in the place of the column of its name, and
@@ -166,7 +199,7 @@ pub fn named_cells(
 {
     let mut named = Vec::with_capacity(alloc, columns.len())?;
     for (column, cell) in columns.iter().zip(cells) {
-        named.push((column.0.copy(alloc)?, cell.copy(alloc)?))?;
+        named.push(both(column.0.copy(alloc), cell.copy(alloc))?)?;
     }
     Ok(named)
 }
@@ -182,7 +215,8 @@ fn item_cells(
 {
     let mut cells = Vec::with_capacity(alloc, items.len())?;
     for item in items {
-        cells.push((item.0.copy(alloc)?, value(alloc, &item.1, columns, row)?))?;
+        let cell = value(alloc, &item.1, columns, row);
+        cells.push(both(item.0.copy(alloc), cell)?)?;
     }
     Ok(cells)
 }

@@ -1,9 +1,26 @@
 //! Plain tables.
+ghost use Rattle.std.specs.Prelude.{◌≡◌, IfOk, Ok};
+
 use df_value::{CellType, List, Row, Text};
+use std::alloc::AllocError;
 
 /// Rows under columns of these names and types.
 #[derive(Debug, Drop)]
 pub struct Table {
     pub columns: List<(Text, CellType)>,
     pub rows: List<Row>,
+}
+
+/// The table of these columns and rows, where both were made.
+pub fn table_of(
+    columns: Result<List<(Text, CellType)>, AllocError>,
+    rows: Result<List<Row>, AllocError>,
+) -> Result<Table, AllocError>
+    ensures columns { IfOk result (λ t. columns ≡ Ok t.columns) }
+    ensures rows { IfOk result (λ t. rows ≡ Ok t.rows) }
+{
+    match (columns, rows) {
+        (Ok(columns), Ok(rows)) => Ok(Table { columns, rows }),
+        _ => Err(AllocError),
+    }
 }

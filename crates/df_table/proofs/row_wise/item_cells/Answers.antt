@@ -1,10 +1,13 @@
 use Rattle.df_table.specs.RowWise.{item_cell}
-use Rattle.std.proofs.Common.{arith, map, refl}
-use Rattle.df_table.proofs.Steps.{mapped_more, paired, all_done}
+use Rattle.std.proofs.Common.{map, refl}
+use Rattle.df_table.proofs.Steps.{made_is, mapped_more, paired, all_done}
 use Rattle.df_table.proofs.row_wise.item_cells.Goals as goal
 
 pub loop-item-preserved : goal.loop-item-preserved
-loop-item-preserved c = mapped_more _ _ _ _ _ _ _ (omega arith) c.item-item.is c.loop-item.invariant (paired c.in_ok-copy.ensures c.in_ok-value.ensures.value) c.in_ok-push.ensures.items
+loop-item-preserved c =
+    mapped_more _ _ _ _ _ _ _ c.loop-item-test.true c.item-item.is c.loop-item.invariant
+    (paired (made_is _ _ _ c.copy.ensures c.in_ok-both.ensures.first) (made_is _ _ _ c.value-cell.ensures.value c.in_ok-both.ensures.second))
+    c.in_ok-push.ensures.items
 
 pub returns : goal.returns
 returns c =

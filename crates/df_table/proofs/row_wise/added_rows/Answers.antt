@@ -1,0 +1,12 @@
+use Rattle.std.proofs.Common.{map}
+use Rattle.df_table.proofs.Steps.{mapped_more, all_done}
+use Rattle.df_table.specs.RowWise.{added_row}
+use Rattle.df_table.proofs.row_wise.added_rows.Goals as goal
+
+pub loop-row-preserved : goal.loop-row-preserved
+loop-row-preserved c =
+    mapped_more _ _ _ _ _ _ _ c.loop-row-test.true c.row-item.is c.loop-row.invariant c.in_ok-added_row.ensures.value c.in_ok-push.ensures.items
+
+pub returns : goal.returns
+returns c =
+    all_done (map (added_row c.args.columns.now c.args.items.now)) c.args.rows.now _ _ _ c.loop-row-test.false c.loop-row.invariant c.from_vec.ensures

@@ -1,0 +1,18 @@
+//! Two values, where both were made.
+ghost use Rattle.std.specs.Prelude.{◌≡◌, IfOk, Ok};
+
+use std::alloc::AllocError;
+
+/// The two values, where both were made. A call of it costs the proof of a loop less than two `?` do.
+pub fn both<A: Drop, B: Drop>(
+    first: Result<A, AllocError>,
+    second: Result<B, AllocError>,
+) -> Result<(A, B), AllocError>
+    ensures first { IfOk result (λ pair. first ≡ Ok pair.0) }
+    ensures second { IfOk result (λ pair. second ≡ Ok pair.1) }
+{
+    match (first, second) {
+        (Ok(first), Ok(second)) => Ok((first, second)),
+        _ => Err(AllocError),
+    }
+}
