@@ -1,5 +1,6 @@
-use Rattle.std.proofs.Common.{arith, ◌∙◌, ap, sym, append-nil}
-use Rattle.df_table.proofs.Steps.{mapped_behind}
+use Rattle.df_table.specs.Groups.{group_of}
+use Rattle.std.proofs.Common.{arith, ◌∙◌, ap, sym, append-nil, ◌++◌, map}
+use Rattle.df_table.proofs.Steps.{mapped_behind, all_done}
 use Rattle.df_table.specs.Tables.{aggregate_of}
 use Rattle.df_table.proofs.grouping.group_row.Goals as goal
 
@@ -13,3 +14,13 @@ loop-agg-preserved c =
 
 pub loop-agg-init : goal.loop-agg-init
 loop-agg-init c = c.into_vec-row.ensures ∙ (c.in_ok-copy.ensures ∙ sym (append-nil _))
+
+pub returns : goal.returns
+returns c =
+    let columns = c.args.table.now.columns in
+    let key = c.args.key.now in
+    let aggs = c.args.aggs.now in
+    all_done (λ taken. key ++ map (λ a. aggregate_of columns c.in_ok-group.group.items a.1) taken) aggs _ _ _
+    c.loop-agg-test.false c.loop-agg.invariant c.from_vec.ensures
+    ∙ ap (λ group. key ++ map (λ a. aggregate_of columns group a.1) aggs)
+    (c.in_ok-group.ensures ∙ ap (λ rows. group_of c.args.places.now rows key) c.as_slice.ensures)

@@ -1,7 +1,7 @@
-use Rattle.std.proofs.Common.{arith, filter, not, ◌∙◌, sym, append-nil}
-use Rattle.df_table.proofs.Steps.{joined_more}
+use Rattle.std.proofs.Common.{arith, filter, not, ◌∙◌, sym, append-nil, ◌++◌, map}
+use Rattle.df_table.proofs.Steps.{joined_more, all_done}
 use Rattle.std.proofs.lemmas.List.Elements.{filter-append}
-use Rattle.df_table.specs.Placed.{has_name}
+use Rattle.df_table.specs.Placed.{has_name, placed, replaced}
 use Rattle.df_table.proofs.placing.placed.Goals as goal
 
 pub loop-item-preserved : goal.loop-item-preserved
@@ -11,3 +11,11 @@ loop-item-preserved g c =
 
 pub loop-item-init : goal.loop-item-init
 loop-item-init g c = c.in_ok-out.ensures ∙ sym (append-nil _)
+
+pub returns : goal.returns
+unfolding placed
+returns g c =
+    let own = c.args.own.now in
+    let added = c.args.added.now in
+    all_done (λ items. map (replaced added) own ++ filter (λ a. not (has_name a.0 own)) items) added _ _ _
+    c.loop-item-test.false c.loop-item.invariant c.from_vec.ensures
