@@ -6,6 +6,7 @@ use crate::aggregates::aggregate;
 use crate::groups::{group_of, keys_of};
 use crate::join_columns::places_in;
 use crate::kinds::Agg;
+use crate::pairs::push_made;
 use crate::table::{Table, table_of};
 use df_value::{CellType, Duplicate, List, Row, Text, type_of};
 use std::alloc::{AllocError, Global};
@@ -83,7 +84,7 @@ fn group_rows(
 {
     let mut rows = Vec::with_capacity(alloc, found.len())?;
     for key in found {
-        rows.push(group_row(alloc, table, places, key, aggs)?)?;
+        push_made(&mut rows, group_row(alloc, table, places, key, aggs))?;
     }
     Ok(List::from_vec(rows))
 }
@@ -102,7 +103,8 @@ fn group_row(
     let group = group_of(alloc, places, table.rows.as_slice(), key)?;
     let mut row = key.copy(alloc)?.into_vec();
     for agg in aggs {
-        row.push(aggregate(alloc, table.columns.as_slice(), group.as_slice(), &agg.1)?)?;
+        let cell = aggregate(alloc, table.columns.as_slice(), group.as_slice(), &agg.1);
+        push_made(&mut row, cell)?;
     }
     Ok(List::from_vec(row))
 }

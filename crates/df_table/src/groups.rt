@@ -5,6 +5,7 @@ ghost use Rattle.df_value.specs.CellEq.{cell_eq};
 ghost use Rattle.df_value.specs.Rows.{cell_at, row_eq};
 ghost use Rattle.df_table.specs.Groups.{key_of as key_at, keys_of as distinct_keys_of, group_of as group_at};
 
+use crate::pairs::push_made;
 use df_value::{Cell, Duplicate, List, Row};
 use std::alloc::{AllocError, Global};
 
@@ -51,7 +52,7 @@ pub fn key_of(alloc: Global, places: &[Option<usize>], row: &Row) -> Result<Row,
 {
     let mut key = Vec::with_capacity(alloc, places.len())?;
     for place in places {
-        key.push(copy_at(alloc, *place, row)?)?;
+        push_made(&mut key, copy_at(alloc, *place, row))?;
     }
     Ok(List::from_vec(key))
 }

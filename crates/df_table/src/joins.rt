@@ -9,6 +9,7 @@ ghost use Rattle.df_table.specs.Tables.{joined as table_joined};
 use crate::groups::key_of;
 use crate::join_columns::{Sides, joined_columns, sides_of};
 use crate::kinds::How;
+use crate::pairs::push_made;
 use crate::table::{Table, table_of};
 use df_value::{Cell, Duplicate, List, Row, Text};
 use std::alloc::{AllocError, Global};
@@ -220,7 +221,7 @@ fn each_beside(alloc: Global, left: &Row, rests: &[Row]) -> Result<Vec<Row>, All
 {
     let mut rows = Vec::with_capacity(alloc, rests.len())?;
     for rest in rests {
-        rows.push(row_beside(alloc, left, rest.as_slice())?)?;
+        push_made(&mut rows, row_beside(alloc, left, rest.as_slice()))?;
     }
     Ok(rows)
 }
@@ -230,7 +231,7 @@ fn row_beside(alloc: Global, left: &Row, rest: &[Cell]) -> Result<Row, AllocErro
 {
     let mut row = left.copy(alloc)?.into_vec();
     for cell in rest {
-        row.push(cell.copy(alloc)?)?;
+        push_made(&mut row, cell.copy(alloc))?;
     }
     Ok(List::from_vec(row))
 }

@@ -1,5 +1,5 @@
 //! Two values, where both were made.
-ghost use Rattle.std.specs.Prelude.{◌≡◌, IfOk, Ok};
+ghost use Rattle.std.specs.Prelude.{◌≡◌, ◌++◌, ◌∷◌, [], IfOk, Ok, OnOk};
 
 use std::alloc::AllocError;
 
@@ -15,4 +15,11 @@ pub fn both<A: Drop, B: Drop>(
         (Ok(first), Ok(second)) => Ok((first, second)),
         _ => Err(AllocError),
     }
+}
+
+/// Adds what was made.
+pub fn push_made<T: Drop>(items: &mut Vec<T>, made: Result<T, AllocError>) -> Result<(), AllocError>
+    ensures { OnOk result ((x : T) × (made ≡ Ok x) × (items.new.items ≡ items.old.items ++ x ∷ [])) }
+{
+    Ok(items.push(made?)?)
 }

@@ -3,6 +3,7 @@ ghost use Rattle.std.specs.Prelude.{◌≡◌, ◌++◌, ◌∷◌, [], IfOk, On
 ghost use Rattle.std.specs.Option.{option_copied};
 ghost use Rattle.df_table.specs.Placed.{find_name as found_name, has_name as name_stands, placed as placed_list, replaced};
 
+use crate::pairs::push_made;
 use df_value::{Duplicate, List, Text};
 use std::alloc::{AllocError, Global};
 
@@ -32,7 +33,7 @@ fn all_replaced<T: Duplicate>(
 {
     let mut out = Vec::with_capacity(alloc, own.len())?;
     for item in own {
-        out.push(replacement(item, added).copy(alloc)?)?;
+        push_made(&mut out, replacement(item, added).copy(alloc))?;
     }
     Ok(out)
 }

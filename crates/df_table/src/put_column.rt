@@ -4,7 +4,7 @@ ghost use Rattle.df_table.specs.Placed.{placed as placed_list};
 ghost use Rattle.df_table.specs.Tables.{put_column as column_put};
 ghost use Rattle.df_table.specs.RowWise.{put_row as row_put, put_rows as rows_put};
 
-use crate::pairs::both;
+use crate::pairs::{both, push_made};
 use crate::placing::placed;
 use crate::row_wise::{named_cells, unnamed};
 use crate::table::{Table, table_of};
@@ -51,7 +51,7 @@ fn put_rows(
 {
     let mut out = Vec::with_capacity(alloc, rows.len())?;
     for (row, cell) in rows.iter().zip(cells) {
-        out.push(put_row(alloc, columns, name, row, cell)?)?;
+        push_made(&mut out, put_row(alloc, columns, name, row, cell))?;
     }
     Ok(List::from_vec(out))
 }

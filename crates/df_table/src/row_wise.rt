@@ -6,7 +6,7 @@ ghost use Rattle.df_expr.specs.declared.expr.Expr.TheVariants as expr;
 ghost use Rattle.df_table.specs.Tables.{filter_table as table_filtered, select_table as table_selected, with_table as table_with};
 ghost use Rattle.df_table.specs.RowWise.{kind_of as kind_of_expr, item_column, item_cell, is_true as is_true_cell, filtered as rows_filtered, selected_row as row_selected, named_cells as cells_named, added_row as row_added, added_columns as columns_added, KeepsOthers};
 
-use crate::pairs::both;
+use crate::pairs::{both, push_made};
 use crate::placing::placed;
 use crate::table::{Table, table_of};
 use df_expr::{Expr, value};
@@ -99,7 +99,7 @@ fn selected_rows(
 {
     let mut selected = Vec::with_capacity(alloc, rows.len())?;
     for row in rows {
-        selected.push(selected_row(alloc, columns, items, row)?)?;
+        push_made(&mut selected, selected_row(alloc, columns, items, row))?;
     }
     Ok(List::from_vec(selected))
 }
@@ -116,7 +116,7 @@ pub fn selected_row(
 {
     let mut cells = Vec::with_capacity(alloc, items.len())?;
     for item in items {
-        cells.push(value(alloc, &item.1, columns, row)?)?;
+        push_made(&mut cells, value(alloc, &item.1, columns, row))?;
     }
     Ok(List::from_vec(cells))
 }
@@ -153,7 +153,7 @@ fn added_rows(
 {
     let mut added = Vec::with_capacity(alloc, rows.len())?;
     for row in rows {
-        added.push(added_row(alloc, columns, items, row)?)?;
+        push_made(&mut added, added_row(alloc, columns, items, row))?;
     }
     Ok(List::from_vec(added))
 }
@@ -227,7 +227,7 @@ pub fn unnamed(alloc: Global, cells: &[(Text, Cell)]) -> Result<Row, AllocError>
 {
     let mut row = Vec::with_capacity(alloc, cells.len())?;
     for cell in cells {
-        row.push(cell.1.copy(alloc)?)?;
+        push_made(&mut row, cell.1.copy(alloc))?;
     }
     Ok(List::from_vec(row))
 }

@@ -1,16 +1,16 @@
 use Rattle.df_table.specs.Groups.{group_of}
 use Rattle.std.proofs.Common.{arith, ◌∙◌, ap, sym, append-nil, ◌++◌, map}
-use Rattle.df_table.proofs.Steps.{mapped_behind, all_done}
+use Rattle.df_table.proofs.Steps.{mapped_behind, all_done, made_is}
 use Rattle.df_table.specs.Tables.{aggregate_of}
 use Rattle.df_table.proofs.grouping.group_row.Goals as goal
 
 pub loop-agg-preserved : goal.loop-agg-preserved
 loop-agg-preserved c =
     mapped_behind _ _ _ _ _ _ _ _ (omega arith) c.agg-item.is c.loop-agg.invariant
-    (c.in_ok-aggregate.ensures
+    ((made_is _ _ _ c.aggregate-cell.ensures c.in_ok-push_made.ensures.1)
     ∙ (ap (λ columns. aggregate_of columns c.as_slice-in-loop-agg-2.result.now c.agg-item.result.1) c.as_slice-in-loop-agg.ensures
     ∙ ap (λ group. aggregate_of c.args.table.now.columns group c.agg-item.result.1) c.as_slice-in-loop-agg-2.ensures.value))
-    c.in_ok-push.ensures.items
+    c.in_ok-push_made.ensures.2
 
 pub loop-agg-init : goal.loop-agg-init
 loop-agg-init c = c.into_vec-row.ensures ∙ (c.in_ok-copy.ensures ∙ sym (append-nil _))

@@ -1,10 +1,10 @@
 use Rattle.df_table.specs.Tables.{group_row}
 use Rattle.std.proofs.Common.{arith, map}
-use Rattle.df_table.proofs.Steps.{mapped_more, all_done}
+use Rattle.df_table.proofs.Steps.{mapped_more, all_done, made_is}
 use Rattle.df_table.proofs.grouping.group_rows.Goals as goal
 
 pub loop-key-preserved : goal.loop-key-preserved
-loop-key-preserved c = mapped_more _ _ _ _ _ _ _ (omega arith) c.key-item.is c.loop-key.invariant c.in_ok-group_row.ensures c.in_ok-push.ensures.items
+loop-key-preserved c = mapped_more _ _ _ _ _ _ _ (omega arith) c.key-item.is c.loop-key.invariant (made_is _ _ _ c.group_row.ensures c.in_ok-push_made.ensures.1) c.in_ok-push_made.ensures.2
 
 pub returns : goal.returns
 returns c =

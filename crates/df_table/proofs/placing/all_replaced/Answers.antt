@@ -1,11 +1,11 @@
 use Rattle.df_table.specs.Placed.{replaced}
 use Rattle.std.proofs.Common.{arith, ◌∙◌, map, refl}
-use Rattle.df_table.proofs.Steps.{mapped_more, all_done}
+use Rattle.df_table.proofs.Steps.{mapped_more, all_done, made_is}
 use Rattle.df_table.proofs.placing.all_replaced.Goals as goal
 
 pub loop-item-preserved : goal.loop-item-preserved
 loop-item-preserved g c =
-    mapped_more _ _ _ _ _ _ _ (omega arith) c.item-item.is c.loop-item.invariant (c.in_ok-copy.ensures ∙ c.replacement.ensures) c.in_ok-push.ensures.items
+    mapped_more _ _ _ _ _ _ _ (omega arith) c.item-item.is c.loop-item.invariant ((made_is _ _ _ c.copy.ensures c.in_ok-push_made.ensures.1) ∙ c.replacement.ensures) c.in_ok-push_made.ensures.2
 
 pub returns : goal.returns
 returns g c =

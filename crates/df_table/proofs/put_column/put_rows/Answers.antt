@@ -4,7 +4,7 @@ use Rattle.std.proofs.lemmas.List.{length_push}
 use Rattle.df_value.specs.declared.cell.Cell.{Cell}
 use Rattle.df_value.specs.declared.cell.CellType.{CellType}
 use Rattle.df_table.specs.RowWise.{put_row, put_rows}
-use Rattle.df_table.proofs.Steps.{zipped_more}
+use Rattle.df_table.proofs.Steps.{zipped_more, made_is}
 use Rattle.df_table.proofs.put_column.put_rows.Goals as goal
 
 -- past the end of one of the two there is no row
@@ -42,4 +42,4 @@ loop-row-preserved c =
     zip_turn rows cells c.loop-row.yielded c.into_iter-row-iterator.result c.loop-row.row-iterator c.next.new.self c.next.result
     (cc) (cc) c.loop-row.yielded_by _ c.in-Some.is c.next.ensures.steps in
     zipped_more (put_row columns name) (put_rows columns name) (λ _ _ _ _. refl) rows cells (length c.loop-row.yielded) _ _ _ _ _ _ _
-    turn.0 turn.1 (turn.2 _) (turn.3 _) (length_push c.loop-row.yielded _) c.loop-row.invariant c.in_ok-put_row.ensures c.in_ok-push.ensures.items
+    turn.0 turn.1 (turn.2 _) (turn.3 _) (length_push c.loop-row.yielded _) c.loop-row.invariant (made_is _ _ _ c.put_row.ensures c.in_ok-push_made.ensures.1) c.in_ok-push_made.ensures.2

@@ -2,11 +2,11 @@ use Rattle.df_table.specs.RowWise.{selected_row}
 use Rattle.df_expr.specs.Value.{value_of}
 use Rattle.std.proofs.lemmas.List.{length-map}
 use Rattle.std.proofs.Common.{arith, ◌∙◌, ap, length}
-use Rattle.df_table.proofs.Steps.{mapped_more, all_done}
+use Rattle.df_table.proofs.Steps.{mapped_more, all_done, made_is}
 use Rattle.df_table.proofs.row_wise.selected_row.Goals as goal
 
 pub loop-item-preserved : goal.loop-item-preserved
-loop-item-preserved c = mapped_more _ _ _ _ _ _ _ (omega arith) c.item-item.is c.loop-item.invariant c.in_ok-value.ensures.value c.in_ok-push.ensures.items
+loop-item-preserved c = mapped_more _ _ _ _ _ _ _ (omega arith) c.item-item.is c.loop-item.invariant (made_is _ _ _ c.value.ensures.value c.in_ok-push_made.ensures.1) c.in_ok-push_made.ensures.2
 
 pub returns-clause-value : goal.returns-clause-value
 returns-clause-value c =

@@ -1,11 +1,11 @@
 use Rattle.std.proofs.Common.{map}
-use Rattle.df_table.proofs.Steps.{mapped_more, all_done}
+use Rattle.df_table.proofs.Steps.{mapped_more, all_done, made_is}
 use Rattle.df_table.specs.RowWise.{selected_row}
 use Rattle.df_table.proofs.row_wise.selected_rows.Goals as goal
 
 pub loop-row-preserved : goal.loop-row-preserved
 loop-row-preserved c =
-    mapped_more _ _ _ _ _ _ _ c.loop-row-test.true c.row-item.is c.loop-row.invariant c.in_ok-selected_row.ensures.value c.in_ok-push.ensures.items
+    mapped_more _ _ _ _ _ _ _ c.loop-row-test.true c.row-item.is c.loop-row.invariant (made_is _ _ _ c.selected_row.ensures.value c.in_ok-push_made.ensures.1) c.in_ok-push_made.ensures.2
 
 pub returns : goal.returns
 returns c =
