@@ -59,9 +59,13 @@ paired {A} {B} {a} {b} {x} {y} e h =
     let second : ◌≡◌ {A = A × B} (b, x) (b, y) = ap (λ (v : B). (b, v)) h in
     first ∙ second
 
--- what was made is what it was to be
+-- what was made has what was said of it
+pub made_has : {A E : Type 0} (P : A → Type 0) (made : Result A E) (x : A) → IfOk made P → made ≡ Ok x → P x
+made_has {A} {E} P made x h is = subst (λ (r : Result A E). IfOk r P) is h
+
+-- and is what it was to be
 pub made_is : {A E : Type 0} (made : Result A E) (x y : A) → IfOk made (λ r. r ≡ y) → made ≡ Ok x → x ≡ y
-made_is {A} {E} made x y h is = subst (λ (r : Result A E). IfOk r (λ v. v ≡ y)) is h
+made_is made x y h is = made_has (λ r. r ≡ y) made x h is
 
 -- the loop goes over two lists side by side and pushes f of the next two items
 pub zipped_more :

@@ -155,7 +155,18 @@ fn lengths_of_groups(
     let keys = keys.as_slice();
     let mut lengths = Vec::with_capacity(alloc, keys.len())?;
     for key in keys {
-        lengths.push(group_of(alloc, places, rows, key)?.len())?;
+        push_made(&mut lengths, group_length(alloc, places, rows, key))?;
     }
     Ok(lengths)
+}
+
+fn group_length(
+    alloc: Global,
+    places: &[Option<usize>],
+    rows: &[Row],
+    key: &Row,
+) -> Result<usize, AllocError>
+    ensures { IfOk result (λ n. n ≡ length (group_at places.now rows.now key.now)) }
+{
+    Ok(group_of(alloc, places, rows, key)?.len())
 }

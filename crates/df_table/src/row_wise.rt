@@ -199,7 +199,7 @@ pub fn named_cells(
 {
     let mut named = Vec::with_capacity(alloc, columns.len())?;
     for (column, cell) in columns.iter().zip(cells) {
-        named.push(both(column.0.copy(alloc), cell.copy(alloc))?)?;
+        push_made(&mut named, both(column.0.copy(alloc), cell.copy(alloc)))?;
     }
     Ok(named)
 }
@@ -216,7 +216,7 @@ fn item_cells(
     let mut cells = Vec::with_capacity(alloc, items.len())?;
     for item in items {
         let cell = value(alloc, &item.1, columns, row);
-        cells.push(both(item.0.copy(alloc), cell)?)?;
+        push_made(&mut cells, both(item.0.copy(alloc), cell))?;
     }
     Ok(cells)
 }

@@ -1,13 +1,14 @@
+use Rattle.std.specs.Prelude.{Ok}
 use Rattle.df_table.specs.RowWise.{item_cell}
-use Rattle.std.proofs.Common.{map, refl}
-use Rattle.df_table.proofs.Steps.{made_is, mapped_more, paired, all_done}
+use Rattle.std.proofs.Common.{map, refl, ◌≡◌}
+use Rattle.df_table.proofs.Steps.{made_is, mapped_more, paired, all_done, made_has}
 use Rattle.df_table.proofs.row_wise.item_cells.Goals as goal
 
 pub loop-item-preserved : goal.loop-item-preserved
 loop-item-preserved c =
     mapped_more _ _ _ _ _ _ _ c.loop-item-test.true c.item-item.is c.loop-item.invariant
-    (paired (made_is _ _ _ c.copy.ensures c.in_ok-both.ensures.first) (made_is _ _ _ c.value-cell.ensures.value c.in_ok-both.ensures.second))
-    c.in_ok-push.ensures.items
+    (paired (made_is _ _ _ c.copy.ensures (made_has (λ p. c.copy.result ≡ Ok p.0) _ _ c.both.ensures.first c.in_ok-push_made.ensures.1)) (made_is _ _ _ c.value-cell.ensures.value (made_has (λ p. c.value-cell.result ≡ Ok p.1) _ _ c.both.ensures.second c.in_ok-push_made.ensures.1)))
+    c.in_ok-push_made.ensures.2
 
 pub returns : goal.returns
 returns c =

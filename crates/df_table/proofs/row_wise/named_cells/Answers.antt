@@ -1,10 +1,11 @@
+use Rattle.std.specs.Prelude.{Ok}
 use Rattle.std.proofs.Common.{◌≡◌, ℕ, ◌∙◌, ◌++◌, List, [], ◌∷◌, length, drop, min, zero, suc, refl, ap, sym, arith, append-nil}
 use Rattle.std.proofs.lemmas.Slice.Zip.{zip_end, zip_turn}
 use Rattle.std.proofs.lemmas.List.{length_push}
 use Rattle.df_value.specs.declared.cell.Cell.{Cell}
 use Rattle.df_value.specs.declared.cell.CellType.{CellType}
 use Rattle.df_table.specs.RowWise.{named_cells}
-use Rattle.df_table.proofs.Steps.{made_is, paired, zipped_more}
+use Rattle.df_table.proofs.Steps.{made_is, paired, zipped_more, made_has}
 use Rattle.df_table.proofs.row_wise.named_cells.Goals as goal
 
 -- past the end of one of the two there is no pair
@@ -38,5 +39,5 @@ loop-column-preserved c =
     (cc) (cc) c.loop-column.yielded_by _ c.in-Some.is c.next.ensures.steps in
     zipped_more (λ (k : List ℕ × CellType) (v : Cell). (k.0, v)) named_cells (λ _ _ _ _. refl) columns cells (length c.loop-column.yielded) _ _ _ _ _ _ _
     turn.0 turn.1 (turn.2 _) (turn.3 _) (length_push c.loop-column.yielded _) c.loop-column.invariant
-    (paired (made_is _ _ _ c.copy.ensures c.in_ok-both.ensures.first) (made_is _ _ _ c.copy-in-loop-column.ensures c.in_ok-both.ensures.second))
-    c.in_ok-push.ensures.items
+    (paired (made_is _ _ _ c.copy.ensures (made_has (λ p. c.copy.result ≡ Ok p.0) _ _ c.both.ensures.first c.in_ok-push_made.ensures.1)) (made_is _ _ _ c.copy-in-loop-column.ensures (made_has (λ p. c.copy-in-loop-column.result ≡ Ok p.1) _ _ c.both.ensures.second c.in_ok-push_made.ensures.1)))
+    c.in_ok-push_made.ensures.2
