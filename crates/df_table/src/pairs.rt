@@ -1,9 +1,10 @@
-//! Two values, where both were made.
+//! Calls that take values which may have been refused. Each stands for two `?`: the proof of a loop gets dearer with
+//! each exit.
 ghost use Rattle.std.specs.Prelude.{◌≡◌, ◌++◌, ◌∷◌, [], IfOk, Ok, OnOk};
 
 use std::alloc::AllocError;
 
-/// The two values, where both were made. A call of it costs the proof of a loop less than two `?` do.
+/// The two values, where both were made.
 pub fn both<A: Drop, B: Drop>(
     first: Result<A, AllocError>,
     second: Result<B, AllocError>,
@@ -17,7 +18,7 @@ pub fn both<A: Drop, B: Drop>(
     }
 }
 
-/// Adds what was made.
+/// Adds a value, where it was made.
 pub fn push_made<T: Drop>(items: &mut Vec<T>, made: Result<T, AllocError>) -> Result<(), AllocError>
     ensures { OnOk result ((x : T) × (made ≡ Ok x) × (items.new.items ≡ items.old.items ++ x ∷ [])) }
 {

@@ -1,6 +1,7 @@
 //! Plain tables.
 ghost use Rattle.std.specs.Prelude.{◌≡◌, IfOk, Ok};
 
+use crate::pairs::both;
 use df_value::{CellType, List, Row, Text};
 use std::alloc::AllocError;
 
@@ -19,8 +20,6 @@ pub fn table_of(
     ensures columns { IfOk result (λ t. columns ≡ Ok t.columns) }
     ensures rows { IfOk result (λ t. rows ≡ Ok t.rows) }
 {
-    match (columns, rows) {
-        (Ok(columns), Ok(rows)) => Ok(Table { columns, rows }),
-        _ => Err(AllocError),
-    }
+    let (columns, rows) = both(columns, rows)?;
+    Ok(Table { columns, rows })
 }
