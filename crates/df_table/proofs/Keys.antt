@@ -1,7 +1,5 @@
-use Rattle.std.proofs.lemmas.List.{drop_more}
-use Rattle.std.specs.Prelude.{if◌then◌else◌}
 -- The distinct keys of rows: none stands twice, and the key of each row is among them.
-use Rattle.std.proofs.Common.{◌≡◌, ◌≢◌, ℕ, ◌<◌, Bool, true, false, zero, suc, ◌||◌, ◌∙◌, List, [], ◌∷◌, ◌++◌, length, get_or, map, refl, ap, sym, subst, arith, All, AllPairs, Contains, Option, ◌+◌, drop}
+use Rattle.std.proofs.Common.{◌≡◌, ◌≢◌, ℕ, ◌<◌, Bool, true, false, zero, suc, ◌||◌, ◌∙◌, List, [], ◌∷◌, ◌++◌, length, get_or, map, refl, ap, sym, subst, arith, All, AllPairs, Contains, Option}
 use Rattle.std.specs.List.{list_any, IsDistinct}
 use Rattle.std.proofs.lemmas.List.Folds.{list_any-append, Any-from_list_any}
 use Rattle.std.proofs.lemmas.Map.Keys.{IsDistinct-push, IsDistinct-from_apart}
@@ -66,16 +64,3 @@ contained x ks h =
 
 pub each_row : (places : List (Option ℕ)) (rows : List (List Cell)) → All (λ r. Contains (keys_of places rows) (key_of places r)) rows
 each_row places rows k d h = contained _ (keys_of places rows) (found_after (key_of places) [] rows k d h)
-
--- one more row: its key is added, unless it stands among those seen
-pub more_keys :
-    (places : List (Option ℕ)) (seen : List (List Cell)) (rows : List (List Cell)) (i : ℕ) (row key : List Cell) →
-    i < length rows → row ≡ get_or rows i row → key ≡ key_of places row →
-    distinct_after seen (map (key_of places) (drop i rows))
-    ≡ (if list_any (row_eq key) seen
-    then distinct_after seen (map (key_of places) (drop (i + 1) rows))
-    else distinct_after (seen ++ key ∷ []) (map (key_of places) (drop (i + 1) rows)))
-more_keys places seen rows i row key h is same =
-    let rest = map (key_of places) (drop (i + 1) rows) in
-    ap (λ left. distinct_after seen (map (key_of places) left)) (drop_more rows i row h ∙ ap (λ v. v ∷ drop (i + 1) rows) (sym is))
-    ∙ ap (λ k. if list_any (row_eq k) seen then distinct_after seen rest else distinct_after (seen ++ k ∷ []) rest) (sym same)
