@@ -1,3 +1,4 @@
+pub mod Loops
 pub mod Members
 pub mod Rising
 pub mod FrameFacts

@@ -16,7 +16,7 @@ use std::marker::Model;
 pub const MOST_ROWS: u64 = 1_048_576;
 
 /// Rows by rising number, the numbers that were accepted, and how many were accepted and deleted.
-#[derive(Debug, Drop)]
+#[derive(Drop)]
 pub struct Frame {
     accepted: Ranges,
     rows: Vec<Numbered>,
