@@ -1,4 +1,4 @@
-use Rattle.std.proofs.Common.{◌∙◌, Some, None, sym, ap}
+use Rattle.std.proofs.Common.{◌∙◌, sym, ap}
 use Rattle.std.specs.Prelude.{Ok, ok_or, option_map}
 use Rattle.std.specs.Option.{option_copied}
 use Rattle.df_catalogue.specs.declared.fault.CatalogueFault.TheVariants as fault
