@@ -1,2 +1,4 @@
 pub mod OneChange
 pub mod WordFacts
+pub mod CommandFacts
+pub mod WordList

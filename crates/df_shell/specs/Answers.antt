@@ -1,42 +1,30 @@
--- What the answer to a command says of the catalogue: which change was made, or that all is as it was.
-use Rattle.std.specs.Prelude.{◌≡◌, ℕ, List, Option, Some, None, Result, Ok, Err, position, slice_get, bytes_eq, MatchOption}
-use Rattle.df_catalogue.specs.declared.change.Change.{Change}
-use Rattle.df_catalogue.specs.declared.fault.CatalogueFault.TheVariants as fault
+-- What the answer to a command says: of a change, that the catalogue is the one after it; of a question, its text.
+use Rattle.std.specs.Prelude.{◌≡◌, Some, Result, Ok, Err}
+use Rattle.csv.specs.Records.{Row, fields_of}
 use Rattle.df_catalogue.specs.declared.state.State.{State}
-use Rattle.df_plan.specs.CheckedParts.{CheckedParts}
-use Rattle.df_shell.specs.Changes.{Made, Refuses}
+use Rattle.df_shell.specs.Commands.{Says}
+use Rattle.df_shell.specs.Asked.{MadeAsked, RefusesAsked}
+use Rattle.df_shell.specs.Questions.{RefusesText, fault_of_question, text_of_question}
 use Rattle.df_shell.specs.declared.answering.Answer.{Answer}
 use Rattle.df_shell.specs.declared.answering.Answer.TheVariants as answer
-use Rattle.df_shell.specs.declared.refusal.Refusal.{Refusal}
-use Rattle.df_shell.specs.declared.refusal.Refusal.TheVariants as refusal
+use Rattle.df_shell.specs.declared.command.Command.{Command}
+use Rattle.df_shell.specs.declared.command.Command.TheVariants as command
 use Rattle.df_shell.specs.declared.definitions.Definitions.{Definitions}
-use Rattle.df_text.specs.declared.document.FrameSpec.{FrameSpec}
-use Rattle.df_text.specs.declared.document.ViewSpec.{ViewSpec}
+use Rattle.df_shell.specs.declared.refusal.Refusal.{Refusal}
 
--- the index of the frame of a name
-abbrev pub frame_index_of : Definitions → List ℕ → Option ℕ
-frame_index_of d name = position (λ (f : FrameSpec). bytes_eq f.name name) d.document.frames
+-- The answer to a command, with the lines that were read for it: the change that it asks for was made, or the answer is the
+-- question's text; else it is refused. But for that change the state is as it was.
+abbrev pub Answered : {T : Type 0} → Definitions → Command → Result T Refusal → State → State → Result Answer Refusal → Type 0
+Answered d (command.Change change) lines old new (Ok answer.Accepted) = MadeAsked d change old new
+Answered d (command.Change change) lines old new (Err r) = RefusesAsked d old change lines r × (new ≡ old)
+Answered d (command.Question q) lines old new (Ok (answer.Told text)) = (text_of_question d old q ≡ Some text.items) × (new ≡ old)
+Answered d (command.Question q) lines old new (Err r) = RefusesText (text_of_question d old q) (fault_of_question q) r × (new ≡ old)
+Answered d command.Help lines old new (Ok answer.Help) = new ≡ old
+Answered d c lines old new result = ⊥
 
--- the plan of the view of a name
-abbrev pub plan_at : Definitions → Option ℕ → Option CheckedParts
-plan_at d None = None
-plan_at d (Some at) = slice_get d.plans at
-
-abbrev pub plan_named : Definitions → List ℕ → Option CheckedParts
-plan_named d name = plan_at d (position (λ (v : ViewSpec). bytes_eq v.name name) d.document.views)
-
--- A refusal of a command that makes this change of the frame at this place: `C11` where there is none.
-abbrev pub RefusesAt : State → (ℕ → Change) → Option ℕ → Refusal → Type 0
-RefusesAt s change place (refusal.Store f) = MatchOption place (f ≡ fault.NoFrame) (λ at. Refuses s (change at) f)
-RefusesAt s change place r = r ≡ refusal.Memory
-
--- some change was made
-abbrev pub IsChanged : State → State → Type 0
-IsChanged old new = (c : Change) × Made old new c
-
--- a change was made where the answer says so, and otherwise all is as it was
-abbrev pub Answered : State → State → Result Answer Refusal → Type 0
-Answered old new (Ok answer.Accepted) = IsChanged old new
-Answered old new (Ok (answer.Told text)) = new ≡ old
-Answered old new (Ok answer.Help) = new ≡ old
-Answered old new (Err r) = new ≡ old
+-- The answer to the words of a line: that to the command that they say. Where it is refused all is as it was, and words that
+-- were not read are refused for that.
+abbrev pub AnsweredLine : {T : Type 0} → Definitions → Result Row Refusal → Result T Refusal → State → State → Result Answer Refusal → Type 0
+AnsweredLine d (Ok words) lines old new (Ok answer) = (c : Command) × Says (fields_of words) c × Answered d c lines old new (Ok answer)
+AnsweredLine d (Ok words) lines old new (Err r) = new ≡ old
+AnsweredLine d (Err f) lines old new result = (result ≡ Err f) × (new ≡ old)

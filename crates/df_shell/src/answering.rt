@@ -1,6 +1,9 @@
 //! The answers to commands.
-ghost use Rattle.std.specs.Prelude.{◌≡◌, OnErr, OnOk};
-ghost use Rattle.df_shell.specs.Answers.{Answered, IsChanged};
+ghost use Rattle.std.specs.Prelude.{◌≡◌, IfErr, IfOk, OnErr, OnOk, MatchResult, Some, map};
+ghost use Rattle.csv.specs.Records.{fields_of};
+ghost use Rattle.df_shell.specs.Answers.{Answered, AnsweredLine};
+ghost use Rattle.df_shell.specs.Asked.{MadeAsked, RefusesAsked};
+ghost use Rattle.df_shell.specs.Questions.{RefusesText, fault_of_question, text_of_question};
 
 use crate::changing::{append, delete, drop_view, register};
 use crate::command::{AskedChange, Command, Question, read_command};
@@ -10,7 +13,7 @@ use crate::refusal::Refusal;
 use crate::store::Store;
 use csv::StringRecord;
 use df_catalogue::Catalogue;
-use std::alloc::Global;
+use std::alloc::{AllocError, Global};
 use std::sync::ledger::Ledger;
 
 /// What a command is answered, where it is not refused.
@@ -56,12 +59,18 @@ pub fn answer_line<Acc: Ledger, Del: Ledger>(
     words: Result<StringRecord, Refusal>,
     lines: Result<Vec<u8>, Refusal>,
 ) -> Result<Answer, Refusal>
-    ensures { Answered store.old.catalogue store.new.catalogue result }
+    ensures { AnsweredLine definitions.now words lines store.old.catalogue store.new.catalogue result }
 {
     let record = words?;
-    let words: Vec<&str> = record.iter().collect(alloc)?;
+    let words = words_of(alloc, &record)?;
     let command = read_command(alloc, words.as_slice())?;
     answer_command(alloc, definitions, store, command, lines)
+}
+
+fn words_of(alloc: Global, fields: &StringRecord) -> Result<Vec<&str>, AllocError>
+    ensures { IfOk result (λ words. map (λ w. w.now) words.items ≡ fields_of fields.now) }
+{
+    fields.iter().collect(alloc)
 }
 
 fn answer_command<Acc: Ledger, Del: Ledger>(
@@ -71,7 +80,7 @@ fn answer_command<Acc: Ledger, Del: Ledger>(
     command: Command<'_>,
     lines: Result<Vec<u8>, Refusal>,
 ) -> Result<Answer, Refusal>
-    ensures { Answered store.old.catalogue store.new.catalogue result }
+    ensures { Answered definitions.now command.entry lines store.old.catalogue store.new.catalogue result }
 {
     match command {
         Command::Change(change) => {
@@ -92,7 +101,8 @@ fn answer_change<Acc: Ledger, Del: Ledger>(
     asked: AskedChange<'_>,
     lines: Result<Vec<u8>, Refusal>,
 ) -> Result<(), Refusal>
-    ensures changed { OnOk result (IsChanged store.old.catalogue store.new.catalogue) }
+    ensures made { OnOk result (MadeAsked definitions.now asked.entry store.old.catalogue store.new.catalogue) }
+    ensures refused { IfErr result (RefusesAsked definitions.now store.old.catalogue asked.entry lines) }
     ensures same { OnErr result (store.new.catalogue ≡ store.old.catalogue) }
 {
     match asked {
@@ -110,7 +120,10 @@ fn answer_question<Acc: Ledger, Del: Ledger>(
     definitions: &Definitions,
     catalogue: &Catalogue<Acc, Del>,
     question: Question<'_>,
-) -> Result<Vec<u8>, Refusal> {
+) -> Result<Vec<u8>, Refusal>
+    ensures { let wanted = text_of_question definitions.now catalogue.now question.entry in
+        MatchResult result (λ text. wanted ≡ Some text.items) (RefusesText wanted (fault_of_question question.entry)) }
+{
     match question {
         Question::Show(view) => show(alloc, catalogue, view),
         Question::Rows(frame) => rows(alloc, definitions, catalogue, frame),

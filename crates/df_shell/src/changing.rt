@@ -4,7 +4,7 @@ ghost use Rattle.df_value.specs.Chunks.{ChunkParts};
 ghost use Rattle.df_plan.specs.CheckedParts.{CheckedParts};
 ghost use Rattle.df_catalogue.specs.declared.change.Change.TheVariants.{Append, Delete, DropView, Register};
 ghost use Rattle.df_shell.specs.Changes.{Made};
-ghost use Rattle.df_shell.specs.Answers.{RefusesAt, frame_index_of, plan_named};
+ghost use Rattle.df_shell.specs.Asked.{IsChunkOf, RefusesAppend, RefusesAt, RefusesChange, RefusesView, frame_index_of, plan_named};
 
 use crate::definitions::Definitions;
 use crate::refusal::{Mistake, Refusal};
@@ -28,7 +28,8 @@ pub fn append<Acc: Ledger, Del: Ledger>(
     lines: Result<Vec<u8>, Refusal>,
 ) -> Result<(), Refusal>
     ensures made { OnOk result ((at : ℕ) × (chunk : ChunkParts) × (frame_index_of definitions.now frame.now ≡ Some at)
-        × (chunk.first ≡ first) × Made store.old.catalogue store.new.catalogue (Append at chunk)) }
+        × IsChunkOf definitions.now at first chunk × Made store.old.catalogue store.new.catalogue (Append at chunk)) }
+    ensures refused { IfErr result (RefusesAppend definitions.now store.old.catalogue (frame_index_of definitions.now frame.now) first lines) }
     ensures same { OnErr result (store.new.catalogue ≡ store.old.catalogue) }
 {
     let Some(at) = definitions.frame_index(frame) else {
@@ -68,6 +69,7 @@ pub fn register<Acc: Ledger, Del: Ledger>(
 ) -> Result<(), Refusal>
     ensures made { OnOk result ((plan : CheckedParts) × (plan_named definitions.now view.now ≡ Some plan)
         × Made store.old.catalogue store.new.catalogue (Register view.now plan)) }
+    ensures refused { IfErr result (RefusesView store.old.catalogue view.now (plan_named definitions.now view.now)) }
     ensures same { OnErr result (store.new.catalogue ≡ store.old.catalogue) }
 {
     let Some(plan) = definitions.plan(view) else {
@@ -85,6 +87,7 @@ pub fn drop_view<Acc: Ledger, Del: Ledger>(
     view: &str,
 ) -> Result<(), Refusal>
     ensures made { OnOk result (Made store.old.catalogue store.new.catalogue (DropView view.now)) }
+    ensures refused { IfErr result (RefusesChange store.old.catalogue (DropView view.now)) }
     ensures same { OnErr result (store.new.catalogue ≡ store.old.catalogue) }
 {
     let name = Text::from_str(alloc, view)?;

@@ -1,5 +1,7 @@
 //! Commands, and the words that they are read of.
-ghost use Rattle.std.specs.Prelude.{◌≡◌};
+ghost use Rattle.std.specs.Prelude.{◌≡◌, ◌∷◌, [], IfOk, codes, map};
+ghost use Rattle.std.specs.List.{AllZip};
+ghost use Rattle.df_shell.specs.Commands.{IsRowNumber, Says, SaysChange};
 
 use crate::refusal::{Mistake, Refusal};
 use df_value::List;
@@ -41,18 +43,18 @@ pub enum Question<'a> {
 }
 
 /// The command that words say.
-pub fn read_command<'a>(alloc: Global, words: &[&'a str]) -> Result<Command<'a>, Refusal> {
+pub fn read_command<'a>(alloc: Global, words: &[&'a str]) -> Result<Command<'a>, Refusal>
+    ensures { IfOk result (Says (map (λ w. w.now) words.now)) }
+{
     match words {
         [name, arguments @ ..] => command_of(alloc, name, arguments),
         [] => Err(Refusal::Mistake(Mistake::MissingWord)),
     }
 }
 
-fn command_of<'a>(
-    alloc: Global,
-    name: &str,
-    arguments: &[&'a str],
-) -> Result<Command<'a>, Refusal> {
+fn command_of<'a>(alloc: Global, name: &str, arguments: &[&'a str]) -> Result<Command<'a>, Refusal>
+    ensures { IfOk result (Says (name.now ∷ map (λ w. w.now) arguments.now)) }
+{
     match name {
         "append" => Ok(Command::Change(read_append(arguments)?)),
         "delete" => Ok(Command::Change(read_delete(alloc, arguments)?)),
@@ -68,7 +70,9 @@ fn command_of<'a>(
 }
 
 // The number of the lines is read with the lines.
-fn read_append<'a>(arguments: &[&'a str]) -> Result<AskedChange<'a>, Mistake> {
+fn read_append<'a>(arguments: &[&'a str]) -> Result<AskedChange<'a>, Mistake>
+    ensures { IfOk result (SaysChange (codes "append" ∷ map (λ w. w.now) arguments.now)) }
+{
     match arguments {
         [frame, first, _count] => Ok(AskedChange::Append(frame, row_number(first)?)),
         [_, _, _, ..] => Err(Mistake::ExtraWord),
@@ -76,14 +80,18 @@ fn read_append<'a>(arguments: &[&'a str]) -> Result<AskedChange<'a>, Mistake> {
     }
 }
 
-fn read_delete<'a>(alloc: Global, arguments: &[&'a str]) -> Result<AskedChange<'a>, Refusal> {
+fn read_delete<'a>(alloc: Global, arguments: &[&'a str]) -> Result<AskedChange<'a>, Refusal>
+    ensures { IfOk result (SaysChange (codes "delete" ∷ map (λ w. w.now) arguments.now)) }
+{
     match arguments {
         [frame, numbers @ ..] => Ok(AskedChange::Delete(frame, row_numbers(alloc, numbers)?)),
         [] => Err(Refusal::Mistake(Mistake::MissingWord)),
     }
 }
 
-fn row_numbers(alloc: Global, words: &[&str]) -> Result<List<u32>, Refusal> {
+fn row_numbers(alloc: Global, words: &[&str]) -> Result<List<u32>, Refusal>
+    ensures { IfOk result (AllZip IsRowNumber (map (λ w. w.now) words.now)) }
+{
     let mut numbers = Vec::with_capacity(alloc, words.len())?;
     for word in words {
         numbers.push(row_number(word)?)?;
@@ -91,7 +99,9 @@ fn row_numbers(alloc: Global, words: &[&str]) -> Result<List<u32>, Refusal> {
     Ok(List::from_vec(numbers))
 }
 
-fn row_number(word: &str) -> Result<u32, Mistake> {
+fn row_number(word: &str) -> Result<u32, Mistake>
+    ensures { IfOk result (IsRowNumber word.now) }
+{
     match word.parse::<u32>() {
         Ok(number) => Ok(number),
         Err(_) => Err(Mistake::NotRowNumber),
@@ -99,7 +109,9 @@ fn row_number(word: &str) -> Result<u32, Mistake> {
 }
 
 // The word of a command that takes one.
-fn only<'a>(arguments: &[&'a str]) -> Result<&'a str, Mistake> {
+fn only<'a>(arguments: &[&'a str]) -> Result<&'a str, Mistake>
+    ensures { IfOk result (λ word. map (λ w. w.now) arguments.now ≡ word.now ∷ []) }
+{
     match arguments {
         [word] => Ok(word),
         [] => Err(Mistake::MissingWord),
@@ -108,7 +120,9 @@ fn only<'a>(arguments: &[&'a str]) -> Result<&'a str, Mistake> {
 }
 
 // A command that takes no word.
-fn bare<'a>(command: Command<'a>, arguments: &[&'a str]) -> Result<Command<'a>, Refusal> {
+fn bare<'a>(command: Command<'a>, arguments: &[&'a str]) -> Result<Command<'a>, Refusal>
+    ensures { IfOk result (λ c. (c ≡ command.entry) × (arguments.now ≡ [])) }
+{
     match arguments {
         [] => Ok(command),
         _ => Err(Refusal::Mistake(Mistake::ExtraWord)),

@@ -1,7 +1,7 @@
 //! What a document names.
 ghost use Rattle.std.specs.Prelude.{◌≡◌, ◌<◌, IfSome, length, position, bytes_eq};
 ghost use Rattle.std.specs.Option.{option_copied};
-ghost use Rattle.df_shell.specs.Answers.{frame_index_of, plan_named};
+ghost use Rattle.df_shell.specs.Asked.{frame_index_of, plan_named};
 
 use df_plan::CheckedPlan;
 use df_text::{FrameSpec, ViewSpec, Views};

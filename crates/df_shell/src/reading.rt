@@ -1,5 +1,9 @@
 //! The commands that read the catalogue.
-ghost use Rattle.std.specs.Prelude.{◌≡◌};
+ghost use Rattle.std.specs.Prelude.{◌≡◌, ◌++◌, IfErr, IfOk, OnOk, codes, decimal, length, option_map, string_bytes};
+ghost use Rattle.df_catalogue.specs.Reads.{view_named, view_names_of};
+ghost use Rattle.df_print.specs.Printed.{printed};
+ghost use Rattle.df_shell.specs.Asked.{frame_index_of};
+ghost use Rattle.df_shell.specs.Questions.{IsMemory, IsTold, books_line, books_text, frame_text, names_text, numbers_line, rows_text, view_text};
 
 use crate::definitions::Definitions;
 use crate::refusal::Refusal;
@@ -14,7 +18,9 @@ pub fn show<Acc: Ledger, Del: Ledger>(
     alloc: Global,
     catalogue: &Catalogue<Acc, Del>,
     view: &str,
-) -> Result<Vec<u8>, Refusal> {
+) -> Result<Vec<u8>, Refusal>
+    ensures { IsTold (option_map (view_text view.now) (view_named view.now catalogue.now.views)) CatalogueFault.NoView result }
+{
     let Some(schema) = catalogue.view_schema(view) else {
         return Err(Refusal::Store(CatalogueFault::NoView));
     };
@@ -29,7 +35,9 @@ pub fn rows<Acc: Ledger, Del: Ledger>(
     definitions: &Definitions,
     catalogue: &Catalogue<Acc, Del>,
     frame: &str,
-) -> Result<Vec<u8>, Refusal> {
+) -> Result<Vec<u8>, Refusal>
+    ensures { IsTold (frame_text rows_text definitions.now catalogue.now (frame_index_of definitions.now frame.now)) CatalogueFault.NoFrame result }
+{
     let Some(at) = definitions.frame_index(frame) else {
         return Err(Refusal::Store(CatalogueFault::NoFrame));
     };
@@ -41,7 +49,9 @@ pub fn rows<Acc: Ledger, Del: Ledger>(
     Ok(text)
 }
 
-fn push_numbers(alloc: Global, text: &mut Vec<u8>, numbers: &[u32]) -> Result<(), AllocError> {
+fn push_numbers(alloc: Global, text: &mut Vec<u8>, numbers: &[u32]) -> Result<(), AllocError>
+    ensures { OnOk result (text.new.items ≡ text.old.items ++ numbers_line numbers.now) }
+{
     text.extend_from_slice(b"numbers")?;
     for number in numbers {
         let word = format!(in alloc; " {number}")?;
@@ -57,7 +67,9 @@ pub fn books<Acc: Ledger, Del: Ledger>(
     definitions: &Definitions,
     catalogue: &Catalogue<Acc, Del>,
     frame: &str,
-) -> Result<Vec<u8>, Refusal> {
+) -> Result<Vec<u8>, Refusal>
+    ensures { IsTold (frame_text (λ spec. books_text) definitions.now catalogue.now (frame_index_of definitions.now frame.now)) CatalogueFault.NoFrame result }
+{
     let Some(at) = definitions.frame_index(frame) else {
         return Err(Refusal::Store(CatalogueFault::NoFrame));
     };
@@ -69,15 +81,24 @@ pub fn books<Acc: Ledger, Del: Ledger>(
     let (Some(accepted), Some(deleted), Some(live)) = books else {
         return Err(Refusal::Store(CatalogueFault::NoFrame));
     };
-    let text = format!(in alloc; "accepted {accepted}, deleted {deleted}, live {live}\n")?;
+    let text = books_of(alloc, accepted, deleted, live)?;
     Ok(text.into_bytes())
+}
+
+fn books_of(alloc: Global, accepted: u64, deleted: u64, live: u64) -> Result<String, AllocError>
+    ensures { IfOk result (λ text. string_bytes text ≡ books_line accepted deleted live) }
+{
+    format!(in alloc; "accepted {accepted}, deleted {deleted}, live {live}\n")
 }
 
 /// The names of the views, a line each.
 pub fn views<Acc: Ledger, Del: Ledger>(
     alloc: Global,
     catalogue: &Catalogue<Acc, Del>,
-) -> Result<Vec<u8>, Refusal> {
+) -> Result<Vec<u8>, Refusal>
+    ensures told { IfOk result (λ text. text.items ≡ names_text (view_names_of catalogue.now)) }
+    ensures refused { IfErr result (λ r. r ≡ Refusal.Memory) }
+{
     let names = catalogue.view_names(alloc)?;
     let mut text = Vec::new(alloc);
     for name in names.as_slice() {

@@ -1,0 +1,86 @@
+-- Changes that are asked for: which change of the catalogue each is, and why it is refused.
+use Rattle.std.specs.Prelude.{◌≡◌, ⊤, ℕ, List, Option, Some, None, Result, Ok, Err, option_map, position, slice_get, bytes_eq}
+use Rattle.df_value.specs.Chunks.{ChunkParts}
+use Rattle.df_catalogue.specs.declared.change.Change.{Change}
+use Rattle.df_catalogue.specs.declared.change.Change.TheVariants.{Append, Delete, Register, DropView}
+use Rattle.df_catalogue.specs.declared.fault.CatalogueFault.TheVariants as fault
+use Rattle.df_catalogue.specs.declared.state.State.{State}
+use Rattle.df_plan.specs.CheckedParts.{CheckedParts}
+use Rattle.df_shell.specs.Changes.{Made, Refuses}
+use Rattle.df_shell.specs.declared.command.AskedChange.{AskedChange}
+use Rattle.df_shell.specs.declared.command.AskedChange.TheVariants as asked
+use Rattle.df_shell.specs.declared.refusal.Mistake.TheVariants as mistake
+use Rattle.df_shell.specs.declared.refusal.Refusal.{Refusal}
+use Rattle.df_shell.specs.declared.refusal.Refusal.TheVariants as refusal
+use Rattle.df_shell.specs.declared.definitions.Definitions.{Definitions}
+use Rattle.df_text.specs.declared.document.FrameSpec.{FrameSpec}
+use Rattle.df_text.specs.declared.document.ViewSpec.{ViewSpec}
+
+-- the index of the frame of a name
+abbrev pub frame_index_of : Definitions → List ℕ → Option ℕ
+frame_index_of d name = position (λ (f : FrameSpec). bytes_eq f.name name) d.document.frames
+
+-- the plan of the view of a name
+abbrev pub plan_at : Definitions → Option ℕ → Option CheckedParts
+plan_at d None = None
+plan_at d (Some at) = slice_get d.plans at
+
+abbrev pub plan_named : Definitions → List ℕ → Option CheckedParts
+plan_named d name = plan_at d (position (λ (v : ViewSpec). bytes_eq v.name name) d.document.views)
+
+-- A refusal of a command that makes this change: the catalogue's, or that memory was refused.
+abbrev pub RefusesChange : State → Change → Refusal → Type 0
+RefusesChange s change (refusal.Store f) = Refuses s change f
+RefusesChange s change r = r ≡ refusal.Memory
+
+-- A refusal of a command that makes this change of the frame at this place: `C11` where there is none.
+abbrev pub RefusesAt : State → (ℕ → Change) → Option ℕ → Refusal → Type 0
+RefusesAt s change (Some at) r = RefusesChange s (change at) r
+RefusesAt s change None r = r ≡ refusal.Store fault.NoFrame
+
+-- A refusal of a command that registers a view of this name and plan: that the document has none, where it has none.
+abbrev pub RefusesView : State → List ℕ → Option CheckedParts → Refusal → Type 0
+RefusesView s name (Some plan) r = RefusesChange s (Register name plan) r
+RefusesView s name None r = r ≡ refusal.Mistake mistake.NoView
+
+-- a chunk of the schema of the document's frame at this place, whose first number is this
+abbrev pub IsChunkOf : Definitions → ℕ → ℕ → ChunkParts → Type 0
+IsChunkOf d at first chunk =
+    (option_map (λ (f : FrameSpec). f.schema) (slice_get d.document.frames at) ≡ Some chunk.schema) × (chunk.first ≡ first)
+
+-- What may be wrong with lines that were read, when they are to be a chunk.
+abbrev pub IsOfLines : Refusal → Type 0
+IsOfLines (refusal.Mistake m) = ⊥
+IsOfLines (refusal.Store f) = ⊥
+IsOfLines r = ⊤
+
+-- A refusal of lines that were read, at the frame at this place: they are no chunk, or the catalogue refuses the chunk that they are.
+abbrev pub RefusesChunk : Definitions → State → ℕ → ℕ → Refusal → Type 0
+RefusesChunk d s at first (refusal.Store f) = (chunk : ChunkParts) × IsChunkOf d at first chunk × Refuses s (Append at chunk) f
+RefusesChunk d s at first r = IsOfLines r
+
+-- A refusal of an append to the frame at this place, its first number and its lines, or why they were not read: `C11` where
+-- there is no frame; else that of the lines.
+abbrev pub RefusesAppend : {T : Type 0} → Definitions → State → Option ℕ → ℕ → Result T Refusal → Refusal → Type 0
+RefusesAppend d s None first lines r = r ≡ refusal.Store fault.NoFrame
+RefusesAppend d s (Some at) first (Err f) r = r ≡ f
+RefusesAppend d s (Some at) first (Ok lines) r = RefusesChunk d s at first r
+
+-- the change that is asked for
+abbrev pub IsAsked : Definitions → AskedChange → Change → Type 0
+IsAsked d (asked.Append frame first) (Append at chunk) = (frame_index_of d frame.now ≡ Some at) × IsChunkOf d at first chunk
+IsAsked d (asked.Delete frame numbers) (Delete at ns) = (frame_index_of d frame.now ≡ Some at) × (ns ≡ numbers)
+IsAsked d (asked.Register view) (Register name plan) = (name ≡ view.now) × (plan_named d view.now ≡ Some plan)
+IsAsked d (asked.DropView view) (DropView name) = name ≡ view.now
+IsAsked d change _ = ⊥
+
+-- the change that is asked for was made
+abbrev pub MadeAsked : Definitions → AskedChange → State → State → Type 0
+MadeAsked d asked old new = (change : Change) × IsAsked d asked change × Made old new change
+
+-- A refusal of the change that is asked for, with the lines that were read for it, or why they were not.
+abbrev pub RefusesAsked : {T : Type 0} → Definitions → State → AskedChange → Result T Refusal → Refusal → Type 0
+RefusesAsked d s (asked.Append frame first) lines r = RefusesAppend d s (frame_index_of d frame.now) first lines r
+RefusesAsked d s (asked.Delete frame numbers) lines r = RefusesAt s (λ at. Delete at numbers) (frame_index_of d frame.now) r
+RefusesAsked d s (asked.Register view) lines r = RefusesView s view.now (plan_named d view.now) r
+RefusesAsked d s (asked.DropView view) lines r = RefusesChange s (DropView view.now) r

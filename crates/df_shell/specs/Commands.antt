@@ -1,0 +1,36 @@
+-- Commands: the words that say each of them.
+use Rattle.std.specs.Prelude.{◌≡◌, ℕ, List, [], ◌∷◌, codes}
+use Rattle.std.specs.List.{AllZip}
+use Rattle.std.specs.Str.Parse.{IsNumeral, digits_value, without_leading_plus}
+use Rattle.df_shell.specs.declared.command.AskedChange.{AskedChange}
+use Rattle.df_shell.specs.declared.command.AskedChange.TheVariants as asked
+use Rattle.df_shell.specs.declared.command.Command.{Command}
+use Rattle.df_shell.specs.declared.command.Command.TheVariants as command
+use Rattle.df_shell.specs.declared.command.Question.{Question}
+use Rattle.df_shell.specs.declared.command.Question.TheVariants as question
+
+-- the row number that a word writes: digits, before which a plus may stand
+abbrev pub IsRowNumber : List ℕ → ℕ → Type 0
+IsRowNumber word n = IsNumeral 10 (without_leading_plus word) × (digits_value 10 (without_leading_plus word) ≡ n)
+
+-- the words of a change
+abbrev pub SaysChange : List (List ℕ) → AskedChange → Type 0
+SaysChange words (asked.Append frame first) =
+    (word : List ℕ) × (count : List ℕ) × (words ≡ codes "append" ∷ frame.now ∷ word ∷ count ∷ []) × IsRowNumber word first
+SaysChange words (asked.Delete frame numbers) =
+    (of_numbers : List (List ℕ)) × (words ≡ codes "delete" ∷ frame.now ∷ of_numbers) × AllZip IsRowNumber of_numbers numbers
+SaysChange words (asked.Register view) = words ≡ codes "register" ∷ view.now ∷ []
+SaysChange words (asked.DropView view) = words ≡ codes "drop" ∷ view.now ∷ []
+
+-- the words of a question
+abbrev pub SaysQuestion : List (List ℕ) → Question → Type 0
+SaysQuestion words (question.Show view) = words ≡ codes "show" ∷ view.now ∷ []
+SaysQuestion words (question.Rows frame) = words ≡ codes "rows" ∷ frame.now ∷ []
+SaysQuestion words (question.Books frame) = words ≡ codes "books" ∷ frame.now ∷ []
+SaysQuestion words question.Views = words ≡ codes "views" ∷ []
+
+-- the words of a command
+abbrev pub Says : List (List ℕ) → Command → Type 0
+Says words (command.Change change) = SaysChange words change
+Says words (command.Question question) = SaysQuestion words question
+Says words command.Help = words ≡ codes "help" ∷ []

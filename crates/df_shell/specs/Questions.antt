@@ -1,0 +1,78 @@
+-- The texts that questions are answered with.
+use Rattle.std.specs.Prelude.{◌≡◌, ◌++◌, ℕ, List, Option, Some, None, Result, MatchResult, codes, decimal, flat_map, length, option_map, slice_get}
+use Rattle.std.specs.Global.{Vec}
+use Rattle.df_catalogue.specs.Frames.{numbers_of, rows_of}
+use Rattle.df_catalogue.specs.Reads.{view_named, view_names_of}
+use Rattle.df_catalogue.specs.declared.fault.CatalogueFault.{CatalogueFault}
+use Rattle.df_catalogue.specs.declared.fault.CatalogueFault.TheVariants as fault
+use Rattle.df_catalogue.specs.declared.state.FrameState.{FrameState}
+use Rattle.df_catalogue.specs.declared.state.State.{State}
+use Rattle.df_catalogue.specs.declared.state.ViewState.{ViewState}
+use Rattle.df_print.specs.Printed.{escaped_text, printed}
+use Rattle.df_shell.specs.Asked.{frame_index_of}
+use Rattle.df_shell.specs.declared.command.Question.{Question}
+use Rattle.df_shell.specs.declared.command.Question.TheVariants as question
+use Rattle.df_shell.specs.declared.definitions.Definitions.{Definitions}
+use Rattle.df_shell.specs.declared.refusal.Refusal.{Refusal}
+use Rattle.df_shell.specs.declared.refusal.Refusal.TheVariants as refusal
+use Rattle.df_text.specs.declared.document.FrameSpec.{FrameSpec}
+
+-- the table of a view, under this name
+abbrev pub view_text : List ℕ → ViewState → List ℕ
+view_text name v = printed name v.plan.schema v.table
+
+-- the line of the numbers of a frame's rows
+abbrev pub numbers_line : List ℕ → List ℕ
+numbers_line numbers = codes "numbers" ++ (flat_map (λ n. codes " " ++ decimal n) numbers ++ codes "\n")
+
+-- the table of a frame, and the numbers of its rows
+abbrev pub rows_text : FrameSpec → FrameState → List ℕ
+rows_text spec frame = printed spec.name spec.schema (rows_of frame) ++ numbers_line (numbers_of frame)
+
+-- a frame's books: how many rows it accepted, how many of them were deleted, and how many it has
+abbrev pub books_line : ℕ → ℕ → ℕ → List ℕ
+books_line accepted deleted live =
+    codes "accepted " ++ (decimal accepted ++ (codes ", deleted " ++ (decimal deleted ++ (codes ", live " ++ (decimal live ++ codes "\n")))))
+
+abbrev pub books_text : FrameState → List ℕ
+books_text frame = books_line (length frame.accepted) (length frame.deleted) (length frame.rows)
+
+-- names, a line each
+abbrev pub names_text : List (List ℕ) → List ℕ
+names_text names = flat_map (λ name. escaped_text name ++ codes "\n") names
+
+-- the text of a frame at this place, where the document and the state have one there
+abbrev pub text_at : (FrameSpec → FrameState → List ℕ) → Option FrameSpec → Option FrameState → Option (List ℕ)
+text_at text (Some spec) (Some frame) = Some (text spec frame)
+text_at text (Some spec) None = None
+text_at text None frame = None
+
+abbrev pub frame_text : (FrameSpec → FrameState → List ℕ) → Definitions → State → Option ℕ → Option (List ℕ)
+frame_text text d s (Some at) = text_at text (slice_get d.document.frames at) (slice_get s.frames at)
+frame_text text d s None = None
+
+-- what a question is answered with, if it can be
+abbrev pub text_of_question : Definitions → State → Question → Option (List ℕ)
+text_of_question d s (question.Show view) = option_map (view_text view.now) (view_named view.now s.views)
+text_of_question d s (question.Rows frame) = frame_text rows_text d s (frame_index_of d frame.now)
+text_of_question d s (question.Books frame) = frame_text (λ spec. books_text) d s (frame_index_of d frame.now)
+text_of_question d s question.Views = Some (names_text (view_names_of s))
+
+-- what a question is refused with where it cannot be answered
+abbrev pub fault_of_question : Question → CatalogueFault
+fault_of_question (question.Show view) = fault.NoView
+fault_of_question _ = fault.NoFrame
+
+-- that memory was refused
+abbrev pub IsMemory : Refusal → Type 0
+IsMemory (refusal.Store f) = f ≡ fault.Memory
+IsMemory r = r ≡ refusal.Memory
+
+-- A refusal where this text is wanted: this fault where there is no text, else that memory was refused.
+abbrev pub RefusesText : Option (List ℕ) → CatalogueFault → Refusal → Type 0
+RefusesText None f r = r ≡ refusal.Store f
+RefusesText (Some text) f r = IsMemory r
+
+-- The answer is the text that is wanted, or it is refused.
+abbrev pub IsTold : Option (List ℕ) → CatalogueFault → Result (Vec ℕ) Refusal → Type 0
+IsTold want f result = MatchResult result (λ text. want ≡ Some text.items) (RefusesText want f)
