@@ -4,4 +4,5 @@ pub mod Commands
 pub mod Asked
 pub mod Questions
 pub mod Answers
+pub mod Opening
 pub mod Words

@@ -1,0 +1,42 @@
+-- The changes that open a store: the good pieces of each frame enter in their order, and then all views are registered.
+use Rattle.std.specs.Prelude.{◌≡◌, ◌++◌, ℕ, List, [], ◌∷◌, None, flat_map, map}
+use Rattle.std.specs.List.{enumerate_from, zip}
+use Rattle.df_value.specs.declared.chunk.Made.{Made}
+use Rattle.df_value.specs.declared.chunk.Made.TheVariants as made
+use Rattle.df_plan.specs.CheckedParts.{CheckedParts}
+use Rattle.df_catalogue.specs.declared.change.Change.{Change}
+use Rattle.df_catalogue.specs.declared.change.Change.TheVariants.{Append, Register}
+use Rattle.df_catalogue.specs.declared.state.State.{State}
+use Rattle.df_catalogue.specs.Changes.{after}
+use Rattle.df_catalogue.specs.Refusals.{refusal_of}
+use Rattle.df_catalogue.specs.States.{opening_of}
+use Rattle.df_shell.specs.declared.definitions.Definitions.{Definitions}
+use Rattle.df_text.specs.declared.document.FrameSpec.{FrameSpec}
+use Rattle.df_text.specs.declared.document.ViewSpec.{ViewSpec}
+
+-- the appends of a piece of the frame at this place: one, and none where it has a bad cell
+abbrev pub piece_appends : ℕ → Made → List Change
+piece_appends at (made.Good chunk) = Append at chunk ∷ []
+piece_appends at (made.Bad cell) = []
+
+-- the appends of a frame's pieces
+abbrev pub frame_appends : ℕ × List Made → List Change
+frame_appends frame = flat_map (piece_appends frame.0) frame.1
+
+-- the registration of a view with its plan
+abbrev pub registration : ViewSpec × CheckedParts → Change
+registration view = Register view.0.name view.1
+
+-- the changes that open a store
+abbrev pub opening_changes : Definitions → List (List Made) → List Change
+opening_changes d pieces =
+    flat_map frame_appends (enumerate_from 0 pieces) ++ map registration (zip d.document.views d.plans)
+
+-- the state of empty frames with the document's schemas
+abbrev pub empty_state : Definitions → State
+empty_state d = opening_of (map (λ (f : FrameSpec). f.schema) d.document.frames)
+
+-- nothing refuses any of the changes in its turn, and all were made
+abbrev pub AllMade : State → State → List Change → Type 0
+AllMade old new [] = new ≡ old
+AllMade old new (c ∷ cs) = (refusal_of old c ≡ None) × AllMade (after old c) new cs
