@@ -1,8 +1,8 @@
 -- What the answer to a command says: of a change, that the catalogue is the one after it; of a question, its text.
-use Rattle.std.specs.Prelude.{◌≡◌, Some, Result, Ok, Err}
+use Rattle.std.specs.Prelude.{◌≡◌, ◌⊎◌, Some, Result, Ok, Err}
 use Rattle.csv.specs.Records.{Row, fields_of}
 use Rattle.df_catalogue.specs.declared.state.State.{State}
-use Rattle.df_shell.specs.Commands.{Says}
+use Rattle.df_shell.specs.Commands.{IsOfWords, Says}
 use Rattle.df_shell.specs.Asked.{MadeAsked, RefusesAsked}
 use Rattle.df_shell.specs.Questions.{RefusesText, fault_of_question, text_of_question}
 use Rattle.df_shell.specs.declared.answering.Answer.{Answer}
@@ -22,9 +22,13 @@ Answered d (command.Question q) lines old new (Err r) = RefusesText (text_of_que
 Answered d command.Help lines old new (Ok answer.Help) = new ≡ old
 Answered d c lines old new result = ⊥
 
--- The answer to the words of a line: that to the command that they say. Where it is refused all is as it was, and words that
--- were not read are refused for that.
+-- a command that words say is answered so
+abbrev pub AnsweredWords : {T : Type 0} → Definitions → Row → Result T Refusal → State → State → Result Answer Refusal → Type 0
+AnsweredWords d words lines old new result = (c : Command) × Says (fields_of words) c × Answered d c lines old new result
+
+-- The answer to the words of a line: that to the command that they say, or what is wrong with the words. Words that were not
+-- read are refused for that.
 abbrev pub AnsweredLine : {T : Type 0} → Definitions → Result Row Refusal → Result T Refusal → State → State → Result Answer Refusal → Type 0
-AnsweredLine d (Ok words) lines old new (Ok answer) = (c : Command) × Says (fields_of words) c × Answered d c lines old new (Ok answer)
-AnsweredLine d (Ok words) lines old new (Err r) = new ≡ old
+AnsweredLine d (Ok words) lines old new (Ok answer) = AnsweredWords d words lines old new (Ok answer)
+AnsweredLine d (Ok words) lines old new (Err r) = (IsOfWords r × (new ≡ old)) ⊎ AnsweredWords d words lines old new (Err r)
 AnsweredLine d (Err f) lines old new result = (result ≡ Err f) × (new ≡ old)

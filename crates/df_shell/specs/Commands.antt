@@ -1,5 +1,5 @@
 -- Commands: the words that say each of them.
-use Rattle.std.specs.Prelude.{◌≡◌, ℕ, List, [], ◌∷◌, codes}
+use Rattle.std.specs.Prelude.{◌≡◌, ⊤, ℕ, List, [], ◌∷◌, codes}
 use Rattle.std.specs.List.{AllZip}
 use Rattle.std.specs.Str.Parse.{IsNumeral, digits_value, without_leading_plus}
 use Rattle.df_shell.specs.declared.command.AskedChange.{AskedChange}
@@ -8,6 +8,8 @@ use Rattle.df_shell.specs.declared.command.Command.{Command}
 use Rattle.df_shell.specs.declared.command.Command.TheVariants as command
 use Rattle.df_shell.specs.declared.command.Question.{Question}
 use Rattle.df_shell.specs.declared.command.Question.TheVariants as question
+use Rattle.df_shell.specs.declared.refusal.Refusal.{Refusal}
+use Rattle.df_shell.specs.declared.refusal.Refusal.TheVariants as refusal
 
 -- the row number that a word writes: digits, before which a plus may stand
 abbrev pub IsRowNumber : List ℕ → ℕ → Type 0
@@ -34,3 +36,9 @@ abbrev pub Says : List (List ℕ) → Command → Type 0
 Says words (command.Change change) = SaysChange words change
 Says words (command.Question question) = SaysQuestion words question
 Says words command.Help = words ≡ codes "help" ∷ []
+
+-- What may be wrong with words that are read as a command.
+abbrev pub IsOfWords : Refusal → Type 0
+IsOfWords (refusal.Mistake m) = ⊤
+IsOfWords refusal.Memory = ⊤
+IsOfWords r = ⊥

@@ -1,7 +1,7 @@
 //! Commands, and the words that they are read of.
-ghost use Rattle.std.specs.Prelude.{◌≡◌, ◌∷◌, [], IfOk, codes, map};
+ghost use Rattle.std.specs.Prelude.{◌≡◌, ◌∷◌, [], IfErr, IfOk, codes, map};
 ghost use Rattle.std.specs.List.{AllZip};
-ghost use Rattle.df_shell.specs.Commands.{IsRowNumber, Says, SaysChange};
+ghost use Rattle.df_shell.specs.Commands.{IsOfWords, IsRowNumber, Says, SaysChange};
 
 use crate::refusal::{Mistake, Refusal};
 use df_value::List;
@@ -44,7 +44,8 @@ pub enum Question<'a> {
 
 /// The command that words say.
 pub fn read_command<'a>(alloc: Global, words: &[&'a str]) -> Result<Command<'a>, Refusal>
-    ensures { IfOk result (Says (map (λ w. w.now) words.now)) }
+    ensures said { IfOk result (Says (map (λ w. w.now) words.now)) }
+    ensures refused { IfErr result IsOfWords }
 {
     match words {
         [name, arguments @ ..] => command_of(alloc, name, arguments),
@@ -53,7 +54,8 @@ pub fn read_command<'a>(alloc: Global, words: &[&'a str]) -> Result<Command<'a>,
 }
 
 fn command_of<'a>(alloc: Global, name: &str, arguments: &[&'a str]) -> Result<Command<'a>, Refusal>
-    ensures { IfOk result (Says (name.now ∷ map (λ w. w.now) arguments.now)) }
+    ensures said { IfOk result (Says (name.now ∷ map (λ w. w.now) arguments.now)) }
+    ensures refused { IfErr result IsOfWords }
 {
     match name {
         "append" => Ok(Command::Change(read_append(arguments)?)),
@@ -81,7 +83,8 @@ fn read_append<'a>(arguments: &[&'a str]) -> Result<AskedChange<'a>, Mistake>
 }
 
 fn read_delete<'a>(alloc: Global, arguments: &[&'a str]) -> Result<AskedChange<'a>, Refusal>
-    ensures { IfOk result (SaysChange (codes "delete" ∷ map (λ w. w.now) arguments.now)) }
+    ensures said { IfOk result (SaysChange (codes "delete" ∷ map (λ w. w.now) arguments.now)) }
+    ensures refused { IfErr result IsOfWords }
 {
     match arguments {
         [frame, numbers @ ..] => Ok(AskedChange::Delete(frame, row_numbers(alloc, numbers)?)),
@@ -90,7 +93,8 @@ fn read_delete<'a>(alloc: Global, arguments: &[&'a str]) -> Result<AskedChange<'
 }
 
 fn row_numbers(alloc: Global, words: &[&str]) -> Result<List<u32>, Refusal>
-    ensures { IfOk result (AllZip IsRowNumber (map (λ w. w.now) words.now)) }
+    ensures said { IfOk result (AllZip IsRowNumber (map (λ w. w.now) words.now)) }
+    ensures refused { IfErr result IsOfWords }
 {
     let mut numbers = Vec::with_capacity(alloc, words.len())?;
     for word in words {
@@ -121,7 +125,8 @@ fn only<'a>(arguments: &[&'a str]) -> Result<&'a str, Mistake>
 
 // A command that takes no word.
 fn bare<'a>(command: Command<'a>, arguments: &[&'a str]) -> Result<Command<'a>, Refusal>
-    ensures { IfOk result (λ c. (c ≡ command.entry) × (arguments.now ≡ [])) }
+    ensures said { IfOk result (λ c. (c ≡ command.entry) × (arguments.now ≡ [])) }
+    ensures refused { IfErr result IsOfWords }
 {
     match arguments {
         [] => Ok(command),
