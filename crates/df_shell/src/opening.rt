@@ -1,5 +1,5 @@
 //! The opening of a store: a catalogue of a document's frames with their first rows and all its views.
-ghost use Rattle.std.specs.Prelude.{◌≡◌, ℕ, IfOk, OnOk, flat_map, map};
+ghost use Rattle.std.specs.Prelude.{◌≡◌, IfOk, OnOk, flat_map, map};
 ghost use Rattle.std.specs.List.{enumerate_from, zip};
 ghost use Rattle.df_shell.specs.Opening.{AllMade, empty_state, frame_appends, opening_changes, piece_appends, registration};
 

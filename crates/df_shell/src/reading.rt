@@ -1,9 +1,8 @@
 //! The commands that read the catalogue.
-ghost use Rattle.std.specs.Prelude.{◌≡◌, ◌++◌, IfErr, IfOk, OnOk, codes, decimal, length, option_map, string_bytes};
+ghost use Rattle.std.specs.Prelude.{◌≡◌, ◌++◌, IfErr, IfOk, OnOk, option_map, string_bytes};
 ghost use Rattle.df_catalogue.specs.Reads.{view_named, view_names_of};
-ghost use Rattle.df_print.specs.Printed.{printed};
 ghost use Rattle.df_shell.specs.Asked.{frame_index_of};
-ghost use Rattle.df_shell.specs.Questions.{IsMemory, IsTold, books_line, books_text, frame_text, names_text, numbers_line, rows_text, view_text};
+ghost use Rattle.df_shell.specs.Questions.{IsTold, books_line, books_text, frame_text, names_text, numbers_line, rows_text, view_text};
 
 use crate::definitions::Definitions;
 use crate::refusal::Refusal;
