@@ -12,7 +12,7 @@ use crate::store::Store;
 use crate::words::{count_lines, read_words};
 use df_app::{Files, OpenedDocument, open_document, refused_lines};
 use df_text::write_text;
-use std::alloc::Global;
+use std::alloc::{AllocError, Global};
 use std::io::{BufRead, Read, Write};
 use std::marker::Brand;
 use std::sync::ledger::{Blank, Ledger};
@@ -61,21 +61,65 @@ fn serve<Acc: Ledger, Del: Ledger, I: BufRead, W: Write>(
     requires deleted_parts { (deleted.parts ≡ Del.parts) × (deleted.parts ≡ 524288) }
     requires pieces { length opened.pieces ≡ length opened.document.frames }
 {
+    let frames = opened.document.frames.as_slice();
+    let refused = refused_lines(alloc, frames, opened.pieces.as_slice(), RECORDS_OF_CHUNK)?;
+    let mut session = open_session::<Acc, Del>(alloc, accepted, deleted, opened)?;
+    write_answer(output, refused.as_slice())?;
+    drop(refused);
+    answer_all(alloc, &mut session, input, output)
+}
+
+// What a shell has while it answers.
+#[derive(Drop)]
+struct Session<Acc: Ledger, Del: Ledger> {
+    definitions: Definitions,
+    store: Store<Acc, Del>,
+    buffers: Buffers,
+}
+
+fn open_session<Acc: Ledger, Del: Ledger>(
+    alloc: Global,
+    accepted: Blank,
+    deleted: Blank,
+    opened: OpenedDocument,
+) -> Result<Session<Acc, Del>, ShellFault>
+    requires accepted_name { accepted.name ≡ Acc.name }
+    requires accepted_parts { (accepted.parts ≡ Acc.parts) × (accepted.parts ≡ 524288) }
+    requires deleted_name { deleted.name ≡ Del.name }
+    requires deleted_parts { (deleted.parts ≡ Del.parts) × (deleted.parts ≡ 524288) }
+{
     let OpenedDocument {
         document,
         plans,
         pieces,
     } = opened;
-    let frames = document.frames.as_slice();
-    let refused = refused_lines(alloc, frames, pieces.as_slice(), RECORDS_OF_CHUNK)?;
     let definitions = Definitions { document, plans };
-    let mut store = open_store::<Acc, Del>(alloc, accepted, deleted, &definitions, pieces)?;
-    let mut buffers = Buffers {
-        command: line_buffer(alloc)?,
-        record: line_buffer(alloc)?,
-    };
-    write_answer(output, refused.as_slice())?;
-    answer_all(alloc, &definitions, &mut store, &mut buffers, input, output)
+    match open_store(alloc, accepted, deleted, &definitions, pieces) {
+        Ok(store) => with_buffers(alloc, definitions, store),
+        Err(fault) => {
+            drop(definitions);
+            Err(fault)
+        }
+    }
+}
+
+fn with_buffers<Acc: Ledger, Del: Ledger>(
+    alloc: Global,
+    definitions: Definitions,
+    store: Store<Acc, Del>,
+) -> Result<Session<Acc, Del>, ShellFault> {
+    match Buffers::new(alloc) {
+        Ok(buffers) => Ok(Session {
+            definitions,
+            store,
+            buffers,
+        }),
+        Err(_) => {
+            drop(definitions);
+            drop(store);
+            Err(ShellFault::Memory)
+        }
+    }
 }
 
 // Room for the line of a command, and for a line of CSV behind it.
@@ -85,17 +129,23 @@ struct Buffers {
     record: Vec<u8>,
 }
 
+impl Buffers {
+    fn new(alloc: Global) -> Result<Buffers, AllocError> {
+        let command = line_buffer(alloc)?;
+        let record = line_buffer(alloc)?;
+        Ok(Buffers { command, record })
+    }
+}
+
 fn answer_all<Acc: Ledger, Del: Ledger, I: BufRead, W: Write>(
     alloc: Global,
-    definitions: &Definitions,
-    store: &mut Store<Acc, Del>,
-    buffers: &mut Buffers,
+    session: &mut Session<Acc, Del>,
     input: &mut I,
     output: &mut W,
 ) -> Result<(), ShellFault> {
     for _ in 0..u64::MAX {
-        match read_line(input, &mut buffers.command) {
-            Ok(Line::Whole) => take_turn(alloc, definitions, store, buffers, input, output)?,
+        match read_line(input, &mut session.buffers.command) {
+            Ok(Line::Whole) => take_turn(alloc, session, input, output)?,
             Ok(Line::TooLong) => {
                 write_refusal(alloc, output, &Refusal::Mistake(Mistake::LongLine))?;
             }
@@ -109,25 +159,24 @@ fn answer_all<Acc: Ledger, Del: Ledger, I: BufRead, W: Write>(
 // Reads what belongs to a command, does what it says and writes the answer.
 fn take_turn<Acc: Ledger, Del: Ledger, I: BufRead, W: Write>(
     alloc: Global,
-    definitions: &Definitions,
-    store: &mut Store<Acc, Del>,
-    buffers: &mut Buffers,
+    session: &mut Session<Acc, Del>,
     input: &mut I,
     output: &mut W,
 ) -> Result<(), ShellFault> {
-    let line = without_end(buffers.command.as_slice());
+    let line = without_end(session.buffers.command.as_slice());
     if line.is_empty() || line.starts_with(b"#") {
         return Ok(());
     }
     let words = read_words(alloc, line);
     let lines = match count_lines(alloc, &words, line) {
-        Ok(count) => match read_lines(alloc, input, &mut buffers.record, count) {
+        Ok(count) => match read_lines(alloc, input, &mut session.buffers.record, count) {
             Ok(lines) => lines,
             Err(_) => return Err(ShellFault::Read),
         },
         Err(mistake) => Err(Refusal::Mistake(mistake)),
     };
-    match answer_line(alloc, definitions, store, words, lines) {
+    let definitions = &session.definitions;
+    match answer_line(alloc, definitions, &mut session.store, words, lines) {
         Ok(answer) => write_answer(output, answer.bytes()),
         Err(refusal) => write_refusal(alloc, output, &refusal),
     }

@@ -42,8 +42,8 @@ impl<Acc: Ledger, Del: Ledger> Store<Acc, Del> {
 fn first_answer(answers: &[Option<CatalogueFault>]) -> Result<(), CatalogueFault>
     ensures { result ≡ first_answer_of answers.now }
 {
-    match answers {
-        [Some(fault), ..] => Err(*fault),
+    match answers.first() {
+        Some(Some(fault)) => Err(*fault),
         _ => Ok(()),
     }
 }
