@@ -1,5 +1,5 @@
 -- Commands: the words that say each of them.
-use Rattle.std.specs.Prelude.{◌≡◌, ⊤, ℕ, List, [], ◌∷◌, codes}
+use Rattle.std.specs.Prelude.{◌≡◌, ◌<◌, ⊤, ℕ, List, [], ◌∷◌, codes}
 use Rattle.std.specs.List.{AllZip}
 use Rattle.std.specs.Str.Parse.{IsNumeral, digits_value, without_leading_plus}
 use Rattle.df_shell.specs.declared.command.AskedChange.{AskedChange}
@@ -11,16 +11,25 @@ use Rattle.df_shell.specs.declared.command.Question.TheVariants as question
 use Rattle.df_shell.specs.declared.refusal.Refusal.{Refusal}
 use Rattle.df_shell.specs.declared.refusal.Refusal.TheVariants as refusal
 
--- the row number that a word writes: digits, before which a plus may stand
+-- the number below a bound that a word writes: digits, before which a plus may stand
+abbrev pub IsNumberBelow : ℕ → List ℕ → ℕ → Type 0
+IsNumberBelow bound word n = IsNumeral 10 (without_leading_plus word) × (digits_value 10 (without_leading_plus word) ≡ n) × (n < bound)
+
+-- the row number that a word writes
 abbrev pub IsRowNumber : List ℕ → ℕ → Type 0
-IsRowNumber word n = IsNumeral 10 (without_leading_plus word) × (digits_value 10 (without_leading_plus word) ≡ n)
+IsRowNumber word n = IsNumberBelow 4294967296 word n
+
+-- the number of lines that a word writes
+abbrev pub IsLineCount : List ℕ → ℕ → Type 0
+IsLineCount word n = IsNumberBelow 18446744073709551616 word n
 
 -- the words of a change
 abbrev pub SaysChange : List (List ℕ) → AskedChange → Type 0
 SaysChange words (asked.Append frame first) =
-    (word : List ℕ) × (count : List ℕ) × (words ≡ codes "append" ∷ frame.now ∷ word ∷ count ∷ []) × IsRowNumber word first
+    (first_word : List ℕ) × (count_word : List ℕ) × (count : ℕ) × (words ≡ codes "append" ∷ frame.now ∷ first_word ∷ count_word ∷ [])
+    × IsRowNumber first_word first × IsLineCount count_word count
 SaysChange words (asked.Delete frame numbers) =
-    (of_numbers : List (List ℕ)) × (words ≡ codes "delete" ∷ frame.now ∷ of_numbers) × AllZip IsRowNumber of_numbers numbers
+    (number_words : List (List ℕ)) × (words ≡ codes "delete" ∷ frame.now ∷ number_words) × AllZip IsRowNumber number_words numbers
 SaysChange words (asked.Register view) = words ≡ codes "register" ∷ view.now ∷ []
 SaysChange words (asked.DropView view) = words ≡ codes "drop" ∷ view.now ∷ []
 

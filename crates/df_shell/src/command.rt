@@ -1,7 +1,7 @@
 //! Commands, and the words that they are read of.
 ghost use Rattle.std.specs.Prelude.{◌≡◌, ◌∷◌, [], IfErr, IfOk, codes, map};
 ghost use Rattle.std.specs.List.{AllZip};
-ghost use Rattle.df_shell.specs.Commands.{IsOfWords, IsRowNumber, Says, SaysChange};
+ghost use Rattle.df_shell.specs.Commands.{IsLineCount, IsOfWords, IsRowNumber, Says, SaysChange};
 
 use crate::refusal::{Mistake, Refusal};
 use df_value::List;
@@ -71,12 +71,15 @@ fn command_of<'a>(alloc: Global, name: &str, arguments: &[&'a str]) -> Result<Co
     }
 }
 
-// The number of the lines is read with the lines.
 fn read_append<'a>(arguments: &[&'a str]) -> Result<AskedChange<'a>, Mistake>
     ensures { IfOk result (SaysChange (codes "append" ∷ map (λ w. w.now) arguments.now)) }
 {
     match arguments {
-        [frame, first, _count] => Ok(AskedChange::Append(frame, row_number(first)?)),
+        [frame, first, count] => {
+            let first = row_number(first)?;
+            line_count(count)?;
+            Ok(AskedChange::Append(frame, first))
+        }
         [_, _, _, ..] => Err(Mistake::ExtraWord),
         _ => Err(Mistake::MissingWord),
     }
@@ -109,6 +112,16 @@ fn row_number(word: &str) -> Result<u32, Mistake>
     match word.parse::<u32>() {
         Ok(number) => Ok(number),
         Err(_) => Err(Mistake::NotRowNumber),
+    }
+}
+
+/// How many lines of CSV a word says.
+pub fn line_count(word: &str) -> Result<u64, Mistake>
+    ensures { IfOk result (IsLineCount word.now) }
+{
+    match word.parse::<u64>() {
+        Ok(count) => Ok(count),
+        Err(_) => Err(Mistake::NotCount),
     }
 }
 

@@ -168,12 +168,9 @@ fn take_turn<Acc: Ledger, Del: Ledger, I: BufRead, W: Write>(
         return Ok(());
     }
     let words = read_words(alloc, line);
-    let lines = match count_lines(alloc, &words, line) {
-        Ok(count) => match read_lines(alloc, input, &mut session.buffers.record, count) {
-            Ok(lines) => lines,
-            Err(_) => return Err(ShellFault::Read),
-        },
-        Err(mistake) => Err(Refusal::Mistake(mistake)),
+    let count = count_lines(alloc, &words, line);
+    let Ok(lines) = read_lines(alloc, input, &mut session.buffers.record, count) else {
+        return Err(ShellFault::Read);
     };
     let definitions = &session.definitions;
     match answer_line(alloc, definitions, &mut session.store, words, lines) {

@@ -3,6 +3,7 @@ ghost use Rattle.std.specs.Prelude.{◌≡◌, IfOk};
 ghost use Rattle.csv.specs.Records.{fields_of};
 ghost use Rattle.df_shell.specs.Words.{words_in};
 
+use crate::command::line_count;
 use crate::refusal::{Mistake, Refusal};
 use csv::{ErrorKind, ReaderBuilder, StringRecord, Terminator};
 use std::alloc::Global;
@@ -29,39 +30,32 @@ pub fn read_words(alloc: Global, line: &[u8]) -> Result<StringRecord, Refusal>
     }
 }
 
-/// How many lines of CSV stand behind a line: COUNT, where its first word is `append` and it has one. Where
-/// memory was refused to its words, they are read once more for this alone, so that the lines can be passed
-/// over; where they still cannot be read, the bytes behind the last blank are taken for COUNT.
-pub fn count_lines(
-    alloc: Global,
-    words: &Result<StringRecord, Refusal>,
-    line: &[u8],
-) -> Result<u64, Mistake> {
+/// How many lines of CSV stand behind a line: COUNT, where its first word is `append` and its fourth is a
+/// COUNT. Where memory was refused to its words, they are read once more for this alone, so that the lines can be
+/// passed over; where they still cannot be read, the bytes behind the last blank are taken for COUNT.
+pub fn count_lines(alloc: Global, words: &Result<StringRecord, Refusal>, line: &[u8]) -> u64 {
     match words {
         Ok(words) => count_in(words),
         Err(_) => match read_words(alloc, line) {
             Ok(words) => count_in(&words),
             Err(_) if line.starts_with(b"append ") => count_of(last_word(line)),
-            Err(_) => Ok(0),
+            Err(_) => 0,
         },
     }
 }
 
-fn count_in(words: &StringRecord) -> Result<u64, Mistake> {
+fn count_in(words: &StringRecord) -> u64 {
     match words.get(0) {
         Some("append") => count_of(words.get(3)),
-        _ => Ok(0),
+        _ => 0,
     }
 }
 
 // Without a COUNT no line is read.
-fn count_of(word: Option<&str>) -> Result<u64, Mistake> {
+fn count_of(word: Option<&str>) -> u64 {
     match word {
-        Some(word) => match word.parse::<u64>() {
-            Ok(count) => Ok(count),
-            Err(_) => Err(Mistake::NotCount),
-        },
-        None => Ok(0),
+        Some(word) => line_count(word).unwrap_or(0),
+        None => 0,
     }
 }
 
