@@ -15,7 +15,7 @@ use Rattle.df_shell.specs.declared.refusal.Refusal.{Refusal}
 -- The answer to a command, with the lines that were read for it: the change that it asks for was made, or the answer is the
 -- question's text; else it is refused. But for that change the state is as it was.
 abbrev pub Answered : {T : Type 0} → Definitions → Command → Result T Refusal → State → State → Result Answer Refusal → Type 0
-Answered d (command.Change change) lines old new (Ok answer.Accepted) = MadeAsked d change old new
+Answered d (command.Change change) lines old new (Ok answer.Accepted) = MadeAsked d change lines old new
 Answered d (command.Change change) lines old new (Err r) = RefusesAsked d old change lines r × (new ≡ old)
 Answered d (command.Question q) lines old new (Ok (answer.Told text)) = (text_of_question d old q ≡ Some text.items) × (new ≡ old)
 Answered d (command.Question q) lines old new (Err r) = RefusesText (text_of_question d old q) (fault_of_question q) r × (new ≡ old)

@@ -1,5 +1,5 @@
 -- Changes that are asked for: which change of the catalogue each is, and why it is refused.
-use Rattle.std.specs.Prelude.{◌≡◌, ⊤, ℕ, List, Option, Some, None, Result, Ok, Err, option_map, position, slice_get, bytes_eq}
+use Rattle.std.specs.Prelude.{◌≡◌, ⊤, ℕ, List, Option, Some, None, Result, Ok, Err, option_map, position, slice_get, bytes_eq, IsOk}
 use Rattle.df_value.specs.Chunks.{ChunkParts}
 use Rattle.df_catalogue.specs.declared.change.Change.{Change}
 use Rattle.df_catalogue.specs.declared.change.Change.TheVariants.{Append, Delete, Register, DropView}
@@ -20,11 +20,12 @@ use Rattle.df_text.specs.declared.document.ViewSpec.{ViewSpec}
 abbrev pub frame_index_of : Definitions → List ℕ → Option ℕ
 frame_index_of d name = position (λ (f : FrameSpec). bytes_eq f.name name) d.document.frames
 
--- the plan of the view of a name
+-- the plan at an index
 abbrev pub plan_at : Definitions → Option ℕ → Option CheckedParts
 plan_at d None = None
 plan_at d (Some at) = slice_get d.plans at
 
+-- the plan of the view of a name
 abbrev pub plan_named : Definitions → List ℕ → Option CheckedParts
 plan_named d name = plan_at d (position (λ (v : ViewSpec). bytes_eq v.name name) d.document.views)
 
@@ -46,7 +47,8 @@ RefusesView s name None r = r ≡ refusal.Mistake mistake.NoView
 -- a chunk of the schema of the document's frame at this place, whose first number is this
 abbrev pub IsChunkOf : Definitions → ℕ → ℕ → ChunkParts → Type 0
 IsChunkOf d at first chunk =
-    (option_map (λ (f : FrameSpec). f.schema) (slice_get d.document.frames at) ≡ Some chunk.schema) × (chunk.first ≡ first)
+    (option_map (λ (f : FrameSpec). f.schema) (slice_get d.document.frames at) ≡ Some chunk.schema)
+    × (chunk.first ≡ first)
 
 -- What may be wrong with lines that were read, when they are to be a chunk.
 abbrev pub IsOfLines : Refusal → Type 0
@@ -66,17 +68,18 @@ RefusesAppend d s None first lines r = r ≡ refusal.Store fault.NoFrame
 RefusesAppend d s (Some at) first (Err f) r = r ≡ f
 RefusesAppend d s (Some at) first (Ok lines) r = RefusesChunk d s at first r
 
--- the change that is asked for
-abbrev pub IsAsked : Definitions → AskedChange → Change → Type 0
-IsAsked d (asked.Append frame first) (Append at chunk) = (frame_index_of d frame.now ≡ Some at) × IsChunkOf d at first chunk
-IsAsked d (asked.Delete frame numbers) (Delete at ns) = (frame_index_of d frame.now ≡ Some at) × (ns ≡ numbers)
-IsAsked d (asked.Register view) (Register name plan) = (name ≡ view.now) × (plan_named d view.now ≡ Some plan)
-IsAsked d (asked.DropView view) (DropView name) = name ≡ view.now
-IsAsked d change _ = ⊥
+-- The change that is asked for, with the lines that were read for it, or why they were not: an append is one only with lines.
+abbrev pub IsAsked : {T : Type 0} → Definitions → AskedChange → Result T Refusal → Change → Type 0
+IsAsked d (asked.Append frame first) lines (Append at chunk) =
+    IsOk lines × (frame_index_of d frame.now ≡ Some at) × IsChunkOf d at first chunk
+IsAsked d (asked.Delete frame numbers) lines (Delete at ns) = (frame_index_of d frame.now ≡ Some at) × (ns ≡ numbers)
+IsAsked d (asked.Register view) lines (Register name plan) = (name ≡ view.now) × (plan_named d view.now ≡ Some plan)
+IsAsked d (asked.DropView view) lines (DropView name) = name ≡ view.now
+IsAsked d change lines _ = ⊥
 
 -- the change that is asked for was made
-abbrev pub MadeAsked : Definitions → AskedChange → State → State → Type 0
-MadeAsked d asked old new = (change : Change) × IsAsked d asked change × Made old new change
+abbrev pub MadeAsked : {T : Type 0} → Definitions → AskedChange → Result T Refusal → State → State → Type 0
+MadeAsked d asked lines old new = (change : Change) × IsAsked d asked lines change × Made old new change
 
 -- A refusal of the change that is asked for, with the lines that were read for it, or why they were not.
 abbrev pub RefusesAsked : {T : Type 0} → Definitions → State → AskedChange → Result T Refusal → Refusal → Type 0

@@ -101,7 +101,7 @@ fn answer_change<Acc: Ledger, Del: Ledger>(
     asked: AskedChange<'_>,
     lines: Result<Vec<u8>, Refusal>,
 ) -> Result<(), Refusal>
-    ensures made { OnOk result (MadeAsked definitions.now asked.entry store.old.catalogue store.new.catalogue) }
+    ensures made { OnOk result (MadeAsked definitions.now asked.entry lines store.old.catalogue store.new.catalogue) }
     ensures refused { IfErr result (RefusesAsked definitions.now store.old.catalogue asked.entry lines) }
     ensures same { OnErr result (store.new.catalogue ≡ store.old.catalogue) }
 {

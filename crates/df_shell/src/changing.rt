@@ -1,5 +1,5 @@
 //! The commands that change the catalogue.
-ghost use Rattle.std.specs.Prelude.{◌≡◌, ℕ, Some, IfErr, OnErr, OnOk};
+ghost use Rattle.std.specs.Prelude.{◌≡◌, ℕ, Some, IfErr, IsOk, OnErr, OnOk};
 ghost use Rattle.df_value.specs.Chunks.{ChunkParts};
 ghost use Rattle.df_plan.specs.CheckedParts.{CheckedParts};
 ghost use Rattle.df_catalogue.specs.declared.change.Change.TheVariants.{Append, Delete, DropView, Register};
@@ -27,7 +27,7 @@ pub fn append<Acc: Ledger, Del: Ledger>(
     first: u32,
     lines: Result<Vec<u8>, Refusal>,
 ) -> Result<(), Refusal>
-    ensures made { OnOk result ((at : ℕ) × (chunk : ChunkParts) × (frame_index_of definitions.now frame.now ≡ Some at)
+    ensures made { OnOk result ((at : ℕ) × (chunk : ChunkParts) × IsOk lines × (frame_index_of definitions.now frame.now ≡ Some at)
         × IsChunkOf definitions.now at first chunk × Made store.old.catalogue store.new.catalogue (Append at chunk)) }
     ensures refused { IfErr result (RefusesAppend definitions.now store.old.catalogue (frame_index_of definitions.now frame.now) first lines) }
     ensures same { OnErr result (store.new.catalogue ≡ store.old.catalogue) }

@@ -7,7 +7,7 @@ use Rattle.df_shell.proofs.answering.answer_change.Goals as goal
 
 pub returns-in-Append-clause-made : goal.returns-in-Append-clause-made
 returns-in-Append-clause-made g c =
-    on_ok_weaker c.append.result (λ e. (Append e.0 e.1, rw c.in-Append.is (e.2, e.3), e.4)) c.append.ensures.made
+    on_ok_weaker c.append.result (λ e. (Append e.0 e.1, rw c.in-Append.is (e.2, e.3, e.4), e.5)) c.append.ensures.made
 
 pub returns-in-Delete-clause-made : goal.returns-in-Delete-clause-made
 returns-in-Delete-clause-made g c =
