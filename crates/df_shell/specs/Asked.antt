@@ -1,6 +1,6 @@
 -- Changes that are asked for: which change of the catalogue each is, and why it is refused.
 use Rattle.std.specs.Prelude.{◌≡◌, ⊤, ℕ, List, Option, Some, None, Result, Ok, Err, option_map, position, slice_get, bytes_eq, IsOk}
-use Rattle.df_value.specs.Chunks.{ChunkParts}
+use Rattle.df_value.specs.Chunks.{ChunkParts, IsChunk}
 use Rattle.df_catalogue.specs.declared.change.Change.{Change}
 use Rattle.df_catalogue.specs.declared.change.Change.TheVariants.{Append, Delete, Register, DropView}
 use Rattle.df_catalogue.specs.declared.fault.CatalogueFault.TheVariants as fault
@@ -49,6 +49,7 @@ abbrev pub IsChunkOf : Definitions → ℕ → ℕ → ChunkParts → Type 0
 IsChunkOf d at first chunk =
     (option_map (λ (f : FrameSpec). f.schema) (slice_get d.document.frames at) ≡ Some chunk.schema)
     × (chunk.first ≡ first)
+    × IsChunk chunk.schema chunk.first chunk.rows
 
 -- What may be wrong with lines that were read, when they are to be a chunk.
 abbrev pub IsOfLines : Refusal → Type 0
