@@ -1,10 +1,11 @@
 -- What the answer to a command says: of a change, that the catalogue is the one after it; of a question, its text.
-use Rattle.std.specs.Prelude.{◌≡◌, ◌⊎◌, Some, Result, Ok, Err}
+use Rattle.std.specs.Prelude.{◌≡◌, ◌⊎◌, ℕ, List, Some, Result, Ok, Err, codes}
 use Rattle.csv.specs.Records.{Row, fields_of}
 use Rattle.df_catalogue.specs.declared.state.State.{State}
 use Rattle.df_shell.specs.Commands.{IsOfWords, Says}
 use Rattle.df_shell.specs.Asked.{MadeAsked, RefusesAsked}
 use Rattle.df_shell.specs.Questions.{RefusesText, fault_of_question, text_of_question}
+use Rattle.df_shell.specs.Texts.{help_text}
 use Rattle.df_shell.specs.declared.answering.Answer.{Answer}
 use Rattle.df_shell.specs.declared.answering.Answer.TheVariants as answer
 use Rattle.df_shell.specs.declared.command.Command.{Command}
@@ -12,8 +13,14 @@ use Rattle.df_shell.specs.declared.command.Command.TheVariants as command
 use Rattle.df_shell.specs.declared.definitions.Definitions.{Definitions}
 use Rattle.df_shell.specs.declared.refusal.Refusal.{Refusal}
 
+-- the text of an answer
+abbrev pub answer_text : Answer → List ℕ
+answer_text answer.Accepted = codes "ok\n"
+answer_text (answer.Told text) = text.items
+answer_text answer.Help = help_text
+
 -- The answer to a command, with the lines that were read for it: the change that it asks for was made, or the answer is the
--- question's text; else it is refused. But for that change the state is as it was.
+-- question's text; else it is refused. Only a change that was made alters the state.
 abbrev pub Answered : {T : Type 0} → Definitions → Command → Result T Refusal → State → State → Result Answer Refusal → Type 0
 Answered d (command.Change change) lines old new (Ok answer.Accepted) = MadeAsked d change lines old new
 Answered d (command.Change change) lines old new (Err r) = RefusesAsked d old change lines r × (new ≡ old)

@@ -41,12 +41,13 @@ books_text frame = books_line (length frame.accepted) (length frame.deleted) (le
 abbrev pub names_text : List (List ℕ) → List ℕ
 names_text names = flat_map (λ name. escaped_text name ++ codes "\n") names
 
--- the text of a frame at this place, where the document and the state have one there
+-- of a frame's description and state, where both are there
 abbrev pub text_at : (FrameSpec → FrameState → List ℕ) → Option FrameSpec → Option FrameState → Option (List ℕ)
 text_at text (Some spec) (Some frame) = Some (text spec frame)
 text_at text (Some spec) None = None
 text_at text None frame = None
 
+-- of a frame at this index, where the document and the state have one there
 abbrev pub frame_text : (FrameSpec → FrameState → List ℕ) → Definitions → State → Option ℕ → Option (List ℕ)
 frame_text text d s (Some at) = text_at text (slice_get d.document.frames at) (slice_get s.frames at)
 frame_text text d s None = None

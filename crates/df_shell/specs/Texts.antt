@@ -54,6 +54,19 @@ chunk_text chunk.Memory = codes "memory"
 abbrev pub text_of_cell : ℕ → List ℕ → List ℕ
 text_of_cell number column = codes "record " ++ (decimal number ++ (codes ", column " ++ escaped_text column))
 
+-- the commands, a line each
+abbrev pub help_text : List ℕ
+help_text =
+    codes "append FRAME FIRST COUNT   and COUNT lines of CSV: adds rows, numbered from FIRST\n"
+    ++ (codes "delete FRAME NUMBER ..     takes the rows of these numbers out\n"
+    ++ (codes "register VIEW              adds the document's view of this name\n"
+    ++ (codes "drop VIEW                  takes a view out\n"
+    ++ (codes "show VIEW                  the table of a view\n"
+    ++ (codes "rows FRAME                 the table of a frame, and the numbers of its rows\n"
+    ++ (codes "books FRAME                how many rows were accepted and deleted, and how many there are\n"
+    ++ (codes "views                      the names of the views\n"
+    ++ codes "help                       this list\n")))))))
+
 -- the text of a refusal
 abbrev pub text_of : Refusal → List ℕ
 text_of (refusal.Mistake m) = codes "? " ++ mistake_text m

@@ -1,7 +1,7 @@
 //! The answers to commands.
 ghost use Rattle.std.specs.Prelude.{◌≡◌, IfErr, IfOk, OnErr, OnOk, MatchResult, Some, map};
 ghost use Rattle.csv.specs.Records.{fields_of};
-ghost use Rattle.df_shell.specs.Answers.{Answered, AnsweredLine};
+ghost use Rattle.df_shell.specs.Answers.{Answered, AnsweredLine, answer_text};
 ghost use Rattle.df_shell.specs.Asked.{MadeAsked, RefusesAsked};
 ghost use Rattle.df_shell.specs.Questions.{RefusesText, fault_of_question, text_of_question};
 
@@ -41,7 +41,9 @@ help                       this list
 
 impl Answer {
     /// The bytes of the answer.
-    pub fn bytes(&self) -> &[u8] {
+    pub fn bytes(&self) -> &[u8]
+        ensures { result.now ≡ answer_text self.now }
+    {
         match self {
             Answer::Accepted => b"ok\n",
             Answer::Told(text) => text.as_slice(),
@@ -50,8 +52,7 @@ impl Answer {
     }
 }
 
-/// Does what the words of a line say. They, and the lines behind an `append`, have been read, or it is known
-/// why not.
+/// Does what the words of a line say. `words` and `lines` are what was read, or why it was not.
 pub fn answer_line<Acc: Ledger, Del: Ledger>(
     alloc: Global,
     definitions: &Definitions,

@@ -7,7 +7,7 @@
 //!
 //! To add a command: a variant of [`Command`] with its words (command.rt, specs/Commands.antt), its arm in
 //! `answer_change` or `answer_question` (answering.rt, specs/Asked.antt or specs/Questions.antt), a line of the help
-//! (answering.rt). To add a refusal: a variant of [`Refusal`] or of [`Mistake`] with its text
+//! (answering.rt, specs/Texts.antt). To add a refusal: a variant of [`Refusal`] or of [`Mistake`] with its text
 //! (refusal_texts.rt, specs/Texts.antt).
 #![tactic(auto)]
 
