@@ -1,9 +1,9 @@
 //! The answers to commands.
-ghost use Rattle.std.specs.Prelude.{◌≡◌, IfErr, IfOk, OnErr, OnOk, MatchResult, Some, map};
+ghost use Rattle.std.specs.Prelude.{◌≡◌, IfErr, IfOk, OnErr, OnOk, map};
 ghost use Rattle.csv.specs.Records.{fields_of};
 ghost use Rattle.df_shell.specs.Answers.{Answered, AnsweredLine, answer_text};
 ghost use Rattle.df_shell.specs.Asked.{MadeAsked, RefusesAsked};
-ghost use Rattle.df_shell.specs.Questions.{RefusesText, fault_of_question, text_of_question};
+ghost use Rattle.df_shell.specs.Questions.{IsTold, fault_of_question, text_of_question};
 
 use crate::changing::{append, delete, drop_view, register};
 use crate::command::{AskedChange, Command, Question, read_command};
@@ -122,8 +122,7 @@ fn answer_question<Acc: Ledger, Del: Ledger>(
     catalogue: &Catalogue<Acc, Del>,
     question: Question<'_>,
 ) -> Result<Vec<u8>, Refusal>
-    ensures { let wanted = text_of_question definitions.now catalogue.now question.entry in
-        MatchResult result (λ text. wanted ≡ Some text.items) (RefusesText wanted (fault_of_question question.entry)) }
+    ensures { IsTold (text_of_question definitions.now catalogue.now question.entry) (fault_of_question question.entry) result }
 {
     match question {
         Question::Show(view) => show(alloc, catalogue, view),
