@@ -1,5 +1,5 @@
 pub mod OneChange
 pub mod WordFacts
-pub mod AllMadeFacts
+pub mod AreMadeFacts
 pub mod CommandFacts
 pub mod WordList

@@ -10,17 +10,17 @@ use Rattle.df_catalogue.specs.declared.fault.CatalogueFault.{CatalogueFault}
 use Rattle.df_catalogue.specs.Changes.{after, change_at}
 use Rattle.df_catalogue.specs.Desks.{DeskParts, desks_after, desks_run, having_accepted, having_deleted}
 use Rattle.df_catalogue.specs.Runs.{AnswersEach, after_unless, entered, run_of}
-use Rattle.df_shell.specs.Changes.{Made, Refuses, first_answer}
+use Rattle.df_shell.specs.Changes.{IsMade, IsRefusal, first_answer}
 
 pub one-made :
     (s new : State) (c : Change) (answers : List (Option CatalogueFault)) → AnswersEach s (c ∷ []) answers →
-    new ≡ run_of s (entered (c ∷ []) answers) → OnOk (first_answer answers) (Made s new c)
+    new ≡ run_of s (entered (c ∷ []) answers) → OnOk (first_answer answers) (IsMade s new c)
 one-made s new c [] h e = absurd h
 one-made s new c (None ∷ later) h e = (h.0, e ∙ ap (λ o. after_unless o s c) h.0)
 one-made s new c (Some f ∷ later) h e = tt
 
 pub one-refused :
-    (s : State) (c : Change) (answers : List (Option CatalogueFault)) → AnswersEach s (c ∷ []) answers → IfErr (first_answer answers) (Refuses s c)
+    (s : State) (c : Change) (answers : List (Option CatalogueFault)) → AnswersEach s (c ∷ []) answers → IfErr (first_answer answers) (IsRefusal s c)
 one-refused s c [] h = absurd h
 one-refused s c (None ∷ later) h = tt
 one-refused s c (Some f ∷ later) h = h.0.exact

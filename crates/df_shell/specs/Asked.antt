@@ -6,7 +6,7 @@ use Rattle.df_catalogue.specs.declared.change.Change.TheVariants.{Append, Delete
 use Rattle.df_catalogue.specs.declared.fault.CatalogueFault.TheVariants as fault
 use Rattle.df_catalogue.specs.declared.state.State.{State}
 use Rattle.df_plan.specs.CheckedParts.{CheckedParts}
-use Rattle.df_shell.specs.Changes.{Made, Refuses}
+use Rattle.df_shell.specs.Changes.{IsMade, IsRefusal}
 use Rattle.df_shell.specs.declared.command.AskedChange.{AskedChange}
 use Rattle.df_shell.specs.declared.command.AskedChange.TheVariants as asked
 use Rattle.df_shell.specs.declared.refusal.Mistake.TheVariants as mistake
@@ -30,19 +30,19 @@ abbrev pub plan_named : Definitions → List ℕ → Option CheckedParts
 plan_named d name = plan_at d (position (λ (v : ViewSpec). bytes_eq v.name name) d.document.views)
 
 -- A refusal of a command that makes this change: the catalogue's, or that memory was refused.
-abbrev pub RefusesChange : State → Change → Refusal → Type 0
-RefusesChange s change (refusal.Store f) = Refuses s change f
-RefusesChange s change r = r ≡ refusal.Memory
+abbrev pub IsRefusalOfChange : State → Change → Refusal → Type 0
+IsRefusalOfChange s change (refusal.Store f) = IsRefusal s change f
+IsRefusalOfChange s change r = r ≡ refusal.Memory
 
 -- A refusal of a command that makes this change of the frame at this place: `C11` where there is none.
-abbrev pub RefusesAt : State → (ℕ → Change) → Option ℕ → Refusal → Type 0
-RefusesAt s change (Some at) r = RefusesChange s (change at) r
-RefusesAt s change None r = r ≡ refusal.Store fault.NoFrame
+abbrev pub IsRefusalAtFrame : State → (ℕ → Change) → Option ℕ → Refusal → Type 0
+IsRefusalAtFrame s change (Some at) r = IsRefusalOfChange s (change at) r
+IsRefusalAtFrame s change None r = r ≡ refusal.Store fault.NoFrame
 
 -- A refusal of a command that registers a view of this name and plan: that the document has none, where it has none.
-abbrev pub RefusesView : State → List ℕ → Option CheckedParts → Refusal → Type 0
-RefusesView s name (Some plan) r = RefusesChange s (Register name plan) r
-RefusesView s name None r = r ≡ refusal.Mistake mistake.NoView
+abbrev pub IsRefusalOfRegister : State → List ℕ → Option CheckedParts → Refusal → Type 0
+IsRefusalOfRegister s name (Some plan) r = IsRefusalOfChange s (Register name plan) r
+IsRefusalOfRegister s name None r = r ≡ refusal.Mistake mistake.NoView
 
 -- a chunk of the schema of the document's frame at this place, whose first number is this
 abbrev pub IsChunkOf : Definitions → ℕ → ℕ → ChunkParts → Type 0
@@ -52,22 +52,22 @@ IsChunkOf d at first chunk =
     × IsChunk chunk.schema chunk.first chunk.rows
 
 -- What may be wrong with lines that were read, when they are to be a chunk.
-abbrev pub IsOfLines : Refusal → Type 0
-IsOfLines (refusal.Mistake m) = ⊥
-IsOfLines (refusal.Store f) = ⊥
-IsOfLines r = ⊤
+abbrev pub IsLineFault : Refusal → Type 0
+IsLineFault (refusal.Mistake m) = ⊥
+IsLineFault (refusal.Store f) = ⊥
+IsLineFault r = ⊤
 
 -- A refusal of lines that were read, at the frame at this place: they are no chunk, or the catalogue refuses the chunk that they are.
-abbrev pub RefusesChunk : Definitions → State → ℕ → ℕ → Refusal → Type 0
-RefusesChunk d s at first (refusal.Store f) = (chunk : ChunkParts) × IsChunkOf d at first chunk × Refuses s (Append at chunk) f
-RefusesChunk d s at first r = IsOfLines r
+abbrev pub IsRefusalOfLines : Definitions → State → ℕ → ℕ → Refusal → Type 0
+IsRefusalOfLines d s at first (refusal.Store f) = (chunk : ChunkParts) × IsChunkOf d at first chunk × IsRefusal s (Append at chunk) f
+IsRefusalOfLines d s at first r = IsLineFault r
 
 -- A refusal of an append to the frame at this place, its first number and its lines, or why they were not read: `C11` where
 -- there is no frame; else that of the lines.
-abbrev pub RefusesAppend : {T : Type 0} → Definitions → State → Option ℕ → ℕ → Result T Refusal → Refusal → Type 0
-RefusesAppend d s None first lines r = r ≡ refusal.Store fault.NoFrame
-RefusesAppend d s (Some at) first (Err f) r = r ≡ f
-RefusesAppend d s (Some at) first (Ok lines) r = RefusesChunk d s at first r
+abbrev pub IsRefusalOfAppend : {T : Type 0} → Definitions → State → Option ℕ → ℕ → Result T Refusal → Refusal → Type 0
+IsRefusalOfAppend d s None first lines r = r ≡ refusal.Store fault.NoFrame
+IsRefusalOfAppend d s (Some at) first (Err f) r = r ≡ f
+IsRefusalOfAppend d s (Some at) first (Ok lines) r = IsRefusalOfLines d s at first r
 
 -- The change that is asked for, with the lines that were read for it, or why they were not: an append is one only with lines.
 abbrev pub IsAsked : {T : Type 0} → Definitions → AskedChange → Result T Refusal → Change → Type 0
@@ -79,12 +79,12 @@ IsAsked d (asked.DropView view) lines (DropView name) = name ≡ view.now
 IsAsked d change lines _ = ⊥
 
 -- the change that is asked for was made
-abbrev pub MadeAsked : {T : Type 0} → Definitions → AskedChange → Result T Refusal → State → State → Type 0
-MadeAsked d asked lines old new = (change : Change) × IsAsked d asked lines change × Made old new change
+abbrev pub IsMadeAsAsked : {T : Type 0} → Definitions → AskedChange → Result T Refusal → State → State → Type 0
+IsMadeAsAsked d asked lines old new = (change : Change) × IsAsked d asked lines change × IsMade old new change
 
 -- A refusal of the change that is asked for, with the lines that were read for it, or why they were not.
-abbrev pub RefusesAsked : {T : Type 0} → Definitions → State → AskedChange → Result T Refusal → Refusal → Type 0
-RefusesAsked d s (asked.Append frame first) lines r = RefusesAppend d s (frame_index_of d frame.now) first lines r
-RefusesAsked d s (asked.Delete frame numbers) lines r = RefusesAt s (λ at. Delete at numbers) (frame_index_of d frame.now) r
-RefusesAsked d s (asked.Register view) lines r = RefusesView s view.now (plan_named d view.now) r
-RefusesAsked d s (asked.DropView view) lines r = RefusesChange s (DropView view.now) r
+abbrev pub IsRefusalOfAsked : {T : Type 0} → Definitions → State → AskedChange → Result T Refusal → Refusal → Type 0
+IsRefusalOfAsked d s (asked.Append frame first) lines r = IsRefusalOfAppend d s (frame_index_of d frame.now) first lines r
+IsRefusalOfAsked d s (asked.Delete frame numbers) lines r = IsRefusalAtFrame s (λ at. Delete at numbers) (frame_index_of d frame.now) r
+IsRefusalOfAsked d s (asked.Register view) lines r = IsRefusalOfRegister s view.now (plan_named d view.now) r
+IsRefusalOfAsked d s (asked.DropView view) lines r = IsRefusalOfChange s (DropView view.now) r

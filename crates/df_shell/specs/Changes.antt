@@ -8,12 +8,12 @@ use Rattle.df_catalogue.specs.Changes.{after}
 use Rattle.df_catalogue.specs.Refusals.{refusal_of}
 
 -- nothing refuses the change, and it was made
-abbrev pub Made : State → State → Change → Type 0
-Made old new c = (refusal_of old c ≡ None) × (new ≡ after old c)
+abbrev pub IsMade : State → State → Change → Type 0
+IsMade old new c = (refusal_of old c ≡ None) × (new ≡ after old c)
 
 -- the catalogue refuses the change so, or memory was refused
-abbrev pub Refuses : State → Change → CatalogueFault → Type 0
-Refuses s c f = f ≢ fault.Memory → refusal_of s c ≡ Some f
+abbrev pub IsRefusal : State → Change → CatalogueFault → Type 0
+IsRefusal s c f = f ≢ fault.Memory → refusal_of s c ≡ Some f
 
 -- the first of these answers
 abbrev pub first_answer : List (Option CatalogueFault) → Result (Unit {0}) CatalogueFault

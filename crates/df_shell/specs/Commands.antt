@@ -1,5 +1,5 @@
 -- Commands: the words that say each of them.
-use Rattle.std.specs.Prelude.{◌≡◌, ◌<◌, ⊤, ℕ, List, [], ◌∷◌, codes}
+use Rattle.std.specs.Prelude.{◌≡◌, ◌<◌, ℕ, List, [], ◌∷◌, codes}
 use Rattle.std.specs.List.{AllZip}
 use Rattle.std.specs.Str.Parse.{IsNumeral, digits_value, without_leading_plus}
 use Rattle.df_shell.specs.declared.command.AskedChange.{AskedChange}
@@ -8,8 +8,6 @@ use Rattle.df_shell.specs.declared.command.Command.{Command}
 use Rattle.df_shell.specs.declared.command.Command.TheVariants as command
 use Rattle.df_shell.specs.declared.command.Question.{Question}
 use Rattle.df_shell.specs.declared.command.Question.TheVariants as question
-use Rattle.df_shell.specs.declared.refusal.Refusal.{Refusal}
-use Rattle.df_shell.specs.declared.refusal.Refusal.TheVariants as refusal
 
 -- the number below a bound that a word writes: digits, before which a plus may stand
 abbrev pub IsNumberBelow : ℕ → List ℕ → ℕ → Type 0
@@ -24,30 +22,24 @@ abbrev pub IsLineCount : List ℕ → ℕ → Type 0
 IsLineCount word n = IsNumberBelow 18446744073709551616 word n
 
 -- the words of a change
-abbrev pub SaysChange : List (List ℕ) → AskedChange → Type 0
-SaysChange words (asked.Append frame first) =
+abbrev pub IsChangeOf : List (List ℕ) → AskedChange → Type 0
+IsChangeOf words (asked.Append frame first) =
     (first_word : List ℕ) × (count_word : List ℕ) × (count : ℕ) × (words ≡ codes "append" ∷ frame.now ∷ first_word ∷ count_word ∷ [])
     × IsRowNumber first_word first × IsLineCount count_word count
-SaysChange words (asked.Delete frame numbers) =
+IsChangeOf words (asked.Delete frame numbers) =
     (number_words : List (List ℕ)) × (words ≡ codes "delete" ∷ frame.now ∷ number_words) × AllZip IsRowNumber number_words numbers
-SaysChange words (asked.Register view) = words ≡ codes "register" ∷ view.now ∷ []
-SaysChange words (asked.DropView view) = words ≡ codes "drop" ∷ view.now ∷ []
+IsChangeOf words (asked.Register view) = words ≡ codes "register" ∷ view.now ∷ []
+IsChangeOf words (asked.DropView view) = words ≡ codes "drop" ∷ view.now ∷ []
 
 -- the words of a question
-abbrev pub SaysQuestion : List (List ℕ) → Question → Type 0
-SaysQuestion words (question.Show view) = words ≡ codes "show" ∷ view.now ∷ []
-SaysQuestion words (question.Rows frame) = words ≡ codes "rows" ∷ frame.now ∷ []
-SaysQuestion words (question.Books frame) = words ≡ codes "books" ∷ frame.now ∷ []
-SaysQuestion words question.Views = words ≡ codes "views" ∷ []
+abbrev pub IsQuestionOf : List (List ℕ) → Question → Type 0
+IsQuestionOf words (question.Show view) = words ≡ codes "show" ∷ view.now ∷ []
+IsQuestionOf words (question.Rows frame) = words ≡ codes "rows" ∷ frame.now ∷ []
+IsQuestionOf words (question.Books frame) = words ≡ codes "books" ∷ frame.now ∷ []
+IsQuestionOf words question.Views = words ≡ codes "views" ∷ []
 
 -- the words of a command
-abbrev pub Says : List (List ℕ) → Command → Type 0
-Says words (command.Change change) = SaysChange words change
-Says words (command.Question question) = SaysQuestion words question
-Says words command.Help = words ≡ codes "help" ∷ []
-
--- What may be wrong with words that are read as a command.
-abbrev pub IsOfWords : Refusal → Type 0
-IsOfWords (refusal.Mistake m) = ⊤
-IsOfWords refusal.Memory = ⊤
-IsOfWords r = ⊥
+abbrev pub IsCommandOf : List (List ℕ) → Command → Type 0
+IsCommandOf words (command.Change change) = IsChangeOf words change
+IsCommandOf words (command.Question question) = IsQuestionOf words question
+IsCommandOf words command.Help = words ≡ codes "help" ∷ []

@@ -37,6 +37,6 @@ abbrev pub empty_state : Definitions → State
 empty_state d = opening_of (map (λ (f : FrameSpec). f.schema) d.document.frames)
 
 -- nothing refuses any of the changes in its turn, and all were made
-abbrev pub AllMade : State → State → List Change → Type 0
-AllMade old new [] = new ≡ old
-AllMade old new (c ∷ cs) = (refusal_of old c ≡ None) × AllMade (after old c) new cs
+abbrev pub AreMade : State → State → List Change → Type 0
+AreMade old new [] = new ≡ old
+AreMade old new (c ∷ cs) = (refusal_of old c ≡ None) × AreMade (after old c) new cs

@@ -70,10 +70,10 @@ IsMemory (refusal.Store f) = f ≡ fault.Memory
 IsMemory r = r ≡ refusal.Memory
 
 -- A refusal where this text is wanted: this fault where there is no text, else that memory was refused.
-abbrev pub RefusesText : Option (List ℕ) → CatalogueFault → Refusal → Type 0
-RefusesText None f r = r ≡ refusal.Store f
-RefusesText (Some text) f r = IsMemory r
+abbrev pub IsRefusalOfWanted : Option (List ℕ) → CatalogueFault → Refusal → Type 0
+IsRefusalOfWanted None f r = r ≡ refusal.Store f
+IsRefusalOfWanted (Some text) f r = IsMemory r
 
 -- The answer is the text that is wanted, or it is refused.
 abbrev pub IsTold : Option (List ℕ) → CatalogueFault → Result (Vec ℕ) Refusal → Type 0
-IsTold want f result = MatchResult result (λ text. want ≡ Some text.items) (RefusesText want f)
+IsTold want f result = MatchResult result (λ text. want ≡ Some text.items) (IsRefusalOfWanted want f)

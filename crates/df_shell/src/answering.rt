@@ -1,8 +1,8 @@
 //! The answers to commands.
 ghost use Rattle.std.specs.Prelude.{◌≡◌, IfErr, IfOk, OnErr, OnOk, map};
 ghost use Rattle.csv.specs.Records.{fields_of};
-ghost use Rattle.df_shell.specs.Answers.{Answered, AnsweredLine, answer_text};
-ghost use Rattle.df_shell.specs.Asked.{MadeAsked, RefusesAsked};
+ghost use Rattle.df_shell.specs.Answers.{IsAnswer, IsAnswerToLine, answer_text};
+ghost use Rattle.df_shell.specs.Asked.{IsMadeAsAsked, IsRefusalOfAsked};
 ghost use Rattle.df_shell.specs.Questions.{IsTold, fault_of_question, text_of_question};
 
 use crate::changing::{append, delete, drop_view, register};
@@ -60,7 +60,7 @@ pub fn answer_line<Acc: Ledger, Del: Ledger>(
     words: Result<StringRecord, Refusal>,
     lines: Result<Vec<u8>, Refusal>,
 ) -> Result<Answer, Refusal>
-    ensures { AnsweredLine definitions.now words lines store.old.catalogue store.new.catalogue result }
+    ensures { IsAnswerToLine definitions.now words lines store.old.catalogue store.new.catalogue result }
 {
     let record = words?;
     let words = words_of(alloc, &record)?;
@@ -81,7 +81,7 @@ fn answer_command<Acc: Ledger, Del: Ledger>(
     command: Command<'_>,
     lines: Result<Vec<u8>, Refusal>,
 ) -> Result<Answer, Refusal>
-    ensures { Answered definitions.now command.entry lines store.old.catalogue store.new.catalogue result }
+    ensures { IsAnswer definitions.now command.entry lines store.old.catalogue store.new.catalogue result }
 {
     match command {
         Command::Change(change) => {
@@ -102,8 +102,8 @@ fn answer_change<Acc: Ledger, Del: Ledger>(
     asked: AskedChange<'_>,
     lines: Result<Vec<u8>, Refusal>,
 ) -> Result<(), Refusal>
-    ensures made { OnOk result (MadeAsked definitions.now asked.entry lines store.old.catalogue store.new.catalogue) }
-    ensures refused { IfErr result (RefusesAsked definitions.now store.old.catalogue asked.entry lines) }
+    ensures made { OnOk result (IsMadeAsAsked definitions.now asked.entry lines store.old.catalogue store.new.catalogue) }
+    ensures refused { IfErr result (IsRefusalOfAsked definitions.now store.old.catalogue asked.entry lines) }
     ensures same { OnErr result (store.new.catalogue ≡ store.old.catalogue) }
 {
     match asked {

@@ -3,8 +3,8 @@ ghost use Rattle.std.specs.Prelude.{◌≡◌, ℕ, Some, IfErr, IsOk, OnErr, On
 ghost use Rattle.df_value.specs.Chunks.{ChunkParts};
 ghost use Rattle.df_plan.specs.CheckedParts.{CheckedParts};
 ghost use Rattle.df_catalogue.specs.declared.change.Change.TheVariants.{Append, Delete, DropView, Register};
-ghost use Rattle.df_shell.specs.Changes.{Made};
-ghost use Rattle.df_shell.specs.Asked.{IsChunkOf, RefusesAppend, RefusesAt, RefusesChange, RefusesView, frame_index_of, plan_named};
+ghost use Rattle.df_shell.specs.Changes.{IsMade};
+ghost use Rattle.df_shell.specs.Asked.{IsChunkOf, IsRefusalOfAppend, IsRefusalAtFrame, IsRefusalOfChange, IsRefusalOfRegister, frame_index_of, plan_named};
 
 use crate::definitions::Definitions;
 use crate::refusal::{Mistake, Refusal};
@@ -28,8 +28,8 @@ pub fn append<Acc: Ledger, Del: Ledger>(
     lines: Result<Vec<u8>, Refusal>,
 ) -> Result<(), Refusal>
     ensures made { OnOk result ((at : ℕ) × (chunk : ChunkParts) × IsOk lines × (frame_index_of definitions.now frame.now ≡ Some at)
-        × IsChunkOf definitions.now at first chunk × Made store.old.catalogue store.new.catalogue (Append at chunk)) }
-    ensures refused { IfErr result (RefusesAppend definitions.now store.old.catalogue (frame_index_of definitions.now frame.now) first lines) }
+        × IsChunkOf definitions.now at first chunk × IsMade store.old.catalogue store.new.catalogue (Append at chunk)) }
+    ensures refused { IfErr result (IsRefusalOfAppend definitions.now store.old.catalogue (frame_index_of definitions.now frame.now) first lines) }
     ensures same { OnErr result (store.new.catalogue ≡ store.old.catalogue) }
 {
     let Some(at) = definitions.frame_index(frame) else {
@@ -50,8 +50,8 @@ pub fn delete<Acc: Ledger, Del: Ledger>(
     numbers: List<u32>,
 ) -> Result<(), Refusal>
     ensures made { OnOk result ((at : ℕ) × (frame_index_of definitions.now frame.now ≡ Some at)
-        × Made store.old.catalogue store.new.catalogue (Delete at numbers)) }
-    ensures refused { IfErr result (RefusesAt store.old.catalogue (λ at. Delete at numbers) (frame_index_of definitions.now frame.now)) }
+        × IsMade store.old.catalogue store.new.catalogue (Delete at numbers)) }
+    ensures refused { IfErr result (IsRefusalAtFrame store.old.catalogue (λ at. Delete at numbers) (frame_index_of definitions.now frame.now)) }
     ensures same { OnErr result (store.new.catalogue ≡ store.old.catalogue) }
 {
     let Some(at) = definitions.frame_index(frame) else {
@@ -68,8 +68,8 @@ pub fn register<Acc: Ledger, Del: Ledger>(
     view: &str,
 ) -> Result<(), Refusal>
     ensures made { OnOk result ((plan : CheckedParts) × (plan_named definitions.now view.now ≡ Some plan)
-        × Made store.old.catalogue store.new.catalogue (Register view.now plan)) }
-    ensures refused { IfErr result (RefusesView store.old.catalogue view.now (plan_named definitions.now view.now)) }
+        × IsMade store.old.catalogue store.new.catalogue (Register view.now plan)) }
+    ensures refused { IfErr result (IsRefusalOfRegister store.old.catalogue view.now (plan_named definitions.now view.now)) }
     ensures same { OnErr result (store.new.catalogue ≡ store.old.catalogue) }
 {
     let Some(plan) = definitions.plan(view) else {
@@ -86,8 +86,8 @@ pub fn drop_view<Acc: Ledger, Del: Ledger>(
     store: &mut Store<Acc, Del>,
     view: &str,
 ) -> Result<(), Refusal>
-    ensures made { OnOk result (Made store.old.catalogue store.new.catalogue (DropView view.now)) }
-    ensures refused { IfErr result (RefusesChange store.old.catalogue (DropView view.now)) }
+    ensures made { OnOk result (IsMade store.old.catalogue store.new.catalogue (DropView view.now)) }
+    ensures refused { IfErr result (IsRefusalOfChange store.old.catalogue (DropView view.now)) }
     ensures same { OnErr result (store.new.catalogue ≡ store.old.catalogue) }
 {
     let name = Text::from_str(alloc, view)?;

@@ -1,7 +1,8 @@
 //! Commands, and the words that they are read of.
 ghost use Rattle.std.specs.Prelude.{◌≡◌, ◌∷◌, [], IfErr, IfOk, codes, map};
 ghost use Rattle.std.specs.List.{AllZip};
-ghost use Rattle.df_shell.specs.Commands.{IsLineCount, IsOfWords, IsRowNumber, Says, SaysChange};
+ghost use Rattle.df_shell.specs.Answers.{IsWordFault};
+ghost use Rattle.df_shell.specs.Commands.{IsChangeOf, IsCommandOf, IsLineCount, IsRowNumber};
 
 use crate::refusal::{Mistake, Refusal};
 use df_value::List;
@@ -44,8 +45,8 @@ pub enum Question<'a> {
 
 /// The command that words say.
 pub fn read_command<'a>(alloc: Global, words: &[&'a str]) -> Result<Command<'a>, Refusal>
-    ensures said { IfOk result (Says (map (λ w. w.now) words.now)) }
-    ensures refused { IfErr result IsOfWords }
+    ensures said { IfOk result (IsCommandOf (map (λ w. w.now) words.now)) }
+    ensures refused { IfErr result IsWordFault }
 {
     match words {
         [name, arguments @ ..] => command_of(alloc, name, arguments),
@@ -54,8 +55,8 @@ pub fn read_command<'a>(alloc: Global, words: &[&'a str]) -> Result<Command<'a>,
 }
 
 fn command_of<'a>(alloc: Global, name: &str, arguments: &[&'a str]) -> Result<Command<'a>, Refusal>
-    ensures said { IfOk result (Says (name.now ∷ map (λ w. w.now) arguments.now)) }
-    ensures refused { IfErr result IsOfWords }
+    ensures said { IfOk result (IsCommandOf (name.now ∷ map (λ w. w.now) arguments.now)) }
+    ensures refused { IfErr result IsWordFault }
 {
     match name {
         "append" => Ok(Command::Change(read_append(arguments)?)),
@@ -72,7 +73,7 @@ fn command_of<'a>(alloc: Global, name: &str, arguments: &[&'a str]) -> Result<Co
 }
 
 fn read_append<'a>(arguments: &[&'a str]) -> Result<AskedChange<'a>, Mistake>
-    ensures { IfOk result (SaysChange (codes "append" ∷ map (λ w. w.now) arguments.now)) }
+    ensures { IfOk result (IsChangeOf (codes "append" ∷ map (λ w. w.now) arguments.now)) }
 {
     match arguments {
         [frame, first, count] => {
@@ -86,8 +87,8 @@ fn read_append<'a>(arguments: &[&'a str]) -> Result<AskedChange<'a>, Mistake>
 }
 
 fn read_delete<'a>(alloc: Global, arguments: &[&'a str]) -> Result<AskedChange<'a>, Refusal>
-    ensures said { IfOk result (SaysChange (codes "delete" ∷ map (λ w. w.now) arguments.now)) }
-    ensures refused { IfErr result IsOfWords }
+    ensures said { IfOk result (IsChangeOf (codes "delete" ∷ map (λ w. w.now) arguments.now)) }
+    ensures refused { IfErr result IsWordFault }
 {
     match arguments {
         [frame, numbers @ ..] => Ok(AskedChange::Delete(frame, row_numbers(alloc, numbers)?)),
@@ -97,7 +98,7 @@ fn read_delete<'a>(alloc: Global, arguments: &[&'a str]) -> Result<AskedChange<'
 
 fn row_numbers(alloc: Global, words: &[&str]) -> Result<List<u32>, Refusal>
     ensures said { IfOk result (AllZip IsRowNumber (map (λ w. w.now) words.now)) }
-    ensures refused { IfErr result IsOfWords }
+    ensures refused { IfErr result IsWordFault }
 {
     let mut numbers = Vec::with_capacity(alloc, words.len())?;
     for word in words {
@@ -139,7 +140,7 @@ fn only<'a>(arguments: &[&'a str]) -> Result<&'a str, Mistake>
 // A command that takes no word.
 fn bare<'a>(command: Command<'a>, arguments: &[&'a str]) -> Result<Command<'a>, Refusal>
     ensures said { IfOk result (λ c. (c ≡ command.entry) × (arguments.now ≡ [])) }
-    ensures refused { IfErr result IsOfWords }
+    ensures refused { IfErr result IsWordFault }
 {
     match arguments {
         [] => Ok(command),

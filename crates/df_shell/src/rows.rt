@@ -1,6 +1,6 @@
 //! The rows of an append: its lines as records of the frame, and those as a chunk.
 ghost use Rattle.std.specs.Prelude.{◌≡◌, IfErr, IfOk, length};
-ghost use Rattle.df_shell.specs.Asked.{IsOfLines};
+ghost use Rattle.df_shell.specs.Asked.{IsLineFault};
 ghost use Rattle.df_csv.specs.Records.{IsRecords};
 
 use crate::refusal::Refusal;
@@ -25,7 +25,7 @@ pub fn read_chunk(
 ) -> Result<Chunk, Refusal>
     ensures schema { IfOk result (λ chunk. chunk.schema ≡ schema.now) }
     ensures first { IfOk result (λ chunk. chunk.first ≡ first) }
-    ensures refused { IfErr result IsOfLines }
+    ensures refused { IfErr result IsLineFault }
 {
     let text = with_header(alloc, schema.columns().as_slice(), without_marks(lines))?;
     let records = match parse_records(alloc, text.as_slice(), schema) {
@@ -41,7 +41,7 @@ pub fn read_chunk(
 
 // More records than a file may have are more than a chunk may have.
 fn refused_records(fault: CsvFault) -> Refusal
-    ensures { IsOfLines result }
+    ensures { IsLineFault result }
 {
     match fault {
         CsvFault::TooManyRecords => Refusal::Chunk(ChunkFault::TooLong),
@@ -95,7 +95,7 @@ fn push_quoted(text: &mut Vec<u8>, name: &str) -> Result<(), AllocError> {
 // The rows of all records, or the first bad cell among them.
 fn type_rows(alloc: Global, schema: &Schema, records: &Records) -> Result<List<Row>, Refusal>
     requires { IsRecords (length schema.now) records.now }
-    ensures { IfErr result IsOfLines }
+    ensures { IfErr result IsLineFault }
 {
     let mut rows = Vec::new(alloc);
     for n in 0..count_pieces(records, RECORDS_OF_PIECE) {
@@ -108,7 +108,7 @@ fn type_rows(alloc: Global, schema: &Schema, records: &Records) -> Result<List<R
 }
 
 fn bad_cell(alloc: Global, schema: &Schema, cell: BadCell) -> Result<Refusal, AllocError>
-    ensures { IfOk result IsOfLines }
+    ensures { IfOk result IsLineFault }
 {
     let name = match schema.columns().get(cell.column) {
         Some(column) => column.0.copy(alloc)?,

@@ -2,7 +2,7 @@
 ghost use Rattle.std.specs.Prelude.{◌≡◌, IfErr, OnErr, OnOk, length, map};
 ghost use Rattle.std.specs.List.{range_with_len};
 ghost use Rattle.df_catalogue.specs.States.{IsLegal};
-ghost use Rattle.df_shell.specs.Changes.{Made, Refuses, first_answer as first_answer_of};
+ghost use Rattle.df_shell.specs.Changes.{IsMade, IsRefusal, first_answer as first_answer_of};
 
 use df_catalogue::{Catalogue, CatalogueFault, Change, Desk};
 use df_value::List;
@@ -27,8 +27,8 @@ impl<Acc: Ledger, Del: Ledger> Store<Acc, Del> {
 
     /// Makes a change. What needs memory comes first: where it is refused nothing was done.
     pub fn make(&mut self, alloc: Global, change: Change) -> Result<(), CatalogueFault>
-        ensures made { OnOk result (Made self.old.catalogue self.new.catalogue change) }
-        ensures refused { IfErr result (Refuses self.old.catalogue change) }
+        ensures made { OnOk result (IsMade self.old.catalogue self.new.catalogue change) }
+        ensures refused { IfErr result (IsRefusal self.old.catalogue change) }
         ensures same { OnErr result (self.new.catalogue ≡ self.old.catalogue) }
     {
         let changes = List::from_vec(vec![in alloc; change]?);

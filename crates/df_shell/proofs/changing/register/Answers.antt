@@ -1,6 +1,6 @@
 use Rattle.std.proofs.Common.{subst, sym}
 use Rattle.df_catalogue.specs.declared.change.Change.TheVariants.{Register}
-use Rattle.df_shell.specs.Changes.{Made}
+use Rattle.df_shell.specs.Changes.{IsMade}
 use Rattle.df_shell.proofs.changing.register.Goals as goal
 
 pub returns-clause-made : goal.returns-clause-made
@@ -9,6 +9,6 @@ returns-clause-made g c =
     let n = c.make.new.self.catalogue in (
       c.in-Some.plan.now,
       sym c.in-Some.ensures,
-      subst (λ p. Made s n (Register c.args.view.now p)) c.in_ok-plan.ensures
-          (subst (λ t. Made s n (Register t c.in_ok-plan.plan)) c.in_ok-name.ensures c.in_ok-make.ensures.made),
+      subst (λ p. IsMade s n (Register c.args.view.now p)) c.in_ok-plan.ensures
+          (subst (λ t. IsMade s n (Register t c.in_ok-plan.plan)) c.in_ok-name.ensures c.in_ok-make.ensures.made),
     )

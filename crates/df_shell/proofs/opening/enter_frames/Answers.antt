@@ -1,8 +1,8 @@
 use Rattle.std.proofs.Common.{◌≡◌, ◌∙◌, ap, arith, flat_map, length, map-id, subst, sym}
 use Rattle.std.proofs.lemmas.Iterator.Adapters.{YieldsList-from_vec}
 use Rattle.std.proofs.lemmas.Iterator.Consumers.{YieldsList-end, YieldsList-from_enumerate}
-use Rattle.df_shell.proofs.AllMadeFacts.{all-flat}
-use Rattle.df_shell.specs.Opening.{AllMade, frame_appends}
+use Rattle.df_shell.proofs.AreMadeFacts.{all-flat}
+use Rattle.df_shell.specs.Opening.{AreMade, frame_appends}
 use Rattle.df_shell.proofs.opening.enter_frames.Goals as goal
 
 pub loop-frame-preserved : goal.loop-frame-preserved
@@ -21,4 +21,4 @@ returns g c =
     let count : c.into_iter-frame-iterator.result.iter.rest.len ≡ length c.args.pieces = omega (arith, ap length items, c.into_iter-frame-iterator.result.iter.rest.ok.0) in
     let each = YieldsList-from_enumerate {s = c.into_iter-frame-iterator.result} (YieldsList-from_vec {s = c.into_iter-frame-iterator.result.iter} c.args.pieces items count) none in
     let all = YieldsList-end each c.loop-frame.yielded c.loop-frame.frame-iterator c.loop-frame.yielded_by c.next.result c.next.new.self c.in-None.is c.next.ensures.steps in
-    subst (λ fs. AllMade c.args.store.now.catalogue c.loop-frame.store.catalogue (flat_map frame_appends fs)) (sym (map-id c.loop-frame.yielded) ∙ all.0) c.loop-frame.invariant
+    subst (λ fs. AreMade c.args.store.now.catalogue c.loop-frame.store.catalogue (flat_map frame_appends fs)) (sym (map-id c.loop-frame.yielded) ∙ all.0) c.loop-frame.invariant

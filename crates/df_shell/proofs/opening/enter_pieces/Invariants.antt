@@ -1,6 +1,6 @@
 use Rattle.std.proofs.Common.{flat_map}
-use Rattle.df_shell.specs.Opening.{AllMade, piece_appends}
+use Rattle.df_shell.specs.Opening.{AreMade, piece_appends}
 use Rattle.df_shell.proofs.opening.enter_pieces.Given as goal
 
 abbrev pub invariant-loop-made : goal.invariant-loop-made
-invariant-loop-made g l = AllMade l.fn.store.catalogue l.store.catalogue (flat_map (piece_appends l.frame) l.yielded)
+invariant-loop-made g l = AreMade l.fn.store.catalogue l.store.catalogue (flat_map (piece_appends l.frame) l.yielded)

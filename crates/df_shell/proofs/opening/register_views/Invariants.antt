@@ -1,7 +1,7 @@
 use Rattle.std.proofs.Common.{map}
-use Rattle.df_shell.specs.Opening.{AllMade, registration}
+use Rattle.df_shell.specs.Opening.{AreMade, registration}
 use Rattle.df_shell.proofs.opening.register_views.Given as goal
 
 abbrev pub invariant-loop-view : goal.invariant-loop-view
 invariant-loop-view g l =
-    AllMade l.fn.store.catalogue l.store.catalogue (map (λ p. registration (p.0.now, p.1.now)) l.yielded)
+    AreMade l.fn.store.catalogue l.store.catalogue (map (λ p. registration (p.0.now, p.1.now)) l.yielded)
