@@ -30,9 +30,9 @@ pub fn read_words(alloc: Global, line: &[u8]) -> Result<StringRecord, Refusal>
     }
 }
 
-/// How many lines of CSV stand behind a line: COUNT, where its first word is `append` and its fourth is a
-/// COUNT. Where memory was refused to its words, they are read once more for this alone, so that the lines can be
-/// passed over; where they still cannot be read, the bytes behind the last blank are taken for COUNT.
+/// How many lines of CSV stand behind a line: COUNT, where its first word is `append` and its fourth is a COUNT.
+/// Words that were not read are read once more for this alone, so that where memory was refused the lines can be
+/// passed over. Where they still are not, the bytes behind the last blank are taken for COUNT.
 pub fn count_lines(alloc: Global, words: &Result<StringRecord, Refusal>, line: &[u8]) -> u64 {
     match words {
         Ok(words) => count_in(words),
