@@ -2,7 +2,7 @@
 use Rattle.std.proofs.Common.{◌≡◌, ℕ, List, sym, subst}
 use Rattle.std.specs.Prelude.{IfOk, IsOkAnd, Result, Ok, Err}
 use Rattle.df_text.specs.declared.document.Views.{Views}
-use Rattle.df_text.specs.declared.views_fault.ViewsFault.{ViewsFault}
+use Rattle.df_text.specs.declared.fault.ViewsFault.{ViewsFault}
 use Rattle.df_app.specs.Output.{AnswersOrFails, Contents, KnowsFilesOf, MayFailIn, of_document, opened_in, then_run}
 use Rattle.df_app.specs.declared.fault.RunFault.{RunFault}
 use Rattle.df_app.specs.declared.opening.OpenedDocument.{OpenedDocument}

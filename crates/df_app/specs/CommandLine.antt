@@ -7,8 +7,8 @@ use Rattle.clap.specs.declared.builder.value_parser.ValueParser.TheVariants as p
 use Rattle.df_app.specs.declared.command_line.Words.{Words}
 
 -- the program's name is not among the words
-abbrev pub named : App
-named = record (new_app (codes "dfviews")) { top = record (new_app (codes "dfviews")).top { no_binary_name = true } }
+abbrev pub program_app : App
+program_app = record (new_app (codes "dfviews")) { top = record (new_app (codes "dfviews")).top { no_binary_name = true } }
 
 abbrev pub views_rule : Rule
 views_rule = record (new_rule (codes "views")) { value_names = 1 }
@@ -21,7 +21,7 @@ number_rule name most =
 -- the command line: [VIEWS] [--workers 1..16] [--chunk 1..65536]
 abbrev pub command_line : App
 command_line =
-    with_rule (with_rule (with_rule named views_rule) (number_rule (codes "workers") 16)) (number_rule (codes "chunk") 65536)
+    with_rule (with_rule (with_rule program_app views_rule) (number_rule (codes "workers") 16)) (number_rule (codes "chunk") 65536)
 
 -- the number that stands behind an option, or the number that it has without one
 abbrev pub number_or : ℕ → Option (List ℕ) → ℕ

@@ -3,15 +3,15 @@
 use Rattle.std.specs.Prelude.{◌≡◌, ◌≢◌, ◌≤◌, ◌*◌, ◌⊎◌, ℕ, ⊤, MatchResult, Bool, true, false, List, [], ◌∷◌, ◌++◌, length, map, nat_lt, codes, decimal, option_map, unwrap_or, slice_get, flat_map, All, Option, Some, None, IsSome, IfOk, IsOk, IsOkAnd, Result, Ok, Err, if◌then◌else◌}
 use Rattle.std.specs.List.{enumerate_from, join_by, list_all}
 use Rattle.df_value.specs.declared.cell.Cell.{Cell}
-use Rattle.df_value.specs.declared.chunk.Made.{Made}
-use Rattle.df_value.specs.declared.chunk.Made.TheVariants as made
+use Rattle.df_value.specs.declared.chunk.Piece.{Piece}
+use Rattle.df_value.specs.declared.chunk.Piece.TheVariants as made
 use Rattle.df_plan.specs.CheckedParts.{CheckedParts}
-use Rattle.df_plan.specs.Checks.{Columns, Checked, checked}
+use Rattle.df_plan.specs.Checks.{Columns, CheckResult, plan_check}
 use Rattle.df_plan.specs.Meaning.{table_of}
-use Rattle.df_csv.specs.Records.{Rows as Records, file_records, records_of}
+use Rattle.df_csv.specs.Records.{FieldRows as Records, file_records, records_of}
 use Rattle.df_csv.specs.Typed.{pieces_of}
-use Rattle.df_csv.specs.declared.csv_fault.CsvFault.{CsvFault}
-use Rattle.df_csv.specs.declared.csv_fault.CsvFault.TheVariants as csv
+use Rattle.df_csv.specs.declared.fault.CsvFault.{CsvFault}
+use Rattle.df_csv.specs.declared.fault.CsvFault.TheVariants as csv
 use Rattle.df_print.specs.Printed.{printed, escaped_text}
 use Rattle.df_text.specs.Document.{document_of}
 use Rattle.df_text.specs.declared.document.FrameSource.{FrameSource}
@@ -19,7 +19,7 @@ use Rattle.df_text.specs.declared.document.FrameSource.TheVariants as source
 use Rattle.df_text.specs.declared.document.FrameSpec.{FrameSpec}
 use Rattle.df_text.specs.declared.document.ViewSpec.{ViewSpec}
 use Rattle.df_text.specs.declared.document.Views.{Views}
-use Rattle.df_text.specs.declared.views_fault.ViewsFault.{ViewsFault}
+use Rattle.df_text.specs.declared.fault.ViewsFault.{ViewsFault}
 use Rattle.df_app.specs.declared.fault.RunFault.{RunFault}
 use Rattle.df_app.specs.declared.fault.RunFault.TheVariants as fault
 use Rattle.df_app.specs.declared.outcome.Outcome.{Outcome}
@@ -33,9 +33,9 @@ then_run (Ok x) next = next x
 then_run (Err f) next = Err f
 
 -- the answers that are there already, and after them that of each item in turn; the first fault ends it
-abbrev pub each_after : {A B : Type 0} → (A → Result B RunFault) → List B → List A → Result (List B) RunFault
-each_after answer out [] = Ok out
-each_after answer out (x ∷ xs) = then_run (answer x) (λ y. each_after answer (out ++ y ∷ []) xs)
+abbrev pub results_after : {A B : Type 0} → (A → Result B RunFault) → List B → List A → Result (List B) RunFault
+results_after answer out [] = Ok out
+results_after answer out (x ∷ xs) = then_run (answer x) (λ y. results_after answer (out ++ y ∷ []) xs)
 
 abbrev pub of_document : Result Views ViewsFault → Result Views RunFault
 of_document (Ok document) = Ok document
@@ -44,13 +44,13 @@ of_document (Err f) = Err (fault.Views f)
 abbrev pub schemas_of : List FrameSpec → List Columns
 schemas_of frames = map (λ (f : FrameSpec). f.schema) frames
 
-abbrev pub of_plan : ViewSpec → List Columns → Checked → Result CheckedParts RunFault
+abbrev pub of_plan : ViewSpec → List Columns → CheckResult → Result CheckedParts RunFault
 of_plan view schemas (Ok schema) = Ok (record { plan = view.plan; frames = schemas; schema = schema })
 of_plan view schemas (Err f) = Err (fault.Plan view.name f)
 
 -- a view's plan with the schema of its result, or the fault under the view's name
 abbrev pub plan_of : List Columns → ViewSpec → Result CheckedParts RunFault
-plan_of schemas view = of_plan view schemas (checked view.plan schemas)
+plan_of schemas view = of_plan view schemas (plan_check view.plan schemas)
 
 -- the bytes of the file under each path, where there is one
 abbrev pub Contents : Type 0
@@ -66,47 +66,47 @@ abbrev pub records_in : Contents → FrameSource → Columns → Result Records 
 records_in contents (source.Path path) columns = records_of_file (contents path) columns
 records_in contents (source.Text text) columns = records_of text columns
 
-abbrev pub of_records : ℕ → FrameSpec → Result Records CsvFault → Result (List Made) RunFault
+abbrev pub of_records : ℕ → FrameSpec → Result Records CsvFault → Result (List Piece) RunFault
 of_records chunk frame (Ok records) = Ok (pieces_of frame.schema chunk records)
 of_records chunk frame (Err f) = Err (fault.Csv frame.name f)
 
 -- a frame's records in pieces of so many, or the fault under the frame's name
-abbrev pub pieces_in : Contents → ℕ → FrameSpec → Result (List Made) RunFault
+abbrev pub pieces_in : Contents → ℕ → FrameSpec → Result (List Piece) RunFault
 pieces_in contents chunk frame = of_records chunk frame (records_in contents frame.source frame.schema)
 
 -- the rows of a chunk, and none where a cell is bad
-abbrev pub good_rows : Made → List (List Cell)
+abbrev pub good_rows : Piece → List (List Cell)
 good_rows (made.Good chunk) = chunk.rows
 good_rows (made.Bad cell) = []
 
 -- the rows of a frame: those of its chunks, in their order
-abbrev pub rows_of : List Made → List (List Cell)
-rows_of pieces = flat_map good_rows pieces
+abbrev pub rows_of_pieces : List Piece → List (List Cell)
+rows_of_pieces pieces = flat_map good_rows pieces
 
 -- the table of a view over the rows of the frames
-abbrev pub table_in : List (List (List Cell)) → ViewSpec × CheckedParts → List ℕ
-table_in frames view = printed view.0.name view.1.schema (table_of view.1.plan view.1.frames frames).rows
+abbrev pub printed_view : List (List (List Cell)) → ViewSpec × CheckedParts → List ℕ
+printed_view frames view = printed view.0.name view.1.schema (table_of view.1.plan view.1.frames frames).rows
 
 abbrev pub name_at : Columns → ℕ → List ℕ
 name_at columns at = unwrap_or (option_map (λ c. c.0) (slice_get columns at)) []
 
 -- the line of a piece that was refused, by the number of its first row and its first bad cell
-abbrev pub refused_line : FrameSpec → ℕ → Made → List ℕ
+abbrev pub refused_line : FrameSpec → ℕ → Piece → List ℕ
 refused_line frame first (made.Good chunk) = []
 refused_line frame first (made.Bad cell) =
     codes "refused " ++ (escaped_text frame.name ++ (codes " " ++ (decimal first ++ (codes ": record "
     ++ (decimal cell.number ++ (codes ", column " ++ (escaped_text (name_at frame.schema cell.column) ++ codes "\n")))))))
 
 -- the lines of a frame's refused pieces; piece n begins with row n * chunk
-abbrev pub refused_in : ℕ → FrameSpec × List Made → List ℕ
+abbrev pub refused_in : ℕ → FrameSpec × List Piece → List ℕ
 refused_in chunk frame = flat_map (λ p. refused_line frame.0 (p.0 * chunk) p.1) (enumerate_from 0 frame.1)
 
-abbrev pub is_good : Made → Bool
+abbrev pub is_good : Piece → Bool
 is_good (made.Good chunk) = true
 is_good (made.Bad cell) = false
 
 -- Refused where a piece has a bad cell
-abbrev pub outcome_of : List (List Made) → Outcome
+abbrev pub outcome_of : List (List Piece) → Outcome
 outcome_of pieces = if list_all (list_all is_good) pieces then outcome.Clean else outcome.Refused
 
 -- pairs of the items at each place
@@ -121,22 +121,22 @@ refused_block [] = []
 refused_block (b ∷ bs) = (b ∷ bs) ∷ []
 
 -- the tables in the document's order and then the refused lines, with an empty line between each two
-abbrev pub text_from : Views → List CheckedParts → List (List Made) → ℕ → List ℕ
+abbrev pub text_from : Views → List CheckedParts → List (List Piece) → ℕ → List ℕ
 text_from document plans pieces chunk =
     join_by (λ block. block) (codes "\n")
-    (map (table_in (map rows_of pieces)) (paired document.views plans)
+    (map (printed_view (map rows_of_pieces pieces)) (paired document.views plans)
     ++ refused_block (flat_map (refused_in chunk) (paired document.frames pieces)))
 
 -- the plans of a document's views, in their order, or the first fault
 abbrev pub plans_of : Views → Result (List CheckedParts) RunFault
-plans_of document = each_after (plan_of (schemas_of document.frames)) [] document.views
+plans_of document = results_after (plan_of (schemas_of document.frames)) [] document.views
 
 -- a document that was read, opened: its plans are checked in the order of the views, then its frames are read in their
 -- order and typed in chunks of so many records
 abbrev pub opened_in : Views → Contents → ℕ → Result OpenedDocument RunFault
 opened_in document contents chunk =
     then_run (plans_of document) (λ plans.
-    then_run (each_after (pieces_in contents chunk) [] document.frames) (λ pieces.
+    then_run (results_after (pieces_in contents chunk) [] document.frames) (λ pieces.
     Ok (record { document = document; plans = plans; pieces = pieces })))
 
 -- the bytes of a document that is not too large, opened

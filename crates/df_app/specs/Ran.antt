@@ -5,46 +5,46 @@ use Rattle.df_app.specs.declared.fault.RunFault.{RunFault}
 use Rattle.df_app.specs.declared.fault.RunFault.TheVariants as fault
 use Rattle.df_app.specs.declared.outcome.Outcome.{Outcome}
 use Rattle.df_app.specs.declared.outcome.Output.{Output}
-use Rattle.df_csv.specs.declared.csv_fault.CsvFault.TheVariants as csv
+use Rattle.df_csv.specs.declared.fault.CsvFault.TheVariants as csv
 use Rattle.df_app.specs.declared.opening.OpenedDocument.{OpenedDocument}
 use Rattle.df_app.specs.Output.{Contents, MayFailFrom, opened_of, output_of}
 
 -- What a fault says that comes before anything is written. But for a failed read of the document or of a file and for
 -- want of memory, it is the fault that the bytes have in the place of an output; and a file that cannot be read is that
 -- of a frame to which the run comes.
-abbrev pub Tells : List ℕ → Contents → ℕ → RunFault → Type 0
-Tells bytes contents chunk fault.ReadFault = ⊤
-Tells bytes contents chunk (fault.Csv frame csv.ReadFault) = (length bytes ≤ 1048576) × MayFailFrom bytes contents chunk frame
-Tells bytes contents chunk fault.Memory = ⊤
-Tells bytes contents chunk fault.Write = ⊥
-Tells bytes contents chunk f = output_of bytes contents chunk ≡ Err f
+abbrev pub IsFaultBefore : List ℕ → Contents → ℕ → RunFault → Type 0
+IsFaultBefore bytes contents chunk fault.ReadFault = ⊤
+IsFaultBefore bytes contents chunk (fault.Csv frame csv.ReadFault) = (length bytes ≤ 1048576) × MayFailFrom bytes contents chunk frame
+IsFaultBefore bytes contents chunk fault.Memory = ⊤
+IsFaultBefore bytes contents chunk fault.Write = ⊥
+IsFaultBefore bytes contents chunk f = output_of bytes contents chunk ≡ Err f
 
 -- what the bytes of a document and of its files gave: the document, opened, or a fault
-abbrev pub Opened : List ℕ → Contents → ℕ → Result OpenedDocument RunFault → Type 0
-Opened bytes contents chunk (Ok o) = opened_of bytes contents chunk ≡ Ok o
-Opened bytes contents chunk (Err f) = Tells bytes contents chunk f
+abbrev pub IsOpening : List ℕ → Contents → ℕ → Result OpenedDocument RunFault → Type 0
+IsOpening bytes contents chunk (Ok o) = opened_of bytes contents chunk ≡ Ok o
+IsOpening bytes contents chunk (Err f) = IsFaultBefore bytes contents chunk f
 
 -- or its output, or a fault
-abbrev pub Gave : List ℕ → Contents → ℕ → Result Output RunFault → Type 0
-Gave bytes contents chunk (Ok o) = output_of bytes contents chunk ≡ Ok o
-Gave bytes contents chunk (Err f) = Tells bytes contents chunk f
+abbrev pub IsOutput : List ℕ → Contents → ℕ → Result Output RunFault → Type 0
+IsOutput bytes contents chunk (Ok o) = output_of bytes contents chunk ≡ Ok o
+IsOutput bytes contents chunk (Err f) = IsFaultBefore bytes contents chunk f
 
 -- the whole of an output was written, or a prefix of it that is not the whole
-abbrev pub Wrote : Output → Option (List ℕ) → Option (List ℕ) → Result Outcome RunFault → Type 0
-Wrote o old new (Ok outcome) = (o.outcome ≡ outcome) × Appends old new o.text
-Wrote o old new (Err f) = (f ≡ fault.Write) × (n : ℕ) × (n < length o.text) × Appends old new (take n o.text)
+abbrev pub IsWriting : Output → Option (List ℕ) → Option (List ℕ) → Result Outcome RunFault → Type 0
+IsWriting o old new (Ok outcome) = (o.outcome ≡ outcome) × Appends old new o.text
+IsWriting o old new (Err f) = (f ≡ fault.Write) × (n : ℕ) × (n < length o.text) × Appends old new (take n o.text)
 
 -- at a write fault a prefix of the output was written, at any other fault nothing
-abbrev pub Stopped : List ℕ → Contents → ℕ → Option (List ℕ) → Option (List ℕ) → RunFault → Type 0
-Stopped bytes contents chunk old new fault.Write =
+abbrev pub IsStop : List ℕ → Contents → ℕ → Option (List ℕ) → Option (List ℕ) → RunFault → Type 0
+IsStop bytes contents chunk old new fault.Write =
     (o : Output) × (output_of bytes contents chunk ≡ Ok o) × (n : ℕ) × (n < length o.text) × Appends old new (take n o.text)
-Stopped bytes contents chunk old new f = Tells bytes contents chunk f × Keeps old new
+IsStop bytes contents chunk old new f = IsFaultBefore bytes contents chunk f × Keeps old new
 
 -- at Ok the whole output of the document was written, and nothing else
-abbrev pub RanOn : List ℕ → Contents → ℕ → Option (List ℕ) → Option (List ℕ) → Result Outcome RunFault → Type 0
-RanOn bytes contents chunk old new (Ok outcome) =
+abbrev pub IsRunOn : List ℕ → Contents → ℕ → Option (List ℕ) → Option (List ℕ) → Result Outcome RunFault → Type 0
+IsRunOn bytes contents chunk old new (Ok outcome) =
     (o : Output) × (output_of bytes contents chunk ≡ Ok o) × (o.outcome ≡ outcome) × Appends old new o.text
-RanOn bytes contents chunk old new (Err f) = Stopped bytes contents chunk old new f
+IsRunOn bytes contents chunk old new (Err f) = IsStop bytes contents chunk old new f
 
 -- whatever the reader gave: nothing was written, unless a write failed
 abbrev pub KeepsUnlessWrite : Option (List ℕ) → Option (List ℕ) → RunFault → Type 0

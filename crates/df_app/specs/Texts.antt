@@ -6,21 +6,21 @@ use Rattle.df_expr.specs.declared.fault.ExprFault.{ExprFault}
 use Rattle.df_expr.specs.declared.fault.ExprFault.TheVariants as expr
 use Rattle.df_plan.specs.declared.fault.PlanFault.{PlanFault}
 use Rattle.df_plan.specs.declared.fault.PlanFault.TheVariants as plan
-use Rattle.df_csv.specs.declared.csv_fault.CsvFault.{CsvFault}
-use Rattle.df_csv.specs.declared.csv_fault.CsvFault.TheVariants as csv
+use Rattle.df_csv.specs.declared.fault.CsvFault.{CsvFault}
+use Rattle.df_csv.specs.declared.fault.CsvFault.TheVariants as csv
 use Rattle.df_print.specs.Printed.{escaped_text}
-use Rattle.df_text.specs.declared.document.Place.{Place}
-use Rattle.df_text.specs.declared.document.Place.TheVariants as place
-use Rattle.df_text.specs.declared.views_fault.ViewsFault.{ViewsFault}
-use Rattle.df_text.specs.declared.views_fault.ViewsFault.TheVariants as views
+use Rattle.df_text.specs.declared.document.Location.{Location}
+use Rattle.df_text.specs.declared.document.Location.TheVariants as location
+use Rattle.df_text.specs.declared.fault.ViewsFault.{ViewsFault}
+use Rattle.df_text.specs.declared.fault.ViewsFault.TheVariants as views
 use Rattle.df_app.specs.declared.fault.RunFault.{RunFault}
 use Rattle.df_app.specs.declared.fault.RunFault.TheVariants as fault
 
 -- a code and a place behind it
-abbrev pub placed : List ℕ → Place → List ℕ
-placed code place.Top = code ++ codes " top"
-placed code (place.Frame n) = code ++ (codes " frame " ++ decimal n)
-placed code (place.View n) = code ++ (codes " view " ++ decimal n)
+abbrev pub code_with_location : List ℕ → Location → List ℕ
+code_with_location code location.Top = code ++ codes " top"
+code_with_location code (location.Frame n) = code ++ (codes " frame " ++ decimal n)
+code_with_location code (location.View n) = code ++ (codes " view " ++ decimal n)
 
 abbrev pub schema_text : SchemaFault → List ℕ
 schema_text schema.DoubledName = codes "S1"
@@ -29,21 +29,21 @@ schema_text schema.NoColumns = codes "S3"
 
 abbrev pub views_text : ViewsFault → List ℕ
 views_text views.NotToml = codes "V1"
-views_text (views.Shape at) = placed (codes "V2") at
-views_text (views.Word at) = placed (codes "V3") at
-views_text (views.Doubled at) = placed (codes "V4") at
+views_text (views.Shape at) = code_with_location (codes "V2") at
+views_text (views.Word at) = code_with_location (codes "V3") at
+views_text (views.Doubled at) = code_with_location (codes "V4") at
 views_text views.TooManyFrames = codes "V5 frame"
 views_text views.TooManyViews = codes "V5 view"
-views_text (views.NoFrame at) = placed (codes "V6") at
+views_text (views.NoFrame at) = code_with_location (codes "V6") at
 views_text (views.Schema n f) = codes "V7 frame " ++ (decimal n ++ (codes " " ++ schema_text f))
 views_text views.Memory = codes "memory"
 
 -- a code and a name behind it
-abbrev pub named : List ℕ → List ℕ → List ℕ
-named code name = code ++ (codes " " ++ escaped_text name)
+abbrev pub code_with_name : List ℕ → List ℕ → List ℕ
+code_with_name code name = code ++ (codes " " ++ escaped_text name)
 
 abbrev pub expr_text : ExprFault → List ℕ
-expr_text (expr.NoColumn name) = named (codes "P2 E1") name
+expr_text (expr.NoColumn name) = code_with_name (codes "P2 E1") name
 expr_text expr.WrongType = codes "P2 E2"
 expr_text expr.TooDeep = codes "P2 E3"
 expr_text expr.Memory = codes "memory"
@@ -51,14 +51,14 @@ expr_text expr.Memory = codes "memory"
 abbrev pub plan_text : PlanFault → List ℕ
 plan_text (plan.NoFrame n) = codes "P1 " ++ decimal n
 plan_text (plan.Expr f) = expr_text f
-plan_text (plan.DoubledName name) = named (codes "P3") name
+plan_text (plan.DoubledName name) = code_with_name (codes "P3") name
 plan_text plan.TooManyScans = codes "P4"
 plan_text plan.TooDeep = codes "P5"
 plan_text plan.BadWindow = codes "P6"
 plan_text plan.EmptyList = codes "P7"
 plan_text plan.TooWide = codes "P8"
-plan_text (plan.ConstantColumn name) = named (codes "P9") name
-plan_text (plan.WrongType name) = named (codes "P10") name
+plan_text (plan.ConstantColumn name) = code_with_name (codes "P9") name
+plan_text (plan.WrongType name) = code_with_name (codes "P10") name
 plan_text plan.Memory = codes "memory"
 
 abbrev pub csv_text : CsvFault → List ℕ
@@ -66,14 +66,14 @@ csv_text csv.ReadFault = codes "F1"
 csv_text csv.TooLarge = codes "F2"
 csv_text csv.NotText = codes "F3"
 csv_text (csv.BadRecord n) = codes "F4 " ++ decimal n
-csv_text (csv.MissingColumn name) = named (codes "F5") name
-csv_text (csv.DoubledHeader name) = named (codes "F6") name
+csv_text (csv.MissingColumn name) = code_with_name (codes "F5") name
+csv_text (csv.DoubledHeader name) = code_with_name (codes "F6") name
 csv_text csv.TooManyRecords = codes "F7"
 csv_text csv.Memory = codes "memory"
 
 -- a text under the name of a frame or a view
-abbrev pub under : List ℕ → List ℕ → List ℕ
-under name text = escaped_text name ++ (codes ": " ++ text)
+abbrev pub text_under_name : List ℕ → List ℕ → List ℕ
+text_under_name name text = escaped_text name ++ (codes ": " ++ text)
 
 -- whether it is memory that was refused, in whichever layer
 abbrev pub is_memory : RunFault → Bool
@@ -88,11 +88,11 @@ abbrev pub text_in_full : RunFault → List ℕ
 text_in_full fault.ReadFault = codes "V10"
 text_in_full fault.TooLarge = codes "V9"
 text_in_full (fault.Views f) = views_text f
-text_in_full (fault.Plan view f) = under view (plan_text f)
-text_in_full (fault.Csv frame f) = under frame (csv_text f)
+text_in_full (fault.Plan view f) = text_under_name view (plan_text f)
+text_in_full (fault.Csv frame f) = text_under_name frame (csv_text f)
 text_in_full fault.Write = codes "write"
 text_in_full fault.Memory = codes "memory"
 
 -- the text of a fault
-abbrev pub text_of : RunFault → List ℕ
-text_of f = if is_memory f then codes "memory" else text_in_full f
+abbrev pub fault_text_of : RunFault → List ℕ
+fault_text_of f = if is_memory f then codes "memory" else text_in_full f

@@ -1,11 +1,12 @@
 //! The texts of faults.
 ghost use Rattle.std.specs.Prelude.{◌≡◌, IfOk, codes, string_bytes};
-ghost use Rattle.df_app.specs.Texts.{csv_text as text_of_csv, expr_text as text_of_expr, is_memory as is_memory_fault, named as named_text, placed as placed_text, plan_text as text_of_plan, schema_text as text_of_schema, text_in_full, text_of, under as text_under, views_text as text_of_views};
+ghost use Rattle.df_app.specs.Texts as texts;
+ghost use Rattle.df_app.specs.Texts.{text_in_full, fault_text_of};
 
 use crate::fault::RunFault;
 use df_expr::ExprFault;
 use df_plan::PlanFault;
-use df_text::{CsvFault, Place, ViewsFault, escape};
+use df_text::{CsvFault, Location, ViewsFault, escape};
 use df_value::{SchemaFault, Text};
 use std::alloc::{AllocError, Global};
 
@@ -13,7 +14,7 @@ use std::alloc::{AllocError, Global};
 /// the name of the view or frame, behind it the place, the name or the number that it is about. Names
 /// are escaped as in a printed table.
 pub fn fault_text(alloc: Global, fault: &RunFault) -> Result<String, AllocError>
-    ensures { IfOk result (λ text. string_bytes text ≡ text_of fault.now) }
+    ensures { IfOk result (λ text. string_bytes text ≡ fault_text_of fault.now) }
 {
     if is_memory(fault) {
         return String::from_str(alloc, "memory");
@@ -22,7 +23,7 @@ pub fn fault_text(alloc: Global, fault: &RunFault) -> Result<String, AllocError>
 }
 
 fn is_memory(fault: &RunFault) -> bool
-    ensures { result ≡ is_memory_fault fault.now }
+    ensures { result ≡ texts.is_memory fault.now }
 {
     match fault {
         RunFault::Memory => true,
@@ -41,15 +42,15 @@ fn full_text(alloc: Global, fault: &RunFault) -> Result<String, AllocError>
         RunFault::ReadFault => String::from_str(alloc, "V10"),
         RunFault::TooLarge => String::from_str(alloc, "V9"),
         RunFault::Views(fault) => views_text(alloc, fault),
-        RunFault::Plan(view, fault) => under(alloc, view, plan_text(alloc, fault)?),
-        RunFault::Csv(frame, fault) => under(alloc, frame, csv_text(alloc, fault)?),
+        RunFault::Plan(view, fault) => text_under_name(alloc, view, plan_text(alloc, fault)?),
+        RunFault::Csv(frame, fault) => text_under_name(alloc, frame, csv_text(alloc, fault)?),
         RunFault::Write => String::from_str(alloc, "write"),
         RunFault::Memory => String::from_str(alloc, "memory"),
     }
 }
 
-fn under(alloc: Global, name: &Text, text: String) -> Result<String, AllocError>
-    ensures { IfOk result (λ all. string_bytes all ≡ text_under name.now (string_bytes text)) }
+fn text_under_name(alloc: Global, name: &Text, text: String) -> Result<String, AllocError>
+    ensures { IfOk result (λ all. string_bytes all ≡ texts.text_under_name name.now (string_bytes text)) }
 {
     let name = escape(alloc, name.as_str())?;
     let name = name.as_str();
@@ -57,26 +58,26 @@ fn under(alloc: Global, name: &Text, text: String) -> Result<String, AllocError>
     format!(in alloc; "{name}: {text}")
 }
 
-fn named(alloc: Global, code: &str, name: &Text) -> Result<String, AllocError>
-    ensures { IfOk result (λ text. string_bytes text ≡ named_text code.now name.now) }
+fn code_with_name(alloc: Global, code: &str, name: &Text) -> Result<String, AllocError>
+    ensures { IfOk result (λ text. string_bytes text ≡ texts.code_with_name code.now name.now) }
 {
     let name = escape(alloc, name.as_str())?;
     let name = name.as_str();
     format!(in alloc; "{code} {name}")
 }
 
-fn placed(alloc: Global, code: &str, place: Place) -> Result<String, AllocError>
-    ensures { IfOk result (λ text. string_bytes text ≡ placed_text code.now place) }
+fn code_with_location(alloc: Global, code: &str, location: Location) -> Result<String, AllocError>
+    ensures { IfOk result (λ text. string_bytes text ≡ texts.code_with_location code.now location) }
 {
-    match place {
-        Place::Top => format!(in alloc; "{code} top"),
-        Place::Frame(n) => format!(in alloc; "{code} frame {n}"),
-        Place::View(n) => format!(in alloc; "{code} view {n}"),
+    match location {
+        Location::Top => format!(in alloc; "{code} top"),
+        Location::Frame(n) => format!(in alloc; "{code} frame {n}"),
+        Location::View(n) => format!(in alloc; "{code} view {n}"),
     }
 }
 
 fn schema_text(fault: &SchemaFault) -> &'static str
-    ensures { result.now ≡ text_of_schema fault.now }
+    ensures { result.now ≡ texts.schema_text fault.now }
 {
     match fault {
         SchemaFault::DoubledName => "S1",
@@ -86,16 +87,16 @@ fn schema_text(fault: &SchemaFault) -> &'static str
 }
 
 fn views_text(alloc: Global, fault: &ViewsFault) -> Result<String, AllocError>
-    ensures { IfOk result (λ text. string_bytes text ≡ text_of_views fault.now) }
+    ensures { IfOk result (λ text. string_bytes text ≡ texts.views_text fault.now) }
 {
     match fault {
         ViewsFault::NotToml => String::from_str(alloc, "V1"),
-        ViewsFault::Shape(place) => placed(alloc, "V2", *place),
-        ViewsFault::Word(place) => placed(alloc, "V3", *place),
-        ViewsFault::Doubled(place) => placed(alloc, "V4", *place),
+        ViewsFault::Shape(location) => code_with_location(alloc, "V2", *location),
+        ViewsFault::Word(location) => code_with_location(alloc, "V3", *location),
+        ViewsFault::Doubled(location) => code_with_location(alloc, "V4", *location),
         ViewsFault::TooManyFrames => String::from_str(alloc, "V5 frame"),
         ViewsFault::TooManyViews => String::from_str(alloc, "V5 view"),
-        ViewsFault::NoFrame(place) => placed(alloc, "V6", *place),
+        ViewsFault::NoFrame(location) => code_with_location(alloc, "V6", *location),
         ViewsFault::Schema(n, fault) => {
             let fault = schema_text(fault);
             format!(in alloc; "V7 frame {n} {fault}")
@@ -105,10 +106,10 @@ fn views_text(alloc: Global, fault: &ViewsFault) -> Result<String, AllocError>
 }
 
 fn expr_text(alloc: Global, fault: &ExprFault) -> Result<String, AllocError>
-    ensures { IfOk result (λ text. string_bytes text ≡ text_of_expr fault.now) }
+    ensures { IfOk result (λ text. string_bytes text ≡ texts.expr_text fault.now) }
 {
     match fault {
-        ExprFault::NoColumn(name) => named(alloc, "P2 E1", name),
+        ExprFault::NoColumn(name) => code_with_name(alloc, "P2 E1", name),
         ExprFault::WrongType => String::from_str(alloc, "P2 E2"),
         ExprFault::TooDeep => String::from_str(alloc, "P2 E3"),
         ExprFault::Memory => String::from_str(alloc, "memory"),
@@ -116,34 +117,34 @@ fn expr_text(alloc: Global, fault: &ExprFault) -> Result<String, AllocError>
 }
 
 fn plan_text(alloc: Global, fault: &PlanFault) -> Result<String, AllocError>
-    ensures { IfOk result (λ text. string_bytes text ≡ text_of_plan fault.now) }
+    ensures { IfOk result (λ text. string_bytes text ≡ texts.plan_text fault.now) }
 {
     match fault {
         PlanFault::NoFrame(n) => format!(in alloc; "P1 {n}"),
         PlanFault::Expr(fault) => expr_text(alloc, fault),
-        PlanFault::DoubledName(name) => named(alloc, "P3", name),
+        PlanFault::DoubledName(name) => code_with_name(alloc, "P3", name),
         PlanFault::TooManyScans => String::from_str(alloc, "P4"),
         PlanFault::TooDeep => String::from_str(alloc, "P5"),
         PlanFault::BadWindow => String::from_str(alloc, "P6"),
         PlanFault::EmptyList => String::from_str(alloc, "P7"),
         PlanFault::TooWide => String::from_str(alloc, "P8"),
-        PlanFault::ConstantColumn(name) => named(alloc, "P9", name),
-        PlanFault::WrongType(name) => named(alloc, "P10", name),
+        PlanFault::ConstantColumn(name) => code_with_name(alloc, "P9", name),
+        PlanFault::WrongType(name) => code_with_name(alloc, "P10", name),
         PlanFault::Memory => String::from_str(alloc, "memory"),
     }
 }
 
 /// The text of a fault of a frame's CSV, as it stands behind the frame's name.
 pub fn csv_text(alloc: Global, fault: &CsvFault) -> Result<String, AllocError>
-    ensures { IfOk result (λ text. string_bytes text ≡ text_of_csv fault.now) }
+    ensures { IfOk result (λ text. string_bytes text ≡ texts.csv_text fault.now) }
 {
     match fault {
         CsvFault::ReadFault => String::from_str(alloc, "F1"),
         CsvFault::TooLarge => String::from_str(alloc, "F2"),
         CsvFault::NotText => String::from_str(alloc, "F3"),
         CsvFault::BadRecord(n) => format!(in alloc; "F4 {n}"),
-        CsvFault::MissingColumn(name) => named(alloc, "F5", name),
-        CsvFault::DoubledHeader(name) => named(alloc, "F6", name),
+        CsvFault::MissingColumn(name) => code_with_name(alloc, "F5", name),
+        CsvFault::DoubledHeader(name) => code_with_name(alloc, "F6", name),
         CsvFault::TooManyRecords => String::from_str(alloc, "F7"),
         CsvFault::Memory => String::from_str(alloc, "memory"),
     }

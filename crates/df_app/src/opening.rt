@@ -1,15 +1,15 @@
 //! The opening of a document: its plans are checked, and its frames are read.
 ghost use Rattle.std.specs.Prelude.{◌≡◌, ◌≤◌, [], IfOk, IfSome, length};
 ghost use Rattle.df_text.specs.Document.{document_of};
-ghost use Rattle.df_app.specs.Output.{Answers, AnswersOrFails, KnowsFiles, KnowsFilesOf, MayFailFrom, MayFailIn, each_after, of_document, opened_from, opened_in, plan_of, plans_of, schemas_of};
-ghost use Rattle.df_app.specs.Ran.{Opened};
+ghost use Rattle.df_app.specs.Output.{Answers, AnswersOrFails, KnowsFiles, KnowsFilesOf, MayFailFrom, MayFailIn, results_after, of_document, opened_from, opened_in, plan_of, plans_of, schemas_of};
+ghost use Rattle.df_app.specs.Ran.{IsOpening};
 
 use crate::fault::RunFault;
 use crate::files::Files;
 use crate::pieces::all_pieces;
 use df_plan::{CheckedPlan, PlanFault};
 use df_text::{FrameSpec, ReadLimitedFault, ViewSpec, Views, ViewsFault, read_limited, read_views};
-use df_value::{Duplicate, List, Made, Schema};
+use df_value::{Duplicate, List, Piece, Schema};
 use std::alloc::{AllocError, Global};
 use std::io::Read;
 
@@ -22,7 +22,7 @@ pub const MOST_BYTES_OF_DOCUMENT: usize = 1_048_576;
 pub struct OpenedDocument {
     pub document: Views,
     pub plans: List<CheckedPlan>,
-    pub pieces: List<List<Made>>,
+    pub pieces: List<List<Piece>>,
 }
 
 /// Reads a view document and the files that it names.
@@ -40,7 +40,7 @@ pub fn open_document<V: Read, F: Files>(
     requires few { chunk ≤ 65536 }
     ensures same { F.bytes_at files.new ≡ F.bytes_at files.old }
     ensures value { IfSome (V.remaining reader.old) (λ bytes. KnowsFiles (F.bytes_at files.old) bytes →
-        Opened bytes (F.bytes_at files.old) chunk result) }
+        IsOpening bytes (F.bytes_at files.old) chunk result) }
     ensures plans { IfOk result (λ o. length o.plans ≡ length o.document.views) }
     ensures pieces { IfOk result (λ o. length o.pieces ≡ length o.document.frames) }
 {
@@ -135,7 +135,7 @@ fn check_views(
     schemas: &[Schema],
     views: &[ViewSpec],
 ) -> Result<List<CheckedPlan>, RunFault>
-    ensures value { Answers (each_after (plan_of schemas.now) [] views.now) result }
+    ensures value { Answers (results_after (plan_of schemas.now) [] views.now) result }
     ensures each { IfOk result (λ plans. length plans ≡ length views.now) }
 {
     let mut plans = Vec::new(alloc);

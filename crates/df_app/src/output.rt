@@ -1,7 +1,7 @@
 //! The output of a document.
 ghost use Rattle.std.specs.Prelude.{◌≡◌, ◌++◌, IfOk, OnOk, codes, flat_map, length, map};
 ghost use Rattle.std.specs.List.{join_by};
-ghost use Rattle.df_app.specs.Output.{outcome_of, paired, refused_block, table_in, text_from};
+ghost use Rattle.df_app.specs.Output.{outcome_of, paired, refused_block, printed_view, text_from};
 
 use crate::opening::OpenedDocument;
 use crate::outcome::Output;
@@ -9,7 +9,7 @@ use crate::pieces::{all_rows, outcome};
 use crate::refused::refused_lines;
 use df_plan::{CheckedPlan, evaluate};
 use df_text::{ViewSpec, Views, print_table};
-use df_value::{List, Made, Row};
+use df_value::{List, Piece, Row};
 use std::alloc::{AllocError, Global};
 
 /// What a run over an opened document writes, its frames typed in chunks of so many records.
@@ -24,16 +24,16 @@ pub fn output(alloc: Global, opened: OpenedDocument, chunk: usize) -> Result<Out
         pieces,
     } = opened;
     let outcome = outcome(pieces.as_slice());
-    let text = text_of(alloc, &document, plans.as_slice(), pieces, chunk)?;
+    let text = fault_text_of(alloc, &document, plans.as_slice(), pieces, chunk)?;
     Ok(Output { text, outcome })
 }
 
 // The tables and the refused lines, with an empty line between each two blocks.
-fn text_of(
+fn fault_text_of(
     alloc: Global,
     document: &Views,
     plans: &[CheckedPlan],
-    pieces: List<List<Made>>,
+    pieces: List<List<Piece>>,
     chunk: usize,
 ) -> Result<List<u8>, AllocError>
     requires of_views { length plans.now ≡ length document.now.views }
@@ -65,7 +65,7 @@ fn print_views(
     frames: &[List<Row>],
 ) -> Result<Vec<List<u8>>, AllocError>
     requires { length plans.now ≡ length views.now }
-    ensures { IfOk result (λ tables. tables.items ≡ map (table_in frames.now) (paired views.now plans.now)) }
+    ensures { IfOk result (λ tables. tables.items ≡ map (printed_view frames.now) (paired views.now plans.now)) }
 {
     let mut tables = Vec::with_capacity(alloc, views.len() + 1)?;
     for i in 0..views.len() {
@@ -80,7 +80,7 @@ fn print_view(
     plan: &CheckedPlan,
     frames: &[List<Row>],
 ) -> Result<List<u8>, AllocError>
-    ensures { IfOk result (λ table. table ≡ table_in frames.now (view.now, plan.now)) }
+    ensures { IfOk result (λ table. table ≡ printed_view frames.now (view.now, plan.now)) }
 {
     let rows = evaluate(alloc, plan, frames)?;
     let table = print_table(alloc, &view.name, plan.schema(), rows.as_slice())?;

@@ -3,7 +3,8 @@ ghost use Rattle.std.specs.Prelude.{◌≡◌, ◌++◌, ◌≤◌, [], IfErr, I
 ghost use Rattle.std.specs.List.{list_all};
 ghost use Rattle.df_csv.specs.Records.{GivesRead, IsRecords, file_records};
 ghost use Rattle.df_csv.specs.Typed.{pieces_of};
-ghost use Rattle.df_app.specs.Output.{AnswersOrFails, AreKnown, IsFile, IsKnown, MayFail, each_after, pieces_in, good_rows, is_good as is_good_piece, outcome_of, records_in, rows_of as rows_at};
+ghost use Rattle.df_app.specs.Output as output;
+ghost use Rattle.df_app.specs.Output.{AnswersOrFails, AreKnown, IsFile, IsKnown, MayFail, results_after, pieces_in, good_rows, outcome_of, records_in};
 
 use crate::fault::RunFault;
 use crate::files::Files;
@@ -12,7 +13,7 @@ use df_text::{
     CsvFault, FrameSource, FrameSpec, Records, count_pieces, parse_records, read_records,
     type_piece,
 };
-use df_value::{Duplicate, List, Made, Row, Schema};
+use df_value::{Duplicate, List, Piece, Row, Schema};
 use std::alloc::{AllocError, Global};
 
 /// The pieces of the frames, in their order.
@@ -21,13 +22,13 @@ pub fn all_pieces<F: Files>(
     files: &mut F,
     frames: &[FrameSpec],
     chunk: usize,
-) -> Result<List<List<Made>>, RunFault>
+) -> Result<List<List<Piece>>, RunFault>
     requires some { 1 ≤ chunk }
     requires few { chunk ≤ 65536 }
     ensures same { F.bytes_at files.new ≡ F.bytes_at files.old }
     ensures value { AreKnown (F.bytes_at files.old) frames.now →
         AnswersOrFails (MayFail (F.bytes_at files.old) chunk frames.now)
-        (each_after (pieces_in (F.bytes_at files.old) chunk) [] frames.now) result }
+        (results_after (pieces_in (F.bytes_at files.old) chunk) [] frames.now) result }
     ensures each { IfOk result (λ pieces. length pieces ≡ length frames.now) }
 {
     let mut all = Vec::new(alloc);
@@ -42,7 +43,7 @@ fn read_pieces<F: Files>(
     files: &mut F,
     frame: &FrameSpec,
     chunk: usize,
-) -> Result<List<Made>, RunFault>
+) -> Result<List<Piece>, RunFault>
     requires some { 1 ≤ chunk }
     requires few { chunk ≤ 65536 }
     ensures same { F.bytes_at files.new ≡ F.bytes_at files.old }
@@ -102,7 +103,7 @@ fn pieces(
     records: &Records,
     schema: &Schema,
     chunk: usize,
-) -> Result<List<Made>, AllocError>
+) -> Result<List<Piece>, AllocError>
     requires some { 1 ≤ chunk }
     requires few { chunk ≤ 65536 }
     requires sound { IsRecords (length schema.now) records.now }
@@ -117,7 +118,7 @@ fn pieces(
 }
 
 /// Whether a chunk was refused.
-pub fn outcome(pieces: &[List<Made>]) -> Outcome
+pub fn outcome(pieces: &[List<Piece>]) -> Outcome
     ensures { result ≡ outcome_of pieces.now }
 {
     if all_frames_good(pieces) {
@@ -127,40 +128,40 @@ pub fn outcome(pieces: &[List<Made>]) -> Outcome
     }
 }
 
-fn all_frames_good(pieces: &[List<Made>]) -> bool
-    ensures { result ≡ list_all (list_all is_good_piece) pieces.now }
+fn all_frames_good(pieces: &[List<Piece>]) -> bool
+    ensures { result ≡ list_all (list_all output.is_good) pieces.now }
 {
     pieces.iter().all(|of_frame| all_good(of_frame))
 }
 
-fn all_good(pieces: &List<Made>) -> bool
-    ensures { result ≡ list_all is_good_piece pieces.now }
+fn all_good(pieces: &List<Piece>) -> bool
+    ensures { result ≡ list_all output.is_good pieces.now }
 {
     pieces.as_slice().iter().all(|made| is_good(made))
 }
 
-fn is_good(made: &Made) -> bool
-    ensures { result ≡ is_good_piece made.now }
+fn is_good(made: &Piece) -> bool
+    ensures { result ≡ output.is_good made.now }
 {
     match made {
-        Made::Good(_) => true,
-        Made::Bad(_) => false,
+        Piece::Good(_) => true,
+        Piece::Bad(_) => false,
     }
 }
 
 /// The rows of the frames: those of their good pieces.
-pub fn all_rows(alloc: Global, pieces: List<List<Made>>) -> Result<Vec<List<Row>>, AllocError>
-    ensures { IfOk result (λ rows. rows.items ≡ map rows_at pieces) }
+pub fn all_rows(alloc: Global, pieces: List<List<Piece>>) -> Result<Vec<List<Row>>, AllocError>
+    ensures { IfOk result (λ rows. rows.items ≡ map output.rows_of_pieces pieces) }
 {
     let mut all = Vec::with_capacity(alloc, pieces.len())?;
     for of_frame in pieces.into_vec() {
-        all.push(rows_of(alloc, of_frame)?)?;
+        all.push(rows_of_pieces(alloc, of_frame)?)?;
     }
     Ok(all)
 }
 
-fn rows_of(alloc: Global, pieces: List<Made>) -> Result<List<Row>, AllocError>
-    ensures { IfOk result (λ rows. rows ≡ rows_at pieces) }
+fn rows_of_pieces(alloc: Global, pieces: List<Piece>) -> Result<List<Row>, AllocError>
+    ensures { IfOk result (λ rows. rows ≡ output.rows_of_pieces pieces) }
 {
     let mut rows = Vec::new(alloc);
     for made in pieces.into_vec() {
@@ -170,14 +171,14 @@ fn rows_of(alloc: Global, pieces: List<Made>) -> Result<List<Row>, AllocError>
 }
 
 // Moves the rows of a good piece behind the others.
-fn append_good(rows: &mut Vec<Row>, made: Made) -> Result<(), AllocError>
+fn append_good(rows: &mut Vec<Row>, made: Piece) -> Result<(), AllocError>
     ensures { OnOk result (rows.new.items ≡ rows.old.items ++ good_rows made) }
 {
     match made {
-        Made::Good(chunk) => {
+        Piece::Good(chunk) => {
             let mut more = chunk.into_rows().into_vec();
             rows.append(&mut more)
         }
-        Made::Bad(_) => Ok(()),
+        Piece::Bad(_) => Ok(()),
     }
 }

@@ -2,7 +2,8 @@
 ghost use Rattle.std.specs.Prelude.{◌≡◌, ◌≤◌, IfOk, IfSome, false, codes, map, option_map};
 ghost use Rattle.clap.specs.Words.{FailsBy, app_of, fault_of, first_value, found_of, one_text, rule_of};
 ghost use Rattle.clap.specs.Values.{IsUnsignedIn};
-ghost use Rattle.df_app.specs.CommandLine.{Says, command_line, named, number_or, number_rule, views_rule};
+ghost use Rattle.df_app.specs.CommandLine as command_line_spec;
+ghost use Rattle.df_app.specs.CommandLine.{Says, program_app, number_or, number_rule, views_rule};
 
 use crate::command_line::{DEFAULT_CHUNK, DEFAULT_WORKERS, Words};
 use clap::{Arg, ArgMatches, Command, Error, value_parser};
@@ -17,14 +18,14 @@ pub fn words<'a>(alloc: Global, words: &'a [&'a str]) -> Result<Words<'a>, Error
     ensures says { IfOk result (λ w. Says (map (λ word. word.now) words.entry.now) w) }
     ensures workers { IfOk result (λ w. (1 ≤ w.workers) × (w.workers ≤ 16)) }
     ensures chunk { IfOk result (λ w. (1 ≤ w.chunk) × (w.chunk ≤ 65536)) }
-    ensures refused { FailsBy (fault_of command_line (map (λ word. word.now) words.entry.now)) result }
+    ensures refused { FailsBy (fault_of command_line_spec.command_line (map (λ word. word.now) words.entry.now)) result }
 {
     let matches = command(alloc)?.try_get_matches_from(words)?;
     Ok(words_in(&matches))
 }
 
 fn command<'a>(alloc: Global) -> Result<Command<'a>, AllocError>
-    ensures { IfOk result (λ command. app_of command ≡ command_line) }
+    ensures { IfOk result (λ command. app_of command ≡ command_line_spec.command_line) }
 {
     nameless(alloc)
         .arg(views_word(alloc))?
@@ -34,7 +35,7 @@ fn command<'a>(alloc: Global) -> Result<Command<'a>, AllocError>
 
 // The command without its arguments. The program's name is not among its words.
 fn nameless<'a>(alloc: Global) -> Command<'a>
-    ensures { app_of result ≡ named }
+    ensures { app_of result ≡ program_app }
 {
     Command::new(alloc, "dfviews")
         .about("Prints the views of a document over dataframes")

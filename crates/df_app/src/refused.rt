@@ -1,17 +1,18 @@
 //! The lines of refused chunks.
 ghost use Rattle.std.specs.Prelude.{◌≡◌, ◌++◌, ◌*◌, IfOk, OnOk, flat_map, length, string_bytes};
-ghost use Rattle.df_app.specs.Output.{name_at, paired, refused_in, refused_line as line_of_piece};
-ghost use Rattle.df_value.specs.declared.chunk.Made.TheVariants.{Bad};
+ghost use Rattle.df_app.specs.Output as output;
+ghost use Rattle.df_app.specs.Output.{name_at, paired, refused_in};
+ghost use Rattle.df_value.specs.declared.chunk.Piece.TheVariants.{Bad};
 
 use df_text::{FrameSpec, escape};
-use df_value::{BadCell, List, Made, Schema};
+use df_value::{BadCell, List, Piece, Schema};
 use std::alloc::{AllocError, Global};
 
 /// The lines of the refused chunks, by frame and then by chunk.
 pub fn refused_lines(
     alloc: Global,
     frames: &[FrameSpec],
-    pieces: &[List<Made>],
+    pieces: &[List<Piece>],
     chunk: usize,
 ) -> Result<List<u8>, AllocError>
     requires { length pieces.now ≡ length frames.now }
@@ -29,7 +30,7 @@ fn push_refused(
     alloc: Global,
     lines: &mut Vec<u8>,
     frame: &FrameSpec,
-    pieces: &[Made],
+    pieces: &[Piece],
     chunk: usize,
 ) -> Result<(), AllocError>
     ensures { OnOk result (lines.new.items ≡ lines.old.items ++ refused_in chunk (frame.now, pieces.now)) }
@@ -47,13 +48,13 @@ fn push_line(
     lines: &mut Vec<u8>,
     frame: &FrameSpec,
     first: u128,
-    made: &Made,
+    made: &Piece,
 ) -> Result<(), AllocError>
-    ensures { OnOk result (lines.new.items ≡ lines.old.items ++ line_of_piece frame.now first made.now) }
+    ensures { OnOk result (lines.new.items ≡ lines.old.items ++ output.refused_line frame.now first made.now) }
 {
     match made {
-        Made::Good(_) => Ok(()),
-        Made::Bad(cell) => {
+        Piece::Good(_) => Ok(()),
+        Piece::Bad(cell) => {
             let line = refused_line(alloc, frame, first, *cell)?;
             lines.extend_from_slice(line.as_bytes())
         }
@@ -66,7 +67,7 @@ fn refused_line(
     first: u128,
     cell: BadCell,
 ) -> Result<String, AllocError>
-    ensures { IfOk result (λ line. string_bytes line ≡ line_of_piece frame.now first (Bad cell)) }
+    ensures { IfOk result (λ line. string_bytes line ≡ output.refused_line frame.now first (Bad cell)) }
 {
     let frame_name = escape(alloc, frame.name.as_str())?;
     let column_name = escape(alloc, name_in(&frame.schema, cell.column))?;

@@ -1,7 +1,7 @@
 //! A run, from the bytes of a document to what is written.
 ghost use Rattle.std.specs.Prelude.{◌≡◌, ◌≤◌, IfErr, IfSome};
 ghost use Rattle.df_app.specs.Output.{KnowsFiles};
-ghost use Rattle.df_app.specs.Ran.{Gave, KeepsUnlessWrite, RanOn, Wrote};
+ghost use Rattle.df_app.specs.Ran.{IsOutput, KeepsUnlessWrite, IsRunOn, IsWriting};
 
 use crate::fault::RunFault;
 use crate::files::Files;
@@ -35,7 +35,7 @@ pub fn run<V: Read, F: Files, W: Write>(
     requires some { 1 ≤ chunk }
     requires few { chunk ≤ 65536 }
     ensures ran { IfSome (V.remaining reader.old) (λ bytes. KnowsFiles (F.bytes_at files.old) bytes →
-        RanOn bytes (F.bytes_at files.old) chunk (W.contents writer.old) (W.contents writer.new) result) }
+        IsRunOn bytes (F.bytes_at files.old) chunk (W.contents writer.old) (W.contents writer.new) result) }
     ensures nothing_else { IfErr result (KeepsUnlessWrite (W.contents writer.old) (W.contents writer.new)) }
     ensures same { F.bytes_at files.new ≡ F.bytes_at files.old }
 {
@@ -55,7 +55,7 @@ fn read_output<V: Read, F: Files>(
     requires few { chunk ≤ 65536 }
     ensures same { F.bytes_at files.new ≡ F.bytes_at files.old }
     ensures value { IfSome (V.remaining reader.old) (λ bytes. KnowsFiles (F.bytes_at files.old) bytes →
-        Gave bytes (F.bytes_at files.old) chunk result) }
+        IsOutput bytes (F.bytes_at files.old) chunk result) }
 {
     match open_document(alloc, reader, files, chunk) {
         Ok(opened) => Ok(output(alloc, opened, chunk)?),
@@ -64,7 +64,7 @@ fn read_output<V: Read, F: Files>(
 }
 
 fn write_output<W: Write>(writer: &mut W, output: &Output) -> Result<Outcome, RunFault>
-    ensures { Wrote output.now (W.contents writer.old) (W.contents writer.new) result }
+    ensures { IsWriting output.now (W.contents writer.old) (W.contents writer.new) result }
 {
     match write_text(writer, output.text.as_slice()) {
         Ok(()) => Ok(output.outcome),

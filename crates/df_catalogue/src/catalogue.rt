@@ -1,7 +1,7 @@
 //! The catalogue: frames, views and books.
 ghost use Rattle.std.specs.Prelude.{◌≡◌, ◌≢◌, ◌≤◌, None, Some, IfErr, IfOk, OnOk, MatchResult, length, map, replicate};
 ghost use Rattle.std.specs.List.{range_with_len};
-ghost use Rattle.df_catalogue.specs.New.{new_fault as fault_of};
+ghost use Rattle.df_catalogue.specs.New as new_spec;
 ghost use Rattle.df_catalogue.specs.States.{empty_frame, opening_of, IsLegal};
 ghost use Rattle.df_catalogue.specs.Desks.{accepted_in, deleted_in, first_desks, spare_parts};
 
@@ -71,12 +71,12 @@ impl<Acc: Ledger, Del: Ledger> Catalogue<Acc, Del> {
         requires accepted_parts { (accepted.parts ≡ Acc.parts) × (accepted.parts ≡ 524288) }
         requires deleted_name { deleted.name ≡ Del.name }
         requires deleted_parts { (deleted.parts ≡ Del.parts) × (deleted.parts ≡ 524288) }
-        ensures sound { OnOk result (fault_of schemas ≡ None) }
+        ensures sound { OnOk result (new_spec.new_fault schemas ≡ None) }
         ensures opening { IfOk result (λ made. made.0 ≡ opening_of schemas) }
         ensures legal { IfOk result (λ made. IsLegal made.0) }
         ensures desks { IfOk result (λ made. made.1.items ≡ first_desks (length schemas)) }
         ensures in_order { IfOk result (λ made. map (λ d. d.frame) made.1.items ≡ range_with_len 0 (length made.0.schemas)) }
-        ensures refused { IfErr result (λ fault. fault ≢ NewFault.Memory → fault_of schemas ≡ Some fault) }
+        ensures refused { IfErr result (λ fault. fault ≢ NewFault.Memory → new_spec.new_fault schemas ≡ Some fault) }
     {
         check_schemas(schemas.as_slice())?;
         let frames = empty_frames(alloc, schemas.len())?;
@@ -131,7 +131,7 @@ impl<Acc: Ledger, Del: Ledger> Catalogue<Acc, Del> {
 }
 
 fn check_schemas(schemas: &[Schema]) -> Result<(), NewFault>
-    ensures { MatchResult result (λ _. fault_of schemas.now ≡ None) (λ f. fault_of schemas.now ≡ Some f) }
+    ensures { MatchResult result (λ _. new_spec.new_fault schemas.now ≡ None) (λ f. new_spec.new_fault schemas.now ≡ Some f) }
 {
     if schemas.len() > MOST_FRAMES {
         return Err(NewFault::TooManyFrames);

@@ -1,6 +1,7 @@
 //! Desks: what was accepted and deleted through them, as shares of the ledgers over all frames.
 ghost use Rattle.std.specs.Prelude.{◌≡◌, ◌≢◌, ◌+◌, ◌<◌, ◌≤◌, ◌^◌, ◌↔◌, false, true, IfErr, IfNone, IfSome, IsNone, OnOk, OnSome};
-ghost use Rattle.df_catalogue.specs.Desks.{first_desk, given_half, having_accepted, having_deleted, joined, kept_half, may_join as joins};
+ghost use Rattle.df_catalogue.specs.Desks as desks;
+ghost use Rattle.df_catalogue.specs.Desks.{first_desk, given_half, having_accepted, having_deleted, joined_desk, kept_half};
 
 use std::marker::Model;
 use std::sync::ledger::{Book, Ledger, Share};
@@ -119,11 +120,11 @@ impl<Acc: Ledger, Del: Ledger> Desk<Acc, Del> {
     /// one with which an amount passed 64 bits: no desk of this catalogue is refused so, as
     /// [`audit`](crate::Catalogue::audit) tells.
     pub fn join(&mut self, other: Desk<Acc, Del>) -> Result<(), Desk<Acc, Del>>
-        ensures joined { OnOk result (self.new ≡ joined self.old other) }
+        ensures joined_desk { OnOk result (self.new ≡ joined_desk self.old other) }
         ensures back { IfErr result (λ desk. desk ≡ other) }
         ensures same { IfErr result (λ _. self.new ≡ self.old) }
-        ensures refused { IfErr result (λ _. joins self.old other ≡ false) }
-        ensures accepted { OnOk result (joins self.old other ≡ true) }
+        ensures refused { IfErr result (λ _. desks.may_join self.old other ≡ false) }
+        ensures accepted { OnOk result (desks.may_join self.old other ≡ true) }
     {
         if !self.may_join(&other) {
             return Err(other);
@@ -145,7 +146,7 @@ impl<Acc: Ledger, Del: Ledger> Desk<Acc, Del> {
     }
 
     fn may_join(&self, other: &Desk<Acc, Del>) -> bool
-        ensures { result ≡ joins self.now other.now }
+        ensures { result ≡ desks.may_join self.now other.now }
     {
         self.frame == other.frame
             && self.accepted.checked_add(other.accepted).is_some()

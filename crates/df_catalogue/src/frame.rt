@@ -1,8 +1,10 @@
 //! One frame: its rows under their numbers, and the numbers that it accepted.
 ghost use Rattle.std.specs.Prelude.{◌≡◌, ◌≤◌, [], None, IfOk, false, length};
-ghost use Rattle.df_catalogue.specs.Frames.{IsNumbered, has_row as frame_has_row, numbers_of, rows_of, with_chunk as frame_with, without as frame_without};
+ghost use Rattle.df_catalogue.specs.Frames as frames;
+ghost use Rattle.df_catalogue.specs.Frames.{IsNumbered, numbers_of, rows_of};
 ghost use Rattle.df_catalogue.specs.States.{empty_frame};
-ghost use Rattle.df_catalogue.specs.Refusals.{doubled_after, first_not_live as not_live_in, first_taken as taken_in, would_be_full as full_with};
+ghost use Rattle.df_catalogue.specs.Refusals as refusals;
+ghost use Rattle.df_catalogue.specs.Refusals.{doubled_number_after};
 
 use crate::copies::{
     Numbered, copy_below, copy_from, copy_numbered, copy_numbers, copy_others, copy_rows,
@@ -26,11 +28,11 @@ pub struct Frame {
 
 impl Model for Frame {
     ghost use Rattle.df_catalogue.specs.declared.state.FrameState.{FrameState};
-    ghost use Rattle.df_catalogue.specs.FrameParts.{IsCounted, frame_from};
+    ghost use Rattle.df_catalogue.specs.FrameParts.{IsCounted, frame_state};
 
     ghost Value = { FrameState };
 
-    ghost view = { λ f. frame_from f.accepted f.rows.items };
+    ghost view = { λ f. frame_state f.accepted f.rows.items };
 
     ghost invariant = { λ f. IsCounted f.accepted f.rows.items f.accepted_rows f.deleted_rows };
 }
@@ -85,7 +87,7 @@ impl Frame {
 
     /// The least number of the chunk that was accepted before.
     pub fn first_taken(&self, chunk: &Chunk) -> Option<u32>
-        ensures { result ≡ taken_in self.now chunk.now }
+        ensures { result ≡ refusals.first_taken self.now chunk.now }
     {
         let rows = chunk.rows();
         self.accepted.first_within(chunk.first(), rows.len())
@@ -94,7 +96,7 @@ impl Frame {
     /// Whether more than 1,048,576 numbers would have been accepted with the chunk.
     pub fn would_be_full(&self, chunk: &Chunk) -> bool
         requires { length self.now.accepted ≤ 1048576 }
-        ensures { result ≡ full_with self.now chunk.now }
+        ensures { result ≡ refusals.would_be_full self.now chunk.now }
     {
         let rows = chunk.rows();
         self.accepted() + rows.len() as u64 > MOST_ROWS
@@ -102,14 +104,14 @@ impl Frame {
 
     /// Whether there is a row of this number.
     pub fn has_row(&self, number: u32) -> bool
-        ensures { result ≡ frame_has_row self.now number }
+        ensures { result ≡ frames.has_row self.now number }
     {
         self.rows.iter().any(|r| r.0 == number)
     }
 
     /// The first number of the list of which there is no row.
     pub fn first_not_live(&self, numbers: &[u32]) -> Option<u32>
-        ensures { result ≡ not_live_in self.now numbers.now }
+        ensures { result ≡ refusals.first_not_live self.now numbers.now }
     {
         numbers.iter().copied().find(|n| !self.has_row(*n))
     }
@@ -117,9 +119,9 @@ impl Frame {
     /// The frame once it has accepted the chunk, none of whose numbers it has accepted yet.
     pub fn with_chunk(&self, alloc: Global, chunk: &Chunk) -> Result<Frame, AllocError>
         requires sound { IsNumbered self.now }
-        requires room { full_with self.now chunk.now ≡ false }
-        requires free { taken_in self.now chunk.now ≡ None }
-        ensures { IfOk result (λ frame. frame ≡ frame_with chunk.now self.now) }
+        requires room { refusals.would_be_full self.now chunk.now ≡ false }
+        requires free { refusals.first_taken self.now chunk.now ≡ None }
+        ensures { IfOk result (λ frame. frame ≡ frames.with_chunk chunk.now self.now) }
     {
         let first = chunk.first();
         let added = chunk.rows().len();
@@ -137,11 +139,11 @@ impl Frame {
     }
 
     /// The frame without the rows of these numbers, each of which stands once in the list and has a row.
-    pub fn without(&self, alloc: Global, numbers: &[u32]) -> Result<Frame, AllocError>
+    pub fn without_rows(&self, alloc: Global, numbers: &[u32]) -> Result<Frame, AllocError>
         requires sound { IsNumbered self.now }
-        requires once { doubled_after [] numbers.now ≡ None }
-        requires live { not_live_in self.now numbers.now ≡ None }
-        ensures { IfOk result (λ frame. frame ≡ frame_without numbers.now self.now) }
+        requires once { doubled_number_after [] numbers.now ≡ None }
+        requires live { refusals.first_not_live self.now numbers.now ≡ None }
+        ensures { IfOk result (λ frame. frame ≡ frames.without_rows numbers.now self.now) }
     {
         let accepted = self.accepted.copy(alloc)?;
         let mut rows = Vec::with_capacity(alloc, self.rows.len())?;

@@ -18,10 +18,10 @@ mod copies;
 mod desk;
 mod fault;
 mod frame;
-mod likeness;
 mod ranges;
 mod reading;
 mod replay;
+mod schemas;
 mod state;
 mod views;
 

@@ -17,8 +17,8 @@ use Rattle.df_csv.specs.declared.typed.TypedRow.{TypedRow}
 use Rattle.df_csv.specs.declared.typed.TypedRow.TheVariants as one
 use Rattle.df_csv.specs.declared.typed.TypedRows.{TypedRows}
 use Rattle.df_csv.specs.declared.typed.TypedRows.TheVariants as all
-use Rattle.df_csv.specs.Fields.{bool_in, cell_in, int_in, value_in}
-use Rattle.df_csv.specs.Typed.{row_from, row_of, rows_typed, with_cell, with_row}
+use Rattle.df_csv.specs.Fields.{bool_of_text, cell_of_text, int_of_text, value_of_text}
+use Rattle.df_csv.specs.Typed.{row_from, row_of, rows_typed, cell_before, row_before}
 
 null_fits : (k : CellType) → fits_type k cell.Null ≡ true
 null_fits kind.Int = refl
@@ -38,14 +38,14 @@ bool_fits : (o : Option Bool) (v : Cell) → option_map cell.Bool o ≡ Some v �
 bool_fits (Some b) v e = some_cell kind.Bool (cell.Bool b) v _ refl e refl
 bool_fits None v e = cc
 
-value_fits : (k : CellType) (f : List ℕ) (v : Cell) → value_in k f ≡ Some v → fits_type k v ≡ true
-value_fits kind.Int f v e = int_fits (int_in f) v e
-value_fits kind.Bool f v e = bool_fits (bool_in f) v e
+value_fits : (k : CellType) (f : List ℕ) (v : Cell) → value_of_text k f ≡ Some v → fits_type k v ≡ true
+value_fits kind.Int f v e = int_fits (int_of_text f) v e
+value_fits kind.Bool f v e = bool_fits (bool_of_text f) v e
 value_fits kind.Text f v e = some_cell kind.Text (cell.Text f) v _ refl e refl
 value_fits kind.Wide f v e = cc
 value_fits kind.Frac f v e = cc
 
-cell_fits : (k : CellType) (f : List ℕ) (v : Cell) → cell_in k f ≡ Some v → fits_type k v ≡ true
+cell_fits : (k : CellType) (f : List ℕ) (v : Cell) → cell_of_text k f ≡ Some v → fits_type k v ≡ true
 cell_fits k f v e = elim (cases_Bool (nat_eq (length f) 0)) [
   | inl is ↦ some_cell k cell.Null v _ refl (rw is at e) (null_fits k)
   | inr isnt ↦ value_fits k f v (rw isnt at e)
@@ -54,8 +54,8 @@ cell_fits k f v e = elim (cases_Bool (nat_eq (length f) 0)) [
 good_row : (a b : List Cell) (t : TypedRow) → t ≡ one.Good a → t ≡ one.Good b → a ≡ b
 good_row a b t e h = cc
 
-put_cell : (c : List ℕ × CellType) (cs : List (List ℕ × CellType)) (f : List ℕ) (at : ℕ) (row : List Cell) (o : Option Cell) → cell_in c.1 f ≡ o
-    → (t : TypedRow) → ((vs : List Cell) → t ≡ one.Good vs → row_fits cs vs ≡ true) → with_cell at o t ≡ one.Good row → row_fits (c ∷ cs) row ≡ true
+put_cell : (c : List ℕ × CellType) (cs : List (List ℕ × CellType)) (f : List ℕ) (at : ℕ) (row : List Cell) (o : Option Cell) → cell_of_text c.1 f ≡ o
+    → (t : TypedRow) → ((vs : List Cell) → t ≡ one.Good vs → row_fits cs vs ≡ true) → cell_before at o t ≡ one.Good row → row_fits (c ∷ cs) row ≡ true
 put_cell c cs f at row None q t h e = cc
 put_cell c cs f at row (Some v) q (one.Bad i) h e = cc
 put_cell c cs f at row (Some v) q (one.Good vs) h e =
@@ -66,7 +66,7 @@ row_makes : (at : ℕ) (columns : List (List ℕ × CellType)) (fields : List (L
 row_makes at [] fields row len e = subst (λ r. row_fits [] r ≡ true) (good_row [] row _ refl e) refl
 row_makes at (c ∷ cs) [] row len e = absurd (omega (arith, len))
 row_makes at (c ∷ cs) (f ∷ fs) row len e =
-    put_cell c cs f at row (cell_in c.1 f) refl (row_from (at + 1) cs fs) (λ vs. row_makes (at + 1) cs fs vs (omega (arith, len))) e
+    put_cell c cs f at row (cell_of_text c.1 f) refl (row_from (at + 1) cs fs) (λ vs. row_makes (at + 1) cs fs vs (omega (arith, len))) e
 
 good_rows : (a b : List (List Cell)) (t : TypedRows) → t ≡ all.Good a → t ≡ all.Good b → a ≡ b
 good_rows a b t e h = cc
@@ -76,7 +76,7 @@ abbrev Fitting : List (List ℕ × CellType) → ℕ → List (List Cell) → Ty
 Fitting columns n rows = (length rows ≡ n) × (position_or_len (λ r. not (row_fits columns r)) rows ≡ n)
 
 put_row : (columns : List (List ℕ × CellType)) (n m : ℕ) (rows : List (List Cell)) (o : TypedRow) → ((row : List Cell) → o ≡ one.Good row → row_fits columns row ≡ true)
-    → (t : TypedRows) → ((rs : List (List Cell)) → t ≡ all.Good rs → Fitting columns m rs) → with_row n o t ≡ all.Good rows → Fitting columns (suc m) rows
+    → (t : TypedRows) → ((rs : List (List Cell)) → t ≡ all.Good rs → Fitting columns m rs) → row_before n o t ≡ all.Good rows → Fitting columns (suc m) rows
 put_row columns n m rows (one.Bad i) f t h e = cc
 put_row columns n m rows (one.Good row) f (all.Bad b) h e = cc
 put_row columns n m rows (one.Good row) f (all.Good rs) h e =

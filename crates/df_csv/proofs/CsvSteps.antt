@@ -8,8 +8,8 @@ use Rattle.csv.specs.declared.error.ErrorKind.TheVariants as kind
 use Rattle.csv.specs.declared.record.Position.{Position}
 use Rattle.csv.specs.declared.reader.Reader.{Reader}
 use Rattle.csv.specs.declared.parser.State.{State}
-use Rattle.df_csv.specs.Rows.{IsPlain, TakesRow, records_at}
-use Rattle.df_csv.specs.declared.csv_rows.Taken.TheVariants.{Row, End, Unlike}
+use Rattle.df_csv.specs.Rows.{IsPlain, IsNextRow, records_at}
+use Rattle.df_csv.specs.declared.rows.NextRow.TheVariants.{Row, End, Unlike}
 use Rattle.df_csv.proofs.Fuel.{rows_more, rows_none, took}
 
 value_of : {T : Type 0} (o : Option T) → IsSome o → (x : T) × (o ≡ Some x)
@@ -33,7 +33,7 @@ expects None new n h k = tt
 expects (Some e) new n h k = cc
 
 pub found_row : {R : Type 0} (rem : R → Option (List ℕ)) (a b : Reader R) (f : List (List ℕ)) → IsPlain rem a → ReadRecord rem a b true f → ReadsOn a b
-    → TakesRow rem a b f Row
+    → IsNextRow rem a b f Row
 found_row rem a b f h r on =
     let (xs, at) = value_of (source_of rem a) h.4 in
     let (ys, after, p, e, ef, es, ey) = took default_config a.state b.state xs (pending_of (rem b.rdr) b) f (rw (at, h.2) at r.0) in
@@ -45,19 +45,19 @@ found_row rem a b f h r on =
       expects a.expected b.expected (length f) lens.0 lens.1,
     )
 
-pub no_row : {R : Type 0} (rem : R → Option (List ℕ)) (a b : Reader R) (f : List (List ℕ)) → IsPlain rem a → ReadRecord rem a b false f → TakesRow rem a b f End
+pub no_row : {R : Type 0} (rem : R → Option (List ℕ)) (a b : Reader R) (f : List (List ℕ)) → IsPlain rem a → ReadRecord rem a b false f → IsNextRow rem a b f End
 no_row rem a b f h r =
     let (xs, at) = value_of (source_of rem a) h.4 in
     rw at (end_at a.state b.state xs (pending_of (rem b.rdr) b) f (rw (at, h.2) at r.0))
 
 unlike_at : {R : Type 0} (rem : R → Option (List ℕ)) (a b : Reader R) (n m : ℕ) (f g : List (List ℕ)) (xs ys : List ℕ) (p : Read) → source_of rem a ≡ Some xs
     → a.expected ≡ Some n → n ≢ m → length g ≡ m
-    → next_record default_config a.state [] [] xs ≡ Some p → g ≡ p.0 → b.state ≡ p.1 → ys ≡ p.2 → TakesRow rem a b f Unlike
+    → next_record default_config a.state [] [] xs ≡ Some p → g ≡ p.0 → b.state ≡ p.1 → ys ≡ p.2 → IsNextRow rem a b f Unlike
 unlike_at rem a b n m f g xs ys p at expected unlike len e eg es ey =
     (g, records_at b.state (Some ys), rw at (row_at a.state b.state xs ys g p e eg es ey), n, expected, λ q. unlike (q ∙ len))
 
 pub unlike_row : {R : Type 0} (rem : R → Option (List ℕ)) (a b : Reader R) (pos : Option Position) (n m : ℕ) (f : List (List ℕ)) → IsPlain rem a
-    → ExplainsRead rem a b false (kind.UnequalLengths pos n m) → TakesRow rem a b f Unlike
+    → ExplainsRead rem a b false (kind.UnequalLengths pos n m) → IsNextRow rem a b f Unlike
 unlike_row rem a b pos n m f h w =
     let (flexible, expected, unlike, g, read, len) = w in
     let (xs, at) = value_of (source_of rem a) h.4 in

@@ -7,7 +7,7 @@ use Rattle.std.specs.Str.Parse.{ParsesSigned}
 use Rattle.std.proofs.lemmas.Bool.{cases_Bool}
 use Rattle.std.proofs.lemmas.Bool.Decides.{nat_tests}
 use Rattle.std.proofs.lemmas.Str.Parse.{IsNumeralModel, numerals_by_fold, parse_signed_minus, parse_signed_plain, parse_signed_plus}
-use Rattle.df_csv.specs.Fields.{are_digits, decimal_after, decimal_of, int_in}
+use Rattle.df_csv.specs.Fields.{are_digits, decimal_after, decimal_of, int_of_text}
 use mir.Syntax.{w64}
 
 own : IsNumeralModel (λ ds. all_ascii_digits ds ≡ true) (decimal_after 0)
@@ -33,7 +33,7 @@ upto ds most h = grind (arith, nat_tests)
 upto_back : (ds : List ℕ) (most : ℕ) → (are_digits ds && nat_le (decimal_of ds) most) ≡ true → (all_ascii_digits ds ≡ true) × (0 < length ds) × (decimal_after 0 ds ≤ most)
 upto_back ds most h = (grind (arith, nat_tests), grind (arith, nat_tests), grind (arith, nat_tests))
 
-signed : {E : Type 0} (c : ℕ) (cs : List ℕ) (r : Result ℤ E) → ParsesSigned w64 10 (c ∷ cs) r → result_ok r ≡ int_in (c ∷ cs)
+signed : {E : Type 0} (c : ℕ) (cs : List ℕ) (r : Result ℤ E) → ParsesSigned w64 10 (c ∷ cs) r → result_ok r ≡ int_of_text (c ∷ cs)
 signed c cs r h = elim (cases_Bool (eqb c 45)) [
   | inl minus ↦
       let fact = parse_signed_minus own w64 (c ∷ cs) r h (grind (arith, nat_tests)) in
@@ -51,7 +51,7 @@ signed c cs r h = elim (cases_Bool (eqb c 45)) [
     ne_at : (n : ℕ) → eqb c n ≡ false → c ≢ n
     ne_at n e = grind (arith, nat_tests)
 
-pub int_read : {E : Type 0} (bs : List ℕ) (r : Result ℤ E) → ParsesSigned w64 10 bs r → result_ok r ≡ int_in bs
+pub int_read : {E : Type 0} (bs : List ℕ) (r : Result ℤ E) → ParsesSigned w64 10 bs r → result_ok r ≡ int_of_text bs
 int_read {E} [] (Ok x) h = let fact = parse_signed_plain own {E = E} w64 [] (Ok x) h (λ e. cc) (λ e. cc) in absurd (omega (arith, fact.0.1))
 int_read [] (Err e) h = refl
 int_read (c ∷ cs) r h = signed c cs r h

@@ -14,7 +14,7 @@ use Rattle.csv.specs.declared.parser.Action.{Action}
 use Rattle.csv.specs.declared.parser.Action.TheVariants as act
 use Rattle.csv.specs.declared.parser.State.{State}
 use Rattle.csv.specs.declared.parser.State.TheVariants as st
-use Rattle.df_csv.specs.Records.{EveryText, Rows}
+use Rattle.df_csv.specs.Records.{EveryText, FieldRows}
 
 -- the reader is in no comment, which the default configuration does not know
 abbrev pub no_comment : State → Bool
@@ -154,6 +154,6 @@ text_at [] i h = IsUtf8-nil
 text_at (f ∷ fs) zero h = h.0
 text_at (f ∷ fs) (suc i) h = text_at fs i h.1
 
-pub texts_next : (all rest : Rows) (r : List (List ℕ)) → all ≡ r ∷ rest → EveryText all → AllText r × EveryText rest
+pub texts_next : (all rest : FieldRows) (r : List (List ℕ)) → all ≡ r ∷ rest → EveryText all → AllText r × EveryText rest
 unfolding EveryText
 texts_next all rest r e h = rw e at h

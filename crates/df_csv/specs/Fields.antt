@@ -28,25 +28,25 @@ abbrev pub negative_from : List ℕ → Option ℤ
 negative_from ds = if are_digits ds && nat_le (decimal_of ds) (2 ^ 63) then Some (neg_ℤ (pos (decimal_of ds))) else None
 
 -- the integer that a text writes: a minus (45), a plus (43) or no sign, and digits
-abbrev pub int_in : List ℕ → Option ℤ
-int_in [] = None
-int_in (c ∷ cs) = if c == 45 then negative_from cs else if c == 43 then int_from cs else int_from (c ∷ cs)
+abbrev pub int_of_text : List ℕ → Option ℤ
+int_of_text [] = None
+int_of_text (c ∷ cs) = if c == 45 then negative_from cs else if c == 43 then int_from cs else int_from (c ∷ cs)
 
 -- the Boolean that a text names
-abbrev pub bool_in : List ℕ → Option Bool
-bool_in text =
+abbrev pub bool_of_text : List ℕ → Option Bool
+bool_of_text text =
     if str_eq_ignore_ascii_case text (codes "true") then Some true
     else if str_eq_ignore_ascii_case text (codes "false") then Some false
     else None
 
 -- the value of a type that a text writes; no text writes one of a type that base frames do not have
-abbrev pub value_in : CellType → List ℕ → Option Cell
-value_in kind.Int text = option_map cell.Int (int_in text)
-value_in kind.Bool text = option_map cell.Bool (bool_in text)
-value_in kind.Text text = Some (cell.Text text)
-value_in kind.Wide text = None
-value_in kind.Frac text = None
+abbrev pub value_of_text : CellType → List ℕ → Option Cell
+value_of_text kind.Int text = option_map cell.Int (int_of_text text)
+value_of_text kind.Bool text = option_map cell.Bool (bool_of_text text)
+value_of_text kind.Text text = Some (cell.Text text)
+value_of_text kind.Wide text = None
+value_of_text kind.Frac text = None
 
 -- the cell of a field in a column of this type, or none where the field is no value of it
-abbrev pub cell_in : CellType → List ℕ → Option Cell
-cell_in t field = if length field == 0 then Some cell.Null else value_in t field
+abbrev pub cell_of_text : CellType → List ℕ → Option Cell
+cell_of_text t field = if length field == 0 then Some cell.Null else value_of_text t field

@@ -5,8 +5,8 @@ use Rattle.std.specs.Option.{option_or}
 use Rattle.std.specs.Str.{bytes_eq}
 use Rattle.csv.specs.Reading.{is_bom}
 use Rattle.df_value.specs.declared.cell.CellType.{CellType}
-use Rattle.df_csv.specs.declared.csv_fault.CsvFault.{CsvFault}
-use Rattle.df_csv.specs.declared.csv_fault.CsvFault.TheVariants.{DoubledHeader, MissingColumn}
+use Rattle.df_csv.specs.declared.fault.CsvFault.{CsvFault}
+use Rattle.df_csv.specs.declared.fault.CsvFault.TheVariants.{DoubledHeader, MissingColumn}
 
 -- whether a text begins with a mark
 abbrev pub starts_with_mark : List ℕ → Bool
@@ -24,8 +24,8 @@ abbrev pub count_named : List (List ℕ) → List ℕ → ℕ
 count_named header name = count_by (λ h. bytes_eq h name) header
 
 -- the first place of a name
-abbrev pub place_of : List (List ℕ) → List ℕ → ℕ
-place_of header name = unwrap_or (position (λ h. bytes_eq h name) header) 0
+abbrev pub header_index : List (List ℕ) → List ℕ → ℕ
+header_index header name = unwrap_or (position (λ h. bytes_eq h name) header) 0
 
 -- the first column whose name stands twice in the header, and the first whose name does not stand there
 abbrev pub doubled_column : List (List ℕ) → List (List ℕ × CellType) → Option (List ℕ × CellType)

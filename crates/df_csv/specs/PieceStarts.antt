@@ -7,13 +7,13 @@ use Rattle.std.proofs.lemmas.List.{length-map}
 use Rattle.std.proofs.lemmas.Option.{same_Some, slice_get-map, slice_get_within}
 use Rattle.df_value.specs.Chunks.{ChunkParts}
 use Rattle.df_value.specs.declared.cell.CellType.{CellType}
-use Rattle.df_value.specs.declared.chunk.Made.{Made}
-use Rattle.df_value.specs.declared.chunk.Made.TheVariants as made
+use Rattle.df_value.specs.declared.chunk.Piece.{Piece}
+use Rattle.df_value.specs.declared.chunk.Piece.TheVariants as made
 use Rattle.df_csv.specs.declared.typed.TypedRows.{TypedRows}
 use Rattle.df_csv.specs.declared.typed.TypedRows.TheVariants as all
-use Rattle.df_csv.specs.Records.{Rows}
+use Rattle.df_csv.specs.Records.{FieldRows}
 use Rattle.df_csv.specs.Sources.{CsvParts, chunks_of, start_of}
-use Rattle.df_csv.specs.Typed.{made_of, piece_count, piece_of, pieces_of}
+use Rattle.df_csv.specs.Typed.{piece_from, piece_count, piece_of, pieces_of}
 
 pub range_length : (a m : ℕ) → length (range_with_len a m) ≡ m
 range_length a zero = refl
@@ -24,26 +24,26 @@ range_at a zero n h = absurd (omega arith)
 range_at a (suc m) zero h = ap Some (omega arith)
 range_at a (suc m) (suc n) h = range_at (a + 1) m n (omega arith) ∙ ap Some (omega arith)
 
-pub pieces_length : (schema : List (List ℕ × CellType)) (k : ℕ) (records : Rows) → length (pieces_of schema k records) ≡ piece_count k (length records)
+pub pieces_length : (schema : List (List ℕ × CellType)) (k : ℕ) (records : FieldRows) → length (pieces_of schema k records) ≡ piece_count k (length records)
 pieces_length schema k records =
     length-map (range_with_len 0 (piece_count k (length records))) (λ (i : ℕ). piece_of schema (i * k) (take k (drop (i * k) records)))
     ∙ range_length 0 (piece_count k (length records))
 
-pub piece_at : (schema : List (List ℕ × CellType)) (k n : ℕ) (records : Rows) → n < piece_count k (length records)
+pub piece_at : (schema : List (List ℕ × CellType)) (k n : ℕ) (records : FieldRows) → n < piece_count k (length records)
     → slice_get (pieces_of schema k records) n ≡ Some (piece_of schema (n * k) (take k (drop (n * k) records)))
 piece_at schema k n records h =
-    let f : ℕ → Made = λ i. piece_of schema (i * k) (take k (drop (i * k) records)) in
+    let f : ℕ → Piece = λ i. piece_of schema (i * k) (take k (drop (i * k) records)) in
     slice_get-map f (range_with_len 0 (piece_count k (length records))) n
     ∙ ap (option_map f) (range_at 0 (piece_count k (length records)) n h) ∙ ap (λ i. Some (f i)) (zero-add n)
 
 -- the first number of a good chunk
-abbrev first_of : Made → ℕ → ℕ
-first_of (made.Good chunk) other = chunk.first
-first_of (made.Bad cell) other = other
+abbrev first_number_of : Piece → ℕ → ℕ
+first_number_of (made.Good chunk) other = chunk.first
+first_number_of (made.Bad cell) other = other
 
-made_first : (schema : List (List ℕ × CellType)) (first : ℕ) (rows : TypedRows) → first_of (made_of schema first rows) first ≡ first
-made_first schema first (all.Good rows) = refl
-made_first schema first (all.Bad cell) = refl
+piece_first : (schema : List (List ℕ × CellType)) (first : ℕ) (rows : TypedRows) → first_number_of (piece_from schema first rows) first ≡ first
+piece_first schema first (all.Good rows) = refl
+piece_first schema first (all.Bad cell) = refl
 
 -- a good chunk begins with the row that its source says
 pub starts_there : (source : CsvParts) (n : ℕ) (chunk : ChunkParts) → slice_get (chunks_of source) n ≡ Some (made.Good chunk) → chunk.first ≡ start_of source n
@@ -51,4 +51,4 @@ starts_there source n chunk e =
     let within : n < piece_count source.size (length source.records) =
     omega (arith, slice_get_within (chunks_of source) n (made.Good chunk) e, pieces_length source.schema source.size source.records) in
     let is = same_Some _ _ (sym (piece_at source.schema source.size n source.records within) ∙ e) in
-    sym (ap (λ m. first_of m (n * source.size)) is) ∙ made_first source.schema (n * source.size) _
+    sym (ap (λ m. first_number_of m (n * source.size)) is) ∙ piece_first source.schema (n * source.size) _

@@ -4,8 +4,8 @@ use Rattle.csv.specs.Reading.{Ready, default_config, expected_len, is_flexible, 
 use Rattle.csv.specs.declared.parser.State.{State}
 use Rattle.csv.specs.declared.reader.Reader.{Reader}
 use Rattle.csv.specs.declared.reader.Trim.TheVariants as trim
-use Rattle.df_csv.specs.declared.csv_rows.Taken.{Taken}
-use Rattle.df_csv.specs.declared.csv_rows.Taken.TheVariants.{Row, End, Unlike, Memory}
+use Rattle.df_csv.specs.declared.rows.NextRow.{NextRow}
+use Rattle.df_csv.specs.declared.rows.NextRow.TheVariants.{Row, End, Unlike, Memory}
 
 abbrev pub records_at : State → Option (List ℕ) → List (List (List ℕ))
 records_at s None = []
@@ -20,8 +20,8 @@ abbrev pub IsPlain : {R : Type 0} → (R → Option (List ℕ)) → Reader R →
 IsPlain rem r = (reader_trim r ≡ trim.None) × Ready r × (reader_config r ≡ default_config) × (is_flexible r ≡ false) × IsSome (source_of rem r)
 
 -- what taking one record gives: one of the length of those before it, the end, or one of another length
-abbrev pub TakesRow : {R : Type 0} → (R → Option (List ℕ)) → Reader R → Reader R → List (List ℕ) → Taken → Type 0
-TakesRow rem a b fields Row = IsPlain rem b × (rows_left rem a ≡ fields ∷ rows_left rem b) × (expected_len b ≡ Some (length fields)) × IfSome (expected_len a) (λ n. n ≡ length fields)
-TakesRow rem a b fields End = rows_left rem a ≡ []
-TakesRow rem a b fields Unlike = (f : List (List ℕ)) × (rest : List (List (List ℕ))) × (rows_left rem a ≡ f ∷ rest) × (n : ℕ) × (expected_len a ≡ Some n) × (n ≢ length f)
-TakesRow rem a b fields Memory = ⊤
+abbrev pub IsNextRow : {R : Type 0} → (R → Option (List ℕ)) → Reader R → Reader R → List (List ℕ) → NextRow → Type 0
+IsNextRow rem a b fields Row = IsPlain rem b × (rows_left rem a ≡ fields ∷ rows_left rem b) × (expected_len b ≡ Some (length fields)) × IfSome (expected_len a) (λ n. n ≡ length fields)
+IsNextRow rem a b fields End = rows_left rem a ≡ []
+IsNextRow rem a b fields Unlike = (f : List (List ℕ)) × (rest : List (List (List ℕ))) × (rows_left rem a ≡ f ∷ rest) × (n : ℕ) × (expected_len a ≡ Some n) × (n ≢ length f)
+IsNextRow rem a b fields Memory = ⊤

@@ -1,24 +1,24 @@
 -- The pieces of a CSV file as a list of chunks with the numbers of their first rows.
 use Rattle.std.specs.Prelude.{◌*◌, ◌<◌, ◌≤◌, ℕ, List, length}
 use Rattle.df_value.specs.declared.cell.CellType.{CellType}
-use Rattle.df_value.specs.declared.chunk.Made.{Made}
-use Rattle.df_csv.specs.Records.{IsRecords, Rows}
+use Rattle.df_value.specs.declared.chunk.Piece.{Piece}
+use Rattle.df_csv.specs.Records.{IsRecords, FieldRows}
 use Rattle.df_csv.specs.Typed.{pieces_of}
 
 -- what callers see of a source: records, their schema, and how many records make a piece
 pub record CsvParts : Type 0 where
-  pub records : Rows
+  pub records : FieldRows
   pub schema : List (List ℕ × CellType)
   pub size : ℕ
 
 -- what a source keeps: few enough records of the schema's width, and pieces of 1 to 65536 of them
-pub record IsCsvSource (records : Rows) (schema : List (List ℕ × CellType)) (size : ℕ) : Type 0 where
+pub record IsCsvSource (records : FieldRows) (schema : List (List ℕ × CellType)) (size : ℕ) : Type 0 where
   pub sound : IsRecords (length schema) records
   pub some : 0 < size
   pub short : size ≤ 65536
 
 -- the chunks of a source: its pieces
-abbrev pub chunks_of : CsvParts → List Made
+abbrev pub chunks_of : CsvParts → List Piece
 chunks_of source = pieces_of source.schema source.size source.records
 
 -- the number of the first row of piece n

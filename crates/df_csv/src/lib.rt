@@ -6,21 +6,21 @@
 //! [`read_limited`] reads bytes up to a limit.
 #![tactic(auto)]
 
-mod csv_fault;
-mod csv_header;
-mod csv_rows;
-mod csv_source;
+mod fault;
 mod fields;
+mod header;
 mod limited;
 mod pieces;
 mod reading;
 mod records;
+mod rows;
+mod source;
 mod typed;
 
-pub use csv_fault::CsvFault;
-pub use csv_source::CsvSource;
+pub use fault::CsvFault;
 pub use limited::{ReadLimitedFault, read_limited};
 pub use pieces::{count_pieces, type_piece};
 pub use reading::{MOST_BYTES_OF_FILE, parse_records, read_records};
 pub use records::Records;
+pub use source::CsvSource;
 pub use typed::type_chunk;

@@ -5,7 +5,7 @@ ghost use Rattle.df_csv.specs.Typed.{piece_count, pieces_of};
 
 use crate::records::Records;
 use crate::typed::type_chunk;
-use df_value::{Made, Schema};
+use df_value::{Piece, Schema};
 use std::alloc::{AllocError, Global};
 
 /// How many pieces of at most `k` records these records make; none where there is no record.
@@ -24,7 +24,7 @@ pub fn type_piece(
     schema: &Schema,
     k: usize,
     n: usize,
-) -> Result<Made, AllocError>
+) -> Result<Piece, AllocError>
     requires sound { IsRecords (length schema.now) records.now }
     requires some { 0 < k }
     requires short { k ≤ 65536 }

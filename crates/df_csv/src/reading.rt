@@ -3,11 +3,11 @@ ghost use Rattle.std.specs.Prelude.{◌≡◌, ◌≢◌, IfOk, IfSome, IsUtf8, 
 ghost use Rattle.df_csv.specs.Header.{without_marks};
 ghost use Rattle.df_csv.specs.Records.{Gives, GivesRead, IsRecords, file_records, records_of};
 
-use crate::csv_fault::CsvFault;
-use crate::csv_header::{names_of, places_of, skip_marks};
-use crate::csv_rows::{Taken, next_row, read_rows};
+use crate::fault::CsvFault;
+use crate::header::{header_indices, names_of, skip_marks};
 use crate::limited::{ReadLimitedFault, read_limited};
 use crate::records::Records;
+use crate::rows::{NextRow, next_row, read_rows};
 use csv::{ByteRecord, ReaderBuilder};
 use df_value::{CellType, Schema, Text};
 use std::alloc::Global;
@@ -32,21 +32,21 @@ fn read_text(
         .from_reader(alloc, text);
     let mut row = ByteRecord::new(alloc);
     match next_row(&mut reader, &mut row) {
-        Taken::Row => {
+        NextRow::Row => {
             let Ok(header) = names_of(alloc, &row) else {
                 return Err(CsvFault::Memory);
             };
-            match places_of(alloc, header.as_slice(), columns) {
+            match header_indices(alloc, header.as_slice(), columns) {
                 Ok(places) => read_rows(alloc, &mut reader, places.as_slice(), row.len()),
                 Err(e) => Err(e),
             }
         }
-        Taken::End => match places_of(alloc, &[], columns) {
+        NextRow::End => match header_indices(alloc, &[], columns) {
             Ok(_) => Ok(Records::new(alloc)),
             Err(e) => Err(e),
         },
-        Taken::Unlike => unreachable!(),
-        Taken::Memory => Err(CsvFault::Memory),
+        NextRow::Unlike => unreachable!(),
+        NextRow::Memory => Err(CsvFault::Memory),
     }
 }
 

@@ -1,7 +1,7 @@
 //! The records of a CSV file, their fields in one buffer.
 ghost use Rattle.std.specs.Prelude.{◌≡◌, ◌↔◌, ◌<◌, ◌*◌, [], IsTrue, Some, length, slice_get};
 ghost use Rattle.csv.specs.Records.{fields_of};
-ghost use Rattle.df_csv.specs.Records.{record_at, rows_in};
+ghost use Rattle.df_csv.specs.Records.{record_at, rows_of_width};
 
 use csv::StringRecord;
 use std::alloc::Global;
@@ -20,11 +20,11 @@ pub struct Records {
 impl Model for Records {
     ghost use Rattle.std.specs.Prelude.{◌≡◌, ◌*◌, ◌^◌, ◌<◌, List as Seq, ℕ, length};
     ghost use Rattle.csv.specs.Records.{fields_of};
-    ghost use Rattle.df_csv.specs.Records.{rows_in};
+    ghost use Rattle.df_csv.specs.Records.{rows_of_width};
 
     ghost Value = { Seq (Seq (Seq ℕ)) };
 
-    ghost view = { λ r. rows_in r.width r.count (fields_of r.fields) };
+    ghost view = { λ r. rows_of_width r.width r.count (fields_of r.fields) };
 
     ghost invariant = { λ r. (length (fields_of r.fields) ≡ r.count * r.width) × (length (fields_of r.fields) < 2 ^ 64) };
 }
@@ -40,7 +40,7 @@ impl Records {
     /// The `count` records of `width` fields each whose fields are these.
     pub(crate) fn from_fields(fields: StringRecord, width: usize, count: usize) -> Records
         requires { length (fields_of fields) ≡ count * width }
-        ensures { result ≡ rows_in width count (fields_of fields) }
+        ensures { result ≡ rows_of_width width count (fields_of fields) }
     {
         // Asked for its contract alone: as a `usize`, the number of fields is below 2^64, which the
         // invariant says.

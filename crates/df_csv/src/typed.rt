@@ -7,7 +7,7 @@ ghost use Rattle.df_csv.specs.Typed.{piece_of, row_of, rows_typed};
 
 use crate::fields::cell_of;
 use crate::records::Records;
-use df_value::{BadCell, CellType, Chunk, ChunkFault, List, Made, Row, Schema, Text};
+use df_value::{BadCell, CellType, Chunk, ChunkFault, List, Piece, Row, Schema, Text};
 use std::alloc::{AllocError, Global};
 
 /// The row of a record, or the place of its first bad cell.
@@ -102,7 +102,7 @@ pub fn type_chunk(
     schema: &Schema,
     first: u32,
     len: usize,
-) -> Result<Made, AllocError>
+) -> Result<Piece, AllocError>
     requires sound { IsRecords (length schema.now) records.now }
     requires within { first + len ≤ length records.now }
     requires short { len ≤ 65536 }
@@ -110,7 +110,7 @@ pub fn type_chunk(
 {
     let columns = schema.columns().as_slice();
     match type_rows(alloc, columns, records, first as usize, len)? {
-        TypedRows::Good(rows) => Ok(Made::Good(chunk_of(alloc, schema, first, rows)?)),
-        TypedRows::Bad(cell) => Ok(Made::Bad(cell)),
+        TypedRows::Good(rows) => Ok(Piece::Good(chunk_of(alloc, schema, first, rows)?)),
+        TypedRows::Bad(cell) => Ok(Piece::Bad(cell)),
     }
 }

@@ -16,9 +16,9 @@ use Rattle.df_value.specs.declared.cell.CellType.TheVariants as kind
 use Rattle.df_value.specs.Cells.{fits_type, is_text}
 use Rattle.df_value.specs.CellEq.{cell_eq}
 use Rattle.df_value.specs.Rows.{cell_at, row_fits}
-use Rattle.df_value.specs.Schemas.{type_in, position_of}
+use Rattle.df_value.specs.Schemas.{column_dtype, column_index}
 use Rattle.df_expr.specs.Value.{value_of, value_step, arith_of, compare_of, cell_of, fill_of, is_null}
-use Rattle.df_expr.specs.Typing.{type_of, type_step, Typed, both, then_typed, arith_type, ordered_type, compare_type, truth_type, truths_type, literal_type, column_type, not_text, no_text, no_text_step}
+use Rattle.df_expr.specs.Typing.{type_of, type_step, TypeResult, both, then_typed, arith_type, ordered_type, compare_type, truth_type, truths_type, literal_type, column_type, not_text, no_text, no_text_step}
 use Rattle.df_expr.specs.declared.expr.ArithOp.{ArithOp}
 use Rattle.df_expr.specs.declared.expr.CompareOp.{CompareOp}
 use Rattle.df_expr.specs.declared.expr.Expr.{Expr}
@@ -32,13 +32,13 @@ abbrev pub HasValue : List (List ℕ × CellType) → List Cell → Expr → Typ
 HasValue columns row e = (t : CellType) → type_of e columns ≡ Ok t → IsTrue (fits_type t (value_of e columns row))
 
 -- a cell is null or of the type that was found, if one was
-abbrev Fits : Typed → Cell → Type 0
+abbrev Fits : TypeResult → Cell → Type 0
 Fits answer v = (t : CellType) → answer ≡ Ok t → IsTrue (fits_type t v)
 
 arith_fits : (o : ArithOp) (a b : Cell) → IsTrue (fits_type kind.Int (arith_of o a b))
 arith_fits o a b = grind (arith, common_steps)
 
-both_arith : (s t : Typed) (o : ArithOp) (a b : Cell) → Fits (both s t arith_type) (arith_of o a b)
+both_arith : (s t : TypeResult) (o : ArithOp) (a b : Cell) → Fits (both s t arith_type) (arith_of o a b)
 both_arith s t o a b u h = grind (arith, common_steps, arith_fits o a b)
 
 bool_fits : (b : Option Bool) → IsTrue (fits_type kind.Bool (cell_of b))
@@ -52,10 +52,10 @@ compare_fits o (Some r) = refl
 literal_fits : (c : Cell) (k : CellType) → Fits (literal_type c k) c
 literal_fits c k t = grind (arith, common_steps)
 
-fill_fits : (s t : Typed) (a b : Cell) → Fits s a → Fits t b → Fits (both s t ordered_type) (fill_of a b)
+fill_fits : (s t : TypeResult) (a b : Cell) → Fits s a → Fits t b → Fits (both s t ordered_type) (fill_of a b)
 fill_fits s t a b f g u h = grind (arith, common_steps, f u, g u)
 
-both_bool : (s t : Typed) (next : CellType → CellType → Typed) (v : Cell) →
+both_bool : (s t : TypeResult) (next : CellType → CellType → TypeResult) (v : Cell) →
     ((a b u : CellType) → next a b ≡ Ok u → u ≡ kind.Bool) → IsTrue (fits_type kind.Bool v) →
     Fits (both s t next) v
 both_bool (Ok a) (Ok b) next v is_bool fits u h = let e = is_bool a b u h in rw e fits
@@ -68,10 +68,10 @@ compare_bool a b u h = grind (arith, common_steps)
 truths_bool : (a b u : CellType) → truths_type a b ≡ Ok u → u ≡ kind.Bool
 truths_bool a b u h = grind (arith, common_steps)
 
-not_fits : (s : Typed) (v : Cell) → IsTrue (fits_type kind.Bool v) → Fits (then_typed s truth_type) v
+not_fits : (s : TypeResult) (v : Cell) → IsTrue (fits_type kind.Bool v) → Fits (then_typed s truth_type) v
 not_fits s v fits u h = grind (arith, common_steps)
 
-null_fits : (s : Typed) (v : Cell) → IsTrue (fits_type kind.Bool v) → Fits (then_typed s (λ _. Ok kind.Bool)) v
+null_fits : (s : TypeResult) (v : Cell) → IsTrue (fits_type kind.Bool v) → Fits (then_typed s (λ _. Ok kind.Bool)) v
 null_fits s v fits u h = grind (arith, common_steps)
 
 second : (a b : Bool) → IsTrue (a && b) → IsTrue b
@@ -109,7 +109,7 @@ column_found columns row fits i name t h =
 
 pub column_fits :
     (columns : List (List ℕ × CellType)) (row : List Cell) → IsTrue (row_fits columns row) →
-    (name : List ℕ) → Fits (column_type name (type_in name columns)) (cell_at (position_of name columns) row)
+    (name : List ℕ) → Fits (column_type name (column_dtype name columns)) (cell_at (column_index name columns) row)
 column_fits columns row fits name t h =
     column_found columns row fits (position_or_len (λ c. bytes_eq c.0 name) columns) name t
     (simp find_at at h)
@@ -120,27 +120,27 @@ step :
     (y : Expr-F ((e : Expr) × HasValue columns row e)) →
     HasValue columns row (roll-Expr (map-Expr ((e : Expr) × HasValue columns row e) Expr (λ e. e.0) y))
 step columns row fits (Expr-F.Column name) =
-    rw (fold-roll-Expr Typed (type_step columns), fold-roll-Expr Cell (value_step columns row)) (column_fits columns row fits name)
+    rw (fold-roll-Expr TypeResult (type_step columns), fold-roll-Expr Cell (value_step columns row)) (column_fits columns row fits name)
 step columns row fits (Expr-F.Literal c k) =
-    rw (fold-roll-Expr Typed (type_step columns), fold-roll-Expr Cell (value_step columns row)) (literal_fits c k)
+    rw (fold-roll-Expr TypeResult (type_step columns), fold-roll-Expr Cell (value_step columns row)) (literal_fits c k)
 step columns row fits (Expr-F.Arith o a b) =
-    rw (fold-roll-Expr Typed (type_step columns), fold-roll-Expr Cell (value_step columns row)) (both_arith (type_of a.0 columns) (type_of b.0 columns) o (value_of a.0 columns row) (value_of b.0 columns row))
+    rw (fold-roll-Expr TypeResult (type_step columns), fold-roll-Expr Cell (value_step columns row)) (both_arith (type_of a.0 columns) (type_of b.0 columns) o (value_of a.0 columns row) (value_of b.0 columns row))
 step columns row fits (Expr-F.Compare o a b) =
-    rw (fold-roll-Expr Typed (type_step columns), fold-roll-Expr Cell (value_step columns row)) (both_bool (type_of a.0 columns) (type_of b.0 columns) _ _ compare_bool (compare_fits o _))
+    rw (fold-roll-Expr TypeResult (type_step columns), fold-roll-Expr Cell (value_step columns row)) (both_bool (type_of a.0 columns) (type_of b.0 columns) _ _ compare_bool (compare_fits o _))
 step columns row fits (Expr-F.EqMissing a b) =
-    rw (fold-roll-Expr Typed (type_step columns), fold-roll-Expr Cell (value_step columns row)) (both_bool (type_of a.0 columns) (type_of b.0 columns) _ (cell.Bool (cell_eq (value_of a.0 columns row) (value_of b.0 columns row))) compare_bool refl)
+    rw (fold-roll-Expr TypeResult (type_step columns), fold-roll-Expr Cell (value_step columns row)) (both_bool (type_of a.0 columns) (type_of b.0 columns) _ (cell.Bool (cell_eq (value_of a.0 columns row) (value_of b.0 columns row))) compare_bool refl)
 step columns row fits (Expr-F.And a b) =
-    rw (fold-roll-Expr Typed (type_step columns), fold-roll-Expr Cell (value_step columns row)) (both_bool (type_of a.0 columns) (type_of b.0 columns) _ _ truths_bool (bool_fits _))
+    rw (fold-roll-Expr TypeResult (type_step columns), fold-roll-Expr Cell (value_step columns row)) (both_bool (type_of a.0 columns) (type_of b.0 columns) _ _ truths_bool (bool_fits _))
 step columns row fits (Expr-F.Or a b) =
-    rw (fold-roll-Expr Typed (type_step columns), fold-roll-Expr Cell (value_step columns row)) (both_bool (type_of a.0 columns) (type_of b.0 columns) _ _ truths_bool (bool_fits _))
+    rw (fold-roll-Expr TypeResult (type_step columns), fold-roll-Expr Cell (value_step columns row)) (both_bool (type_of a.0 columns) (type_of b.0 columns) _ _ truths_bool (bool_fits _))
 step columns row fits (Expr-F.Not a) =
-    rw (fold-roll-Expr Typed (type_step columns), fold-roll-Expr Cell (value_step columns row)) (not_fits (type_of a.0 columns) _ (bool_fits _))
+    rw (fold-roll-Expr TypeResult (type_step columns), fold-roll-Expr Cell (value_step columns row)) (not_fits (type_of a.0 columns) _ (bool_fits _))
 step columns row fits (Expr-F.IsNull a) =
-    rw (fold-roll-Expr Typed (type_step columns), fold-roll-Expr Cell (value_step columns row)) (null_fits (type_of a.0 columns) (cell.Bool (is_null (value_of a.0 columns row))) refl)
+    rw (fold-roll-Expr TypeResult (type_step columns), fold-roll-Expr Cell (value_step columns row)) (null_fits (type_of a.0 columns) (cell.Bool (is_null (value_of a.0 columns row))) refl)
 step columns row fits (Expr-F.IsNotNull a) =
-    rw (fold-roll-Expr Typed (type_step columns), fold-roll-Expr Cell (value_step columns row)) (null_fits (type_of a.0 columns) (cell.Bool (not (is_null (value_of a.0 columns row)))) refl)
+    rw (fold-roll-Expr TypeResult (type_step columns), fold-roll-Expr Cell (value_step columns row)) (null_fits (type_of a.0 columns) (cell.Bool (not (is_null (value_of a.0 columns row)))) refl)
 step columns row fits (Expr-F.FillNull a b) =
-    rw (fold-roll-Expr Typed (type_step columns), fold-roll-Expr Cell (value_step columns row)) (fill_fits (type_of a.0 columns) (type_of b.0 columns) (value_of a.0 columns row) (value_of b.0 columns row) a.1 b.1)
+    rw (fold-roll-Expr TypeResult (type_step columns), fold-roll-Expr Cell (value_step columns row)) (fill_fits (type_of a.0 columns) (type_of b.0 columns) (value_of a.0 columns row) (value_of b.0 columns row) a.1 b.1)
 
 pub value_fits :
     (columns : List (List ℕ × CellType)) (row : List Cell) → IsTrue (row_fits columns row) →
@@ -165,7 +165,7 @@ beyond (c ∷ cs) (suc i) h = let rest : length cs ≤ i = beyond cs i h in omeg
 
 no_column :
     (columns : List (List ℕ × CellType)) (row : List Cell) (name : List ℕ) →
-    type_in name columns ≡ None → cell_at (position_of name columns) row ≡ cell.Null
+    column_dtype name columns ≡ None → cell_at (column_index name columns) row ≡ cell.Null
 no_column columns row name h =
     let at = position_or_len (λ c. bytes_eq c.0 name) columns in
     let out : nat_lt at (length columns) ≡ false = le-ltb at (length columns) (beyond columns at (simp find_at at h)) in
@@ -173,10 +173,10 @@ no_column columns row name h =
 
 pub column_no_text :
     (columns : List (List ℕ × CellType)) (row : List Cell) → IsTrue (row_fits columns row) → (name : List ℕ) →
-    IsTrue (not_text (type_in name columns)) → IsTrue (not (is_text (cell_at (position_of name columns) row)))
+    IsTrue (not_text (column_dtype name columns)) → IsTrue (not (is_text (cell_at (column_index name columns) row)))
 column_no_text columns row fits name h =
-    no_text_of (type_in name columns) _ name (column_fits columns row fits name) (no_column columns row name) h
+    no_text_of (column_dtype name columns) _ name (column_fits columns row fits name) (no_column columns row name) h
 
-pub column_free : (columns : List (List ℕ × CellType)) (name : List ℕ) → no_text (expr.Column name) columns ≡ not_text (type_in name columns)
+pub column_free : (columns : List (List ℕ × CellType)) (name : List ℕ) → no_text (expr.Column name) columns ≡ not_text (column_dtype name columns)
 unfolding roll-Expr denote.Hole.Carrier.roll
 column_free columns name = fold-roll-Expr Bool (no_text_step columns) (Expr-F.Column name)

@@ -6,7 +6,7 @@ use Rattle.std.proofs.lemmas.Int.{SFits-int_wrap, ints}
 use Rattle.std.proofs.lemmas.Nat.{div-add-mod'}
 use Rattle.std.proofs.Math.Nat.{mod-lt}
 use mir.Val.{sel}
-use Rattle.df_expr.specs.Arithmetic.{IsWrapped, wrapped}
+use Rattle.df_expr.specs.Arithmetic.{IsWrapped, wrapped_i64}
 
 -- 64 bits, read as unsigned, lie above those read as signed by no or one time 2^64
 abbrev Above : ℕ → ℤ → Type 0
@@ -32,7 +32,7 @@ equal_modulo (negsuc a) =
     let whole = div-add-mod' a 18446744073709551616 in
     (r.0, a / 18446744073709551616 + 1, omega (arith, ints, r.1, whole))
 
-pub wrapped_is : (z : ℤ) → IsWrapped z (wrapped z)
+pub wrapped_is : (z : ℤ) → IsWrapped z (wrapped_i64 z)
 wrapped_is z =
     let e = equal_modulo z in
     let fits = SFits-int_wrap w64 z in

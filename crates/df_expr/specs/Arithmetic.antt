@@ -5,14 +5,14 @@ use Rattle.df_expr.specs.declared.expr.ArithOp.{ArithOp}
 use Rattle.df_expr.specs.declared.expr.ArithOp.TheVariants as arith
 
 -- the whole-number result
-abbrev pub whole : ArithOp → ℤ → ℤ → ℤ
-whole arith.Add a b = a +ℤ b
-whole arith.Sub a b = a -ℤ b
-whole arith.Mul a b = a *ℤ b
+abbrev pub unbounded_result : ArithOp → ℤ → ℤ → ℤ
+unbounded_result arith.Add a b = a +ℤ b
+unbounded_result arith.Sub a b = a -ℤ b
+unbounded_result arith.Mul a b = a *ℤ b
 
 -- a whole number wrapped at 64 bits; a clause of `ArithOp::apply` says that it is as `IsWrapped` says
-abbrev pub wrapped : ℤ → ℤ
-wrapped z = int_wrap w64 z
+abbrev pub wrapped_i64 : ℤ → ℤ
+wrapped_i64 z = int_wrap w64 z
 
 -- n is the 64-bit integer that equals z modulo 2^64: with some multiple of 2^64 added to each, the two are the same
 pub record IsWrapped (z n : ℤ) : Type 0 where

@@ -13,15 +13,15 @@ use Rattle.df_expr.specs.declared.operators.Binary.{Binary}
 use Rattle.df_expr.specs.declared.operators.Binary.TheVariants as binary
 
 -- the value of an operator of one operand
-abbrev pub unary_of : Unary → Cell → Cell
-unary_of unary.Not a = cell_of (kleene_not (truth_of a))
-unary_of unary.IsNull a = cell.Bool (is_null a)
-unary_of unary.IsNotNull a = cell.Bool (not (is_null a))
+abbrev pub unary_value : Unary → Cell → Cell
+unary_value unary.Not a = cell_of (kleene_not (truth_of a))
+unary_value unary.IsNull a = cell.Bool (is_null a)
+unary_value unary.IsNotNull a = cell.Bool (not (is_null a))
 
 -- the value of an operator of two operands
-abbrev pub binary_of : Binary → Cell → Cell → Cell
-binary_of (binary.Arith op) a b = arith_of op a b
-binary_of (binary.Compare op) a b = compare_of op (order_of a b)
-binary_of binary.EqMissing a b = cell.Bool (cell_eq a b)
-binary_of binary.And a b = cell_of (kleene_and (truth_of a) (truth_of b))
-binary_of binary.Or a b = cell_of (kleene_or (truth_of a) (truth_of b))
+abbrev pub binary_value : Binary → Cell → Cell → Cell
+binary_value (binary.Arith op) a b = arith_of op a b
+binary_value (binary.Compare op) a b = compare_of op (order_of a b)
+binary_value binary.EqMissing a b = cell.Bool (cell_eq a b)
+binary_value binary.And a b = cell_of (kleene_and (truth_of a) (truth_of b))
+binary_value binary.Or a b = cell_of (kleene_or (truth_of a) (truth_of b))

@@ -6,23 +6,23 @@ use Rattle.df_value.specs.declared.cell.Cell.TheVariants as cell
 use Rattle.df_value.specs.declared.cell.CellType.{CellType}
 use Rattle.df_value.specs.declared.cell.CellType.TheVariants as kind
 use Rattle.df_value.specs.Cells.{is_text}
-use Rattle.df_value.specs.Schemas.{type_in}
+use Rattle.df_value.specs.Schemas.{column_dtype}
 use Rattle.df_expr.specs.declared.fault.ExprFault.{ExprFault}
 use Rattle.df_expr.specs.declared.fault.ExprFault.TheVariants as fault
 use Rattle.df_expr.specs.declared.expr.Expr.{Expr, fold-Expr}
 use Rattle.df_expr.specs.declared.expr.Expr.TheOpen.{Expr-F}
 
 -- a type, or the first fault
-abbrev pub Typed : Type 0
-Typed = Result CellType ExprFault
+abbrev pub TypeResult : Type 0
+TypeResult = Result CellType ExprFault
 
 -- a column of the schema has its type there
-abbrev pub column_type : List ℕ → Option CellType → Typed
+abbrev pub column_type : List ℕ → Option CellType → TypeResult
 column_type name None = Err (fault.NoColumn name)
 column_type name (Some t) = Ok t
 
 -- a literal is null or a cell of its type, which is Int, Text or Bool
-abbrev pub literal_type : Cell → CellType → Typed
+abbrev pub literal_type : Cell → CellType → TypeResult
 literal_type cell.Null kind.Int = Ok kind.Int
 literal_type cell.Null kind.Text = Ok kind.Text
 literal_type cell.Null kind.Bool = Ok kind.Bool
@@ -32,12 +32,12 @@ literal_type (cell.Bool b) kind.Bool = Ok kind.Bool
 literal_type _ _ = Err fault.WrongType
 
 -- two Ints give an Int
-abbrev pub arith_type : CellType → CellType → Typed
+abbrev pub arith_type : CellType → CellType → TypeResult
 arith_type kind.Int kind.Int = Ok kind.Int
 arith_type _ _ = Err fault.WrongType
 
 -- two operands of one ordered type have that type
-abbrev pub ordered_type : CellType → CellType → Typed
+abbrev pub ordered_type : CellType → CellType → TypeResult
 ordered_type kind.Int kind.Int = Ok kind.Int
 ordered_type kind.Wide kind.Wide = Ok kind.Wide
 ordered_type kind.Text kind.Text = Ok kind.Text
@@ -45,30 +45,30 @@ ordered_type kind.Bool kind.Bool = Ok kind.Bool
 ordered_type _ _ = Err fault.WrongType
 
 -- a truth is a Bool
-abbrev pub truth_type : CellType → Typed
+abbrev pub truth_type : CellType → TypeResult
 truth_type kind.Bool = Ok kind.Bool
 truth_type _ = Err fault.WrongType
 
 -- the next step's answer, or the fault
-abbrev pub then_typed : Typed → (CellType → Typed) → Typed
+abbrev pub then_typed : TypeResult → (CellType → TypeResult) → TypeResult
 then_typed (Ok t) next = next t
 then_typed (Err f) next = Err f
 
 -- the left operand's fault comes first, then the right one's, then the node's own
-abbrev pub both : Typed → Typed → (CellType → CellType → Typed) → Typed
+abbrev pub both : TypeResult → TypeResult → (CellType → CellType → TypeResult) → TypeResult
 both a b next = then_typed a (λ s. then_typed b (next s))
 
 -- two operands that compare
-abbrev pub compare_type : CellType → CellType → Typed
+abbrev pub compare_type : CellType → CellType → TypeResult
 compare_type s t = then_typed (ordered_type s t) (λ _. Ok kind.Bool)
 
 -- two truths
-abbrev pub truths_type : CellType → CellType → Typed
+abbrev pub truths_type : CellType → CellType → TypeResult
 truths_type s t = then_typed (truth_type s) (λ _. truth_type t)
 
 -- the type of one form, from the types of its operands
-abbrev pub type_step : List (List ℕ × CellType) → Expr-F Typed → Typed
-type_step schema (Expr-F.Column name) = column_type name (type_in name schema)
+abbrev pub type_step : List (List ℕ × CellType) → Expr-F TypeResult → TypeResult
+type_step schema (Expr-F.Column name) = column_type name (column_dtype name schema)
 type_step schema (Expr-F.Literal c k) = literal_type c k
 type_step schema (Expr-F.Arith op a b) = both a b arith_type
 type_step schema (Expr-F.Compare op a b) = both a b compare_type
@@ -81,29 +81,29 @@ type_step schema (Expr-F.IsNotNull a) = then_typed a (λ _. Ok kind.Bool)
 type_step schema (Expr-F.FillNull a b) = both a b ordered_type
 
 -- the type of an expression, or the first fault of a walk from left to right, operands before their node
-abbrev pub type_of : Expr → List (List ℕ × CellType) → Typed
-type_of e schema = fold-Expr Typed (type_step schema) e
+abbrev pub type_of : Expr → List (List ℕ × CellType) → TypeResult
+type_of e schema = fold-Expr TypeResult (type_step schema) e
 
-abbrev pub levels_step : Expr-F ℕ → ℕ
-levels_step (Expr-F.Column name) = 1
-levels_step (Expr-F.Literal c k) = 1
-levels_step (Expr-F.Arith op a b) = 1 + max a b
-levels_step (Expr-F.Compare op a b) = 1 + max a b
-levels_step (Expr-F.EqMissing a b) = 1 + max a b
-levels_step (Expr-F.And a b) = 1 + max a b
-levels_step (Expr-F.Or a b) = 1 + max a b
-levels_step (Expr-F.Not a) = 1 + a
-levels_step (Expr-F.IsNull a) = 1 + a
-levels_step (Expr-F.IsNotNull a) = 1 + a
-levels_step (Expr-F.FillNull a b) = 1 + max a b
+abbrev pub expr_levels_step : Expr-F ℕ → ℕ
+expr_levels_step (Expr-F.Column name) = 1
+expr_levels_step (Expr-F.Literal c k) = 1
+expr_levels_step (Expr-F.Arith op a b) = 1 + max a b
+expr_levels_step (Expr-F.Compare op a b) = 1 + max a b
+expr_levels_step (Expr-F.EqMissing a b) = 1 + max a b
+expr_levels_step (Expr-F.And a b) = 1 + max a b
+expr_levels_step (Expr-F.Or a b) = 1 + max a b
+expr_levels_step (Expr-F.Not a) = 1 + a
+expr_levels_step (Expr-F.IsNull a) = 1 + a
+expr_levels_step (Expr-F.IsNotNull a) = 1 + a
+expr_levels_step (Expr-F.FillNull a b) = 1 + max a b
 
 -- the nodes on the longest path
-abbrev pub levels : Expr → ℕ
-levels e = fold-Expr ℕ levels_step e
+abbrev pub expr_levels : Expr → ℕ
+expr_levels e = fold-Expr ℕ expr_levels_step e
 
 -- the answer of a check: too many levels come before all else
-abbrev pub checked : Expr → List (List ℕ × CellType) → Typed
-checked e schema = if nat_lt 32 (levels e) then Err fault.TooDeep else type_of e schema
+abbrev pub expr_check : Expr → List (List ℕ × CellType) → TypeResult
+expr_check e schema = if nat_lt 32 (expr_levels e) then Err fault.TooDeep else type_of e schema
 
 -- whether a type, if there is one, is no Text
 abbrev pub not_text : Option CellType → Bool
@@ -111,7 +111,7 @@ not_text (Some kind.Text) = false
 not_text _ = true
 
 abbrev pub no_text_step : List (List ℕ × CellType) → Expr-F Bool → Bool
-no_text_step schema (Expr-F.Column name) = not_text (type_in name schema)
+no_text_step schema (Expr-F.Column name) = not_text (column_dtype name schema)
 no_text_step schema (Expr-F.Literal c k) = not_text (Some k) && not (is_text c)
 no_text_step schema (Expr-F.Arith op a b) = a && b
 no_text_step schema (Expr-F.Compare op a b) = a && b
@@ -146,7 +146,7 @@ abbrev pub names_column : Expr → Bool
 names_column e = fold-Expr Bool names_column_step e
 
 -- The call gave the answer that is wanted, or there was no memory for the name of a missing column.
-abbrev pub Answers : Typed → Typed → Type 0
+abbrev pub Answers : TypeResult → TypeResult → Type 0
 Answers want (Ok t) = want ≡ Ok t
 Answers want (Err fault.Memory) = (name : List ℕ) × (want ≡ Err (fault.NoColumn name))
 Answers want (Err (fault.NoColumn name)) = want ≡ Err (fault.NoColumn name)

@@ -10,8 +10,8 @@ use Rattle.df_value.specs.declared.cell.CellType.{CellType}
 use Rattle.df_value.specs.CellEq.{cell_eq}
 use Rattle.df_value.specs.Rows.{cell_at}
 use Rattle.df_value.specs.Order.{order_of}
-use Rattle.df_value.specs.Schemas.{position_of}
-use Rattle.df_expr.specs.Arithmetic.{whole, wrapped}
+use Rattle.df_value.specs.Schemas.{column_index}
+use Rattle.df_expr.specs.Arithmetic.{unbounded_result, wrapped_i64}
 use Rattle.df_expr.specs.Logic.{kleene_and, kleene_or, kleene_not}
 use Rattle.df_expr.specs.declared.expr.ArithOp.{ArithOp}
 use Rattle.df_expr.specs.declared.expr.CompareOp.{CompareOp}
@@ -21,7 +21,7 @@ use Rattle.df_expr.specs.declared.expr.Expr.TheOpen.{Expr-F}
 
 -- the whole-number result, wrapped at 64 bits; null where an operand is null or no Int
 abbrev pub arith_of : ArithOp → Cell → Cell → Cell
-arith_of op (cell.Int a) (cell.Int b) = cell.Int (wrapped (whole op a b))
+arith_of op (cell.Int a) (cell.Int b) = cell.Int (wrapped_i64 (unbounded_result op a b))
 arith_of op _ _ = cell.Null
 
 -- whether a comparison holds of two cells that stand in this order
@@ -61,7 +61,7 @@ fill_of a b = a
 -- the value of one form, from the values of its operands; `eq_missing` is true where the two are the same cell, null
 -- being a cell like any other
 abbrev pub value_step : List (List ℕ × CellType) → List Cell → Expr-F Cell → Cell
-value_step schema row (Expr-F.Column name) = cell_at (position_of name schema) row
+value_step schema row (Expr-F.Column name) = cell_at (column_index name schema) row
 value_step schema row (Expr-F.Literal c k) = c
 value_step schema row (Expr-F.Arith op a b) = arith_of op a b
 value_step schema row (Expr-F.Compare op a b) = compare_of op (order_of a b)

@@ -4,13 +4,13 @@ ghost use Rattle.df_value.specs.declared.cell.CellType.{CellType};
 ghost use Rattle.df_value.specs.Cells.{fits_type, is_text};
 ghost use Rattle.df_value.specs.Rows.{cell_at, row_fits};
 ghost use Rattle.df_expr.specs.Typing.{type_of, no_text};
-ghost use Rattle.df_expr.specs.Operators.{binary_of, unary_of};
+ghost use Rattle.df_expr.specs.Operators.{binary_value, unary_value};
 ghost use Rattle.df_expr.specs.Value.{value_of};
 
 use crate::expr::Expr;
 use crate::meter::Meter;
 use crate::operators::{Binary, Unary};
-use df_value::{Boxed, Cell, CellType, Row, Schema, Text, place_of};
+use df_value::{Boxed, Cell, CellType, Row, Schema, Text, column_index};
 use std::alloc::{AllocError, Global};
 
 /// The value of an expression in a row of a table with this schema. Counts one evaluation.
@@ -51,7 +51,7 @@ pub fn value(
     ensures free { IsTrue (row_fits columns.now row.now) → IsTrue (no_text expr.now columns.now) → IsOk result }
 {
     match expr {
-        Expr::Column(name) => copy_at(alloc, place_of(name, columns), row),
+        Expr::Column(name) => copy_at(alloc, column_index(name, columns), row),
         Expr::Literal(cell, _) => cell.duplicate(alloc),
         Expr::Arith(op, a, b) => {
             let a = value(alloc, a.get(), columns, row)?;
@@ -92,7 +92,7 @@ fn apply_unary(
     row: &Row,
     operator: Unary,
 ) -> Result<Cell, AllocError>
-    ensures value { IfOk result (λ c. c ≡ unary_of operator (value_of a.now columns.now row.now)) }
+    ensures value { IfOk result (λ c. c ≡ unary_value operator (value_of a.now columns.now row.now)) }
     ensures free { IsTrue (row_fits columns.now row.now) → IsTrue (no_text a.now columns.now) → IsOk result }
 {
     let a = value(alloc, a.get(), columns, row)?;
@@ -110,7 +110,7 @@ fn apply_binary(
     operator: Binary,
     a: Cell,
 ) -> Result<Cell, AllocError>
-    ensures value { IfOk result (λ c. c ≡ binary_of operator a (value_of b.now columns.now row.now)) }
+    ensures value { IfOk result (λ c. c ≡ binary_value operator a (value_of b.now columns.now row.now)) }
     ensures free { IsTrue (row_fits columns.now row.now) → IsTrue (no_text b.now columns.now) → IsOk result }
 {
     let b = value(alloc, b.get(), columns, row)?;

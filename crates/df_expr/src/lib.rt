@@ -23,4 +23,4 @@ pub use fault::ExprFault;
 pub use logic::{kleene_and, kleene_not, kleene_or};
 pub use meter::Meter;
 pub use operators::{arith, comparison, eq_missing};
-pub use typing::{MOST_LEVELS, check, names_column};
+pub use typing::{MOST_EXPR_LEVELS, check, names_column};

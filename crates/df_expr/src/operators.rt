@@ -4,8 +4,9 @@ ghost use Rattle.df_value.specs.declared.cell.Cell.{Cell as AnyCell};
 ghost use Rattle.df_value.specs.declared.cell.Cell.TheVariants as cell;
 ghost use Rattle.df_value.specs.CellEq.{cell_eq};
 ghost use Rattle.df_value.specs.Order.{order_of};
-ghost use Rattle.df_expr.specs.Operators.{binary_of, unary_of};
-ghost use Rattle.df_expr.specs.Value.{arith_of, compare_of, holds, is_null as is_null_cell};
+ghost use Rattle.df_expr.specs.Operators.{binary_value, unary_value};
+ghost use Rattle.df_expr.specs.Value as value_spec;
+ghost use Rattle.df_expr.specs.Value.{arith_of, compare_of, holds};
 
 use crate::expr::{ArithOp, CompareOp};
 use crate::logic::{cell_of, kleene_and, kleene_not, kleene_or, truth_of};
@@ -70,7 +71,7 @@ pub enum Unary {
 impl Unary {
     /// Its value over a cell.
     pub fn apply(self, a: &Cell) -> Cell
-        ensures { result ≡ unary_of self a.now }
+        ensures { result ≡ unary_value self a.now }
     {
         match self {
             Unary::Not => cell_of(kleene_not(truth_of(a))),
@@ -81,7 +82,7 @@ impl Unary {
 }
 
 fn is_null(cell: &Cell) -> bool
-    ensures { result ≡ is_null_cell cell.now }
+    ensures { result ≡ value_spec.is_null cell.now }
 {
     matches!(cell, Cell::Null)
 }
@@ -99,7 +100,7 @@ pub enum Binary {
 impl Binary {
     /// Its value over two cells.
     pub fn apply(self, a: &Cell, b: &Cell) -> Cell
-        ensures { result ≡ binary_of self a.now b.now }
+        ensures { result ≡ binary_value self a.now b.now }
     {
         match self {
             Binary::Arith(op) => arith(op, a, b),

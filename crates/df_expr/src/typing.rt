@@ -1,7 +1,8 @@
 //! The type of an expression.
 ghost use Rattle.std.specs.Prelude.{◌≡◌, ◌≤◌, ◌↔◌, IsTrue};
-ghost use Rattle.df_value.specs.Schemas.{type_in};
-ghost use Rattle.df_expr.specs.Typing.{type_of as type_of_expr, column_type as type_of_column, literal_type as type_of_literal, arith_type as type_of_arith, ordered_type as type_of_ordered, compare_type as type_of_comparison, truth_type as type_of_truth, truths_type as type_of_truths, names_column as column_named, levels, checked, Answers};
+ghost use Rattle.df_value.specs.Schemas.{column_dtype};
+ghost use Rattle.df_expr.specs.Typing as typing;
+ghost use Rattle.df_expr.specs.Typing.{expr_levels, expr_check, Answers};
 
 use crate::expr::Expr;
 use crate::fault::ExprFault;
@@ -9,7 +10,7 @@ use df_value::{Cell, CellType, Duplicate, Schema, Text};
 use std::alloc::Global;
 
 /// The most levels of an expression: the nodes on its longest path.
-pub const MOST_LEVELS: u32 = 32;
+pub const MOST_EXPR_LEVELS: u32 = 32;
 
 /// The type of an expression over the columns of a schema.
 ///
@@ -18,9 +19,9 @@ pub const MOST_LEVELS: u32 = 32;
 /// literal of another type than stated or of type Wide or Frac, or operands of a wrong type. Memory is
 /// asked for only to name the missing column.
 pub fn check(alloc: Global, expr: &Expr, schema: &Schema) -> Result<CellType, ExprFault>
-    ensures { Answers (checked expr.now schema.now) result }
+    ensures { Answers (expr_check expr.now schema.now) result }
 {
-    if !is_within(expr, MOST_LEVELS) {
+    if !is_within(expr, MOST_EXPR_LEVELS) {
         return Err(ExprFault::TooDeep);
     }
     type_of(alloc, expr, schema)
@@ -28,7 +29,7 @@ pub fn check(alloc: Global, expr: &Expr, schema: &Schema) -> Result<CellType, Ex
 
 /// Whether a column stands in an expression; if none does, its value is the same in every row.
 pub fn names_column(expr: &Expr) -> bool
-    ensures { result ≡ column_named expr.now }
+    ensures { result ≡ typing.names_column expr.now }
 {
     match expr {
         Expr::Column(_) => true,
@@ -45,7 +46,7 @@ pub fn names_column(expr: &Expr) -> bool
 
 // Whether an expression has at most so many levels.
 fn is_within(expr: &Expr, most: u32) -> bool
-    ensures { IsTrue result ↔ (levels expr.now ≤ most) }
+    ensures { IsTrue result ↔ (expr_levels expr.now ≤ most) }
 {
     if most == 0 {
         return false;
@@ -64,7 +65,7 @@ fn is_within(expr: &Expr, most: u32) -> bool
 }
 
 fn type_of(alloc: Global, expr: &Expr, schema: &Schema) -> Result<CellType, ExprFault>
-    ensures { Answers (type_of_expr expr.now schema.now) result }
+    ensures { Answers (typing.type_of expr.now schema.now) result }
 {
     match expr {
         Expr::Column(name) => column_type(alloc, name, schema),
@@ -98,7 +99,7 @@ fn type_of(alloc: Global, expr: &Expr, schema: &Schema) -> Result<CellType, Expr
 }
 
 fn column_type(alloc: Global, name: &Text, schema: &Schema) -> Result<CellType, ExprFault>
-    ensures { Answers (type_of_column name.now (type_in name.now schema.now)) result }
+    ensures { Answers (typing.column_type name.now (column_dtype name.now schema.now)) result }
 {
     match schema.type_of(name) {
         Some(kind) => Ok(kind),
@@ -110,7 +111,7 @@ fn column_type(alloc: Global, name: &Text, schema: &Schema) -> Result<CellType, 
 }
 
 fn literal_type(cell: &Cell, kind: CellType) -> Result<CellType, ExprFault>
-    ensures { result ≡ type_of_literal cell.now kind }
+    ensures { result ≡ typing.literal_type cell.now kind }
 {
     match (cell, kind) {
         (Cell::Null, CellType::Int | CellType::Text | CellType::Bool) => Ok(kind),
@@ -122,7 +123,7 @@ fn literal_type(cell: &Cell, kind: CellType) -> Result<CellType, ExprFault>
 }
 
 fn arith_type(a: CellType, b: CellType) -> Result<CellType, ExprFault>
-    ensures { result ≡ type_of_arith a b }
+    ensures { result ≡ typing.arith_type a b }
 {
     match (a, b) {
         (CellType::Int, CellType::Int) => Ok(CellType::Int),
@@ -131,7 +132,7 @@ fn arith_type(a: CellType, b: CellType) -> Result<CellType, ExprFault>
 }
 
 fn ordered_type(a: CellType, b: CellType) -> Result<CellType, ExprFault>
-    ensures { result ≡ type_of_ordered a b }
+    ensures { result ≡ typing.ordered_type a b }
 {
     if a == b && a != CellType::Frac {
         Ok(a)
@@ -141,14 +142,14 @@ fn ordered_type(a: CellType, b: CellType) -> Result<CellType, ExprFault>
 }
 
 fn compare_type(a: CellType, b: CellType) -> Result<CellType, ExprFault>
-    ensures { result ≡ type_of_comparison a b }
+    ensures { result ≡ typing.compare_type a b }
 {
     ordered_type(a, b)?;
     Ok(CellType::Bool)
 }
 
 fn truth_type(a: CellType) -> Result<CellType, ExprFault>
-    ensures { result ≡ type_of_truth a }
+    ensures { result ≡ typing.truth_type a }
 {
     match a {
         CellType::Bool => Ok(CellType::Bool),
@@ -157,7 +158,7 @@ fn truth_type(a: CellType) -> Result<CellType, ExprFault>
 }
 
 fn truths_type(a: CellType, b: CellType) -> Result<CellType, ExprFault>
-    ensures { result ≡ type_of_truths a b }
+    ensures { result ≡ typing.truths_type a b }
 {
     truth_type(a)?;
     truth_type(b)

@@ -12,7 +12,7 @@ use Rattle.df_value.specs.declared.cell.Cell.TheVariants as cell
 use Rattle.df_value.specs.declared.cell.CellType.{CellType}
 use Rattle.df_value.specs.Cells.{fits_type}
 use Rattle.df_value.specs.Rows.{row_fits, cell_at}
-use Rattle.df_value.specs.Schemas.{type_in, position_of}
+use Rattle.df_value.specs.Schemas.{column_dtype, column_index}
 use Rattle.df_plan.specs.ItemChecks.{Columns}
 use Rattle.df_plan.proofs.RowWiseSound.{first_of_two, second_of_two, both_true}
 
@@ -36,7 +36,7 @@ found_type (Some c) t h = (c, (refl, cc))
 -- the cell of a column of a row that fits has the column's type
 pub column_fits :
     (columns : Columns) (row : List Cell) → IsTrue (row_fits columns row) → (name : List ℕ) (t : CellType) →
-    type_in name columns ≡ Some t → IsTrue (fits_type t (cell_at (position_of name columns) row))
+    column_dtype name columns ≡ Some t → IsTrue (fits_type t (cell_at (column_index name columns) row))
 column_fits columns row fits name t h =
     let place = position_or_len (λ c. bytes_eq c.0 name) columns in
     let found = found_type (slice_get columns place) t (simp find_at at h) in

@@ -11,16 +11,16 @@ use Rattle.df_value.specs.declared.cell.CellType.{CellType}
 use Rattle.df_value.specs.declared.cell.CellType.TheVariants as kind
 use Rattle.df_value.specs.Cells.{fits_type}
 use Rattle.df_value.specs.Rows.{row_fits, rows_fit, cell_at}
-use Rattle.df_value.specs.Schemas.{doubled_after, position_of}
-use Rattle.df_table.specs.Groups.{key_of}
+use Rattle.df_value.specs.Schemas.{doubled_name_after, column_index}
+use Rattle.df_ops.specs.Groups.{key_of}
 use Rattle.df_plan.specs.ItemChecks.{Columns}
-use Rattle.df_table.specs.Joins.{is_key, others, beside, joined_columns, joined_row, joined_rows, keys_match, matches_of, nulls_at, places_in, put_beside, sides_of}
-use Rattle.df_table.specs.Placed.{has_name, find_name}
-use Rattle.df_table.specs.declared.kinds.How.{How}
-use Rattle.df_table.specs.declared.kinds.How.TheVariants as how
-use Rattle.df_table.proofs.Choices.{by_test}
+use Rattle.df_ops.specs.Joins.{is_key, columns_without_keys, right_column, columns_of_join, join_row, join_rows, keys_match, matches_of, nulls_for, column_indices_in, left_beside, join_indices_of}
+use Rattle.df_ops.specs.NamedColumns.{has_name, first_of_name}
+use Rattle.df_ops.specs.declared.kinds.How.{How}
+use Rattle.df_ops.specs.declared.kinds.How.TheVariants as how
+use Rattle.df_ops.proofs.Choices.{by_test}
 use Rattle.df_plan.proofs.ColumnsFit.{column_fits, fits_both}
-use Rattle.df_table.proofs.PlacedFacts.{Apart, head_apart, neither}
+use Rattle.df_ops.proofs.NamedColumnsFacts.{Apart, head_apart, neither}
 use Rattle.df_plan.proofs.RowWiseSound.{first_of_two, second_of_two, both_true, map_all, filter_all}
 
 abbrev Rows : Type 0
@@ -34,7 +34,7 @@ suffixed_or true n t u = refl
 suffixed_or false n t u = refl
 
 -- a suffix is put by the name alone
-beside_name : (left : Columns) (c d : Col) → c.0 ≡ d.0 → (beside left c).0 ≡ (beside left d).0
+beside_name : (left : Columns) (c d : Col) → c.0 ≡ d.0 → (right_column left c).0 ≡ (right_column left d).0
 beside_name left c d e =
     ap (λ (n : List ℕ). (cond {A = Col} (has_name n left) (n ++ codes "_right", c.1) (n, c.1)).0) e
     ∙ suffixed_or (has_name d.0 left) d.0 c.1 d.1
@@ -43,7 +43,7 @@ type_or : (b : Bool) (n : List ℕ) (c : Col) → (cond {A = Col} b (n, c.1) c).
 type_or true n c = refl
 type_or false n c = refl
 
-beside_type : (left : Columns) (c : Col) → (beside left c).1 ≡ c.1
+beside_type : (left : Columns) (c : Col) → (right_column left c).1 ≡ c.1
 beside_type left c = type_or (has_name c.0 left) (c.0 ++ codes "_right") c
 
 -- a name that none of those seen has is not this column's
@@ -61,12 +61,12 @@ sees_more seen x y sees name h =
 
 -- one that was seen has no name of a later one
 unlike :
-    (left : Columns) (x : Col) (seen os : Columns) → Sees seen x → Apart seen (map (beside left) os) →
-    AllByRecursion (λ (o : Col). bytes_eq x.0 (beside left o).0 ≡ false) os
+    (left : Columns) (x : Col) (seen os : Columns) → Sees seen x → Apart seen (map (right_column left) os) →
+    AllByRecursion (λ (o : Col). bytes_eq x.0 (right_column left o).0 ≡ false) os
 unlike left x seen [] sees h = tt
 unlike left x seen (o ∷ os) sees h =
-    let here = head_apart seen (beside left o) (map (beside left) os) h in
-    (sees (beside left o).0 here.0, unlike left x (seen ++ beside left o ∷ []) os (sees_more seen x (beside left o) sees) here.1)
+    let here = head_apart seen (right_column left o) (map (right_column left) os) h in
+    (sees (right_column left o).0 here.0, unlike left x (seen ++ right_column left o ∷ []) os (sees_more seen x (right_column left o) sees) here.1)
 
 both_each : {X : Type 0} (P Q R : X → Type 0) → ((x : X) → P x → Q x → R x) → (xs : List X) → AllByRecursion P xs → AllByRecursion Q xs → AllByRecursion R xs
 both_each P Q R f [] h k = tt
@@ -88,12 +88,12 @@ found_first false d o e = cc
 
 -- a column is the one that is found under its name
 abbrev IsFound : Columns → Col → Type 0
-IsFound right c = find_name c.0 right ≡ Some c
+IsFound right c = first_of_name c.0 right ≡ Some c
 
-unlike_names : (left : Columns) (d o : Col) → bytes_eq (beside left d).0 (beside left o).0 ≡ false → bytes_eq d.0 o.0 ≡ true → ⊥
+unlike_names : (left : Columns) (d o : Col) → bytes_eq (right_column left d).0 (right_column left o).0 ≡ false → bytes_eq d.0 o.0 ≡ true → ⊥
 unlike_names left d o h e =
     let same = beside_name left d o ((bytes_eq-Decides d.0 o.0).0 e) in
-    let test : bytes_eq (beside left d).0 (beside left o).0 ≡ true = (bytes_eq-Decides (beside left d).0 (beside left o).0).1 same in
+    let test : bytes_eq (right_column left d).0 (right_column left o).0 ≡ true = (bytes_eq-Decides (right_column left d).0 (right_column left o).0).1 same in
     cc
 
 unlike_keys : (keys : List (List ℕ)) (d o : Col) → not (is_key keys d) ≡ false → not (is_key keys o) ≡ true → bytes_eq d.0 o.0 ≡ true → ⊥
@@ -104,32 +104,32 @@ unlike_keys keys d o h k e =
 
 -- where no name of the result stands twice, each right column that is no key is found under its name
 each_found :
-    (left : Columns) (keys : List (List ℕ)) (seen right : Columns) → Apart seen (map (beside left) (others keys right)) →
-    AllByRecursion (IsFound right) (others keys right)
+    (left : Columns) (keys : List (List ℕ)) (seen right : Columns) → Apart seen (map (right_column left) (columns_without_keys keys right)) →
+    AllByRecursion (IsFound right) (columns_without_keys keys right)
 each_found left keys seen [] h = tt
 each_found left keys seen (d ∷ ds) h =
-    let os = others keys ds in
-    by_test (λ (l : Columns). Apart seen (map (beside left) l) → AllByRecursion (IsFound (d ∷ ds)) l) (not (is_key keys d)) (d ∷ os) os
-    (λ e a. let x = beside left d in
-    let here = head_apart seen x (map (beside left) os) a in (
-      found_first (bytes_eq d.0 d.0) d (find_name d.0 ds) ((bytes_eq-Decides d.0 d.0).1 refl),
-      both_each (IsFound ds) (λ (o : Col). bytes_eq x.0 (beside left o).0 ≡ false) (IsFound (d ∷ ds))
-          (λ o f u. found_later (bytes_eq d.0 o.0) d o (find_name o.0 ds) (unlike_names left d o u) f) os
+    let os = columns_without_keys keys ds in
+    by_test (λ (l : Columns). Apart seen (map (right_column left) l) → AllByRecursion (IsFound (d ∷ ds)) l) (not (is_key keys d)) (d ∷ os) os
+    (λ e a. let x = right_column left d in
+    let here = head_apart seen x (map (right_column left) os) a in (
+      found_first (bytes_eq d.0 d.0) d (first_of_name d.0 ds) ((bytes_eq-Decides d.0 d.0).1 refl),
+      both_each (IsFound ds) (λ (o : Col). bytes_eq x.0 (right_column left o).0 ≡ false) (IsFound (d ∷ ds))
+          (λ o f u. found_later (bytes_eq d.0 o.0) d o (first_of_name o.0 ds) (unlike_names left d o u) f) os
           (each_found left keys (seen ++ x ∷ []) ds here.1) (unlike left x (seen ++ x ∷ []) os (sees_last seen x) here.1),
     ))
     (λ e a. both_each (IsFound ds) (λ (o : Col). not (is_key keys o) ≡ true) (IsFound (d ∷ ds))
-    (λ o f u. found_later (bytes_eq d.0 o.0) d o (find_name o.0 ds) (unlike_keys keys d o e u) f) os
+    (λ o f u. found_later (bytes_eq d.0 o.0) d o (first_of_name o.0 ds) (unlike_keys keys d o e u) f) os
     (each_found left keys seen ds a) (passed (λ c. not (is_key keys c)) ds))
     h
 
 -- the cells of a right row at the places of these columns fit them, also under their names in the result
 rest_fits :
     (left right : Columns) (row : List Cell) → IsTrue (row_fits right row) → (os : Columns) → AllByRecursion (IsFound right) os →
-    IsTrue (row_fits (map (beside left) os) (key_of (places_in right (map (λ c. c.0) os)) row))
+    IsTrue (row_fits (map (right_column left) os) (key_of (column_indices_in right (map (λ c. c.0) os)) row))
 rest_fits left right row fits [] h = refl
 rest_fits left right row fits (o ∷ os) h =
-    both_true (fits_type (beside left o).1 (cell_at (position_of o.0 right) row)) _
-    (subst (λ (t : CellType). IsTrue (fits_type t (cell_at (position_of o.0 right) row))) (sym (beside_type left o))
+    both_true (fits_type (right_column left o).1 (cell_at (column_index o.0 right) row)) _
+    (subst (λ (t : CellType). IsTrue (fits_type t (cell_at (column_index o.0 right) row))) (sym (beside_type left o))
     (column_fits right row fits o.0 o.1 (ap (option_map (λ (c : Col). c.1)) h.0)))
     (rest_fits left right row fits os h.1)
 
@@ -140,13 +140,13 @@ null_fits kind.Text = refl
 null_fits kind.Bool = refl
 null_fits kind.Frac = refl
 
-nulls_fit : (left right os : Columns) → IsTrue (row_fits (map (beside left) os) (nulls_at (places_in right (map (λ c. c.0) os))))
+nulls_fit : (left right os : Columns) → IsTrue (row_fits (map (right_column left) os) (nulls_for (column_indices_in right (map (λ c. c.0) os))))
 nulls_fit left right [] = refl
-nulls_fit left right (o ∷ os) = both_true (fits_type (beside left o).1 cell.Null) _ (null_fits (beside left o).1) (nulls_fit left right os)
+nulls_fit left right (o ∷ os) = both_true (fits_type (right_column left o).1 cell.Null) _ (null_fits (right_column left o).1) (nulls_fit left right os)
 
 put_fit :
     (h : How) (ls os : Columns) (l nulls : List Cell) (rs : Rows) → IsTrue (row_fits ls l) → IsTrue (row_fits os nulls) →
-    IsTrue (list_all (row_fits os) rs) → IsTrue (list_all (row_fits (ls ++ os)) (put_beside h l nulls rs))
+    IsTrue (list_all (row_fits os) rs) → IsTrue (list_all (row_fits (ls ++ os)) (left_beside h l nulls rs))
 put_fit how.Inner ls os l nulls [] a b k = refl
 put_fit how.Left ls os l nulls [] a b k = both_true (row_fits (ls ++ os) (l ++ nulls)) true (fits_both ls os l nulls a b) refl
 put_fit how.Inner ls os l nulls (r ∷ rs) a b k =
@@ -170,17 +170,17 @@ after_apart seen (x ∷ xs) ys h =
     subst (λ (s : Columns). Apart s ys) joined (after_apart (seen ++ x ∷ []) xs ys (head_apart seen x (xs ++ ys) h).1)
 
 pub joined_fits :
-    (h : How) (ls rs : Columns) (keys : List (List ℕ)) (lefts rights : Rows) → doubled_after [] (joined_columns ls rs keys) ≡ None →
+    (h : How) (ls rs : Columns) (keys : List (List ℕ)) (lefts rights : Rows) → doubled_name_after [] (columns_of_join ls rs keys) ≡ None →
     IsTrue (rows_fit ls lefts) → IsTrue (rows_fit rs rights) →
-    IsTrue (rows_fit (joined_columns ls rs keys) (joined_rows h (sides_of ls rs keys) lefts rights))
-unfolding joined_row
+    IsTrue (rows_fit (columns_of_join ls rs keys) (join_rows h (join_indices_of ls rs keys) lefts rights))
+unfolding join_row
 joined_fits h ls rs keys lefts rights apart left_fit right_fit =
-    let os = others keys rs in
-    let columns = map (beside ls) os in
-    let s = sides_of ls rs keys in
+    let os = columns_without_keys keys rs in
+    let columns = map (right_column ls) os in
+    let s = join_indices_of ls rs keys in
     let found = each_found ls keys ls rs (after_apart [] ls columns apart) in
-    flat_map_all (row_fits ls) (row_fits (ls ++ columns)) (joined_row h s rights)
-    (λ l fits. put_fit h ls columns l (nulls_at s.rest) (map (key_of s.rest) (matches_of s.right (key_of s.left l) rights)) fits (nulls_fit ls rs os)
+    flat_map_all (row_fits ls) (row_fits (ls ++ columns)) (join_row h s rights)
+    (λ l fits. put_fit h ls columns l (nulls_for s.rest) (map (key_of s.rest) (matches_of s.right (key_of s.left l) rights)) fits (nulls_fit ls rs os)
     (map_all (row_fits rs) (row_fits columns) (key_of s.rest) (λ r k. rest_fits ls rs r k os found) (matches_of s.right (key_of s.left l) rights)
     (filter_all (row_fits rs) (λ r. keys_match (key_of s.left l) (key_of s.right r)) rights right_fit)))
     lefts left_fit

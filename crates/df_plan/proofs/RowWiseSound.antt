@@ -10,10 +10,10 @@ use Rattle.df_expr.specs.declared.expr.Expr.{Expr}
 use Rattle.df_expr.specs.Value.{value_of}
 use Rattle.df_expr.proofs.Sound.{value_fits}
 use Rattle.df_plan.specs.ItemChecks.{Columns}
-use Rattle.df_table.specs.Placed.{placed}
-use Rattle.df_table.specs.RowWise.{kind_of, item_column, item_cell, selected_row, named_cells, added_row, added_columns}
-use Rattle.df_table.proofs.Choices.{either}
-use Rattle.df_table.proofs.Beside.{Beside, placed_beside}
+use Rattle.df_ops.specs.NamedColumns.{with_columns}
+use Rattle.df_ops.specs.RowWise.{expr_dtype, item_column, item_cell, select_row, named_cells, with_columns_row, with_columns_schema}
+use Rattle.df_ops.proofs.Choices.{either}
+use Rattle.df_ops.proofs.Beside.{Beside, placed_beside}
 use Rattle.df_plan.proofs.ItemKinds.{HasKind}
 
 pub first_of_two : (a b : Bool) → IsTrue (a && b) → IsTrue a
@@ -45,11 +45,11 @@ filter_all p q (r ∷ rs) h =
 
 pub selected_fit :
     (columns : Columns) (row : List Cell) → IsTrue (row_fits columns row) → (items : List (List ℕ × Expr)) →
-    AllByRecursion (HasKind columns) items → IsTrue (row_fits (map (item_column columns) items) (selected_row columns items row))
+    AllByRecursion (HasKind columns) items → IsTrue (row_fits (map (item_column columns) items) (select_row columns items row))
 selected_fit columns row fits [] typed = refl
 selected_fit columns row fits (i ∷ items) typed =
-    both_true (fits_type (kind_of i.1 columns) (value_of i.1 columns row)) (row_fits (map (item_column columns) items) (selected_row columns items row))
-    (value_fits columns row fits i.1 (kind_of i.1 columns) typed.0) (selected_fit columns row fits items typed.1)
+    both_true (fits_type (expr_dtype i.1 columns) (value_of i.1 columns row)) (row_fits (map (item_column columns) items) (select_row columns items row))
+    (value_fits columns row fits i.1 (expr_dtype i.1 columns) typed.0) (selected_fit columns row fits items typed.1)
 
 -- a cell stands beside a column of its name, whose type it fits
 abbrev pub FitsBeside : List ℕ × CellType → List ℕ × Cell → Type 0
@@ -74,13 +74,13 @@ items_beside :
     AllByRecursion (HasKind columns) items → Beside FitsBeside (map (item_column columns) items) (map (item_cell columns row) items)
 items_beside columns row fits [] typed = tt
 items_beside columns row fits (i ∷ items) typed =
-    ((refl, value_fits columns row fits i.1 (kind_of i.1 columns) typed.0), items_beside columns row fits items typed.1)
+    ((refl, value_fits columns row fits i.1 (expr_dtype i.1 columns) typed.0), items_beside columns row fits items typed.1)
 
 pub added_fit :
     (columns : Columns) (row : List Cell) → IsTrue (row_fits columns row) → (items : List (List ℕ × Expr)) →
-    AllByRecursion (HasKind columns) items → IsTrue (row_fits (added_columns columns items) (added_row columns items row))
-unfolding added_row
+    AllByRecursion (HasKind columns) items → IsTrue (row_fits (with_columns_schema columns items) (with_columns_row columns items row))
+unfolding with_columns_row
 added_fit columns row fits items typed =
-    fits_row (added_columns columns items) (placed (named_cells columns row) (map (item_cell columns row) items))
+    fits_row (with_columns_schema columns items) (with_columns (named_cells columns row) (map (item_cell columns row) items))
     (placed_beside FitsBeside (λ c v h. h.0) columns (named_cells columns row) (own_beside columns row fits)
     (map (item_column columns) items) (map (item_cell columns row) items) (items_beside columns row fits items typed))

@@ -3,96 +3,96 @@
 use Rattle.std.specs.Prelude.{ℕ, List, [], ◌∷◌, ◌++◌, Option, Some, None, Result, Ok, Err, if◌then◌else◌}
 use Rattle.df_value.specs.declared.cell.CellType.{CellType}
 use Rattle.df_value.specs.declared.cell.CellType.TheVariants as kind
-use Rattle.df_value.specs.Schemas.{type_in}
+use Rattle.df_value.specs.Schemas.{column_dtype}
 use Rattle.df_expr.specs.declared.fault.ExprFault.TheVariants as expr
 use Rattle.df_expr.specs.declared.expr.Expr.{Expr}
-use Rattle.df_expr.specs.Typing.{Typed, names_column, checked as checked_expr}
+use Rattle.df_expr.specs.Typing.{TypeResult, names_column, expr_check as checked_expr}
 use Rattle.df_plan.specs.declared.fault.PlanFault.{PlanFault}
 use Rattle.df_plan.specs.declared.fault.PlanFault.TheVariants as fault
-use Rattle.df_table.specs.declared.kinds.Agg.{Agg}
-use Rattle.df_table.specs.AggregateTypes.{column_taken, type_given}
+use Rattle.df_ops.specs.declared.kinds.Agg.{Agg}
+use Rattle.df_ops.specs.AggregateTypes.{column_taken, dtype_given}
 
 -- names and types
 abbrev pub Columns : Type 0
 Columns = List (List ℕ × CellType)
 
 -- the columns of a result, or the first fault
-abbrev pub Checked : Type 0
-Checked = Result Columns PlanFault
+abbrev pub CheckResult : Type 0
+CheckResult = Result Columns PlanFault
 
 -- a type, or why there is none
-abbrev pub Kind : Type 0
-Kind = Result CellType PlanFault
+abbrev pub DtypeResult : Type 0
+DtypeResult = Result CellType PlanFault
 
 -- the column of one item, or why it is refused
-abbrev pub Column : Type 0
-Column = Result (List ℕ × CellType) PlanFault
+abbrev pub ColumnResult : Type 0
+ColumnResult = Result (List ℕ × CellType) PlanFault
 
 -- a column of this name, if it has a type
-abbrev pub named : List ℕ → Kind → Column
-named name (Ok t) = Ok (name, t)
-named name (Err f) = Err f
+abbrev pub named_column : List ℕ → DtypeResult → ColumnResult
+named_column name (Ok t) = Ok (name, t)
+named_column name (Err f) = Err f
 
 -- the type of a key, or of a column that is ranked: it must be there, and may have every type but Frac
-abbrev pub key_type : List ℕ → Option CellType → Kind
+abbrev pub key_type : List ℕ → Option CellType → DtypeResult
 key_type name None = Err (fault.Expr (expr.NoColumn name))
 key_type name (Some kind.Frac) = Err (fault.WrongType name)
 key_type name (Some t) = Ok t
 
 -- a type, or a refusal of the column
-abbrev pub given_type : List ℕ → Option CellType → Kind
+abbrev pub given_type : List ℕ → Option CellType → DtypeResult
 given_type name None = Err (fault.WrongType name)
 given_type name (Some t) = Ok t
 
 -- the type of an aggregate of a column, which must be there and of a type that the aggregate takes
-abbrev pub taken_type : List ℕ → Agg → Option CellType → Kind
+abbrev pub taken_type : List ℕ → Agg → Option CellType → DtypeResult
 taken_type name a None = Err (fault.Expr (expr.NoColumn name))
-taken_type name a (Some t) = given_type name (type_given a t)
+taken_type name a (Some t) = given_type name (dtype_given a t)
 
-abbrev pub type_of_column : Columns → Agg → Option (List ℕ) → Kind
+abbrev pub type_of_column : Columns → Agg → Option (List ℕ) → DtypeResult
 type_of_column columns a None = Ok kind.Int
-type_of_column columns a (Some name) = taken_type name a (type_in name columns)
+type_of_column columns a (Some name) = taken_type name a (column_dtype name columns)
 
 -- the type of an aggregate
-abbrev pub aggregate_type : Columns → Agg → Kind
+abbrev pub aggregate_type : Columns → Agg → DtypeResult
 aggregate_type columns a = type_of_column columns a (column_taken a)
 
 -- an expression's fault is a plan's fault
-abbrev pub of_expr : Typed → Kind
+abbrev pub of_expr : TypeResult → DtypeResult
 of_expr (Ok t) = Ok t
 of_expr (Err f) = Err (fault.Expr f)
 
 -- the type of an expression in a plan
-unfoldable pub expr_type : Expr → Columns → Kind
+unfoldable pub expr_type : Expr → Columns → DtypeResult
 expr_type e columns = of_expr (checked_expr e columns)
 
 -- the type of a select's output: an expression that names no column is refused once it checks
-unfoldable pub output_type : List ℕ → Expr → Kind → Kind
+unfoldable pub output_type : List ℕ → Expr → DtypeResult → DtypeResult
 output_type name e (Ok t) = if names_column e then Ok t else Err (fault.ConstantColumn name)
 output_type name e (Err f) = Err f
 
 -- a key of a group-by
-abbrev pub checked_key : Columns → List ℕ → Column
-checked_key columns name = named name (key_type name (type_in name columns))
+abbrev pub key_column_result : Columns → List ℕ → ColumnResult
+key_column_result columns name = named_column name (key_type name (column_dtype name columns))
 
 -- an output of a group-by
-abbrev pub checked_aggregate : Columns → List ℕ × Agg → Column
-checked_aggregate columns a = named a.0 (aggregate_type columns a.1)
+abbrev pub aggregate_column_result : Columns → List ℕ × Agg → ColumnResult
+aggregate_column_result columns a = named_column a.0 (aggregate_type columns a.1)
 
 -- an output of a select
-abbrev pub checked_output : Columns → List ℕ × Expr → Column
-checked_output columns i = named i.0 (output_type i.0 i.1 (expr_type i.1 columns))
+abbrev pub select_column_result : Columns → List ℕ × Expr → ColumnResult
+select_column_result columns i = named_column i.0 (output_type i.0 i.1 (expr_type i.1 columns))
 
 -- a column that is put among those of the input
-abbrev pub checked_added : Columns → List ℕ × Expr → Column
-checked_added columns i = named i.0 (expr_type i.1 columns)
+abbrev pub with_columns_column_result : Columns → List ℕ × Expr → ColumnResult
+with_columns_column_result columns i = named_column i.0 (expr_type i.1 columns)
 
 -- the next step at a column, or the fault
-abbrev pub with_column : Column → (List ℕ × CellType → Checked) → Checked
+abbrev pub with_column : ColumnResult → (List ℕ × CellType → CheckResult) → CheckResult
 with_column (Ok c) next = next c
 with_column (Err f) next = Err f
 
 -- the columns that are made already, and after them that of each item in turn; or the first item's fault
-abbrev pub each_after : {T : Type 0} → (T → Column) → Columns → List T → Checked
-each_after column out [] = Ok out
-each_after column out (x ∷ xs) = with_column (column x) (λ c. each_after column (out ++ c ∷ []) xs)
+abbrev pub columns_after : {T : Type 0} → (T → ColumnResult) → Columns → List T → CheckResult
+columns_after column out [] = Ok out
+columns_after column out (x ∷ xs) = with_column (column x) (λ c. columns_after column (out ++ c ∷ []) xs)

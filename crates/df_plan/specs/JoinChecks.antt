@@ -4,17 +4,17 @@ use Rattle.std.specs.List.{list_any}
 use Rattle.std.specs.Str.{bytes_eq}
 use Rattle.df_value.specs.declared.cell.CellType.{CellType}
 use Rattle.df_value.specs.declared.cell.CellType.TheVariants as kind
-use Rattle.df_value.specs.Schemas.{type_in, doubled_after}
+use Rattle.df_value.specs.Schemas.{column_dtype, doubled_name_after}
 use Rattle.df_expr.specs.declared.fault.ExprFault.TheVariants as expr
 use Rattle.df_plan.specs.declared.fault.PlanFault.{PlanFault}
 use Rattle.df_plan.specs.declared.fault.PlanFault.TheVariants as fault
-use Rattle.df_plan.specs.ItemChecks.{Columns, Checked, Kind}
-use Rattle.df_plan.specs.Settled.{settled_at}
-use Rattle.df_table.specs.Joins.{joined_columns}
+use Rattle.df_plan.specs.ItemChecks.{Columns, CheckResult, DtypeResult}
+use Rattle.df_plan.specs.ResultSchemas.{to_schema_unless}
+use Rattle.df_ops.specs.Joins.{columns_of_join}
 
 -- the type of a key: its column must be there on the left and on the right, of one type, which may be every one but
 -- Frac
-abbrev pub join_key_type : List ℕ → Option CellType → Option CellType → Kind
+abbrev pub join_key_type : List ℕ → Option CellType → Option CellType → DtypeResult
 join_key_type name None right = Err (fault.Expr (expr.NoColumn name))
 join_key_type name (Some t) None = Err (fault.Expr (expr.NoColumn name))
 join_key_type name (Some kind.Int) (Some kind.Int) = Ok kind.Int
@@ -23,10 +23,10 @@ join_key_type name (Some kind.Text) (Some kind.Text) = Ok kind.Text
 join_key_type name (Some kind.Bool) (Some kind.Bool) = Ok kind.Bool
 join_key_type name (Some t) (Some u) = Err (fault.WrongType name)
 
-abbrev pub join_key : Columns → Columns → List ℕ → Kind
-join_key left right name = join_key_type name (type_in name left) (type_in name right)
+abbrev pub join_key : Columns → Columns → List ℕ → DtypeResult
+join_key left right name = join_key_type name (column_dtype name left) (column_dtype name right)
 
-abbrev pub fault_or : Kind → Option PlanFault → Option PlanFault
+abbrev pub fault_or : DtypeResult → Option PlanFault → Option PlanFault
 fault_or (Ok t) later = later
 fault_or (Err f) later = Some f
 
@@ -47,16 +47,16 @@ either_name None second = second
 either_name (Some name) second = Some name
 
 -- the columns of a join whose keys are sound
-abbrev pub join_settled : Columns → List (List ℕ) → Checked
-join_settled columns keys = settled_at columns (either_name (doubled_key_after [] keys) (doubled_after [] columns))
+abbrev pub join_schema : Columns → List (List ℕ) → CheckResult
+join_schema columns keys = to_schema_unless columns (either_name (doubled_key_after [] keys) (doubled_name_after [] columns))
 
-abbrev pub fault_first : Option PlanFault → Checked → Checked
+abbrev pub fault_first : Option PlanFault → CheckResult → CheckResult
 fault_first None checked = checked
 fault_first (Some f) checked = Err f
 
 -- no keys are refused first, then the first key that is not sound, then the first key that stands earlier, then the
 -- first name of the result that stands earlier, then a result that is too wide
-abbrev pub join_checked : Columns → Columns → List (List ℕ) → Checked
-join_checked left right [] = Err fault.EmptyList
-join_checked left right keys =
-    fault_first (keys_fault left right keys) (join_settled (joined_columns left right keys) keys)
+abbrev pub join_check : Columns → Columns → List (List ℕ) → CheckResult
+join_check left right [] = Err fault.EmptyList
+join_check left right keys =
+    fault_first (keys_fault left right keys) (join_schema (columns_of_join left right keys) keys)

@@ -1,5 +1,5 @@
 pub mod ItemChecks
-pub mod Settled
+pub mod ResultSchemas
 pub mod Checks
 pub mod CheckedParts
 pub mod Meaning

@@ -1,6 +1,6 @@
 //! A plan that was checked.
 ghost use Rattle.std.specs.Prelude.{◌≡◌, ◌≢◌, Ok, Err, IfOk, IfErr};
-ghost use Rattle.df_plan.specs.Checks.{checked};
+ghost use Rattle.df_plan.specs.Checks.{plan_check};
 
 use crate::checks::check;
 use crate::fault::PlanFault;
@@ -27,11 +27,11 @@ impl Model for CheckedPlan {
     ghost coded = { Prim.hlevel (codes, plan_type.the_row.coded) };
 
     ghost use Rattle.std.specs.Prelude.{◌≡◌, Ok};
-    ghost use Rattle.df_plan.specs.Checks.{checked};
+    ghost use Rattle.df_plan.specs.Checks.{plan_check};
 
     ghost view = { λ p. record { plan = p.plan; frames = p.frames; schema = p.schema } };
 
-    ghost invariant = { λ p. checked p.plan p.frames ≡ Ok p.schema };
+    ghost invariant = { λ p. plan_check p.plan p.frames ≡ Ok p.schema };
 
     ghost inverse = { λ p. record { plan = p.plan; frames = p.frames; schema = p.schema } };
 }
@@ -52,8 +52,8 @@ impl CheckedPlan {
     /// Of it and of a cumulative sum: a column that is missing or not Int; of a rank: one that is missing
     /// or Frac; then more than 32 columns.
     pub fn new(alloc: Global, plan: Plan, frames: &[Schema]) -> Result<CheckedPlan, PlanFault>
-        ensures ok { IfOk result (λ p. (p.plan ≡ plan) × (p.frames ≡ frames.now) × (checked plan frames.now ≡ Ok p.schema)) }
-        ensures fault { IfErr result (λ f. f ≢ PlanFault.Memory → checked plan frames.now ≡ Err f) }
+        ensures ok { IfOk result (λ p. (p.plan ≡ plan) × (p.frames ≡ frames.now) × (plan_check plan frames.now ≡ Ok p.schema)) }
+        ensures fault { IfErr result (λ f. f ≢ PlanFault.Memory → plan_check plan frames.now ≡ Err f) }
     {
         match checked_parts(alloc, &plan, frames) {
             Ok((frames, schema)) => Ok(CheckedPlan {
@@ -71,7 +71,7 @@ impl CheckedPlan {
     /// The plan.
     pub fn plan(&self) -> &Plan
         ensures value { result.now ≡ self.now.plan }
-        ensures sound { checked self.now.plan self.now.frames ≡ Ok self.now.schema }
+        ensures sound { plan_check self.now.plan self.now.frames ≡ Ok self.now.schema }
     {
         &self.plan
     }
@@ -79,7 +79,7 @@ impl CheckedPlan {
     /// The schemas of the frames that the plan was checked over.
     pub fn frames(&self) -> &List<Schema>
         ensures value { result.now ≡ self.now.frames }
-        ensures sound { checked self.now.plan self.now.frames ≡ Ok self.now.schema }
+        ensures sound { plan_check self.now.plan self.now.frames ≡ Ok self.now.schema }
     {
         &self.frames
     }
@@ -87,7 +87,7 @@ impl CheckedPlan {
     /// The schema of the plan's result.
     pub fn schema(&self) -> &Schema
         ensures value { result.now ≡ self.now.schema }
-        ensures sound { checked self.now.plan self.now.frames ≡ Ok self.now.schema }
+        ensures sound { plan_check self.now.plan self.now.frames ≡ Ok self.now.schema }
     {
         &self.schema
     }
@@ -99,8 +99,8 @@ fn checked_parts(
     plan: &Plan,
     frames: &[Schema],
 ) -> Result<(List<Schema>, Schema), PlanFault>
-    ensures ok { IfOk result (λ p. (p.0 ≡ frames.now) × (checked plan.now frames.now ≡ Ok p.1)) }
-    ensures fault { IfErr result (λ f. f ≢ PlanFault.Memory → checked plan.now frames.now ≡ Err f) }
+    ensures ok { IfOk result (λ p. (p.0 ≡ frames.now) × (plan_check plan.now frames.now ≡ Ok p.1)) }
+    ensures fault { IfErr result (λ f. f ≢ PlanFault.Memory → plan_check plan.now frames.now ≡ Err f) }
 {
     let schema = check(alloc, plan, frames)?;
     Ok((copy_all(alloc, frames)?, schema))

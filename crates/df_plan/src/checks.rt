@@ -1,9 +1,10 @@
 //! The check of a plan.
 ghost use Rattle.std.specs.Prelude.{◌≡◌, ◌+◌, ◌<◌, ◌≤◌, ◌↔◌, [], Err, IsTrue, MatchOption, MatchResult, None, slice_get};
-ghost use Rattle.df_value.specs.Schemas.{doubled_after};
-ghost use Rattle.df_plan.specs.Checks.{checked, columns_of, levels, scans, settled as settled_columns, settled_at, filter_checked, select_checked, with_checked, put_checked, group_checked, frame_checked, Answers};
-ghost use Rattle.df_plan.specs.JoinChecks.{join_checked};
-ghost use Rattle.df_plan.specs.ItemChecks.{expr_type as type_of_expr};
+ghost use Rattle.df_value.specs.Schemas.{doubled_name_after};
+ghost use Rattle.df_plan.specs.Checks as checks;
+ghost use Rattle.df_plan.specs.Checks.{plan_check, columns_of, plan_levels, plan_scans, to_schema_unless, filter_check, select_check, with_columns_check, added_columns_check, group_by_check, frame_check, Answers};
+ghost use Rattle.df_plan.specs.JoinChecks.{join_check};
+ghost use Rattle.df_plan.specs.ItemChecks as item_checks;
 
 use crate::drops::then_drop;
 use crate::fault::PlanFault;
@@ -12,21 +13,21 @@ use crate::join_checks::check_join;
 use crate::plan::Plan;
 use crate::window_checks::{check_cum_sum, check_rank, check_rolling};
 use df_expr::{Expr, ExprFault};
-use df_table::{Agg, placed};
-use df_value::{CellType, Duplicate, List, Schema, SchemaFault, Text, doubled};
+use df_ops::{Agg, with_columns};
+use df_value::{CellType, Duplicate, List, Schema, SchemaFault, Text, first_doubled_name};
 use std::alloc::Global;
 
 /// The most levels of a plan: the nodes on its longest path.
-pub const MOST_LEVELS: u32 = 12;
+pub const MOST_PLAN_LEVELS: u32 = 12;
 
 /// The most scans of a plan.
 pub const MOST_SCANS: u32 = 3;
 
 /// The schema of a plan's result over frames of these schemas, or the first fault.
 pub fn check(alloc: Global, plan: &Plan, frames: &[Schema]) -> Result<Schema, PlanFault>
-    ensures { Answers (checked plan.now frames.now) result }
+    ensures { Answers (plan_check plan.now frames.now) result }
 {
-    if !is_within(plan, MOST_LEVELS) {
+    if !is_within(plan, MOST_PLAN_LEVELS) {
         return Err(PlanFault::TooDeep);
     }
     if scans_left(plan, MOST_SCANS).is_none() {
@@ -37,7 +38,7 @@ pub fn check(alloc: Global, plan: &Plan, frames: &[Schema]) -> Result<Schema, Pl
 
 // Whether a plan has at most so many levels.
 fn is_within(plan: &Plan, most: u32) -> bool
-    ensures { IsTrue result ↔ (levels plan.now ≤ most) }
+    ensures { IsTrue result ↔ (plan_levels plan.now ≤ most) }
 {
     if most == 0 {
         return false;
@@ -59,7 +60,7 @@ fn is_within(plan: &Plan, most: u32) -> bool
 
 // What is left of so many scans after those of a plan; none where it has more.
 fn scans_left(plan: &Plan, most: u32) -> Option<u32>
-    ensures { MatchOption result (most < scans plan.now) (λ left. scans plan.now + left ≡ most) }
+    ensures { MatchOption result (most < plan_scans plan.now) (λ left. plan_scans plan.now + left ≡ most) }
 {
     match plan {
         Plan::Scan(_) => most.checked_sub(1),
@@ -131,7 +132,7 @@ fn check_inputs(
     right: Result<Schema, PlanFault>,
     keys: &[Text],
 ) -> Result<Schema, PlanFault>
-    ensures { MatchResult right (λ columns. Answers (join_checked left columns keys.now) result) (λ f. result ≡ Err f) }
+    ensures { MatchResult right (λ columns. Answers (join_check left columns keys.now) result) (λ f. result ≡ Err f) }
 {
     match right {
         Ok(right) => check_join(alloc, &left, &right, keys),
@@ -140,7 +141,7 @@ fn check_inputs(
 }
 
 fn copy_schema(alloc: Global, frames: &[Schema], frame: usize) -> Result<Schema, PlanFault>
-    ensures { Answers (frame_checked frame (slice_get frames.now frame)) result }
+    ensures { Answers (frame_check frame (slice_get frames.now frame)) result }
 {
     match frames.get(frame) {
         Some(schema) => Ok(schema.copy(alloc)?),
@@ -149,7 +150,7 @@ fn copy_schema(alloc: Global, frames: &[Schema], frame: usize) -> Result<Schema,
 }
 
 fn check_filter(alloc: Global, input: Schema, predicate: &Expr) -> Result<Schema, PlanFault>
-    ensures { Answers (filter_checked input (type_of_expr predicate.now input)) result }
+    ensures { Answers (filter_check input (item_checks.expr_type predicate.now input)) result }
 {
     match expr_type(alloc, &input, predicate) {
         Ok(CellType::Bool) => Ok(input),
@@ -159,20 +160,20 @@ fn check_filter(alloc: Global, input: Schema, predicate: &Expr) -> Result<Schema
 }
 
 fn check_select(alloc: Global, input: &Schema, items: &[(Text, Expr)]) -> Result<Schema, PlanFault>
-    ensures { Answers (select_checked input.now items.now) result }
+    ensures { Answers (select_check input.now items.now) result }
 {
     if items.is_empty() {
         return Err(PlanFault::EmptyList);
     }
     let out = List::from_vec(Vec::new(alloc));
     match check_each::<(Text, Expr), Outputs>(alloc, input, out, items) {
-        Ok(out) => settled(alloc, out),
+        Ok(out) => to_schema(alloc, out),
         Err(fault) => Err(fault),
     }
 }
 
 fn check_added(alloc: Global, input: &Schema, items: &[(Text, Expr)]) -> Result<Schema, PlanFault>
-    ensures { Answers (with_checked input.now items.now) result }
+    ensures { Answers (with_columns_check input.now items.now) result }
 {
     let out = List::from_vec(Vec::new(alloc));
     match check_each::<(Text, Expr), Added>(alloc, input, out, items) {
@@ -187,7 +188,7 @@ fn check_groups(
     keys: &[Text],
     aggs: &[(Text, Agg)],
 ) -> Result<Schema, PlanFault>
-    ensures { Answers (group_checked input.now keys.now aggs.now) result }
+    ensures { Answers (group_by_check input.now keys.now aggs.now) result }
 {
     if keys.is_empty() {
         return Err(PlanFault::EmptyList);
@@ -195,33 +196,33 @@ fn check_groups(
     let out = List::from_vec(Vec::new(alloc));
     let out = check_each::<Text, Keys>(alloc, input, out, keys)?;
     let out = check_each::<(Text, Agg), Aggregates>(alloc, input, out, aggs)?;
-    settled(alloc, out)
+    to_schema(alloc, out)
 }
 
 /// The schema of a table with columns put among its own.
 pub fn put(alloc: Global, input: &Schema, added: &Columns) -> Result<Schema, PlanFault>
-    ensures { Answers (put_checked input.now added.now) result }
+    ensures { Answers (added_columns_check input.now added.now) result }
 {
-    if let Some(name) = doubled(added.as_slice()) {
+    if let Some(name) = first_doubled_name(added.as_slice()) {
         return Err(PlanFault::DoubledName(name.copy(alloc)?));
     }
-    let columns = placed(alloc, input.columns().as_slice(), added.as_slice())?;
+    let columns = with_columns(alloc, input.columns().as_slice(), added.as_slice())?;
     schema_of(columns)
 }
 
 /// The schema of these columns: no name may stand twice, and then they may not be too many.
-pub fn settled(alloc: Global, columns: Columns) -> Result<Schema, PlanFault>
-    ensures { Answers (settled_columns columns) result }
+pub fn to_schema(alloc: Global, columns: Columns) -> Result<Schema, PlanFault>
+    ensures { Answers (checks.to_schema columns) result }
 {
-    if let Some(name) = doubled(columns.as_slice()) {
+    if let Some(name) = first_doubled_name(columns.as_slice()) {
         return Err(PlanFault::DoubledName(name.copy(alloc)?));
     }
     schema_of(columns)
 }
 
 fn schema_of(columns: Columns) -> Result<Schema, PlanFault>
-    requires { doubled_after [] columns ≡ None }
-    ensures { Answers (settled_at columns None) result }
+    requires { doubled_name_after [] columns ≡ None }
+    ensures { Answers (to_schema_unless columns None) result }
 {
     match Schema::new(columns) {
         Ok(schema) => Ok(schema),

@@ -1,16 +1,16 @@
 //! The plain evaluation of a plan, over whole tables.
 ghost use Rattle.std.specs.Prelude.{◌≡◌, [], IfOk, IsTrue, slice_get};
 ghost use Rattle.df_value.specs.Rows.{rows_fit};
-ghost use Rattle.df_plan.specs.Meaning.{table_of, frame_from, frames_fit};
-ghost use Rattle.df_table.specs.Tables.{roll_table as table_rolled};
-ghost use Rattle.df_table.specs.Windows.{size_of as size_in};
+ghost use Rattle.df_plan.specs.Meaning.{table_of, frame_table, frames_fit};
+ghost use Rattle.df_ops.specs.Tables as tables;
+ghost use Rattle.df_ops.specs.Windows as windows;
 
 use crate::checked::CheckedPlan;
 use crate::drops::{both, then_drop};
 use crate::plan::Plan;
-use df_table::{
-    RollKind, Table, cum_sum_table, filter_table, group_by, join, rank_table, roll_table,
-    select_table, size_of, with_table,
+use df_ops::{
+    PlainTable, RollKind, cum_sum_table, filter_table, group_by, join, rank_table, rolling_table,
+    select_table, size_of, with_columns_table,
 };
 use df_value::{Duplicate, List, Row, Schema, Text};
 use std::alloc::{AllocError, Global};
@@ -41,7 +41,7 @@ fn table_of_plan(
     plan: &Plan,
     schemas: &[Schema],
     frames: &[List<Row>],
-) -> Result<Table, AllocError>
+) -> Result<PlainTable, AllocError>
     ensures { IfOk result (λ t. t ≡ table_of plan.now schemas.now frames.now) }
 {
     match plan {
@@ -56,7 +56,7 @@ fn table_of_plan(
         }
         Plan::WithColumns(input, items) => {
             let input = table_of_plan(alloc, input.get(), schemas, frames)?;
-            then_drop(with_table(alloc, &input, items.as_slice()), input)
+            then_drop(with_columns_table(alloc, &input, items.as_slice()), input)
         }
         Plan::GroupBy(input, keys, aggs) => {
             let input = table_of_plan(alloc, input.get(), schemas, frames)?;
@@ -89,16 +89,16 @@ fn table_of_plan(
 // The rolling values of a checked window, whose numbers are sizes.
 fn rolled(
     alloc: Global,
-    input: &Table,
+    input: &PlainTable,
     output: &Text,
     kind: RollKind,
     column: &Text,
     w: i64,
     m: i64,
-) -> Result<Table, AllocError>
-    ensures { IfOk result (λ t. t ≡ table_rolled input.now output.now kind column.now (size_in w) (size_in m)) }
+) -> Result<PlainTable, AllocError>
+    ensures { IfOk result (λ t. t ≡ tables.rolling_table input.now output.now kind column.now (windows.size_of w) (windows.size_of m)) }
 {
-    roll_table(alloc, input, output, kind, column, size_of(w), size_of(m))
+    rolling_table(alloc, input, output, kind, column, size_of(w), size_of(m))
 }
 
 // A copy of the frame, or no rows where there is none.
@@ -107,8 +107,8 @@ fn copy_frame(
     schemas: &[Schema],
     frames: &[List<Row>],
     frame: usize,
-) -> Result<Table, AllocError>
-    ensures { IfOk result (λ t. t ≡ frame_from (slice_get schemas.now frame) (slice_get frames.now frame)) }
+) -> Result<PlainTable, AllocError>
+    ensures { IfOk result (λ t. t ≡ frame_table (slice_get schemas.now frame) (slice_get frames.now frame)) }
 {
     match (schemas.get(frame), frames.get(frame)) {
         (Some(schema), Some(rows)) => copy_rows(alloc, schema, rows),
@@ -116,12 +116,12 @@ fn copy_frame(
     }
 }
 
-fn copy_rows(alloc: Global, schema: &Schema, rows: &List<Row>) -> Result<Table, AllocError>
+fn copy_rows(alloc: Global, schema: &Schema, rows: &List<Row>) -> Result<PlainTable, AllocError>
     ensures { IfOk result (λ t. (t.columns ≡ schema.now) × (t.rows ≡ rows.now)) }
 {
     let columns = schema.columns().copy(alloc)?;
     match rows.copy(alloc) {
-        Ok(rows) => Ok(Table { columns, rows }),
+        Ok(rows) => Ok(PlainTable { columns, rows }),
         Err(refused) => {
             drop(columns);
             Err(refused)
@@ -129,10 +129,10 @@ fn copy_rows(alloc: Global, schema: &Schema, rows: &List<Row>) -> Result<Table, 
     }
 }
 
-fn empty_table(alloc: Global) -> Table
+fn empty_table(alloc: Global) -> PlainTable
     ensures { (result.columns ≡ []) × (result.rows ≡ []) }
 {
-    Table {
+    PlainTable {
         columns: List::from_vec(Vec::new(alloc)),
         rows: List::from_vec(Vec::new(alloc)),
     }

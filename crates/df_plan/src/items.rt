@@ -1,12 +1,13 @@
 //! The check of the items of a node's list: what column each gives.
 ghost use Rattle.std.specs.Prelude.{◌≡◌};
-ghost use Rattle.df_value.specs.Schemas.{type_in};
+ghost use Rattle.df_value.specs.Schemas.{column_dtype};
 ghost use Rattle.df_plan.specs.Checks.{Answers};
-ghost use Rattle.df_plan.specs.ItemChecks.{Column, Columns as ColumnList, key_type as type_of_key, aggregate_type as type_of_aggregate, given_type as type_or_refusal, expr_type as type_of_expr, output_type as type_of_output, checked_key, checked_aggregate, checked_output, checked_added, each_after};
+ghost use Rattle.df_plan.specs.ItemChecks as item_checks;
+ghost use Rattle.df_plan.specs.ItemChecks.{ColumnResult, key_column_result, aggregate_column_result, select_column_result, with_columns_column_result, columns_after};
 
 use crate::fault::PlanFault;
 use df_expr::{Expr, ExprFault, check, names_column};
-use df_table::Agg;
+use df_ops::Agg;
 use df_value::{CellType, Duplicate, List, Schema, Text};
 use std::alloc::Global;
 
@@ -16,7 +17,7 @@ pub type Columns = List<(Text, CellType)>;
 /// What a node wants of an item of its list.
 pub trait ColumnOf<T> {
     /// The column that the item gives over an input of these columns.
-    ghost column_of: { ColumnList → T → Column };
+    ghost column_of: { item_checks.Columns → T → ColumnResult };
 
     /// The column that the item gives, or its first fault.
     fn column(alloc: Global, input: &Schema, item: &T) -> Result<(Text, CellType), PlanFault>
@@ -36,7 +37,7 @@ pub struct Outputs;
 pub struct Added;
 
 impl ColumnOf<Text> for Keys {
-    ghost column_of = { checked_key };
+    ghost column_of = { key_column_result };
 
     fn column(alloc: Global, input: &Schema, name: &Text) -> Result<(Text, CellType), PlanFault> {
         let kind = key_type(alloc, input, name)?;
@@ -45,7 +46,7 @@ impl ColumnOf<Text> for Keys {
 }
 
 impl ColumnOf<(Text, Agg)> for Aggregates {
-    ghost column_of = { checked_aggregate };
+    ghost column_of = { aggregate_column_result };
 
     fn column(
         alloc: Global,
@@ -58,7 +59,7 @@ impl ColumnOf<(Text, Agg)> for Aggregates {
 }
 
 impl ColumnOf<(Text, Expr)> for Outputs {
-    ghost column_of = { checked_output };
+    ghost column_of = { select_column_result };
 
     #[tactic(auto, unfolding(crate::specs::ItemChecks::output_type))]
     fn column(
@@ -75,7 +76,7 @@ impl ColumnOf<(Text, Expr)> for Outputs {
 }
 
 impl ColumnOf<(Text, Expr)> for Added {
-    ghost column_of = { checked_added };
+    ghost column_of = { with_columns_column_result };
 
     fn column(
         alloc: Global,
@@ -94,7 +95,7 @@ pub fn check_each<T, N: ColumnOf<T>>(
     out: Columns,
     items: &[T],
 ) -> Result<Columns, PlanFault>
-    ensures { Answers (each_after (N.column_of input.now) out items.now) result }
+    ensures { Answers (columns_after (N.column_of input.now) out items.now) result }
 {
     let mut out = out.into_vec();
     for item in items {
@@ -105,7 +106,7 @@ pub fn check_each<T, N: ColumnOf<T>>(
 
 /// The type of a key's column, which must be there and not Frac.
 pub fn key_type(alloc: Global, input: &Schema, name: &Text) -> Result<CellType, PlanFault>
-    ensures { Answers (type_of_key name.now (type_in name.now input.now)) result }
+    ensures { Answers (item_checks.key_type name.now (column_dtype name.now input.now)) result }
 {
     match input.type_of(name) {
         Some(CellType::Frac) => Err(PlanFault::WrongType(name.copy(alloc)?)),
@@ -115,7 +116,7 @@ pub fn key_type(alloc: Global, input: &Schema, name: &Text) -> Result<CellType, 
 }
 
 fn aggregate_type(alloc: Global, input: &Schema, agg: &Agg) -> Result<CellType, PlanFault>
-    ensures { Answers (type_of_aggregate input.now agg.now) result }
+    ensures { Answers (item_checks.aggregate_type input.now agg.now) result }
 {
     let Some(name) = agg.column() else {
         return Ok(CellType::Int);
@@ -127,7 +128,7 @@ fn aggregate_type(alloc: Global, input: &Schema, agg: &Agg) -> Result<CellType, 
 }
 
 fn given_type(alloc: Global, name: &Text, given: Option<CellType>) -> Result<CellType, PlanFault>
-    ensures { Answers (type_or_refusal name.now given) result }
+    ensures { Answers (item_checks.given_type name.now given) result }
 {
     match given {
         Some(kind) => Ok(kind),
@@ -138,7 +139,7 @@ fn given_type(alloc: Global, name: &Text, given: Option<CellType>) -> Result<Cel
 /// The type of an expression in a plan.
 #[tactic(auto, unfolding(crate::specs::ItemChecks::expr_type))]
 pub fn expr_type(alloc: Global, input: &Schema, expr: &Expr) -> Result<CellType, PlanFault>
-    ensures { Answers (type_of_expr expr.now input.now) result }
+    ensures { Answers (item_checks.expr_type expr.now input.now) result }
 {
     match check(alloc, expr, input) {
         Ok(kind) => Ok(kind),

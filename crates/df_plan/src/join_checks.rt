@@ -3,15 +3,16 @@ ghost use Rattle.std.specs.Prelude.{◌≡◌, ◌≢◌, [], MatchResult, None,
 ghost use Rattle.std.specs.List.{list_any};
 ghost use Rattle.std.specs.Option.{option_copied};
 ghost use Rattle.std.specs.Str.{bytes_eq};
-ghost use Rattle.df_value.specs.Schemas.{type_in};
+ghost use Rattle.df_value.specs.Schemas.{column_dtype};
 ghost use Rattle.df_plan.specs.Checks.{Answers};
-ghost use Rattle.df_plan.specs.JoinChecks.{join_checked, join_settled, join_key_type, keys_fault, doubled_key_after};
+ghost use Rattle.df_plan.specs.JoinChecks as join_checks;
+ghost use Rattle.df_plan.specs.JoinChecks.{join_check, join_key_type, keys_fault, doubled_key_after};
 
-use crate::checks::settled;
+use crate::checks::to_schema;
 use crate::fault::PlanFault;
 use crate::items::Columns;
 use df_expr::ExprFault;
-use df_table::joined_columns;
+use df_ops::columns_of_join;
 use df_value::{CellType, Duplicate, Schema, Text};
 use std::alloc::Global;
 
@@ -22,23 +23,23 @@ pub fn check_join(
     right: &Schema,
     keys: &[Text],
 ) -> Result<Schema, PlanFault>
-    ensures { Answers (join_checked left.now right.now keys.now) result }
+    ensures { Answers (join_check left.now right.now keys.now) result }
 {
     if keys.is_empty() {
         return Err(PlanFault::EmptyList);
     }
     check_keys(alloc, left, right, keys)?;
-    let columns = joined_columns(alloc, left.columns(), right.columns().as_slice(), keys)?;
-    settled_join(alloc, columns, keys)
+    let columns = columns_of_join(alloc, left.columns(), right.columns().as_slice(), keys)?;
+    join_schema(alloc, columns, keys)
 }
 
 // The schema of these columns of a join by these keys.
-fn settled_join(alloc: Global, columns: Columns, keys: &[Text]) -> Result<Schema, PlanFault>
-    ensures { Answers (join_settled columns keys.now) result }
+fn join_schema(alloc: Global, columns: Columns, keys: &[Text]) -> Result<Schema, PlanFault>
+    ensures { Answers (join_checks.join_schema columns keys.now) result }
 {
     match doubled_key(keys) {
         Some(name) => Err(PlanFault::DoubledName(name.copy(alloc)?)),
-        None => settled(alloc, columns),
+        None => to_schema(alloc, columns),
     }
 }
 
@@ -48,14 +49,14 @@ fn doubled_key(keys: &[Text]) -> Option<&Text>
 {
     for i in 0..keys.len() {
         let name = &keys[i];
-        if has_key(name, &keys[..i]) {
+        if has_earlier_key(name, &keys[..i]) {
             return Some(name);
         }
     }
     None
 }
 
-fn has_key(name: &Text, keys: &[Text]) -> bool
+fn has_earlier_key(name: &Text, keys: &[Text]) -> bool
     ensures { result ≡ list_any (λ k. bytes_eq k name.now) keys.now }
 {
     keys.iter().any(|key| *key == *name)

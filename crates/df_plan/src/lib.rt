@@ -1,6 +1,6 @@
 //! Plans: how a table is made of frames, with their check and their plain evaluation.
 //!
-//! To add an operator: its body and meaning in `df_table`; here a variant of [`Plan`] with its arms in
+//! To add an operator: its body and meaning in `df_ops`; here a variant of [`Plan`] with its arms in
 //! `copy` and `same_plan` (plan.rt); its checks and levels in specs/Checks.antt, `check_node` and
 //! `is_within` (checks.rt), and where it has a list of items what each gives (specs/ItemChecks.antt,
 //! items.rt); its arms in `table_step` (specs/Meaning.antt) and `table_of_plan` (evaluation.rt); that its
@@ -21,8 +21,8 @@ mod plan;
 mod window_checks;
 
 pub use checked::CheckedPlan;
-pub use checks::{MOST_LEVELS, MOST_SCANS};
-pub use df_table::{Agg, How, RankKind, RollKind};
+pub use checks::{MOST_PLAN_LEVELS, MOST_SCANS};
+pub use df_ops::{Agg, How, RankKind, RollKind};
 pub use evaluation::evaluate;
 pub use fault::PlanFault;
 pub use plan::Plan;

@@ -3,7 +3,7 @@ ghost use Rattle.std.specs.Prelude.{◌≡◌, ◌↔◌, IfOk, IsTrue};
 
 use crate::drops::both;
 use df_expr::Expr;
-use df_table::{Agg, How, RankKind, RollKind};
+use df_ops::{Agg, How, RankKind, RollKind};
 use df_value::{Boxed, Duplicate, Exact, List, Text, same};
 use std::alloc::{AllocError, Global};
 

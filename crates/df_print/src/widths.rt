@@ -1,6 +1,7 @@
 //! Cells as they are printed, and how wide their columns are.
 ghost use Rattle.std.specs.Prelude.{◌≡◌, All, Bool, IfOk, IsUtf8, max, string_bytes};
-ghost use Rattle.df_print.specs.Printed.{cell_or_null, cell_text, column_texts, column_width, padded, width_of};
+ghost use Rattle.df_print.specs.Printed as printed;
+ghost use Rattle.df_print.specs.Printed.{cell_or_null, cell_text, column_texts, padded, width_of};
 
 use crate::escapes::escape;
 use df_value::{Cell, Row, Text};
@@ -56,7 +57,7 @@ pub fn column_width(
     name: &Text,
     rows: &[Row],
 ) -> Result<usize, AllocError>
-    ensures greatest { IfOk result (λ w. w ≡ column_width at name.now rows.now) }
+    ensures greatest { IfOk result (λ w. w ≡ printed.column_width at name.now rows.now) }
     ensures filled { IfOk result (λ w. All (λ t. (left : Bool) → width_of (padded left w t) ≡ w)
         (column_texts at name.now rows.now)) }
 {

@@ -9,12 +9,12 @@ use Rattle.df_catalogue.specs.declared.change.Change.TheVariants.{Append, Delete
 use Rattle.df_catalogue.specs.declared.fault.CatalogueFault.{CatalogueFault}
 use Rattle.df_catalogue.specs.Changes.{after, change_at}
 use Rattle.df_catalogue.specs.Desks.{DeskParts, desks_after, desks_run, having_accepted, having_deleted}
-use Rattle.df_catalogue.specs.Runs.{AnswersEach, after_unless, entered, run_of}
+use Rattle.df_catalogue.specs.Runs.{AnswersEach, after_unless, accepted_changes, run_of}
 use Rattle.df_shell.specs.Changes.{IsMade, IsRefusal, first_answer}
 
 pub one-made :
     (s new : State) (c : Change) (answers : List (Option CatalogueFault)) → AnswersEach s (c ∷ []) answers →
-    new ≡ run_of s (entered (c ∷ []) answers) → OnOk (first_answer answers) (IsMade s new c)
+    new ≡ run_of s (accepted_changes (c ∷ []) answers) → OnOk (first_answer answers) (IsMade s new c)
 one-made s new c [] h e = absurd h
 one-made s new c (None ∷ later) h e = (h.0, e ∙ ap (λ o. after_unless o s c) h.0)
 one-made s new c (Some f ∷ later) h e = tt
@@ -27,7 +27,7 @@ one-refused s c (Some f ∷ later) h = h.0.exact
 
 pub one-same :
     (s new : State) (c : Change) (answers : List (Option CatalogueFault)) → AnswersEach s (c ∷ []) answers →
-    new ≡ run_of s (entered (c ∷ []) answers) → OnErr (first_answer answers) (new ≡ s)
+    new ≡ run_of s (accepted_changes (c ∷ []) answers) → OnErr (first_answer answers) (new ≡ s)
 one-same s new c [] h e = absurd h
 one-same s new c (None ∷ later) h e = tt
 one-same s new c (Some f ∷ later) h e = e
@@ -52,7 +52,7 @@ order-after desks s (DropView name) h = h
 -- one change keeps the desks in order
 pub one-order :
     (s new : State) (desks kept : List DeskParts) (c : Change) (answers : List (Option CatalogueFault)) → AreInOrder desks s →
-    AnswersEach s (c ∷ []) answers → new ≡ run_of s (entered (c ∷ []) answers) → kept ≡ desks_run desks (entered (c ∷ []) answers) →
+    AnswersEach s (c ∷ []) answers → new ≡ run_of s (accepted_changes (c ∷ []) answers) → kept ≡ desks_run desks (accepted_changes (c ∷ []) answers) →
     AreInOrder kept new
 one-order s new desks kept c [] h answered e k = absurd answered
 one-order s new desks kept c (None ∷ later) h answered e k =
@@ -64,10 +64,10 @@ one-order s new desks kept c (Some f ∷ later) h answered e k =
 -- and so does a list of it, also where it is not made
 pub kept-order :
     (s new : State) (desks kept : List DeskParts) (c : Change) (cs : List Change) (r : Result (List (Option CatalogueFault)) AllocError) →
-    AreInOrder desks s → cs ≡ c ∷ [] → IfOk r (AnswersEach s cs) → IfOk r (λ answers. new ≡ run_of s (entered cs answers)) →
-    IfOk r (λ answers. kept ≡ desks_run desks (entered cs answers)) → OnErr r (new ≡ s) → OnErr r (kept ≡ desks) → AreInOrder kept new
+    AreInOrder desks s → cs ≡ c ∷ [] → IfOk r (AnswersEach s cs) → IfOk r (λ answers. new ≡ run_of s (accepted_changes cs answers)) →
+    IfOk r (λ answers. kept ≡ desks_run desks (accepted_changes cs answers)) → OnErr r (new ≡ s) → OnErr r (kept ≡ desks) → AreInOrder kept new
 kept-order s new desks kept c cs (Ok answers) h one answered e k same same_shares =
     one-order s new desks kept c answers h (subst (λ ds. AnswersEach s ds answers) one answered)
-    (subst (λ ds. new ≡ run_of s (entered ds answers)) one e) (subst (λ ds. kept ≡ desks_run desks (entered ds answers)) one k)
+    (subst (λ ds. new ≡ run_of s (accepted_changes ds answers)) one e) (subst (λ ds. kept ≡ desks_run desks (accepted_changes ds answers)) one k)
 kept-order s new desks kept c cs (Err f) h one answered e k same same_shares =
     subst (λ ds. AreInOrder ds new) (sym same_shares) (subst (AreInOrder desks) (sym same) h)

@@ -8,7 +8,7 @@ use crate::fault::ShellFault;
 use crate::store::Store;
 use df_catalogue::{Catalogue, Change};
 use df_text::FrameSpec;
-use df_value::{Duplicate, List, Made, Schema};
+use df_value::{Duplicate, List, Piece, Schema};
 use std::alloc::{AllocError, Global};
 use std::sync::ledger::{Blank, Ledger};
 
@@ -18,7 +18,7 @@ pub fn open_store<Acc: Ledger, Del: Ledger>(
     accepted: Blank,
     deleted: Blank,
     definitions: &Definitions,
-    pieces: List<List<Made>>,
+    pieces: List<List<Piece>>,
 ) -> Result<Store<Acc, Del>, ShellFault>
     requires accepted_name { accepted.name ≡ Acc.name }
     requires accepted_parts { (accepted.parts ≡ Acc.parts) × (accepted.parts ≡ 524288) }
@@ -47,7 +47,7 @@ fn copy_schemas(alloc: Global, frames: &[FrameSpec]) -> Result<List<Schema>, All
 fn enter_frames<Acc: Ledger, Del: Ledger>(
     alloc: Global,
     store: &mut Store<Acc, Del>,
-    pieces: List<List<Made>>,
+    pieces: List<List<Piece>>,
 ) -> Result<(), ShellFault>
     ensures { OnOk result (AreMade store.old.catalogue store.new.catalogue (flat_map frame_appends (enumerate_from 0 pieces))) }
 {
@@ -62,7 +62,7 @@ fn enter_pieces<Acc: Ledger, Del: Ledger>(
     alloc: Global,
     store: &mut Store<Acc, Del>,
     frame: usize,
-    pieces: List<Made>,
+    pieces: List<Piece>,
 ) -> Result<(), ShellFault>
     ensures { OnOk result (AreMade store.old.catalogue store.new.catalogue (flat_map (piece_appends frame) pieces)) }
 {
@@ -76,13 +76,13 @@ fn enter<Acc: Ledger, Del: Ledger>(
     alloc: Global,
     store: &mut Store<Acc, Del>,
     frame: usize,
-    made: Made,
+    made: Piece,
 ) -> Result<(), ShellFault>
     ensures { OnOk result (AreMade store.old.catalogue store.new.catalogue (piece_appends frame made)) }
 {
     match made {
-        Made::Good(chunk) => Ok(store.make(alloc, Change::Append(frame, chunk))?),
-        Made::Bad(_) => Ok(()),
+        Piece::Good(chunk) => Ok(store.make(alloc, Change::Append(frame, chunk))?),
+        Piece::Bad(_) => Ok(()),
     }
 }
 

@@ -1,6 +1,7 @@
 //! The texts of refusals.
 ghost use Rattle.std.specs.Prelude.{◌≡◌, ◌++◌, IfOk, codes, string_bytes};
-ghost use Rattle.df_shell.specs.Texts.{catalogue_text as text_of_catalogue, chunk_text as text_of_chunk, mistake_text as text_of_mistake, new_text as text_of_new, text_of, text_of_cell};
+ghost use Rattle.df_shell.specs.Texts as texts;
+ghost use Rattle.df_shell.specs.Texts.{text_of, text_of_cell};
 
 use crate::refusal::{Mistake, Refusal};
 use df_app::csv_text;
@@ -28,7 +29,7 @@ pub fn refusal_text(alloc: Global, refusal: &Refusal) -> Result<String, AllocErr
 }
 
 fn mistake_text(mistake: Mistake) -> &'static str
-    ensures { result.now ≡ text_of_mistake mistake }
+    ensures { result.now ≡ texts.mistake_text mistake }
 {
     match mistake {
         Mistake::NoCommand => "no such command: help lists them",
@@ -45,7 +46,7 @@ fn mistake_text(mistake: Mistake) -> &'static str
 
 /// The text of a catalogue's fault: its code and what it is about.
 pub fn catalogue_text(alloc: Global, fault: CatalogueFault) -> Result<String, AllocError>
-    ensures { IfOk result (λ text. string_bytes text ≡ text_of_catalogue fault) }
+    ensures { IfOk result (λ text. string_bytes text ≡ texts.catalogue_text fault) }
 {
     match fault {
         CatalogueFault::SchemaUnlike => String::from_str(alloc, "C1"),
@@ -64,7 +65,7 @@ pub fn catalogue_text(alloc: Global, fault: CatalogueFault) -> Result<String, Al
 
 /// The text of the fault of a catalogue that is not made.
 pub fn new_text(alloc: Global, fault: NewFault) -> Result<String, AllocError>
-    ensures { IfOk result (λ text. string_bytes text ≡ text_of_new fault) }
+    ensures { IfOk result (λ text. string_bytes text ≡ texts.new_text fault) }
 {
     match fault {
         NewFault::TooManyFrames => String::from_str(alloc, "N1"),
@@ -83,7 +84,7 @@ fn cell_text(alloc: Global, number: u64, column: &Text) -> Result<String, AllocE
 
 // That a row does not fit its schema is not the answer to rows that were typed by it.
 fn chunk_text(fault: &ChunkFault) -> &'static str
-    ensures { result.now ≡ text_of_chunk fault.now }
+    ensures { result.now ≡ texts.chunk_text fault.now }
 {
     match fault {
         ChunkFault::TooLong => "S5",

@@ -5,7 +5,7 @@ ghost use Rattle.df_csv.specs.Records.{IsRecords};
 
 use crate::refusal::Refusal;
 use df_text::{CsvFault, Records, count_pieces, parse_records, type_piece};
-use df_value::{BadCell, CellType, Chunk, ChunkFault, Duplicate, List, Made, Row, Schema, Text};
+use df_value::{BadCell, CellType, Chunk, ChunkFault, Duplicate, List, Piece, Row, Schema, Text};
 use std::alloc::{AllocError, Global};
 
 /// The most records that are typed at once.
@@ -100,8 +100,8 @@ fn type_rows(alloc: Global, schema: &Schema, records: &Records) -> Result<List<R
     let mut rows = Vec::new(alloc);
     for n in 0..count_pieces(records, RECORDS_OF_PIECE) {
         match type_piece(alloc, records, schema, RECORDS_OF_PIECE, n)? {
-            Made::Good(chunk) => rows.append(&mut chunk.into_rows().into_vec())?,
-            Made::Bad(cell) => return Err(bad_cell(alloc, schema, cell)?),
+            Piece::Good(chunk) => rows.append(&mut chunk.into_rows().into_vec())?,
+            Piece::Bad(cell) => return Err(bad_cell(alloc, schema, cell)?),
         }
     }
     Ok(List::from_vec(rows))

@@ -2,7 +2,8 @@
 ghost use Rattle.std.specs.Prelude.{◌≡◌, IfErr, OnErr, OnOk, length, map};
 ghost use Rattle.std.specs.List.{range_with_len};
 ghost use Rattle.df_catalogue.specs.States.{IsLegal};
-ghost use Rattle.df_shell.specs.Changes.{IsMade, IsRefusal, first_answer as first_answer_of};
+ghost use Rattle.df_shell.specs.Changes as changes_spec;
+ghost use Rattle.df_shell.specs.Changes.{IsMade, IsRefusal};
 
 use df_catalogue::{Catalogue, CatalogueFault, Change, Desk};
 use df_value::List;
@@ -40,7 +41,7 @@ impl<Acc: Ledger, Del: Ledger> Store<Acc, Del> {
 
 // The answer to the first of some changes.
 fn first_answer(answers: &[Option<CatalogueFault>]) -> Result<(), CatalogueFault>
-    ensures { result ≡ first_answer_of answers.now }
+    ensures { result ≡ changes_spec.first_answer answers.now }
 {
     match answers.first() {
         Some(Some(fault)) => Err(*fault),

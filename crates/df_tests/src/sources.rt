@@ -4,13 +4,13 @@ ghost use Rattle.std.specs.Prelude.{◌≡◌, IfOk};
 use crate::given::schema;
 use df_csv::{CsvSource, ReadLimitedFault, parse_records, read_limited};
 use df_value::CellType::Int;
-use df_value::{Cell, Made, Source};
+use df_value::{Cell, Piece, Source};
 use std::alloc::{AllocError, Global};
 use std::io::{self, ErrorKind, Read};
 use std::test::Fail;
 
 /// All chunks of a source, by what the trait alone says of it.
-fn all_made<S: Source + Sync>(alloc: Global, source: &S) -> Result<Vec<Made>, AllocError>
+fn all_made<S: Source + Sync>(alloc: Global, source: &S) -> Result<Vec<Piece>, AllocError>
     ensures { IfOk result (λ all. all.items ≡ S.made source.now) }
 {
     let mut all = Vec::new(alloc);
@@ -30,7 +30,7 @@ fn a_file_is_a_source_of_chunks(rt: HostRuntime) -> Result<(), Fail> {
     assert!(rt; records.record_len(0) == 1 && !records.is_empty());
     let source = CsvSource::new(records, schema, 2);
     match all_made(alloc, &source)?.as_slice() {
-        [Made::Bad(cell), Made::Good(chunk)] => {
+        [Piece::Bad(cell), Piece::Good(chunk)] => {
             assert!(rt; cell.number == 1 && cell.column == 0);
             let row = chunk.rows().get(0);
             assert!(rt; row.is_some_and(|row| row.get(0) == Some(&Cell::Int(7))));

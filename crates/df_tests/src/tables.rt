@@ -1,10 +1,10 @@
 //! Laws of the operators that no program calls, and rows that no operator makes.
 use crate::given::rows;
-use df_print::{column_width, print_table};
-use df_table::{
-    RollKind, count_of, extremes_of, group_lengths, group_sums, mean_of, rolled_last, running_sum,
+use df_ops::{
+    RollKind, count_of, cum_sum, group_lengths, group_sums, mean_of, min_and_max_of, rolling_last,
     size_of,
 };
+use df_print::{column_width, print_table};
 use df_value::{Cell, CellType, List, Schema, Text};
 use std::test::Fail;
 
@@ -23,8 +23,8 @@ fn groups_add_up(rt: HostRuntime) -> Result<(), Fail> {
 fn a_column_and_one_that_is_not_there(rt: HostRuntime) -> Result<(), Fail> {
     let rows = rows(rt.alloc(), &[Some(5), Some(-3), Some(5), None])?;
     let rows = rows.as_slice();
-    assert!(rt; extremes_of(Some(0), rows) == Some((&Cell::Int(-3), &Cell::Int(5))));
-    assert!(rt; extremes_of(None, rows) == None);
+    assert!(rt; min_and_max_of(Some(0), rows) == Some((&Cell::Int(-3), &Cell::Int(5))));
+    assert!(rt; min_and_max_of(None, rows) == None);
     assert!(rt; count_of(None, rows) == 0 && mean_of(None, rows) == Cell::Null);
     Ok(())
 }
@@ -33,9 +33,9 @@ fn a_column_and_one_that_is_not_there(rt: HostRuntime) -> Result<(), Fail> {
 fn the_last_window_and_the_last_sum(rt: HostRuntime) -> Result<(), Fail> {
     let alloc = rt.alloc();
     let rows = rows(alloc, &[Some(1), None, Some(3), Some(4), Some(5)])?;
-    let last = rolled_last(alloc, RollKind::Min, 3, 1, Some(0), rows.as_slice())?;
+    let last = rolling_last(alloc, RollKind::Min, 3, 1, Some(0), rows.as_slice())?;
     assert!(rt; last == Cell::Int(3));
-    let sums = running_sum(alloc, Some(0), rows.as_slice())?;
+    let sums = cum_sum(alloc, Some(0), rows.as_slice())?;
     assert!(rt; sums.as_slice().last() == Some(&Cell::Wide(13)));
     assert!(rt; size_of(-1) == 0 && size_of(2) == 2);
     Ok(())

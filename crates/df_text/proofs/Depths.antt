@@ -5,7 +5,7 @@ use Rattle.std.specs.Ordering.{match_ordering}
 use Rattle.toml.specs.Data.{Data, string, integer, float, boolean, datetime, array, table, Members, no_members, member, get_member, depth, items_depth, members_depth}
 use Rattle.toml.specs.View.{items_of, view}
 use Rattle.toml.specs.declared.value.Value.{Value}
-use Rattle.df_text.specs.declared.document.Place.{Place}
+use Rattle.df_text.specs.declared.document.Location.{Location}
 use Rattle.df_text.specs.declared.view_steps.StepWord.{StepWord}
 use Rattle.df_text.specs.Tree.{text_in, array_in, first_in, triple_in}
 use Rattle.df_text.specs.Sources.{array_or_none}
@@ -13,7 +13,7 @@ use Rattle.df_text.specs.Steps.{step_of_word, step_in}
 use Rattle.df_text.proofs.ReadFacts.{then_gives, given}
 use Rattle.df_text.proofs.StepFacts.{items_of-list}
 
-inside_array : (at : Place) (d : Data) → IfOk (array_in at d) (λ ds. items_depth (items_of ds) < depth d)
+inside_array : (at : Location) (d : Data) → IfOk (array_in at d) (λ ds. items_depth (items_of ds) < depth d)
 inside_array at (array ds) = rw (items_of-list ds) (omega arith)
 inside_array at (string s) = tt
 inside_array at (integer n) = tt
@@ -23,14 +23,14 @@ inside_array at (datetime t) = tt
 inside_array at (table ms) = tt
 
 -- the items of an array
-pub array_deeper : (at : Place) (d : Data) (ds : List Data) → array_in at d ≡ Ok ds → items_depth (items_of ds) < depth d
+pub array_deeper : (at : Location) (d : Data) (ds : List Data) → array_in at d ≡ Ok ds → items_depth (items_of ds) < depth d
 array_deeper at d ds is = given (λ xs. items_depth (items_of xs) < depth d) (array_in at d) ds (inside_array at d) is
 
-rest_depth : (at : Place) (ds : List Data) → IfOk (first_in at ds) (λ s. items_depth (items_of s.1) ≤ items_depth (items_of ds))
+rest_depth : (at : Location) (ds : List Data) → IfOk (first_in at ds) (λ s. items_depth (items_of s.1) ≤ items_depth (items_of ds))
 rest_depth at [] = tt
 rest_depth at (d ∷ ds) = omega arith
 
-inside_step : (at : Place) (d : Data) → IfOk (step_in at d) (λ s. items_depth (items_of s.1) < depth d)
+inside_step : (at : Location) (d : Data) → IfOk (step_in at d) (λ s. items_depth (items_of s.1) < depth d)
 inside_step at d =
     then_gives _ (array_in at d) _ (λ ds is. then_gives _ (first_in at ds) _ (λ s first.
     then_gives _ (text_in at s.0) _ (λ w _. then_gives _ (step_of_word at w) _ (λ word _.
@@ -39,10 +39,10 @@ inside_step at d =
     omega (arith, rest, within)))))
 
 -- the items after a step's word
-pub step_deeper : (at : Place) (d : Data) (word : StepWord) (ds : List Data) → step_in at d ≡ Ok (word, ds) → items_depth (items_of ds) < depth d
+pub step_deeper : (at : Location) (d : Data) (word : StepWord) (ds : List Data) → step_in at d ≡ Ok (word, ds) → items_depth (items_of ds) < depth d
 step_deeper at d word ds is = given (λ (s : StepWord × List Data). items_depth (items_of s.1) < depth d) (step_in at d) (word, ds) (inside_step at d) is
 
-third_within : (at : Place) (ds : List Data) → IfOk (triple_in at ds) (λ t. depth t.2 ≤ items_depth (items_of ds))
+third_within : (at : Location) (ds : List Data) → IfOk (triple_in at ds) (λ t. depth t.2 ≤ items_depth (items_of ds))
 third_within at [] = tt
 third_within at (x ∷ []) = tt
 third_within at (x ∷ y ∷ []) = tt
@@ -50,7 +50,7 @@ third_within at (x ∷ y ∷ z ∷ []) = omega arith
 third_within at (x ∷ y ∷ z ∷ w ∷ ds) = tt
 
 -- the third of three items
-pub third_no_deeper : (at : Place) (ds : List Data) (a b c : Data) → triple_in at ds ≡ Ok (a, b, c) → depth c ≤ items_depth (items_of ds)
+pub third_no_deeper : (at : Location) (ds : List Data) (a b c : Data) → triple_in at ds ≡ Ok (a, b, c) → depth c ≤ items_depth (items_of ds)
 third_no_deeper at ds a b c is = given (λ (t : Data × Data × Data). depth t.2 ≤ items_depth (items_of ds)) (triple_in at ds) (a, b, c) (third_within at ds) is
 
 member_within : (o : Ordering) (e d : Data) (n : ℕ) (found : Option Data) → (found ≡ Some d → depth d ≤ n) → match_ordering o found (Some e) found ≡ Some d → depth d ≤ max (depth e) n
@@ -64,7 +64,7 @@ member_no_deeper k no_members d is = absurd (cc)
 member_no_deeper k (member l e ms) d is = member_within (slice_cmp nat_cmp k l) e d (members_depth ms) (get_member k ms) (member_no_deeper k ms d) is
 
 -- the items of the array at a key, which may be missing
-pub array_at_no_deeper : (at : Place) (k : List ℕ) (ms : Members) (ds : List Data) → array_or_none at (get_member k ms) ≡ Ok ds → items_depth (items_of ds) ≤ members_depth ms
+pub array_at_no_deeper : (at : Location) (k : List ℕ) (ms : Members) (ds : List Data) → array_or_none at (get_member k ms) ≡ Ok ds → items_depth (items_of ds) ≤ members_depth ms
 array_at_no_deeper at k ms ds is = found (get_member k ms) (member_no_deeper k ms) is
   where
     found : (o : Option Data) → ((d : Data) → o ≡ Some d → depth d ≤ members_depth ms) → array_or_none at o ≡ Ok ds → items_depth (items_of ds) ≤ members_depth ms

@@ -1,7 +1,7 @@
 -- One more turn of a loop that reads the values of a list, and the loop's ends.
 use Rattle.std.proofs.Common.{◌≡◌, ℕ, ◌+◌, ◌<◌, ◌≤◌, ◌∙◌, List, [], ◌∷◌, ◌++◌, length, get_or, map, drop, Result, Ok, ap, sym}
 use Rattle.std.proofs.lemmas.List.{drop_more, drop_all}
-use Rattle.df_text.specs.declared.views_fault.ViewsFault.{ViewsFault}
+use Rattle.df_text.specs.declared.fault.ViewsFault.{ViewsFault}
 use Rattle.df_text.specs.Reading.{then_read, read_after}
 
 -- what is read of the next value comes first

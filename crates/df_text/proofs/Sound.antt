@@ -15,41 +15,41 @@ use Rattle.df_value.specs.declared.cell.CellType.{CellType}
 use Rattle.df_value.specs.declared.cell.CellType.TheVariants as kind
 use Rattle.df_value.specs.declared.schema.SchemaFault.{SchemaFault}
 use Rattle.df_value.specs.SchemaFaults.{schema_fault}
-use Rattle.df_table.specs.declared.kinds.How.{How}
+use Rattle.df_ops.specs.declared.kinds.How.{How}
 use Rattle.df_plan.specs.declared.plan.Plan.{Plan, Scan, Filter, Select, WithColumns, GroupBy, Join, Rolling, CumSum, Rank, the_lemmas}
-use Rattle.df_table.specs.declared.kinds.RankKind.{RankKind}
-use Rattle.df_table.specs.declared.kinds.RollKind.{RollKind}
+use Rattle.df_ops.specs.declared.kinds.RankKind.{RankKind}
+use Rattle.df_ops.specs.declared.kinds.RollKind.{RollKind}
 use Rattle.df_expr.specs.declared.expr.Expr.{Expr}
-use Rattle.df_table.specs.declared.kinds.Agg.{Agg}
+use Rattle.df_ops.specs.declared.kinds.Agg.{Agg}
 use Rattle.df_text.specs.declared.document.FrameSpec.{FrameSpec}
 use Rattle.df_text.specs.declared.document.ViewSpec.{ViewSpec}
-use Rattle.df_text.specs.declared.document.Place.{Place}
-use Rattle.df_text.specs.declared.document.Place.TheVariants as place
+use Rattle.df_text.specs.declared.document.Location.{Location}
+use Rattle.df_text.specs.declared.document.Location.TheVariants as location
 use Rattle.df_text.specs.declared.view_steps.StepWord.{StepWord}
 use Rattle.df_text.specs.declared.view_steps.StepWord.TheVariants as step_word
-use Rattle.df_text.specs.declared.views_fault.ViewsFault.{ViewsFault}
-use Rattle.df_text.specs.declared.views_fault.ViewsFault.TheVariants as fault
+use Rattle.df_text.specs.declared.fault.ViewsFault.{ViewsFault}
+use Rattle.df_text.specs.declared.fault.ViewsFault.TheVariants as fault
 use Rattle.df_text.specs.Reading.{read_each}
-use Rattle.df_text.specs.Tree.{keys_pass, text_in, array_in, table_in, first_in, only_in, pair_in, list_of, tree_of}
-use Rattle.df_text.specs.Frames.{column_of, type_of_word, entries_of_frame, unless_fault, schema_of, new_name, frame_of, frames_of}
+use Rattle.df_text.specs.Tree.{keys_pass, text_in, array_in, table_value, first_in, only_in, pair_in, list_of, tree_of}
+use Rattle.df_text.specs.Frames.{schema_column_of, type_of_word, entries_of_frame, unless_fault, schema_of, new_name, frame_of, frames_of}
 use Rattle.df_text.specs.Expressions.{expr_of}
 use Rattle.df_text.specs.RowWiseSteps.{item_of}
-use Rattle.df_text.specs.AggregateItems.{aggregate_of}
+use Rattle.df_text.specs.AggregateItems.{aggregate_item_of}
 use Rattle.df_text.specs.WindowSteps.{names_in, rank_parts, rolling_of, window_parts}
 use Rattle.df_text.specs.Sources.{found_frame, frame_named, only_source_at}
-use Rattle.df_text.specs.Steps.{step_of_word, kind_and_keys, steps_after, step_of, applied, side_of, steps_at, all_steps}
+use Rattle.df_text.specs.Steps.{step_of_word, kind_and_keys, steps_after, step_of, applied_step, side_of, steps_at, all_steps}
 use Rattle.df_text.specs.Scans.{scans_below}
-use Rattle.df_text.specs.Document.{IsDocument, is_top_key, at_most, document_of, entries_of_view, new_view_name, tables_at, tables_of, view_of, views_of}
+use Rattle.df_text.specs.Document.{IsDocument, is_top_key, at_most, document_of, entries_of_view, new_view_name, tables_at, top_tables_of, view_of, view_specs_of}
 use Rattle.df_text.proofs.ReadFacts.{then_gives, if_gives, given, all_give, each_give, length_gives}
 
 -- the three words name base types
-word_of : (a b c : Bool) (at : Place) (t : CellType) → cond a (Ok kind.Int) (cond b (Ok kind.Text) (cond c (Ok kind.Bool) (Err (fault.Word at)))) ≡ Ok t → is_base_type t ≡ true
+word_of : (a b c : Bool) (at : Location) (t : CellType) → cond a (Ok kind.Int) (cond b (Ok kind.Text) (cond c (Ok kind.Bool) (Err (fault.Word at)))) ≡ Ok t → is_base_type t ≡ true
 word_of true b c at t e = let same : kind.Int ≡ t = cc in rw (← same) refl
 word_of false true c at t e = let same : kind.Text ≡ t = cc in rw (← same) refl
 word_of false false true at t e = let same : kind.Bool ≡ t = cc in rw (← same) refl
 word_of false false false at t e = absurd (cc)
 
-column_base : (at : Place) (d : Data) → IfOk (column_of at d) (λ (c : List ℕ × CellType). is_base_type c.1 ≡ true)
+column_base : (at : Location) (d : Data) → IfOk (schema_column_of at d) (λ (c : List ℕ × CellType). is_base_type c.1 ≡ true)
 column_base at d =
     then_gives _ (array_in at d) _ (λ ds _. then_gives _ (pair_in at ds) _ (λ p _.
     then_gives _ (text_in at p.0) _ (λ name _. then_gives _ (text_in at p.1) _ (λ word _.
@@ -61,14 +61,14 @@ kept_columns index columns schema None e = cc
 
 frame_base : (before : List FrameSpec) (d : Data) → IfOk (frame_of before d) (λ (f : FrameSpec). is_base f.schema ≡ true)
 frame_base before d =
-    let at = place.Frame (length before) in
-    then_gives _ (table_in at d) _ (λ ms _. then_gives _ (entries_of_frame at ms) _ (λ entries _.
-    then_gives _ (read_each (column_of at) entries.columns) _ (λ columns are.
+    let at = location.Frame (length before) in
+    then_gives _ (table_value at d) _ (λ ms _. then_gives _ (entries_of_frame at ms) _ (λ entries _.
+    then_gives _ (read_each (schema_column_of at) entries.columns) _ (λ columns are.
     then_gives _ (schema_of (length before) columns) _ (λ schema same.
     then_gives _ (new_name at entries.name before) _ (λ name _.
     let passes : List ℕ × CellType → Bool = λ c. is_base_type c.1 in
-    let each = each_give (λ (c : List ℕ × CellType). passes c ≡ true) (column_of at) (column_base at) entries.columns in
-    let all = given (λ cs. All (λ (c : List ℕ × CellType). passes c ≡ true) cs) (read_each (column_of at) entries.columns) columns each are in
+    let each = each_give (λ (c : List ℕ × CellType). passes c ≡ true) (schema_column_of at) (column_base at) entries.columns in
+    let all = given (λ cs. All (λ (c : List ℕ × CellType). passes c ≡ true) cs) (read_each (schema_column_of at) entries.columns) columns each are in
     rw (← kept_columns (length before) columns schema (schema_fault columns) same) (list_all-from_AllPass passes columns all))))))
 
 scans-Filter : (n : ℕ) (p : Plan) (e : Expr) → scans_below n (Filter p e) ≡ scans_below n p
@@ -104,7 +104,7 @@ scans-Join n left right how keys g h = both_true _ _ _ (scans-both n left right 
 scans-Scan : (n i : ℕ) → scans_below n (Scan i) ≡ nat_lt i n
 scans-Scan n i = search (rules, the_lemmas)
 
-found_within : (at : Place) (p : FrameSpec → Bool) (frames : List FrameSpec) (o : Option ℕ) (i : ℕ) → position p frames ≡ o → found_frame at o ≡ Ok i → nat_lt i (length frames) ≡ true
+found_within : (at : Location) (p : FrameSpec → Bool) (frames : List FrameSpec) (o : Option ℕ) (i : ℕ) → position p frames ≡ o → found_frame at o ≡ Ok i → nat_lt i (length frames) ≡ true
 found_within at p [] None i is e = absurd (cc)
 found_within at p (f ∷ frames) None i is e = absurd (cc)
 found_within at p [] (Some j) i is e = absurd (cc)
@@ -114,7 +114,7 @@ found_within at p (f ∷ frames) (Some j) i is e =
     rw (← same) (grind (arith, nat_tests))
 
 -- a frame that is named is there
-named_scans : (at : Place) (frames : List FrameSpec) (name : List ℕ) (i : ℕ) → frame_named at name frames ≡ Ok i → scans_below (length frames) (Scan i) ≡ true
+named_scans : (at : Location) (frames : List FrameSpec) (name : List ℕ) (i : ℕ) → frame_named at name frames ≡ Ok i → scans_below (length frames) (Scan i) ≡ true
 named_scans at frames name i is = scans-Scan (length frames) i ∙ found_within at (λ (f : FrameSpec). bytes_eq f.name name) frames _ i refl is
 
 -- a plan that reads no other frames
@@ -126,17 +126,17 @@ either_scans frames Less r s g h = g
 either_scans frames Equal r s g h = h
 either_scans frames Greater r s g h = g
 
-rolling_scans : (at : Place) (frames : List FrameSpec) (kind : RollKind) (input : Plan) (ds : List Data) → Reads frames input → IfOk (rolling_of at kind input ds) (Reads frames)
+rolling_scans : (at : Location) (frames : List FrameSpec) (kind : RollKind) (input : Plan) (ds : List Data) → Reads frames input → IfOk (rolling_of at kind input ds) (Reads frames)
 rolling_scans at frames kind input ds h =
     then_gives _ (window_parts at ds) _ (λ w _. scans-Rolling (length frames) input w.0.0 kind w.0.1 w.1.0 w.1.1 ∙ h)
 
 mutual
-  steps_scans : (at : Place) (frames : List FrameSpec) (input : Plan) (ds : Items) → Reads frames input → IfOk (steps_after at frames input ds) (Reads frames)
+  steps_scans : (at : Location) (frames : List FrameSpec) (input : Plan) (ds : Items) → Reads frames input → IfOk (steps_after at frames input ds) (Reads frames)
   steps_scans at frames input no_items h = h
   steps_scans at frames input (item d ds) h =
       then_gives _ (step_of at frames input d) _ (λ next is. steps_scans at frames next ds (given (Reads frames) (step_of at frames input d) next (step_scans at frames input d h) is))
 
-  step_scans : (at : Place) (frames : List FrameSpec) (input : Plan) (d : Data) → Reads frames input → IfOk (step_of at frames input d) (Reads frames)
+  step_scans : (at : Location) (frames : List FrameSpec) (input : Plan) (d : Data) → Reads frames input → IfOk (step_of at frames input d) (Reads frames)
   step_scans at frames input (array (item w ds)) h =
       then_gives _ (text_in at w) _ (λ name _. then_gives _ (step_of_word at name) _ (λ word _. applied_scans at frames word input ds h))
   step_scans at frames input (array no_items) h = tt
@@ -147,7 +147,7 @@ mutual
   step_scans at frames input (datetime t) h = tt
   step_scans at frames input (table ms) h = tt
 
-  applied_scans : (at : Place) (frames : List FrameSpec) (word : StepWord) (input : Plan) (ds : Items) → Reads frames input → IfOk (applied at frames word input ds) (Reads frames)
+  applied_scans : (at : Location) (frames : List FrameSpec) (word : StepWord) (input : Plan) (ds : Items) → Reads frames input → IfOk (applied_step at frames word input ds) (Reads frames)
   applied_scans at frames step_word.Filter input ds h =
       then_gives _ (only_in at (list_of ds)) _ (λ d _. then_gives _ (expr_of at d) _ (λ e _. scans-Filter (length frames) input e ∙ h))
   applied_scans at frames step_word.Select input ds h =
@@ -156,7 +156,7 @@ mutual
       then_gives _ (read_each (item_of at) (list_of ds)) _ (λ items _. scans-WithColumns (length frames) input items ∙ h)
   applied_scans at frames step_word.GroupBy input ds h =
       then_gives _ (first_in at (list_of ds)) _ (λ k _. then_gives _ (array_in at k.0) _ (λ ks _.
-      then_gives _ (read_each (text_in at) ks) _ (λ keys _. then_gives _ (read_each (aggregate_of at) k.1) _ (λ aggregates _.
+      then_gives _ (read_each (text_in at) ks) _ (λ keys _. then_gives _ (read_each (aggregate_item_of at) k.1) _ (λ aggregates _.
       scans-GroupBy (length frames) input keys aggregates ∙ h))))
   applied_scans at frames (step_word.Rolling kind) input ds h = rolling_scans at frames kind input (list_of ds) h
   applied_scans at frames step_word.CumSum input ds h =
@@ -171,7 +171,7 @@ mutual
   applied_scans at frames step_word.Join input (item a (item b no_items)) h = tt
   applied_scans at frames step_word.Join input (item a (item b (item c (item d ds)))) h = tt
 
-  side_scans : (at : Place) (frames : List FrameSpec) (d : Data) → IfOk (side_of at frames d) (Reads frames)
+  side_scans : (at : Location) (frames : List FrameSpec) (d : Data) → IfOk (side_of at frames d) (Reads frames)
   side_scans at frames (string name) = then_gives _ (frame_named at name frames) _ (λ i is. named_scans at frames name i is)
   side_scans at frames (table ms) =
       then_gives _ (only_source_at at ms) _ (λ source _. then_gives _ (frame_named at source frames) _ (λ i is.
@@ -182,12 +182,12 @@ mutual
   side_scans at frames (boolean b) = tt
   side_scans at frames (datetime t) = tt
 
-  steps_at_scans : (at : Place) (frames : List FrameSpec) (input : Plan) (ms : Members) → Reads frames input → IfOk (steps_at at frames input ms) (Reads frames)
+  steps_at_scans : (at : Location) (frames : List FrameSpec) (input : Plan) (ms : Members) → Reads frames input → IfOk (steps_at at frames input ms) (Reads frames)
   steps_at_scans at frames input no_members h = h
   steps_at_scans at frames input (member k d ms) h =
       either_scans frames (slice_cmp nat_cmp (codes "steps") k) _ _ (steps_at_scans at frames input ms h) (all_steps_scans at frames input d h)
 
-  all_steps_scans : (at : Place) (frames : List FrameSpec) (input : Plan) (d : Data) → Reads frames input → IfOk (all_steps at frames input d) (Reads frames)
+  all_steps_scans : (at : Location) (frames : List FrameSpec) (input : Plan) (d : Data) → Reads frames input → IfOk (all_steps at frames input d) (Reads frames)
   all_steps_scans at frames input (array ds) h = steps_scans at frames input ds h
   all_steps_scans at frames input (string s) h = tt
   all_steps_scans at frames input (integer n) h = tt
@@ -198,8 +198,8 @@ mutual
 
 view_scans : (frames : List FrameSpec) (before : List ViewSpec) (d : Data) → IfOk (view_of frames before d) (λ (v : ViewSpec). Reads frames v.plan)
 view_scans frames before d =
-    let at = place.View (length before) in
-    then_gives _ (table_in at d) _ (λ ms _. then_gives _ (entries_of_view at ms) _ (λ entries _.
+    let at = location.View (length before) in
+    then_gives _ (table_value at d) _ (λ ms _. then_gives _ (entries_of_view at ms) _ (λ entries _.
     then_gives _ (new_view_name at entries.name before) _ (λ name _.
     then_gives _ (frame_named at entries.source frames) _ (λ i is.
     then_gives _ (steps_at at frames (Scan i) ms) _ (λ p are.
@@ -212,9 +212,9 @@ few_by_test false n many ds e = grind (arith, nat_tests)
 few : (n : ℕ) (many : ViewsFault) (ds : List Data) → IfOk (at_most n many ds) (λ some. length some ≤ n)
 few n many ds = few_by_test (nat_lt n (length ds)) n many ds refl
 
-few_tables : (ms : Members) → IfOk (tables_of ms) (λ t. (length t.frames ≤ 8) × (length t.views ≤ 32))
+few_tables : (ms : Members) → IfOk (top_tables_of ms) (λ t. (length t.frames ≤ 8) × (length t.views ≤ 32))
 few_tables ms =
-    if_gives _ (keys_pass is_top_key ms) _ (fault.Shape place.Top)
+    if_gives _ (keys_pass is_top_key ms) _ (fault.Shape location.Top)
     (then_gives _ (tables_at (codes "frame") ms) _ (λ frames _. then_gives _ (tables_at (codes "view") ms) _ (λ views _.
     then_gives _ (at_most 8 fault.TooManyFrames frames) _ (λ some is. then_gives _ (at_most 32 fault.TooManyViews views) _ (λ others are. (
       given (λ ds. length ds ≤ 8) (at_most 8 fault.TooManyFrames frames) some (few 8 fault.TooManyFrames frames) is,
@@ -223,16 +223,16 @@ few_tables ms =
 
 pub document_sound : (bytes : List ℕ) → IfOk (document_of bytes) (λ v. IsDocument v)
 document_sound bytes =
-    then_gives _ (tree_of bytes) _ (λ ms _. then_gives _ (tables_of ms) _ (λ tables ts.
-    then_gives _ (frames_of tables.frames) _ (λ frames fs. then_gives _ (views_of frames tables.views) _ (λ views vs.
-    let most = given (λ t. (length t.frames ≤ 8) × (length t.views ≤ 32)) (tables_of ms) tables (few_tables ms) ts in
+    then_gives _ (tree_of bytes) _ (λ ms _. then_gives _ (top_tables_of ms) _ (λ tables ts.
+    then_gives _ (frames_of tables.frames) _ (λ frames fs. then_gives _ (view_specs_of frames tables.views) _ (λ views vs.
+    let most = given (λ t. (length t.frames ≤ 8) × (length t.views ≤ 32)) (top_tables_of ms) tables (few_tables ms) ts in
     let n : length frames ≡ 0 + length tables.frames = given (λ (xs : List FrameSpec). length xs ≡ 0 + length tables.frames) (frames_of tables.frames) frames (length_gives frame_of [] tables.frames) fs in
-    let m : length views ≡ 0 + length tables.views = given (λ (xs : List ViewSpec). length xs ≡ 0 + length tables.views) (views_of frames tables.views) views (length_gives (view_of frames) [] tables.views) vs in
+    let m : length views ≡ 0 + length tables.views = given (λ (xs : List ViewSpec). length xs ≡ 0 + length tables.views) (view_specs_of frames tables.views) views (length_gives (view_of frames) [] tables.views) vs in
     record {
       few_frames = omega (arith, most.0);
       few_views = omega (arith, most.1);
       base = given (λ xs. All (λ (f : FrameSpec). is_base f.schema ≡ true) xs) (frames_of tables.frames) frames
           (all_give (λ (f : FrameSpec). is_base f.schema ≡ true) frame_of frame_base [] tables.frames (All-nil _)) fs;
-      scans = given (λ xs. All (λ (w : ViewSpec). scans_below (length frames) w.plan ≡ true) xs) (views_of frames tables.views) views
+      scans = given (λ xs. All (λ (w : ViewSpec). scans_below (length frames) w.plan ≡ true) xs) (view_specs_of frames tables.views) views
           (all_give (λ (w : ViewSpec). scans_below (length frames) w.plan ≡ true) (view_of frames) (view_scans frames) [] tables.views (All-nil _)) vs;
     }))))

@@ -3,20 +3,20 @@
 use Rattle.std.specs.Prelude.{ℕ, List, codes, Result, Ok, Err, if◌then◌else◌}
 use Rattle.std.specs.Str.{bytes_eq}
 use Rattle.toml.specs.Data.{Data}
-use Rattle.df_table.specs.declared.kinds.Agg.{Agg}
-use Rattle.df_table.specs.declared.kinds.Agg.TheVariants as agg
+use Rattle.df_ops.specs.declared.kinds.Agg.{Agg}
+use Rattle.df_ops.specs.declared.kinds.Agg.TheVariants as agg
 use Rattle.df_text.specs.declared.aggregates.AggWord.{AggWord}
 use Rattle.df_text.specs.declared.aggregates.AggWord.TheVariants as agg_word
 use Rattle.df_text.specs.declared.aggregates.ColumnWord.{ColumnWord}
 use Rattle.df_text.specs.declared.aggregates.ColumnWord.TheVariants as column_word
-use Rattle.df_text.specs.declared.document.Place.{Place}
-use Rattle.df_text.specs.declared.views_fault.ViewsFault.{ViewsFault}
-use Rattle.df_text.specs.declared.views_fault.ViewsFault.TheVariants as fault
+use Rattle.df_text.specs.declared.document.Location.{Location}
+use Rattle.df_text.specs.declared.fault.ViewsFault.{ViewsFault}
+use Rattle.df_text.specs.declared.fault.ViewsFault.TheVariants as fault
 use Rattle.df_text.specs.Reading.{then_read}
 use Rattle.df_text.specs.Tree.{text_in, array_in, first_in, only_in, none_in}
 
 -- the aggregate that a word names
-abbrev pub agg_of_word : Place → List ℕ → Result AggWord ViewsFault
+abbrev pub agg_of_word : Location → List ℕ → Result AggWord ViewsFault
 agg_of_word at w =
     if bytes_eq w (codes "len") then Ok agg_word.Len
     else if bytes_eq w (codes "count") then Ok (agg_word.Column column_word.Count)
@@ -41,15 +41,15 @@ column_agg column_word.NUnique column = agg.NUnique column
 column_agg column_word.Mean column = agg.Mean column
 
 -- an aggregate under its output's name, where these items stand after the word
-abbrev pub output_of : Place → AggWord → Data → List Data → Result (List ℕ × Agg) ViewsFault
-output_of at agg_word.Len output rest =
+abbrev pub output_and_aggregate_of : Location → AggWord → Data → List Data → Result (List ℕ × Agg) ViewsFault
+output_and_aggregate_of at agg_word.Len output rest =
     then_read (none_in at rest) (λ _. then_read (text_in at output) (λ name. Ok (name, agg.Len)))
-output_of at (agg_word.Column word) output rest =
+output_and_aggregate_of at (agg_word.Column word) output rest =
     then_read (only_in at rest) (λ c. then_read (text_in at output) (λ name.
     then_read (text_in at c) (λ column. Ok (name, column_agg word column))))
 
 -- an array of an output's name, the word of an aggregate, and its column if the aggregate takes one
-abbrev pub aggregate_of : Place → Data → Result (List ℕ × Agg) ViewsFault
-aggregate_of at d =
+abbrev pub aggregate_item_of : Location → Data → Result (List ℕ × Agg) ViewsFault
+aggregate_item_of at d =
     then_read (array_in at d) (λ ds. then_read (first_in at ds) (λ o. then_read (first_in at o.1) (λ w.
-    then_read (text_in at w.0) (λ word. then_read (agg_of_word at word) (λ a. output_of at a o.0 w.1)))))
+    then_read (text_in at w.0) (λ word. then_read (agg_of_word at word) (λ a. output_and_aggregate_of at a o.0 w.1)))))

@@ -8,12 +8,12 @@ use Rattle.df_plan.specs.declared.plan.Plan.TheVariants as plan
 use Rattle.df_text.specs.declared.document.FrameSpec.{FrameSpec}
 use Rattle.df_text.specs.declared.document.ViewSpec.{ViewSpec}
 use Rattle.df_text.specs.declared.document.Views.{Views}
-use Rattle.df_text.specs.declared.document.Place.{Place}
-use Rattle.df_text.specs.declared.document.Place.TheVariants as place
-use Rattle.df_text.specs.declared.views_fault.ViewsFault.{ViewsFault}
-use Rattle.df_text.specs.declared.views_fault.ViewsFault.TheVariants as fault
+use Rattle.df_text.specs.declared.document.Location.{Location}
+use Rattle.df_text.specs.declared.document.Location.TheVariants as location
+use Rattle.df_text.specs.declared.fault.ViewsFault.{ViewsFault}
+use Rattle.df_text.specs.declared.fault.ViewsFault.TheVariants as fault
 use Rattle.df_text.specs.Reading.{then_read, read_after}
-use Rattle.df_text.specs.Tree.{tree_of, keys_pass, value_at, text_in, table_in}
+use Rattle.df_text.specs.Tree.{tree_of, keys_pass, value_at, text_in, table_value}
 use Rattle.df_text.specs.Frames.{frames_of}
 use Rattle.df_text.specs.Sources.{array_or_none, source_at, frame_named}
 use Rattle.df_text.specs.Steps.{steps_at}
@@ -28,7 +28,7 @@ pub record ViewEntries : Type 0 where
   pub source : List ℕ
 
 -- its name, what a table has that begins with a frame, and no other key (a fault in any of these is the same one)
-abbrev pub entries_of_view : Place → Members → Result ViewEntries ViewsFault
+abbrev pub entries_of_view : Location → Members → Result ViewEntries ViewsFault
 entries_of_view at ms =
     if keys_pass is_view_key ms then
     then_read (value_at at (codes "name") ms) (λ n. then_read (text_in at n) (λ name.
@@ -36,21 +36,21 @@ entries_of_view at ms =
     else Err (fault.Shape at)
 
 -- a name that none of these views has
-abbrev pub new_view_name : Place → List ℕ → List ViewSpec → Result (List ℕ) ViewsFault
+abbrev pub new_view_name : Location → List ℕ → List ViewSpec → Result (List ℕ) ViewsFault
 new_view_name at name views = if list_any (λ (v : ViewSpec). bytes_eq v.name name) views then Err (fault.Doubled at) else Ok name
 
 -- a view over these frames, after the views that stand before it
 abbrev pub view_of : List FrameSpec → List ViewSpec → Data → Result ViewSpec ViewsFault
 view_of frames before d =
-    let at = place.View (length before) in
-    then_read (table_in at d) (λ ms. then_read (entries_of_view at ms) (λ entries.
+    let at = location.View (length before) in
+    then_read (table_value at d) (λ ms. then_read (entries_of_view at ms) (λ entries.
     then_read (new_view_name at entries.name before) (λ name.
     then_read (frame_named at entries.source frames) (λ index.
     then_read (steps_at at frames (plan.Scan index) ms) (λ p.
     Ok (record { name = name; plan = p }))))))
 
-abbrev pub views_of : List FrameSpec → List Data → Result (List ViewSpec) ViewsFault
-views_of frames ds = read_after (view_of frames) [] ds
+abbrev pub view_specs_of : List FrameSpec → List Data → Result (List ViewSpec) ViewsFault
+view_specs_of frames ds = read_after (view_of frames) [] ds
 
 abbrev pub is_top_key : List ℕ → Bool
 is_top_key k = bytes_eq k (codes "frame") || bytes_eq k (codes "view")
@@ -59,12 +59,12 @@ abbrev pub is_table : Data → Bool
 is_table (table ms) = true
 is_table _ = false
 
-abbrev pub all_tables : Place → List Data → Result (List Data) ViewsFault
+abbrev pub all_tables : Location → List Data → Result (List Data) ViewsFault
 all_tables at ds = if list_all is_table ds then Ok ds else Err (fault.Shape at)
 
 -- the array of tables at a key of the top; a missing one is empty
 abbrev pub tables_at : List ℕ → Members → Result (List Data) ViewsFault
-tables_at key ms = then_read (array_or_none place.Top (get_member key ms)) (all_tables place.Top)
+tables_at key ms = then_read (array_or_none location.Top (get_member key ms)) (all_tables location.Top)
 
 abbrev pub at_most : ℕ → ViewsFault → List Data → Result (List Data) ViewsFault
 at_most n many ds = if nat_lt n (length ds) then Err many else Ok ds
@@ -74,19 +74,19 @@ pub record Tables : Type 0 where
   pub frames : List Data
   pub views : List Data
 
-abbrev pub tables_of : Members → Result Tables ViewsFault
-tables_of ms =
+abbrev pub top_tables_of : Members → Result Tables ViewsFault
+top_tables_of ms =
     if keys_pass is_top_key ms then
     then_read (tables_at (codes "frame") ms) (λ frames. then_read (tables_at (codes "view") ms) (λ views.
     then_read (at_most 8 fault.TooManyFrames frames) (λ few. then_read (at_most 32 fault.TooManyViews views) (λ some.
     Ok (record { frames = few; views = some })))))
-    else Err (fault.Shape place.Top)
+    else Err (fault.Shape location.Top)
 
 -- what bytes say as a view document
 abbrev pub document_of : List ℕ → Result Views ViewsFault
 document_of bytes =
-    then_read (tree_of bytes) (λ ms. then_read (tables_of ms) (λ tables.
-    then_read (frames_of tables.frames) (λ frames. then_read (views_of frames tables.views) (λ views.
+    then_read (tree_of bytes) (λ ms. then_read (top_tables_of ms) (λ tables.
+    then_read (frames_of tables.frames) (λ frames. then_read (view_specs_of frames tables.views) (λ views.
     Ok (record { frames = frames; views = views })))))
 
 -- among what every document that is read keeps to: few frames and views, columns of base types, and plans that

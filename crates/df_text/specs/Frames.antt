@@ -11,25 +11,25 @@ use Rattle.df_value.specs.SchemaFaults.{schema_fault}
 use Rattle.df_text.specs.declared.document.FrameSpec.{FrameSpec}
 use Rattle.df_text.specs.declared.document.FrameSource.{FrameSource}
 use Rattle.df_text.specs.declared.document.FrameSource.TheVariants as source
-use Rattle.df_text.specs.declared.document.Place.{Place}
-use Rattle.df_text.specs.declared.document.Place.TheVariants as place
-use Rattle.df_text.specs.declared.views_fault.ViewsFault.{ViewsFault}
-use Rattle.df_text.specs.declared.views_fault.ViewsFault.TheVariants as fault
+use Rattle.df_text.specs.declared.document.Location.{Location}
+use Rattle.df_text.specs.declared.document.Location.TheVariants as location
+use Rattle.df_text.specs.declared.fault.ViewsFault.{ViewsFault}
+use Rattle.df_text.specs.declared.fault.ViewsFault.TheVariants as fault
 use Rattle.df_text.specs.Reading.{then_read, read_after, read_each}
-use Rattle.df_text.specs.Tree.{keys_pass, value_at, text_in, array_in, table_in, pair_in}
+use Rattle.df_text.specs.Tree.{keys_pass, value_at, text_in, array_in, table_value, pair_in}
 
 abbrev pub is_frame_key : List ℕ → Bool
 is_frame_key k =
     bytes_eq k (codes "name") || (bytes_eq k (codes "columns") || (bytes_eq k (codes "path") || bytes_eq k (codes "text")))
 
 -- where the records come from, by what stands at `path` and at `text`: one of them is there, and is a text
-abbrev pub one_source : Place → Option Data → Option Data → Result FrameSource ViewsFault
+abbrev pub one_source : Location → Option Data → Option Data → Result FrameSource ViewsFault
 one_source at (Some p) None = then_read (text_in at p) (λ path. Ok (source.Path path))
 one_source at None (Some t) = then_read (text_in at t) (λ text. Ok (source.Text text))
 one_source at (Some p) (Some t) = Err (fault.Shape at)
 one_source at None None = Err (fault.Shape at)
 
-abbrev pub source_of : Place → Members → Result FrameSource ViewsFault
+abbrev pub source_of : Location → Members → Result FrameSource ViewsFault
 source_of at ms = one_source at (get_member (codes "path") ms) (get_member (codes "text") ms)
 
 -- what stands at the keys of a frame
@@ -39,7 +39,7 @@ pub record FrameEntries : Type 0 where
   pub source : FrameSource
 
 -- the keys of a frame and no other, each with a value of its kind (a fault in any of these is the same one)
-abbrev pub entries_of_frame : Place → Members → Result FrameEntries ViewsFault
+abbrev pub entries_of_frame : Location → Members → Result FrameEntries ViewsFault
 entries_of_frame at ms =
     if keys_pass is_frame_key ms then
     then_read (value_at at (codes "name") ms) (λ n. then_read (text_in at n) (λ name.
@@ -48,7 +48,7 @@ entries_of_frame at ms =
     else Err (fault.Shape at)
 
 -- the type that a word names
-abbrev pub type_of_word : Place → List ℕ → Result CellType ViewsFault
+abbrev pub type_of_word : Location → List ℕ → Result CellType ViewsFault
 type_of_word at w =
     if bytes_eq w (codes "Int") then Ok kind.Int
     else if bytes_eq w (codes "Text") then Ok kind.Text
@@ -56,8 +56,8 @@ type_of_word at w =
     else Err (fault.Word at)
 
 -- an array of two texts, a name and the word of a type
-abbrev pub column_of : Place → Data → Result (List ℕ × CellType) ViewsFault
-column_of at d =
+abbrev pub schema_column_of : Location → Data → Result (List ℕ × CellType) ViewsFault
+schema_column_of at d =
     then_read (array_in at d) (λ ds. then_read (pair_in at ds) (λ p.
     then_read (text_in at p.0) (λ name. then_read (text_in at p.1) (λ word.
     then_read (type_of_word at word) (λ t. Ok (name, t))))))
@@ -71,15 +71,15 @@ abbrev pub schema_of : ℕ → List (List ℕ × CellType) → Result (List (Lis
 schema_of index columns = unless_fault index columns (schema_fault columns)
 
 -- a name that none of these frames has
-abbrev pub new_name : Place → List ℕ → List FrameSpec → Result (List ℕ) ViewsFault
+abbrev pub new_name : Location → List ℕ → List FrameSpec → Result (List ℕ) ViewsFault
 new_name at name frames = if list_any (λ (f : FrameSpec). bytes_eq f.name name) frames then Err (fault.Doubled at) else Ok name
 
 -- a frame after those that stand before it
 abbrev pub frame_of : List FrameSpec → Data → Result FrameSpec ViewsFault
 frame_of before d =
-    let at = place.Frame (length before) in
-    then_read (table_in at d) (λ ms. then_read (entries_of_frame at ms) (λ entries.
-    then_read (read_each (column_of at) entries.columns) (λ columns.
+    let at = location.Frame (length before) in
+    then_read (table_value at d) (λ ms. then_read (entries_of_frame at ms) (λ entries.
+    then_read (read_each (schema_column_of at) entries.columns) (λ columns.
     then_read (schema_of (length before) columns) (λ schema.
     then_read (new_name at entries.name before) (λ name.
     Ok (record { name = name; schema = schema; source = entries.source }))))))

@@ -1,7 +1,7 @@
 -- Reading with faults: one reading after another, and a list from left to right. The first fault is the answer.
 use Rattle.std.specs.Prelude.{◌≡◌, ◌≢◌, List, [], ◌∷◌, ◌++◌, Result, Ok, Err, MatchResult}
-use Rattle.df_text.specs.declared.views_fault.ViewsFault.{ViewsFault}
-use Rattle.df_text.specs.declared.views_fault.ViewsFault.TheVariants as fault
+use Rattle.df_text.specs.declared.fault.ViewsFault.{ViewsFault}
+use Rattle.df_text.specs.declared.fault.ViewsFault.TheVariants as fault
 
 -- the call answers what is wanted, unless it answers that memory was refused
 abbrev pub Answers : {A : Type 0} → Result A ViewsFault → Result A ViewsFault → Type 0

@@ -5,26 +5,26 @@ use Rattle.std.specs.Ordering.{nat_cmp, match_ordering}
 use Rattle.std.specs.Cmp.Lexicographic.{slice_cmp}
 use Rattle.std.specs.Str.{bytes_eq}
 use Rattle.toml.specs.Data.{Data, string, array, table, Items, no_items, item, Members, no_members, member}
-use Rattle.df_table.specs.declared.kinds.How.{How}
-use Rattle.df_table.specs.declared.kinds.How.TheVariants as how
+use Rattle.df_ops.specs.declared.kinds.How.{How}
+use Rattle.df_ops.specs.declared.kinds.How.TheVariants as how
 use Rattle.df_plan.specs.declared.plan.Plan.{Plan}
 use Rattle.df_plan.specs.declared.plan.Plan.TheVariants as plan
-use Rattle.df_table.specs.declared.kinds.RollKind.TheVariants as roll
+use Rattle.df_ops.specs.declared.kinds.RollKind.TheVariants as roll
 use Rattle.df_text.specs.declared.view_steps.StepWord.{StepWord}
 use Rattle.df_text.specs.declared.view_steps.StepWord.TheVariants as step_word
 use Rattle.df_text.specs.declared.document.FrameSpec.{FrameSpec}
-use Rattle.df_text.specs.declared.document.Place.{Place}
-use Rattle.df_text.specs.declared.views_fault.ViewsFault.{ViewsFault}
-use Rattle.df_text.specs.declared.views_fault.ViewsFault.TheVariants as fault
+use Rattle.df_text.specs.declared.document.Location.{Location}
+use Rattle.df_text.specs.declared.fault.ViewsFault.{ViewsFault}
+use Rattle.df_text.specs.declared.fault.ViewsFault.TheVariants as fault
 use Rattle.df_text.specs.Reading.{then_read, read_each}
 use Rattle.df_text.specs.Tree.{text_in, array_in, first_in, list_of}
-use Rattle.df_text.specs.AggregateItems.{aggregate_of}
+use Rattle.df_text.specs.AggregateItems.{aggregate_item_of}
 use Rattle.df_text.specs.RowWiseSteps.{filter_of, select_of, with_columns_of}
 use Rattle.df_text.specs.WindowSteps.{rolling_of, cum_sum_of, rank_of}
 use Rattle.df_text.specs.Sources.{only_source_at, frame_named}
 
 -- the step that a word names
-abbrev pub step_of_word : Place → List ℕ → Result StepWord ViewsFault
+abbrev pub step_of_word : Location → List ℕ → Result StepWord ViewsFault
 step_of_word at w =
     if bytes_eq w (codes "filter") then Ok step_word.Filter
     else if bytes_eq w (codes "select") then Ok step_word.Select
@@ -39,70 +39,70 @@ step_of_word at w =
     else Err (fault.Word at)
 
 -- an array of key names, and then any number of aggregates
-abbrev pub group_by_of : Place → Plan → List Data → Result Plan ViewsFault
+abbrev pub group_by_of : Location → Plan → List Data → Result Plan ViewsFault
 group_by_of at input ds =
     then_read (first_in at ds) (λ k. then_read (array_in at k.0) (λ ks.
-    then_read (read_each (text_in at) ks) (λ keys. then_read (read_each (aggregate_of at) k.1) (λ aggregates.
+    then_read (read_each (text_in at) ks) (λ keys. then_read (read_each (aggregate_item_of at) k.1) (λ aggregates.
     Ok (plan.GroupBy input keys aggregates)))))
 
 -- the kind of join that a word names
-abbrev pub kind_of_word : Place → List ℕ → Result How ViewsFault
+abbrev pub kind_of_word : Location → List ℕ → Result How ViewsFault
 kind_of_word at w =
     if bytes_eq w (codes "inner") then Ok how.Inner
     else if bytes_eq w (codes "left") then Ok how.Left
     else Err (fault.Word at)
 
 -- the kind of a join, and then an array of key names
-abbrev pub kind_and_keys : Place → Data → Data → Result (How × List (List ℕ)) ViewsFault
+abbrev pub kind_and_keys : Location → Data → Data → Result (How × List (List ℕ)) ViewsFault
 kind_and_keys at kind keys =
     then_read (text_in at kind) (λ w. then_read (kind_of_word at w) (λ h.
     then_read (array_in at keys) (λ ks. then_read (read_each (text_in at) ks) (λ names. Ok (h, names)))))
 
 -- the step that a value names, with the items after its word as a list (as `step_of` reads it)
-abbrev pub step_in : Place → Data → Result (StepWord × List Data) ViewsFault
+abbrev pub step_in : Location → Data → Result (StepWord × List Data) ViewsFault
 step_in at d =
     then_read (array_in at d) (λ ds. then_read (first_in at ds) (λ s. then_read (text_in at s.0) (λ w.
     then_read (step_of_word at w) (λ word. Ok (word, s.1)))))
 
 abbrev mutual
   -- the plan after all steps, in order
-  pub steps_after : Place → List FrameSpec → Plan → Items → Result Plan ViewsFault
+  pub steps_after : Location → List FrameSpec → Plan → Items → Result Plan ViewsFault
   steps_after at frames input no_items = Ok input
   steps_after at frames input (item d ds) = then_read (step_of at frames input d) (λ next. steps_after at frames next ds)
 
   -- the plan after a step
-  pub step_of : Place → List FrameSpec → Plan → Data → Result Plan ViewsFault
+  pub step_of : Location → List FrameSpec → Plan → Data → Result Plan ViewsFault
   step_of at frames input (array (item w ds)) =
-      then_read (text_in at w) (λ name. then_read (step_of_word at name) (λ word. applied at frames word input ds))
+      then_read (text_in at w) (λ name. then_read (step_of_word at name) (λ word. applied_step at frames word input ds))
   step_of at frames input _ = Err (fault.Shape at)
 
   -- the plan after a step of this word, with the items after the word
-  pub applied : Place → List FrameSpec → StepWord → Plan → Items → Result Plan ViewsFault
-  applied at frames step_word.Filter input ds = filter_of at input (list_of ds)
-  applied at frames step_word.Select input ds = select_of at input (list_of ds)
-  applied at frames step_word.WithColumns input ds = with_columns_of at input (list_of ds)
-  applied at frames step_word.GroupBy input ds = group_by_of at input (list_of ds)
-  applied at frames (step_word.Rolling kind) input ds = rolling_of at kind input (list_of ds)
-  applied at frames step_word.CumSum input ds = cum_sum_of at input (list_of ds)
-  applied at frames step_word.Rank input ds = rank_of at input (list_of ds)
-  applied at frames step_word.Join input (item kind (item keys (item right no_items))) =
+  pub applied_step : Location → List FrameSpec → StepWord → Plan → Items → Result Plan ViewsFault
+  applied_step at frames step_word.Filter input ds = filter_of at input (list_of ds)
+  applied_step at frames step_word.Select input ds = select_of at input (list_of ds)
+  applied_step at frames step_word.WithColumns input ds = with_columns_of at input (list_of ds)
+  applied_step at frames step_word.GroupBy input ds = group_by_of at input (list_of ds)
+  applied_step at frames (step_word.Rolling kind) input ds = rolling_of at kind input (list_of ds)
+  applied_step at frames step_word.CumSum input ds = cum_sum_of at input (list_of ds)
+  applied_step at frames step_word.Rank input ds = rank_of at input (list_of ds)
+  applied_step at frames step_word.Join input (item kind (item keys (item right no_items))) =
       then_read (kind_and_keys at kind keys) (λ h. then_read (side_of at frames right) (λ p. Ok (plan.Join input p h.0 h.1)))
-  applied at frames step_word.Join input _ = Err (fault.Shape at)
+  applied_step at frames step_word.Join input _ = Err (fault.Shape at)
 
   -- the plan of a right side: a frame's name, or a table that begins with a frame
-  pub side_of : Place → List FrameSpec → Data → Result Plan ViewsFault
+  pub side_of : Location → List FrameSpec → Data → Result Plan ViewsFault
   side_of at frames (string name) = then_read (frame_named at name frames) (λ i. Ok (plan.Scan i))
   side_of at frames (table ms) =
       then_read (only_source_at at ms) (λ source. then_read (frame_named at source frames) (λ i. steps_at at frames (plan.Scan i) ms))
   side_of at frames _ = Err (fault.Shape at)
 
   -- the plan after the steps at the key `steps`; without that key it is the plan before
-  pub steps_at : Place → List FrameSpec → Plan → Members → Result Plan ViewsFault
+  pub steps_at : Location → List FrameSpec → Plan → Members → Result Plan ViewsFault
   steps_at at frames input no_members = Ok input
   steps_at at frames input (member k d ms) =
       match_ordering (slice_cmp nat_cmp (codes "steps") k) (steps_at at frames input ms) (all_steps at frames input d) (steps_at at frames input ms)
 
   -- the plan after the steps of an array
-  pub all_steps : Place → List FrameSpec → Plan → Data → Result Plan ViewsFault
+  pub all_steps : Location → List FrameSpec → Plan → Data → Result Plan ViewsFault
   all_steps at frames input (array ds) = steps_after at frames input ds
   all_steps at frames input _ = Err (fault.Shape at)

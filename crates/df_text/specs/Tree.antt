@@ -7,9 +7,9 @@ use Rattle.toml.specs.Parse.{parse_document}
 use Rattle.toml.specs.View.{table_view}
 use Rattle.toml.specs.declared.value.Value.{Value}
 use Rattle.toml.specs.Data.{Data, string, array, table, Items, no_items, item, Members, no_members, member, get_member}
-use Rattle.df_text.specs.declared.document.Place.{Place}
-use Rattle.df_text.specs.declared.views_fault.ViewsFault.{ViewsFault}
-use Rattle.df_text.specs.declared.views_fault.ViewsFault.TheVariants as fault
+use Rattle.df_text.specs.declared.document.Location.{Location}
+use Rattle.df_text.specs.declared.fault.ViewsFault.{ViewsFault}
+use Rattle.df_text.specs.declared.fault.ViewsFault.TheVariants as fault
 
 abbrev pub parsed : Option Members → Result Members ViewsFault
 parsed (Some ms) = Ok ms
@@ -29,51 +29,51 @@ keys_pass p no_members = true
 keys_pass p (member k d ms) = p k && keys_pass p ms
 
 -- what must be there
-abbrev pub required : {A : Type 0} → Place → Option A → Result A ViewsFault
-required place (Some x) = Ok x
-required place None = Err (fault.Shape place)
+abbrev pub required : {A : Type 0} → Location → Option A → Result A ViewsFault
+required location (Some x) = Ok x
+required location None = Err (fault.Shape location)
 
 -- the value at a key that must be there
-abbrev pub value_at : Place → List ℕ → Members → Result Data ViewsFault
-value_at place key ms = required place (get_member key ms)
+abbrev pub value_at : Location → List ℕ → Members → Result Data ViewsFault
+value_at location key ms = required location (get_member key ms)
 
-abbrev pub text_in : Place → Data → Result (List ℕ) ViewsFault
-text_in place (string s) = Ok s
-text_in place _ = Err (fault.Shape place)
+abbrev pub text_in : Location → Data → Result (List ℕ) ViewsFault
+text_in location (string s) = Ok s
+text_in location _ = Err (fault.Shape location)
 
 unfoldable pub list_of : Items → List Data
 list_of no_items = []
 list_of (item d ds) = d ∷ list_of ds
 
-abbrev pub array_in : Place → Data → Result (List Data) ViewsFault
-array_in place (array ds) = Ok (list_of ds)
-array_in place _ = Err (fault.Shape place)
+abbrev pub array_in : Location → Data → Result (List Data) ViewsFault
+array_in location (array ds) = Ok (list_of ds)
+array_in location _ = Err (fault.Shape location)
 
-abbrev pub table_in : Place → Data → Result Members ViewsFault
-table_in place (table ms) = Ok ms
-table_in place _ = Err (fault.Shape place)
+abbrev pub table_value : Location → Data → Result Members ViewsFault
+table_value location (table ms) = Ok ms
+table_value location _ = Err (fault.Shape location)
 
 -- the first item, and those after it
-abbrev pub first_in : Place → List Data → Result (Data × List Data) ViewsFault
-first_in place (d ∷ ds) = Ok (d, ds)
-first_in place [] = Err (fault.Shape place)
+abbrev pub first_in : Location → List Data → Result (Data × List Data) ViewsFault
+first_in location (d ∷ ds) = Ok (d, ds)
+first_in location [] = Err (fault.Shape location)
 
 -- the item of an array of one
-abbrev pub only_in : Place → List Data → Result Data ViewsFault
-only_in place (d ∷ []) = Ok d
-only_in place _ = Err (fault.Shape place)
+abbrev pub only_in : Location → List Data → Result Data ViewsFault
+only_in location (d ∷ []) = Ok d
+only_in location _ = Err (fault.Shape location)
 
 -- the items of an array of two
-abbrev pub pair_in : Place → List Data → Result (Data × Data) ViewsFault
-pair_in place (d ∷ e ∷ []) = Ok (d, e)
-pair_in place _ = Err (fault.Shape place)
+abbrev pub pair_in : Location → List Data → Result (Data × Data) ViewsFault
+pair_in location (d ∷ e ∷ []) = Ok (d, e)
+pair_in location _ = Err (fault.Shape location)
 
 -- the items of an array of three
-abbrev pub triple_in : Place → List Data → Result (Data × Data × Data) ViewsFault
-triple_in place (d ∷ e ∷ f ∷ []) = Ok (d, e, f)
-triple_in place _ = Err (fault.Shape place)
+abbrev pub triple_in : Location → List Data → Result (Data × Data × Data) ViewsFault
+triple_in location (d ∷ e ∷ f ∷ []) = Ok (d, e, f)
+triple_in location _ = Err (fault.Shape location)
 
 -- nothing more
-abbrev pub none_in : Place → List Data → Result (Unit {0}) ViewsFault
-none_in place [] = Ok tt
-none_in place _ = Err (fault.Shape place)
+abbrev pub none_in : Location → List Data → Result (Unit {0}) ViewsFault
+none_in location [] = Ok tt
+none_in location _ = Err (fault.Shape location)

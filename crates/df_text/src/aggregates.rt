@@ -2,11 +2,12 @@
 ghost use Rattle.std.specs.Prelude.{◌≡◌, map, codes};
 ghost use Rattle.toml.specs.View.{view};
 ghost use Rattle.df_text.specs.Reading.{Answers, read_each};
-ghost use Rattle.df_text.specs.AggregateItems.{agg_of_word, column_agg as agg_of_column, output_of, aggregate_of};
+ghost use Rattle.df_text.specs.AggregateItems as aggregate_items;
+ghost use Rattle.df_text.specs.AggregateItems.{agg_of_word, output_and_aggregate_of, aggregate_item_of};
 
-use crate::document::Place;
+use crate::document::Location;
+use crate::fault::ViewsFault;
 use crate::tree::{array_in, first_in, none_in, only_in, text_in};
-use crate::views_fault::ViewsFault;
 use df_plan::Agg;
 use df_value::{List, Text};
 use std::alloc::Global;
@@ -35,32 +36,36 @@ pub enum ColumnWord {
 /// The aggregates of a grouping, from left to right.
 pub fn read_aggregates(
     alloc: Global,
-    place: Place,
+    location: Location,
     values: &[Value],
 ) -> Result<List<(Text, Agg)>, ViewsFault>
-    ensures { Answers (read_each (aggregate_of place) (map view values.now)) result }
+    ensures { Answers (read_each (aggregate_item_of location) (map view values.now)) result }
 {
     let mut aggregates = Vec::new(alloc);
     for value in values {
-        let aggregate = read_aggregate(alloc, place, value)?;
+        let aggregate = read_aggregate(alloc, location, value)?;
         aggregates.push(aggregate)?;
     }
     Ok(List::from_vec(aggregates))
 }
 
 /// An aggregate and the name of its output.
-fn read_aggregate(alloc: Global, place: Place, value: &Value) -> Result<(Text, Agg), ViewsFault>
-    ensures { Answers (aggregate_of place (view value.now)) result }
+fn read_aggregate(
+    alloc: Global,
+    location: Location,
+    value: &Value,
+) -> Result<(Text, Agg), ViewsFault>
+    ensures { Answers (aggregate_item_of location (view value.now)) result }
 {
-    let (output, rest) = first_in(place, array_in(place, value)?)?;
-    let (word, rest) = first_in(place, rest)?;
-    let word = agg_named(place, text_in(place, word)?)?;
-    read_output(alloc, place, word, output, rest)
+    let (output, rest) = first_in(location, array_in(location, value)?)?;
+    let (word, rest) = first_in(location, rest)?;
+    let word = agg_named(location, text_in(location, word)?)?;
+    read_output(alloc, location, word, output, rest)
 }
 
 /// The aggregate that a word names.
-fn agg_named(place: Place, word: &str) -> Result<AggWord, ViewsFault>
-    ensures { result ≡ agg_of_word place word.now }
+fn agg_named(location: Location, word: &str) -> Result<AggWord, ViewsFault>
+    ensures { result ≡ agg_of_word location word.now }
 {
     match word {
         "len" => Ok(AggWord::Len),
@@ -72,30 +77,30 @@ fn agg_named(place: Place, word: &str) -> Result<AggWord, ViewsFault>
         "last" => Ok(AggWord::Column(ColumnWord::Last)),
         "n_unique" => Ok(AggWord::Column(ColumnWord::NUnique)),
         "mean" => Ok(AggWord::Column(ColumnWord::Mean)),
-        _ => Err(ViewsFault::Word(place)),
+        _ => Err(ViewsFault::Word(location)),
     }
 }
 
 /// An aggregate of this word, with the items after the word.
 fn read_output(
     alloc: Global,
-    place: Place,
+    location: Location,
     word: AggWord,
     output: &Value,
     rest: &[Value],
 ) -> Result<(Text, Agg), ViewsFault>
-    ensures { Answers (output_of place word (view output.now) (map view rest.now)) result }
+    ensures { Answers (output_and_aggregate_of location word (view output.now) (map view rest.now)) result }
 {
     match word {
         AggWord::Len => {
-            none_in(place, rest)?;
-            let output = text_in(place, output)?;
+            none_in(location, rest)?;
+            let output = text_in(location, output)?;
             Ok((Text::from_str(alloc, output)?, Agg::Len))
         }
         AggWord::Column(word) => {
-            let column = only_in(place, rest)?;
-            let output = text_in(place, output)?;
-            let column = text_in(place, column)?;
+            let column = only_in(location, rest)?;
+            let output = text_in(location, output)?;
+            let column = text_in(location, column)?;
             let output = Text::from_str(alloc, output)?;
             Ok((output, column_agg(word, Text::from_str(alloc, column)?)))
         }
@@ -103,7 +108,7 @@ fn read_output(
 }
 
 fn column_agg(word: ColumnWord, column: Text) -> Agg
-    ensures { result ≡ agg_of_column word column }
+    ensures { result ≡ aggregate_items.column_agg word column }
 {
     match word {
         ColumnWord::Count => Agg::Count(column),

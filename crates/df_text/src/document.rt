@@ -35,7 +35,7 @@ pub struct ViewSpec {
 
 /// The part of a document that a fault is in.
 #[derive(Clone, Copy, Debug, PartialEq, Eq)]
-pub enum Place {
+pub enum Location {
     /// The table of the whole document.
     Top,
     /// The frame of this index, from 0.

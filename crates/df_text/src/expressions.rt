@@ -2,12 +2,12 @@
 ghost use Rattle.std.specs.Prelude.{◌≡◌, map, codes};
 ghost use Rattle.toml.specs.View.{items_of, view};
 ghost use Rattle.df_text.specs.Reading.{Answers};
-ghost use Rattle.df_text.specs.Expressions.{form_of_word, unary_of, binary_of, with_operand, with_operands, column_of, null_of, word_of, expr_of, form_of};
+ghost use Rattle.df_text.specs.Expressions.{form_of_word, unary_expr_of, binary_expr_of, with_operand, with_operands, column_expr_of, null_of, word_of, expr_of, form_of};
 
-use crate::document::Place;
+use crate::document::Location;
+use crate::fault::ViewsFault;
 use crate::frames::type_named;
 use crate::tree::text_in;
-use crate::views_fault::ViewsFault;
 use df_expr::{ArithOp, CompareOp, Expr};
 use df_value::{Boxed, Cell, CellType, Text};
 use std::alloc::Global;
@@ -43,8 +43,8 @@ pub enum BinaryWord {
 
 /// The expression that a value says.
 #[cycle(expressions)]
-pub fn read_expr(alloc: Global, place: Place, value: &Value) -> Result<Expr, ViewsFault>
-    ensures { Answers (expr_of place (view value.now)) result }
+pub fn read_expr(alloc: Global, location: Location, value: &Value) -> Result<Expr, ViewsFault>
+    ensures { Answers (expr_of location (view value.now)) result }
 {
     match value {
         Value::Integer(n) => Ok(Expr::Literal(Cell::Int(*n), CellType::Int)),
@@ -54,10 +54,10 @@ pub fn read_expr(alloc: Global, place: Place, value: &Value) -> Result<Expr, Vie
             Ok(Expr::Literal(Cell::Text(text), CellType::Text))
         }
         Value::Array(items) => {
-            let word = word_in(place, items.as_slice())?;
-            read_form(alloc, place, word, items.as_slice())
+            let word = word_in(location, items.as_slice())?;
+            read_form(alloc, location, word, items.as_slice())
         }
-        _ => Err(ViewsFault::Shape(place)),
+        _ => Err(ViewsFault::Shape(location)),
     }
 }
 
@@ -65,30 +65,35 @@ pub fn read_expr(alloc: Global, place: Place, value: &Value) -> Result<Expr, Vie
 #[cycle(expressions)]
 fn read_form(
     alloc: Global,
-    place: Place,
+    location: Location,
     word: ExprWord,
     items: &[Value],
 ) -> Result<Expr, ViewsFault>
-    ensures { Answers (form_of place word (items_of (map view items.now))) result }
+    ensures { Answers (form_of location word (items_of (map view items.now))) result }
 {
     match (word, items) {
-        (ExprWord::Column, [_word, name]) => read_column(alloc, place, name),
-        (ExprWord::Null, [_word, kind]) => read_null(place, kind),
-        (ExprWord::Unary(op), [_word, a]) => read_unary(alloc, place, op, a),
-        (ExprWord::Binary(op), [_word, a, b]) => match read_boxed(alloc, place, a) {
-            Ok(a) => read_binary(alloc, place, b, op, a),
+        (ExprWord::Column, [_word, name]) => read_column(alloc, location, name),
+        (ExprWord::Null, [_word, kind]) => read_null(location, kind),
+        (ExprWord::Unary(op), [_word, a]) => read_unary(alloc, location, op, a),
+        (ExprWord::Binary(op), [_word, a, b]) => match read_boxed(alloc, location, a) {
+            Ok(a) => read_binary(alloc, location, b, op, a),
             Err(fault) => Err(fault),
         },
-        _ => Err(ViewsFault::Shape(place)),
+        _ => Err(ViewsFault::Shape(location)),
     }
 }
 
 /// A word and its operand.
 #[cycle(expressions)]
-fn read_unary(alloc: Global, place: Place, op: UnaryWord, a: &Value) -> Result<Expr, ViewsFault>
-    ensures { Answers (with_operand op (expr_of place (view a.now))) result }
+fn read_unary(
+    alloc: Global,
+    location: Location,
+    op: UnaryWord,
+    a: &Value,
+) -> Result<Expr, ViewsFault>
+    ensures { Answers (with_operand op (expr_of location (view a.now))) result }
 {
-    Ok(unary(op, read_boxed(alloc, place, a)?))
+    Ok(unary(op, read_boxed(alloc, location, a)?))
 }
 
 /// A word and its operands, the left one of which is read. The right one stands before it, since by its
@@ -96,14 +101,14 @@ fn read_unary(alloc: Global, place: Place, op: UnaryWord, a: &Value) -> Result<E
 #[cycle(expressions)]
 fn read_binary(
     alloc: Global,
-    place: Place,
+    location: Location,
     b: &Value,
     op: BinaryWord,
     a: Boxed<Expr>,
 ) -> Result<Expr, ViewsFault>
-    ensures { Answers (with_operands op (Ok a) (expr_of place (view b.now))) result }
+    ensures { Answers (with_operands op (Ok a) (expr_of location (view b.now))) result }
 {
-    match read_boxed(alloc, place, b) {
+    match read_boxed(alloc, location, b) {
         Ok(b) => Ok(binary(op, a, b)),
         Err(fault) => Err(fault),
     }
@@ -111,25 +116,25 @@ fn read_binary(
 
 /// An operand, where an expression keeps it.
 #[cycle(expressions)]
-fn read_boxed(alloc: Global, place: Place, value: &Value) -> Result<Boxed<Expr>, ViewsFault>
-    ensures { Answers (expr_of place (view value.now)) result }
+fn read_boxed(alloc: Global, location: Location, value: &Value) -> Result<Boxed<Expr>, ViewsFault>
+    ensures { Answers (expr_of location (view value.now)) result }
 {
-    Ok(Boxed::new(alloc, read_expr(alloc, place, value)?)?)
+    Ok(Boxed::new(alloc, read_expr(alloc, location, value)?)?)
 }
 
 /// What the first item of an array names.
-fn word_in(place: Place, items: &[Value]) -> Result<ExprWord, ViewsFault>
-    ensures { result ≡ word_of place (items_of (map view items.now)) }
+fn word_in(location: Location, items: &[Value]) -> Result<ExprWord, ViewsFault>
+    ensures { result ≡ word_of location (items_of (map view items.now)) }
 {
     match items {
-        [word, ..] => form_named(place, text_in(place, word)?),
-        [] => Err(ViewsFault::Shape(place)),
+        [word, ..] => form_named(location, text_in(location, word)?),
+        [] => Err(ViewsFault::Shape(location)),
     }
 }
 
 /// What the word of an expression stands for.
-fn form_named(place: Place, word: &str) -> Result<ExprWord, ViewsFault>
-    ensures { result ≡ form_of_word place word.now }
+fn form_named(location: Location, word: &str) -> Result<ExprWord, ViewsFault>
+    ensures { result ≡ form_of_word location word.now }
 {
     match word {
         "col" => Ok(ExprWord::Column),
@@ -150,29 +155,29 @@ fn form_named(place: Place, word: &str) -> Result<ExprWord, ViewsFault>
         "&" => Ok(ExprWord::Binary(BinaryWord::And)),
         "|" => Ok(ExprWord::Binary(BinaryWord::Or)),
         "fill_null" => Ok(ExprWord::Binary(BinaryWord::FillNull)),
-        _ => Err(ViewsFault::Word(place)),
+        _ => Err(ViewsFault::Word(location)),
     }
 }
 
 /// The column of a name.
-fn read_column(alloc: Global, place: Place, name: &Value) -> Result<Expr, ViewsFault>
-    ensures { Answers (column_of place (view name.now)) result }
+fn read_column(alloc: Global, location: Location, name: &Value) -> Result<Expr, ViewsFault>
+    ensures { Answers (column_expr_of location (view name.now)) result }
 {
-    let name = text_in(place, name)?;
+    let name = text_in(location, name)?;
     Ok(Expr::Column(Text::from_str(alloc, name)?))
 }
 
 /// The null literal of the type that a word names.
-fn read_null(place: Place, word: &Value) -> Result<Expr, ViewsFault>
-    ensures { Answers (null_of place (view word.now)) result }
+fn read_null(location: Location, word: &Value) -> Result<Expr, ViewsFault>
+    ensures { Answers (null_of location (view word.now)) result }
 {
-    let kind = type_named(place, text_in(place, word)?)?;
+    let kind = type_named(location, text_in(location, word)?)?;
     Ok(Expr::Literal(Cell::Null, kind))
 }
 
 /// The expression of a word before one operand.
 fn unary(op: UnaryWord, a: Boxed<Expr>) -> Expr
-    ensures { result ≡ unary_of op a }
+    ensures { result ≡ unary_expr_of op a }
 {
     match op {
         UnaryWord::Not => Expr::Not(a),
@@ -183,7 +188,7 @@ fn unary(op: UnaryWord, a: Boxed<Expr>) -> Expr
 
 /// The expression of a word before two operands.
 fn binary(op: BinaryWord, a: Boxed<Expr>, b: Boxed<Expr>) -> Expr
-    ensures { result ≡ binary_of op a b }
+    ensures { result ≡ binary_expr_of op a b }
 {
     match op {
         BinaryWord::Arith(op) => Expr::Arith(op, a, b),

@@ -5,13 +5,15 @@ ghost use Rattle.std.specs.Map.{keys_of};
 ghost use Rattle.std.specs.Str.{bytes_eq};
 ghost use Rattle.toml.specs.View.{table_view, view};
 ghost use Rattle.df_text.specs.Reading.{Answers, read_each};
-ghost use Rattle.df_text.specs.declared.views_fault.ViewsFault.TheVariants.{Memory};
-ghost use Rattle.df_text.specs.Tree.{keys_pass, text_in as text_of};
-ghost use Rattle.df_text.specs.Frames.{is_frame_key as is_key_of_frame, source_of, entries_of_frame, type_of_word, column_of, schema_of, frame_of, frames_of};
+ghost use Rattle.df_text.specs.declared.fault.ViewsFault.TheVariants.{Memory};
+ghost use Rattle.df_text.specs.Tree as tree_spec;
+ghost use Rattle.df_text.specs.Tree.{keys_pass};
+ghost use Rattle.df_text.specs.Frames as frames_spec;
+ghost use Rattle.df_text.specs.Frames.{source_of, entries_of_frame, type_of_word, schema_column_of, schema_of, frame_of, frames_of};
 
-use crate::document::{FrameSource, FrameSpec, Place};
-use crate::tree::{array_in, find, pair_in, table_in, text_in, value_at};
-use crate::views_fault::ViewsFault;
+use crate::document::{FrameSource, FrameSpec, Location};
+use crate::fault::ViewsFault;
+use crate::tree::{array_in, find, pair_in, table_value, text_in, value_at};
 use df_value::{CellType, List, Schema, Text};
 use std::alloc::Global;
 use toml::{Table, Value};
@@ -40,12 +42,12 @@ pub fn read_frames(alloc: Global, tables: &[Value]) -> Result<List<FrameSpec>, V
 fn read_frame(alloc: Global, before: &[FrameSpec], value: &Value) -> Result<FrameSpec, ViewsFault>
     ensures { Answers (frame_of before.now (view value.now)) result }
 {
-    let place = Place::Frame(before.len());
-    let entries = frame_entries(alloc, place, table_in(place, value)?)?;
-    let columns = read_columns(alloc, place, entries.columns)?;
+    let location = Location::Frame(before.len());
+    let entries = frame_entries(alloc, location, table_value(location, value)?)?;
+    let columns = read_columns(alloc, location, entries.columns)?;
     let schema = read_schema(before.len(), columns)?;
     if has_frame(before, entries.name) {
-        return Err(ViewsFault::Doubled(place));
+        return Err(ViewsFault::Doubled(location));
     }
     let name = Text::from_str(alloc, entries.name)?;
     Ok(FrameSpec {
@@ -56,18 +58,22 @@ fn read_frame(alloc: Global, before: &[FrameSpec], value: &Value) -> Result<Fram
 }
 
 /// What stands at the keys of a frame, if it has no others.
-fn frame_entries(alloc: Global, place: Place, table: &Table) -> Result<FrameEntries<'_>, ViewsFault>
+fn frame_entries(
+    alloc: Global,
+    location: Location,
+    table: &Table,
+) -> Result<FrameEntries<'_>, ViewsFault>
     ensures { MatchResult result
-        (λ e. entries_of_frame place (table_view table.now)
+        (λ e. entries_of_frame location (table_view table.now)
         ≡ Ok (record { name = e.name.now; columns = map view e.columns.now; source = e.source }))
-        (λ f. f ≢ Memory → entries_of_frame place (table_view table.now) ≡ Err f) }
+        (λ f. f ≢ Memory → entries_of_frame location (table_view table.now) ≡ Err f) }
 {
     if !has_frame_keys(table) {
-        return Err(ViewsFault::Shape(place));
+        return Err(ViewsFault::Shape(location));
     }
-    let name = text_in(place, value_at(place, table, "name")?)?;
-    let columns = array_in(place, value_at(place, table, "columns")?)?;
-    let source = read_source(alloc, place, table)?;
+    let name = text_in(location, value_at(location, table, "name")?)?;
+    let columns = array_in(location, value_at(location, table, "columns")?)?;
+    let source = read_source(alloc, location, table)?;
     Ok(FrameEntries {
         name,
         columns,
@@ -76,38 +82,38 @@ fn frame_entries(alloc: Global, place: Place, table: &Table) -> Result<FrameEntr
 }
 
 /// Where the records of a frame come from: exactly one of the keys `path` and `text` says it.
-fn read_source(alloc: Global, place: Place, table: &Table) -> Result<FrameSource, ViewsFault>
-    ensures { Answers (source_of place (table_view table.now)) result }
+fn read_source(alloc: Global, location: Location, table: &Table) -> Result<FrameSource, ViewsFault>
+    ensures { Answers (source_of location (table_view table.now)) result }
 {
     match (find(table, "path"), find(table, "text")) {
-        (Some(path), None) => Ok(FrameSource::Path(copied_text(alloc, place, path)?)),
-        (None, Some(text)) => Ok(FrameSource::Text(copied_text(alloc, place, text)?)),
-        (Some(_), Some(_)) | (None, None) => Err(ViewsFault::Shape(place)),
+        (Some(path), None) => Ok(FrameSource::Path(copied_text(alloc, location, path)?)),
+        (None, Some(text)) => Ok(FrameSource::Text(copied_text(alloc, location, text)?)),
+        (Some(_), Some(_)) | (None, None) => Err(ViewsFault::Shape(location)),
     }
 }
 
 /// A copy of the text that a value is.
-fn copied_text(alloc: Global, place: Place, value: &Value) -> Result<Text, ViewsFault>
-    ensures { Answers (text_of place (view value.now)) result }
+fn copied_text(alloc: Global, location: Location, value: &Value) -> Result<Text, ViewsFault>
+    ensures { Answers (tree_spec.text_in location (view value.now)) result }
 {
-    Ok(Text::from_str(alloc, text_in(place, value)?)?)
+    Ok(Text::from_str(alloc, text_in(location, value)?)?)
 }
 
 /// Whether a table has no key but those of a frame.
 fn has_frame_keys(table: &Table) -> bool
-    ensures { result ≡ keys_pass is_key_of_frame (table_view table.now) }
+    ensures { result ≡ keys_pass frames_spec.is_frame_key (table_view table.now) }
 {
     all_frame_keys(table)
 }
 
 fn all_frame_keys(table: &Table) -> bool
-    ensures { result ≡ list_all (λ k. is_key_of_frame (string_bytes k)) (keys_of table.now.entries) }
+    ensures { result ≡ list_all (λ k. frames_spec.is_frame_key (string_bytes k)) (keys_of table.now.entries) }
 {
     table.keys().all(|k| is_frame_key(k.as_str()))
 }
 
 fn is_frame_key(key: &str) -> bool
-    ensures { result ≡ is_key_of_frame key.now }
+    ensures { result ≡ frames_spec.is_frame_key key.now }
 {
     key == "name" || key == "columns" || key == "path" || key == "text"
 }
@@ -115,37 +121,41 @@ fn is_frame_key(key: &str) -> bool
 /// The columns of a frame, from left to right.
 fn read_columns(
     alloc: Global,
-    place: Place,
+    location: Location,
     values: &[Value],
 ) -> Result<List<(Text, CellType)>, ViewsFault>
-    ensures { Answers (read_each (column_of place) (map view values.now)) result }
+    ensures { Answers (read_each (schema_column_of location) (map view values.now)) result }
 {
     let mut columns = Vec::new(alloc);
     for value in values {
-        let column = read_column(alloc, place, value)?;
+        let column = read_column(alloc, location, value)?;
         columns.push(column)?;
     }
     Ok(List::from_vec(columns))
 }
 
-fn read_column(alloc: Global, place: Place, value: &Value) -> Result<(Text, CellType), ViewsFault>
-    ensures { Answers (column_of place (view value.now)) result }
+fn read_column(
+    alloc: Global,
+    location: Location,
+    value: &Value,
+) -> Result<(Text, CellType), ViewsFault>
+    ensures { Answers (schema_column_of location (view value.now)) result }
 {
-    let pair = pair_in(place, array_in(place, value)?)?;
-    let name = text_in(place, pair.0)?;
-    let kind = type_named(place, text_in(place, pair.1)?)?;
+    let pair = pair_in(location, array_in(location, value)?)?;
+    let name = text_in(location, pair.0)?;
+    let kind = type_named(location, text_in(location, pair.1)?)?;
     Ok((Text::from_str(alloc, name)?, kind))
 }
 
 /// The type that a word names.
-pub fn type_named(place: Place, word: &str) -> Result<CellType, ViewsFault>
-    ensures { result ≡ type_of_word place word.now }
+pub fn type_named(location: Location, word: &str) -> Result<CellType, ViewsFault>
+    ensures { result ≡ type_of_word location word.now }
 {
     match word {
         "Int" => Ok(CellType::Int),
         "Text" => Ok(CellType::Text),
         "Bool" => Ok(CellType::Bool),
-        _ => Err(ViewsFault::Word(place)),
+        _ => Err(ViewsFault::Word(location)),
     }
 }
 

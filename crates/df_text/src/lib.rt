@@ -18,13 +18,13 @@
 mod aggregates;
 mod document;
 mod expressions;
+mod fault;
 mod frames;
 mod from_tables;
 mod row_wise_steps;
 mod tree;
 mod view_steps;
 mod views;
-mod views_fault;
 mod window_steps;
 
 pub use df_csv::{
@@ -32,6 +32,6 @@ pub use df_csv::{
     parse_records, read_limited, read_records, type_chunk, type_piece,
 };
 pub use df_print::{WriteFault, column_width, escape, print_table, write_text};
-pub use document::{FrameSource, FrameSpec, Place, ViewSpec, Views};
+pub use document::{FrameSource, FrameSpec, Location, ViewSpec, Views};
+pub use fault::ViewsFault;
 pub use views::read_views;
-pub use views_fault::ViewsFault;

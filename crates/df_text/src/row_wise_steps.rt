@@ -4,10 +4,10 @@ ghost use Rattle.toml.specs.View.{view};
 ghost use Rattle.df_text.specs.Reading.{Answers, read_each};
 ghost use Rattle.df_text.specs.RowWiseSteps.{filter_of, item_of, select_of, with_columns_of};
 
-use crate::document::Place;
+use crate::document::Location;
 use crate::expressions::read_expr;
+use crate::fault::ViewsFault;
 use crate::tree::{array_in, only_in, pair_in, text_in};
-use crate::views_fault::ViewsFault;
 use df_expr::Expr;
 use df_plan::Plan;
 use df_value::{Boxed, List, Text};
@@ -15,61 +15,71 @@ use std::alloc::Global;
 use toml::Value;
 
 /// Keeps rows: one expression.
-pub fn filter(alloc: Global, place: Place, input: Plan, items: &[Value]) -> Result<Plan, ViewsFault>
-    ensures { Answers (filter_of place input (map view items.now)) result }
+pub fn filter(
+    alloc: Global,
+    location: Location,
+    input: Plan,
+    items: &[Value],
+) -> Result<Plan, ViewsFault>
+    ensures { Answers (filter_of location input (map view items.now)) result }
 {
     let input = Boxed::new(alloc, input)?;
-    let predicate = only_in(place, items)?;
-    match read_expr(alloc, place, predicate) {
+    let predicate = only_in(location, items)?;
+    match read_expr(alloc, location, predicate) {
         Ok(predicate) => Ok(Plan::Filter(input, predicate)),
         Err(fault) => Err(fault),
     }
 }
 
 /// Makes a table of outputs alone.
-pub fn select(alloc: Global, place: Place, input: Plan, items: &[Value]) -> Result<Plan, ViewsFault>
-    ensures { Answers (select_of place input (map view items.now)) result }
+pub fn select(
+    alloc: Global,
+    location: Location,
+    input: Plan,
+    items: &[Value],
+) -> Result<Plan, ViewsFault>
+    ensures { Answers (select_of location input (map view items.now)) result }
 {
     let input = Boxed::new(alloc, input)?;
-    Ok(Plan::Select(input, read_items(alloc, place, items)?))
+    Ok(Plan::Select(input, read_items(alloc, location, items)?))
 }
 
 /// Puts outputs into the table.
 pub fn with_columns(
     alloc: Global,
-    place: Place,
+    location: Location,
     input: Plan,
     items: &[Value],
 ) -> Result<Plan, ViewsFault>
-    ensures { Answers (with_columns_of place input (map view items.now)) result }
+    ensures { Answers (with_columns_of location input (map view items.now)) result }
 {
     let input = Boxed::new(alloc, input)?;
-    Ok(Plan::WithColumns(input, read_items(alloc, place, items)?))
+    Ok(Plan::WithColumns(input, read_items(alloc, location, items)?))
 }
 
 /// The outputs of a step, from left to right.
 fn read_items(
     alloc: Global,
-    place: Place,
+    location: Location,
     values: &[Value],
 ) -> Result<List<(Text, Expr)>, ViewsFault>
-    ensures { Answers (read_each (item_of place) (map view values.now)) result }
+    ensures { Answers (read_each (item_of location) (map view values.now)) result }
 {
     let mut items = Vec::new(alloc);
     for value in values {
-        let item = read_item(alloc, place, value)?;
+        let item = read_item(alloc, location, value)?;
         items.push(item)?;
     }
     Ok(List::from_vec(items))
 }
 
 /// An output's name and its expression.
-fn read_item(alloc: Global, place: Place, value: &Value) -> Result<(Text, Expr), ViewsFault>
-    ensures { Answers (item_of place (view value.now)) result }
+fn read_item(alloc: Global, location: Location, value: &Value) -> Result<(Text, Expr), ViewsFault>
+    ensures { Answers (item_of location (view value.now)) result }
 {
-    let (name, expr) = pair_in(place, array_in(place, value)?)?;
-    let name = Text::from_str(alloc, text_in(place, name)?)?;
-    match read_expr(alloc, place, expr) {
+    let (name, expr) = pair_in(location, array_in(location, value)?)?;
+    let name = Text::from_str(alloc, text_in(location, name)?)?;
+    match read_expr(alloc, location, expr) {
         Ok(expr) => Ok((name, expr)),
         Err(fault) => Err(fault),
     }

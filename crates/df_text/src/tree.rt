@@ -4,10 +4,11 @@ ghost use Rattle.std.specs.List.{list_all};
 ghost use Rattle.std.specs.Map.{keys_of};
 ghost use Rattle.toml.specs.Data.{get_member};
 ghost use Rattle.toml.specs.View.{table_view, view};
-ghost use Rattle.df_text.specs.Tree.{GivesTable, tree_of, value_at as value_at_key, text_in as text_of, array_in as array_of, table_in as table_of, first_in as first_of, pair_in as pair_of, triple_in as triple_of, only_in as only_of, none_in as none_of};
+ghost use Rattle.df_text.specs.Tree as tree;
+ghost use Rattle.df_text.specs.Tree.{GivesTable, tree_of};
 
-use crate::document::Place;
-use crate::views_fault::ViewsFault;
+use crate::document::Location;
+use crate::fault::ViewsFault;
 use std::alloc::Global;
 use toml::{Table, Value};
 
@@ -26,14 +27,18 @@ pub fn parse(alloc: Global, bytes: &[u8]) -> Result<Table, ViewsFault>
 }
 
 /// The value at a key that must be there.
-pub fn value_at<'a>(place: Place, table: &'a Table, key: &str) -> Result<&'a Value, ViewsFault>
+pub fn value_at<'a>(
+    location: Location,
+    table: &'a Table,
+    key: &str,
+) -> Result<&'a Value, ViewsFault>
     ensures { MatchResult result
-        (λ v. value_at_key place key.now (table_view table.now) ≡ Ok (view v.now))
-        (λ f. value_at_key place key.now (table_view table.now) ≡ Err f) }
+        (λ v. tree.value_at location key.now (table_view table.now) ≡ Ok (view v.now))
+        (λ f. tree.value_at location key.now (table_view table.now) ≡ Err f) }
 {
     match find(table, key) {
         Some(value) => Ok(value),
-        None => Err(ViewsFault::Shape(place)),
+        None => Err(ViewsFault::Shape(location)),
     }
 }
 
@@ -45,98 +50,101 @@ pub fn find<'a>(table: &'a Table, key: &str) -> Option<&'a Value>
 }
 
 /// The text that a value is.
-pub fn text_in(place: Place, value: &Value) -> Result<&str, ViewsFault>
+pub fn text_in(location: Location, value: &Value) -> Result<&str, ViewsFault>
     ensures { MatchResult result
-        (λ s. text_of place (view value.now) ≡ Ok s.now)
-        (λ f. text_of place (view value.now) ≡ Err f) }
+        (λ s. tree.text_in location (view value.now) ≡ Ok s.now)
+        (λ f. tree.text_in location (view value.now) ≡ Err f) }
 {
     match value {
         Value::String(text) => Ok(text.as_str()),
-        _ => Err(ViewsFault::Shape(place)),
+        _ => Err(ViewsFault::Shape(location)),
     }
 }
 
 /// The items of the array that a value is.
-pub fn array_in(place: Place, value: &Value) -> Result<&[Value], ViewsFault>
+pub fn array_in(location: Location, value: &Value) -> Result<&[Value], ViewsFault>
     ensures { MatchResult result
-        (λ vs. array_of place (view value.now) ≡ Ok (map view vs.now))
-        (λ f. array_of place (view value.now) ≡ Err f) }
+        (λ vs. tree.array_in location (view value.now) ≡ Ok (map view vs.now))
+        (λ f. tree.array_in location (view value.now) ≡ Err f) }
 {
     match value {
         Value::Array(items) => Ok(items.as_slice()),
-        _ => Err(ViewsFault::Shape(place)),
+        _ => Err(ViewsFault::Shape(location)),
     }
 }
 
 /// The table that a value is.
-pub fn table_in(place: Place, value: &Value) -> Result<&Table, ViewsFault>
+pub fn table_value(location: Location, value: &Value) -> Result<&Table, ViewsFault>
     ensures { MatchResult result
-        (λ t. table_of place (view value.now) ≡ Ok (table_view t.now))
-        (λ f. table_of place (view value.now) ≡ Err f) }
+        (λ t. tree.table_value location (view value.now) ≡ Ok (table_view t.now))
+        (λ f. tree.table_value location (view value.now) ≡ Err f) }
 {
     match value {
         Value::Table(table) => Ok(table),
-        _ => Err(ViewsFault::Shape(place)),
+        _ => Err(ViewsFault::Shape(location)),
     }
 }
 
 /// The first item and those after it.
-pub fn first_in(place: Place, items: &[Value]) -> Result<(&Value, &[Value]), ViewsFault>
+pub fn first_in(location: Location, items: &[Value]) -> Result<(&Value, &[Value]), ViewsFault>
     ensures { MatchResult result
-        (λ p. first_of place (map view items.now) ≡ Ok (view p.0.now, map view p.1.now))
-        (λ f. first_of place (map view items.now) ≡ Err f) }
+        (λ p. tree.first_in location (map view items.now) ≡ Ok (view p.0.now, map view p.1.now))
+        (λ f. tree.first_in location (map view items.now) ≡ Err f) }
 {
     match items {
         [first, rest @ ..] => Ok((first, rest)),
-        [] => Err(ViewsFault::Shape(place)),
+        [] => Err(ViewsFault::Shape(location)),
     }
 }
 
 /// The two items of an array of two.
-pub fn pair_in(place: Place, items: &[Value]) -> Result<(&Value, &Value), ViewsFault>
+pub fn pair_in(location: Location, items: &[Value]) -> Result<(&Value, &Value), ViewsFault>
     ensures { MatchResult result
-        (λ p. pair_of place (map view items.now) ≡ Ok (view p.0.now, view p.1.now))
-        (λ f. pair_of place (map view items.now) ≡ Err f) }
+        (λ p. tree.pair_in location (map view items.now) ≡ Ok (view p.0.now, view p.1.now))
+        (λ f. tree.pair_in location (map view items.now) ≡ Err f) }
 {
-    let (first, rest) = first_in(place, items)?;
-    let second = only_in(place, rest)?;
+    let (first, rest) = first_in(location, items)?;
+    let second = only_in(location, rest)?;
     Ok((first, second))
 }
 
 /// The three items of an array of three.
-pub fn triple_in(place: Place, items: &[Value]) -> Result<(&Value, &Value, &Value), ViewsFault>
+pub fn triple_in(
+    location: Location,
+    items: &[Value],
+) -> Result<(&Value, &Value, &Value), ViewsFault>
     ensures { MatchResult result
-        (λ t. triple_of place (map view items.now) ≡ Ok (view t.0.now, view t.1.now, view t.2.now))
-        (λ f. triple_of place (map view items.now) ≡ Err f) }
+        (λ t. tree.triple_in location (map view items.now) ≡ Ok (view t.0.now, view t.1.now, view t.2.now))
+        (λ f. tree.triple_in location (map view items.now) ≡ Err f) }
 {
-    let (first, rest) = first_in(place, items)?;
-    let (second, third) = pair_in(place, rest)?;
+    let (first, rest) = first_in(location, items)?;
+    let (second, third) = pair_in(location, rest)?;
     Ok((first, second, third))
 }
 
 /// The item of an array of one.
-pub fn only_in(place: Place, items: &[Value]) -> Result<&Value, ViewsFault>
+pub fn only_in(location: Location, items: &[Value]) -> Result<&Value, ViewsFault>
     ensures { MatchResult result
-        (λ v. only_of place (map view items.now) ≡ Ok (view v.now))
-        (λ f. only_of place (map view items.now) ≡ Err f) }
+        (λ v. tree.only_in location (map view items.now) ≡ Ok (view v.now))
+        (λ f. tree.only_in location (map view items.now) ≡ Err f) }
 {
-    let (first, rest) = first_in(place, items)?;
+    let (first, rest) = first_in(location, items)?;
     if rest.is_empty() {
         Ok(first)
     } else {
-        Err(ViewsFault::Shape(place))
+        Err(ViewsFault::Shape(location))
     }
 }
 
 /// Nothing, where no item is left.
-pub fn none_in(place: Place, items: &[Value]) -> Result<(), ViewsFault>
+pub fn none_in(location: Location, items: &[Value]) -> Result<(), ViewsFault>
     ensures { MatchResult result
-        (λ _. none_of place (map view items.now) ≡ Ok tt)
-        (λ f. none_of place (map view items.now) ≡ Err f) }
+        (λ _. tree.none_in location (map view items.now) ≡ Ok tt)
+        (λ f. tree.none_in location (map view items.now) ≡ Err f) }
 {
     if items.is_empty() {
         Ok(())
     } else {
-        Err(ViewsFault::Shape(place))
+        Err(ViewsFault::Shape(location))
     }
 }

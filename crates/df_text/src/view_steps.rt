@@ -3,15 +3,16 @@ ghost use Rattle.std.specs.Prelude.{◌≡◌, MatchResult, Ok, Err, map, codes}
 ghost use Rattle.toml.specs.View.{items_of, table_view, view};
 ghost use Rattle.df_text.specs.declared.view_steps.StepWord.TheVariants.{Join};
 ghost use Rattle.df_text.specs.Reading.{Answers, read_each};
-ghost use Rattle.df_text.specs.Tree.{text_in as text_of};
-ghost use Rattle.df_text.specs.Steps.{step_of_word, group_by_of, kind_of_word, kind_and_keys as kind_and_keys_of, step_in as step_in_data, steps_after, step_of, applied, side_of, steps_at};
+ghost use Rattle.df_text.specs.Tree as tree_spec;
+ghost use Rattle.df_text.specs.Steps as steps_spec;
+ghost use Rattle.df_text.specs.Steps.{step_of_word, group_by_of, kind_of_word, steps_after, step_of, applied_step, side_of, steps_at};
 
 use crate::aggregates::read_aggregates;
-use crate::document::{FrameSpec, Place};
+use crate::document::{FrameSpec, Location};
+use crate::fault::ViewsFault;
 use crate::from_tables::{array_or_none, frame_of_name, only_source_in};
 use crate::row_wise_steps::{filter, select, with_columns};
 use crate::tree::{array_in, first_in, text_in, triple_in};
-use crate::views_fault::ViewsFault;
 use crate::window_steps::{cum_sum, rank, rolling};
 use df_plan::{How, Plan, RollKind};
 use df_value::{Boxed, List, Text};
@@ -35,15 +36,15 @@ pub enum StepWord {
 #[cycle(steps)]
 pub fn apply_table(
     alloc: Global,
-    place: Place,
+    location: Location,
     frames: &[FrameSpec],
     input: Plan,
     table: &Table,
 ) -> Result<Plan, ViewsFault>
-    ensures { Answers (steps_at place frames.now input (table_view table.now)) result }
+    ensures { Answers (steps_at location frames.now input (table_view table.now)) result }
 {
-    match array_or_none(place, table, "steps") {
-        Ok(steps) => apply_steps(alloc, place, frames, input, steps),
+    match array_or_none(location, table, "steps") {
+        Ok(steps) => apply_steps(alloc, location, frames, input, steps),
         Err(fault) => {
             drop(input);
             Err(fault)
@@ -55,16 +56,16 @@ pub fn apply_table(
 #[cycle(steps)]
 fn apply_steps(
     alloc: Global,
-    place: Place,
+    location: Location,
     frames: &[FrameSpec],
     input: Plan,
     steps: &[Value],
 ) -> Result<Plan, ViewsFault>
-    ensures { Answers (steps_after place frames.now input (items_of (map view steps.now))) result }
+    ensures { Answers (steps_after location frames.now input (items_of (map view steps.now))) result }
 {
     let mut plan = input;
     for step in steps {
-        plan = apply_step(alloc, place, frames, plan, step)?;
+        plan = apply_step(alloc, location, frames, plan, step)?;
     }
     Ok(plan)
 }
@@ -73,15 +74,15 @@ fn apply_steps(
 #[cycle(steps)]
 fn apply_step(
     alloc: Global,
-    place: Place,
+    location: Location,
     frames: &[FrameSpec],
     input: Plan,
     step: &Value,
 ) -> Result<Plan, ViewsFault>
-    ensures { Answers (step_of place frames.now input (view step.now)) result }
+    ensures { Answers (step_of location frames.now input (view step.now)) result }
 {
-    match step_in(place, step) {
-        Ok((word, items)) => apply(alloc, place, frames, word, input, items),
+    match step_in(location, step) {
+        Ok((word, items)) => apply(alloc, location, frames, word, input, items),
         Err(fault) => {
             drop(input);
             Err(fault)
@@ -90,13 +91,13 @@ fn apply_step(
 }
 
 /// The step that a value names, and the items after its word.
-fn step_in(place: Place, step: &Value) -> Result<(StepWord, &[Value]), ViewsFault>
+fn step_in(location: Location, step: &Value) -> Result<(StepWord, &[Value]), ViewsFault>
     ensures { MatchResult result
-        (λ s. step_in_data place (view step.now) ≡ Ok (s.0, map view s.1.now))
-        (λ f. step_in_data place (view step.now) ≡ Err f) }
+        (λ s. steps_spec.step_in location (view step.now) ≡ Ok (s.0, map view s.1.now))
+        (λ f. steps_spec.step_in location (view step.now) ≡ Err f) }
 {
-    let (word, items) = first_in(place, array_in(place, step)?)?;
-    let word = step_named(place, text_in(place, word)?)?;
+    let (word, items) = first_in(location, array_in(location, step)?)?;
+    let word = step_named(location, text_in(location, word)?)?;
     Ok((word, items))
 }
 
@@ -104,23 +105,23 @@ fn step_in(place: Place, step: &Value) -> Result<(StepWord, &[Value]), ViewsFaul
 #[cycle(steps)]
 fn apply(
     alloc: Global,
-    place: Place,
+    location: Location,
     frames: &[FrameSpec],
     word: StepWord,
     input: Plan,
     items: &[Value],
 ) -> Result<Plan, ViewsFault>
-    ensures { Answers (applied place frames.now word input (items_of (map view items.now))) result }
+    ensures { Answers (applied_step location frames.now word input (items_of (map view items.now))) result }
 {
     match word {
-        StepWord::Filter => filter(alloc, place, input, items),
-        StepWord::Select => select(alloc, place, input, items),
-        StepWord::WithColumns => with_columns(alloc, place, input, items),
-        StepWord::GroupBy => group_by(alloc, place, input, items),
-        StepWord::Join => join(alloc, place, frames, input, items),
-        StepWord::Rolling(kind) => rolling(alloc, place, kind, input, items),
-        StepWord::CumSum => cum_sum(alloc, place, input, items),
-        StepWord::Rank => rank(alloc, place, input, items),
+        StepWord::Filter => filter(alloc, location, input, items),
+        StepWord::Select => select(alloc, location, input, items),
+        StepWord::WithColumns => with_columns(alloc, location, input, items),
+        StepWord::GroupBy => group_by(alloc, location, input, items),
+        StepWord::Join => join(alloc, location, frames, input, items),
+        StepWord::Rolling(kind) => rolling(alloc, location, kind, input, items),
+        StepWord::CumSum => cum_sum(alloc, location, input, items),
+        StepWord::Rank => rank(alloc, location, input, items),
     }
 }
 
@@ -128,17 +129,17 @@ fn apply(
 #[cycle(steps)]
 fn join(
     alloc: Global,
-    place: Place,
+    location: Location,
     frames: &[FrameSpec],
     input: Plan,
     items: &[Value],
 ) -> Result<Plan, ViewsFault>
-    ensures { Answers (applied place frames.now Join input (items_of (map view items.now))) result }
+    ensures { Answers (applied_step location frames.now Join input (items_of (map view items.now))) result }
 {
     let input = Boxed::new(alloc, input)?;
-    let (kind, keys, right) = triple_in(place, items)?;
-    match kind_and_keys(alloc, place, kind, keys) {
-        Ok((how, keys)) => match read_right(alloc, place, frames, right) {
+    let (kind, keys, right) = triple_in(location, items)?;
+    match kind_and_keys(alloc, location, kind, keys) {
+        Ok((how, keys)) => match read_right(alloc, location, frames, right) {
             Ok(right) => Ok(Plan::Join(input, right, how, keys)),
             Err(fault) => Err(fault),
         },
@@ -150,19 +151,19 @@ fn join(
 #[cycle(steps)]
 fn read_right(
     alloc: Global,
-    place: Place,
+    location: Location,
     frames: &[FrameSpec],
     right: &Value,
 ) -> Result<Boxed<Plan>, ViewsFault>
-    ensures { Answers (side_of place frames.now (view right.now)) result }
+    ensures { Answers (side_of location frames.now (view right.now)) result }
 {
     let plan = match right {
-        Value::String(name) => Plan::Scan(frame_of_name(place, name.as_str(), frames)?),
+        Value::String(name) => Plan::Scan(frame_of_name(location, name.as_str(), frames)?),
         Value::Table(table) => {
-            let index = frame_of_name(place, only_source_in(place, table)?, frames)?;
-            apply_table(alloc, place, frames, Plan::Scan(index), table)?
+            let index = frame_of_name(location, only_source_in(location, table)?, frames)?;
+            apply_table(alloc, location, frames, Plan::Scan(index), table)?
         }
-        _ => return Err(ViewsFault::Shape(place)),
+        _ => return Err(ViewsFault::Shape(location)),
     };
     Ok(Boxed::new(alloc, plan)?)
 }
@@ -170,31 +171,31 @@ fn read_right(
 /// The kind of a join, and its keys.
 fn kind_and_keys(
     alloc: Global,
-    place: Place,
+    location: Location,
     kind: &Value,
     keys: &Value,
 ) -> Result<(How, List<Text>), ViewsFault>
-    ensures { Answers (kind_and_keys_of place (view kind.now) (view keys.now)) result }
+    ensures { Answers (steps_spec.kind_and_keys location (view kind.now) (view keys.now)) result }
 {
-    let how = kind_named(place, text_in(place, kind)?)?;
-    let keys = read_names(alloc, place, array_in(place, keys)?)?;
+    let how = kind_named(location, text_in(location, kind)?)?;
+    let keys = read_names(alloc, location, array_in(location, keys)?)?;
     Ok((how, keys))
 }
 
 /// The kind of join that a word names.
-fn kind_named(place: Place, word: &str) -> Result<How, ViewsFault>
-    ensures { result ≡ kind_of_word place word.now }
+fn kind_named(location: Location, word: &str) -> Result<How, ViewsFault>
+    ensures { result ≡ kind_of_word location word.now }
 {
     match word {
         "inner" => Ok(How::Inner),
         "left" => Ok(How::Left),
-        _ => Err(ViewsFault::Word(place)),
+        _ => Err(ViewsFault::Word(location)),
     }
 }
 
 /// The step that a word names.
-fn step_named(place: Place, word: &str) -> Result<StepWord, ViewsFault>
-    ensures { result ≡ step_of_word place word.now }
+fn step_named(location: Location, word: &str) -> Result<StepWord, ViewsFault>
+    ensures { result ≡ step_of_word location word.now }
 {
     match word {
         "filter" => Ok(StepWord::Filter),
@@ -207,28 +208,33 @@ fn step_named(place: Place, word: &str) -> Result<StepWord, ViewsFault>
         "rolling_max" => Ok(StepWord::Rolling(RollKind::Max)),
         "cum_sum" => Ok(StepWord::CumSum),
         "rank" => Ok(StepWord::Rank),
-        _ => Err(ViewsFault::Word(place)),
+        _ => Err(ViewsFault::Word(location)),
     }
 }
 
 /// Groups: an array of key names, and then the aggregates.
-fn group_by(alloc: Global, place: Place, input: Plan, items: &[Value]) -> Result<Plan, ViewsFault>
-    ensures { Answers (group_by_of place input (map view items.now)) result }
+fn group_by(
+    alloc: Global,
+    location: Location,
+    input: Plan,
+    items: &[Value],
+) -> Result<Plan, ViewsFault>
+    ensures { Answers (group_by_of location input (map view items.now)) result }
 {
     let input = Boxed::new(alloc, input)?;
-    let (keys, aggregates) = first_in(place, items)?;
-    let keys = read_names(alloc, place, array_in(place, keys)?)?;
-    let aggregates = read_aggregates(alloc, place, aggregates)?;
+    let (keys, aggregates) = first_in(location, items)?;
+    let keys = read_names(alloc, location, array_in(location, keys)?)?;
+    let aggregates = read_aggregates(alloc, location, aggregates)?;
     Ok(Plan::GroupBy(input, keys, aggregates))
 }
 
 /// A list of names.
-fn read_names(alloc: Global, place: Place, values: &[Value]) -> Result<List<Text>, ViewsFault>
-    ensures { Answers (read_each (text_of place) (map view values.now)) result }
+fn read_names(alloc: Global, location: Location, values: &[Value]) -> Result<List<Text>, ViewsFault>
+    ensures { Answers (read_each (tree_spec.text_in location) (map view values.now)) result }
 {
     let mut names = Vec::new(alloc);
     for value in values {
-        let name = Text::from_str(alloc, text_in(place, value)?)?;
+        let name = Text::from_str(alloc, text_in(location, value)?)?;
         names.push(name)?;
     }
     Ok(List::from_vec(names))

@@ -8,14 +8,15 @@ ghost use Rattle.toml.specs.Data.{get_member};
 ghost use Rattle.toml.specs.View.{table_view, view};
 ghost use Rattle.df_text.specs.Reading.{Answers};
 ghost use Rattle.df_text.specs.Tree.{keys_pass};
-ghost use Rattle.df_text.specs.Document.{IsDocument, is_view_key as is_key_of_view, is_top_key as is_key_of_top, is_table as is_table_data, entries_of_view, view_of, views_of, tables_at as tables_at_key, tables_of, document_of};
+ghost use Rattle.df_text.specs.Document as document_spec;
+ghost use Rattle.df_text.specs.Document.{IsDocument, entries_of_view, view_of, view_specs_of, top_tables_of, document_of};
 
-use crate::document::{FrameSpec, Place, ViewSpec, Views};
+use crate::document::{FrameSpec, Location, ViewSpec, Views};
+use crate::fault::ViewsFault;
 use crate::frames::read_frames;
 use crate::from_tables::{array_or_none, frame_of_name, source_in};
-use crate::tree::{parse, table_in, text_in, value_at};
+use crate::tree::{parse, table_value, text_in, value_at};
 use crate::view_steps::apply_table;
-use crate::views_fault::ViewsFault;
 use df_plan::Plan;
 use df_value::{List, Text};
 use std::alloc::Global;
@@ -85,11 +86,11 @@ pub fn read_views(alloc: Global, bytes: &[u8]) -> Result<Views, ViewsFault>
 /// The tables of a document, if it has no key but `frame` and `view`.
 fn top_tables(table: &Table) -> Result<Tables<'_>, ViewsFault>
     ensures { MatchResult result
-        (λ t. tables_of (table_view table.now) ≡ Ok (record { frames = map view t.frames.now; views = map view t.views.now }))
-        (λ f. tables_of (table_view table.now) ≡ Err f) }
+        (λ t. top_tables_of (table_view table.now) ≡ Ok (record { frames = map view t.frames.now; views = map view t.views.now }))
+        (λ f. top_tables_of (table_view table.now) ≡ Err f) }
 {
     if !has_top_keys(table) {
-        return Err(ViewsFault::Shape(Place::Top));
+        return Err(ViewsFault::Shape(Location::Top));
     }
     let frames = tables_at(table, "frame")?;
     let views = tables_at(table, "view")?;
@@ -104,19 +105,19 @@ fn top_tables(table: &Table) -> Result<Tables<'_>, ViewsFault>
 
 /// Whether a table has no key but those of the top.
 fn has_top_keys(table: &Table) -> bool
-    ensures { result ≡ keys_pass is_key_of_top (table_view table.now) }
+    ensures { result ≡ keys_pass document_spec.is_top_key (table_view table.now) }
 {
     all_top_keys(table)
 }
 
 fn all_top_keys(table: &Table) -> bool
-    ensures { result ≡ list_all (λ k. is_key_of_top (string_bytes k)) (keys_of table.now.entries) }
+    ensures { result ≡ list_all (λ k. document_spec.is_top_key (string_bytes k)) (keys_of table.now.entries) }
 {
     table.keys().all(|k| is_top_key(k.as_str()))
 }
 
 fn is_top_key(key: &str) -> bool
-    ensures { result ≡ is_key_of_top key.now }
+    ensures { result ≡ document_spec.is_top_key key.now }
 {
     key == "frame" || key == "view"
 }
@@ -124,31 +125,31 @@ fn is_top_key(key: &str) -> bool
 /// The array of tables at a key of the top; a missing one is empty.
 fn tables_at<'a>(table: &'a Table, key: &str) -> Result<&'a [Value], ViewsFault>
     ensures { MatchResult result
-        (λ vs. tables_at_key key.now (table_view table.now) ≡ Ok (map view vs.now))
-        (λ f. tables_at_key key.now (table_view table.now) ≡ Err f) }
+        (λ vs. document_spec.tables_at key.now (table_view table.now) ≡ Ok (map view vs.now))
+        (λ f. document_spec.tables_at key.now (table_view table.now) ≡ Err f) }
 {
-    let values = array_or_none(Place::Top, table, key)?;
+    let values = array_or_none(Location::Top, table, key)?;
     if are_tables(values) {
         Ok(values)
     } else {
-        Err(ViewsFault::Shape(Place::Top))
+        Err(ViewsFault::Shape(Location::Top))
     }
 }
 
 fn are_tables(values: &[Value]) -> bool
-    ensures { result ≡ list_all is_table_data (map view values.now) }
+    ensures { result ≡ list_all document_spec.is_table (map view values.now) }
 {
     all_are_tables(values)
 }
 
 fn all_are_tables(values: &[Value]) -> bool
-    ensures { result ≡ list_all (λ v. is_table_data (view v)) values.now }
+    ensures { result ≡ list_all (λ v. document_spec.is_table (view v)) values.now }
 {
     values.iter().all(|v| is_table(v))
 }
 
 fn is_table(value: &Value) -> bool
-    ensures { result ≡ is_table_data (view value.now) }
+    ensures { result ≡ document_spec.is_table (view value.now) }
 {
     matches!(value, Value::Table(_))
 }
@@ -159,7 +160,7 @@ fn read_view_tables(
     frames: &[FrameSpec],
     tables: &[Value],
 ) -> Result<List<ViewSpec>, ViewsFault>
-    ensures { Answers (views_of frames.now (map view tables.now)) result }
+    ensures { Answers (view_specs_of frames.now (map view tables.now)) result }
 {
     let mut views = Vec::new(alloc);
     for table in tables {
@@ -178,50 +179,50 @@ fn read_view(
 ) -> Result<ViewSpec, ViewsFault>
     ensures { Answers (view_of frames.now before.now (view value.now)) result }
 {
-    let place = Place::View(before.len());
-    let table = table_in(place, value)?;
-    let entries = view_entries(place, table)?;
+    let location = Location::View(before.len());
+    let table = table_value(location, value)?;
+    let entries = view_entries(location, table)?;
     if has_view(before, entries.name) {
-        return Err(ViewsFault::Doubled(place));
+        return Err(ViewsFault::Doubled(location));
     }
-    let index = frame_of_name(place, entries.source, frames)?;
+    let index = frame_of_name(location, entries.source, frames)?;
     let name = Text::from_str(alloc, entries.name)?;
-    match apply_table(alloc, place, frames, Plan::Scan(index), table) {
+    match apply_table(alloc, location, frames, Plan::Scan(index), table) {
         Ok(plan) => Ok(ViewSpec { name, plan }),
         Err(fault) => Err(fault),
     }
 }
 
 /// What stands at the keys of a view, if it has no others.
-fn view_entries(place: Place, table: &Table) -> Result<ViewEntries<'_>, ViewsFault>
+fn view_entries(location: Location, table: &Table) -> Result<ViewEntries<'_>, ViewsFault>
     ensures { MatchResult result
-        (λ e. entries_of_view place (table_view table.now)
+        (λ e. entries_of_view location (table_view table.now)
         ≡ Ok (record { name = e.name.now; source = e.source.now }))
-        (λ f. entries_of_view place (table_view table.now) ≡ Err f) }
+        (λ f. entries_of_view location (table_view table.now) ≡ Err f) }
 {
     if !has_view_keys(table) {
-        return Err(ViewsFault::Shape(place));
+        return Err(ViewsFault::Shape(location));
     }
-    let name = text_in(place, value_at(place, table, "name")?)?;
-    let source = source_in(place, table)?;
+    let name = text_in(location, value_at(location, table, "name")?)?;
+    let source = source_in(location, table)?;
     Ok(ViewEntries { name, source })
 }
 
 /// Whether a table has no key but those of a view.
 fn has_view_keys(table: &Table) -> bool
-    ensures { result ≡ keys_pass is_key_of_view (table_view table.now) }
+    ensures { result ≡ keys_pass document_spec.is_view_key (table_view table.now) }
 {
     all_view_keys(table)
 }
 
 fn all_view_keys(table: &Table) -> bool
-    ensures { result ≡ list_all (λ k. is_key_of_view (string_bytes k)) (keys_of table.now.entries) }
+    ensures { result ≡ list_all (λ k. document_spec.is_view_key (string_bytes k)) (keys_of table.now.entries) }
 {
     table.keys().all(|k| is_view_key(k.as_str()))
 }
 
 fn is_view_key(key: &str) -> bool
-    ensures { result ≡ is_key_of_view key.now }
+    ensures { result ≡ document_spec.is_view_key key.now }
 {
     key == "name" || key == "from" || key == "steps"
 }

@@ -6,24 +6,24 @@ use Rattle.df_value.specs.declared.cell.CellType.{CellType}
 use Rattle.df_value.specs.declared.cell.CellType.TheVariants as kind
 
 -- the first name that stands earlier, where the columns seen stand before the list
-abbrev pub doubled_after : List (List ℕ × CellType) → List (List ℕ × CellType) → Option (List ℕ)
-doubled_after seen [] = None
-doubled_after seen (c ∷ cs) =
-    if list_any (λ d. bytes_eq d.0 c.0) seen then Some c.0 else doubled_after (seen ++ c ∷ []) cs
+abbrev pub doubled_name_after : List (List ℕ × CellType) → List (List ℕ × CellType) → Option (List ℕ)
+doubled_name_after seen [] = None
+doubled_name_after seen (c ∷ cs) =
+    if list_any (λ d. bytes_eq d.0 c.0) seen then Some c.0 else doubled_name_after (seen ++ c ∷ []) cs
 
 -- what a schema is: from 1 to 32 columns, no two of one name
 pub record IsSchema (columns : List (List ℕ × CellType)) : Type 0 where
   pub some : 0 < length columns
   pub few : length columns ≤ 32
-  pub distinct : doubled_after [] columns ≡ None
+  pub distinct : doubled_name_after [] columns ≡ None
 
 -- the place of the column of this name
-abbrev pub position_of : List ℕ → List (List ℕ × CellType) → Option ℕ
-position_of name columns = position (λ c. bytes_eq c.0 name) columns
+abbrev pub column_index : List ℕ → List (List ℕ × CellType) → Option ℕ
+column_index name columns = position (λ c. bytes_eq c.0 name) columns
 
 -- the type of the column of this name
-abbrev pub type_in : List ℕ → List (List ℕ × CellType) → Option CellType
-type_in name columns = option_map (λ c. c.1) (find (λ c. bytes_eq c.0 name) columns)
+abbrev pub column_dtype : List ℕ → List (List ℕ × CellType) → Option CellType
+column_dtype name columns = option_map (λ c. c.1) (find (λ c. bytes_eq c.0 name) columns)
 
 -- whether a base frame may have columns of this type
 abbrev pub is_base_type : CellType → Bool

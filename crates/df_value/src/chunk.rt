@@ -68,7 +68,7 @@ pub struct BadCell {
 
 /// What records made: a chunk, or the first bad cell, in which case none of the rows is kept.
 #[derive(Debug, Drop)]
-pub enum Made {
+pub enum Piece {
     Good(Chunk),
     Bad(BadCell),
 }

@@ -16,11 +16,11 @@ mod text;
 mod traits;
 
 pub use cell::{Cell, CellType, Row};
-pub use chunk::{BadCell, Chunk, ChunkFault, MOST_ROWS_OF_CHUNK, Made, RefusedRows};
+pub use chunk::{BadCell, Chunk, ChunkFault, MOST_ROWS_OF_CHUNK, Piece, RefusedRows};
 pub use frac::Frac;
 pub use list::List;
 pub use ordering::{compare, order};
-pub use schema::{MOST_COLUMNS, Schema, SchemaFault, doubled, place_of, type_of};
+pub use schema::{MOST_COLUMNS, Schema, SchemaFault, column_index, first_doubled_name, type_of};
 pub use source::Source;
 pub use sqlite_items::Boxed;
 pub use text::Text;

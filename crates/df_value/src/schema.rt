@@ -3,7 +3,8 @@ ghost use Rattle.std.specs.Prelude.{◌≡◌, ◌<◌, [], MatchResult, length,
 ghost use Rattle.std.specs.List.{list_any};
 ghost use Rattle.std.specs.Option.{option_copied};
 ghost use Rattle.std.specs.Str.{bytes_eq};
-ghost use Rattle.df_value.specs.Schemas.{IsSchema, position_of, type_in, doubled_after, is_base as is_base_schema, is_base_type};
+ghost use Rattle.df_value.specs.Schemas as schemas;
+ghost use Rattle.df_value.specs.Schemas.{IsSchema, column_dtype, doubled_name_after, is_base_type};
 ghost use Rattle.df_value.specs.SchemaFaults.{schema_fault};
 ghost use Rattle.df_value.specs.Rows.{row_fits};
 
@@ -62,7 +63,7 @@ impl Schema {
         if columns.len() > MOST_COLUMNS {
             return Err(SchemaFault::TooWide);
         }
-        if doubled(columns.as_slice()).is_some() {
+        if first_doubled_name(columns.as_slice()).is_some() {
             return Err(SchemaFault::DoubledName);
         }
         Ok(Schema { columns })
@@ -78,22 +79,22 @@ impl Schema {
 
     /// The place of the column of this name, from 0.
     pub fn position(&self, name: &Text) -> Option<usize>
-        ensures value { result ≡ position_of name.now self.now }
+        ensures value { result ≡ schemas.column_index name.now self.now }
         ensures within { IfSome result (λ i. i < length self.now) }
     {
-        place_of(name, self.columns.as_slice())
+        column_index(name, self.columns.as_slice())
     }
 
     /// The type of the column of this name.
     pub fn type_of(&self, name: &Text) -> Option<CellType>
-        ensures { result ≡ type_in name.now self.now }
+        ensures { result ≡ column_dtype name.now self.now }
     {
         type_of(name, self.columns.as_slice())
     }
 
     /// Whether a base frame may have this schema: all types are Int, Text or Bool.
     pub fn is_base(&self) -> bool
-        ensures { result ≡ is_base_schema self.now }
+        ensures { result ≡ schemas.is_base self.now }
     {
         self.columns.as_slice().iter().all(|c| is_base(c.1))
     }
@@ -143,8 +144,8 @@ fn fits_columns(columns: &[(Text, CellType)], cells: &[Cell]) -> bool
 }
 
 /// The first name that stands earlier in the list.
-pub fn doubled(columns: &[(Text, CellType)]) -> Option<&Text>
-    ensures { option_copied result ≡ doubled_after [] columns.now }
+pub fn first_doubled_name(columns: &[(Text, CellType)]) -> Option<&Text>
+    ensures { option_copied result ≡ doubled_name_after [] columns.now }
 {
     for i in 0..columns.len() {
         let name = &columns[i].0;
@@ -163,8 +164,8 @@ fn stands_in(name: &Text, columns: &[(Text, CellType)]) -> bool
 }
 
 /// The place of the column of this name, from 0.
-pub fn place_of(name: &Text, columns: &[(Text, CellType)]) -> Option<usize>
-    ensures value { result ≡ position_of name.now columns.now }
+pub fn column_index(name: &Text, columns: &[(Text, CellType)]) -> Option<usize>
+    ensures value { result ≡ schemas.column_index name.now columns.now }
     ensures within { IfSome result (λ i. i < length columns.now) }
 {
     columns.iter().position(|c| c.0 == *name)
@@ -172,7 +173,7 @@ pub fn place_of(name: &Text, columns: &[(Text, CellType)]) -> Option<usize>
 
 /// The type of the column of this name.
 pub fn type_of(name: &Text, columns: &[(Text, CellType)]) -> Option<CellType>
-    ensures { result ≡ type_in name.now columns.now }
+    ensures { result ≡ column_dtype name.now columns.now }
 {
     columns.iter().find(|c| c.0 == *name).map(|c| c.1)
 }

@@ -1,16 +1,16 @@
 //! Where the rows of a frame come from.
 ghost use Rattle.std.specs.Prelude.{◌≡◌, ◌<◌, ℕ, IfOk, List, Some, length, slice_get};
 ghost use Rattle.df_value.specs.Chunks.{ChunkParts};
-ghost use Rattle.df_value.specs.declared.chunk.Made.{Made};
-ghost use Rattle.df_value.specs.declared.chunk.Made.TheVariants as made_as;
+ghost use Rattle.df_value.specs.declared.chunk.Piece.{Piece};
+ghost use Rattle.df_value.specs.declared.chunk.Piece.TheVariants as made_as;
 
-use crate::chunk::Made;
+use crate::chunk::Piece;
 use std::alloc::{AllocError, Global};
 
 /// A finite list of made chunks, the same at each call.
 pub trait Source {
     // The chunks, in their order.
-    ghost made: { Self → List Made };
+    ghost made: { Self → List Piece };
 
     // The number of the first row of the chunk at each place.
     ghost start_of: { Self → ℕ → ℕ };
@@ -20,7 +20,7 @@ pub trait Source {
         ensures { result ≡ length (made self.now) };
 
     /// The chunk at this place, from 0. `Err` says that memory was refused.
-    fn chunk(&self, alloc: Global, n: u64) -> Result<Made, AllocError>
+    fn chunk(&self, alloc: Global, n: u64) -> Result<Piece, AllocError>
         requires { n < length (made self.now) }
         ensures { IfOk result (λ chunk. slice_get (made self.now) n ≡ Some chunk) };
 

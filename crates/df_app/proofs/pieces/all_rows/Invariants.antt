@@ -1,6 +1,6 @@
 use Rattle.std.proofs.Common.{◌≡◌, map}
-use Rattle.df_app.specs.Output.{rows_of}
+use Rattle.df_app.specs.Output.{rows_of_pieces}
 use Rattle.df_app.proofs.pieces.all_rows.Given as goal
 
 abbrev pub invariant-loop-of_frame : goal.invariant-loop-of_frame
-invariant-loop-of_frame l = l.all.items ≡ map rows_of l.yielded
+invariant-loop-of_frame l = l.all.items ≡ map rows_of_pieces l.yielded

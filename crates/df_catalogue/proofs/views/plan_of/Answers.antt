@@ -5,9 +5,9 @@ use Rattle.df_catalogue.proofs.views.plan_of.Goals as goal
 
 pub returns-in_err-at : goal.returns-in_err-at
 returns-in_err-at c =
-    rw (c.from_residual.ensures, none-named (λ v. bytes_eq v.name c.args.name.now) c.args.views.now (sym c.place_of.ensures.value ∙ c.in_err-at.was)) refl
+    rw (c.from_residual.ensures, none-named (λ v. bytes_eq v.name c.args.name.now) c.args.views.now (sym c.view_index.ensures.value ∙ c.in_err-at.was)) refl
 
 pub returns : goal.returns
 returns c =
     ap (λ v. Some v.plan) (sym c.index-views-at.is)
-    ∙ sym (ap (option_map (λ v. v.plan)) (placed-found (λ v. bytes_eq v.name c.args.name.now) c.args.views.now c.in_ok-at.at c.index-views-at.result (sym c.place_of.ensures.value ∙ c.in_ok-at.was) c.index-views-at.is))
+    ∙ sym (ap (option_map (λ v. v.plan)) (placed-found (λ v. bytes_eq v.name c.args.name.now) c.args.views.now c.in_ok-at.at c.index-views-at.result (sym c.view_index.ensures.value ∙ c.in_ok-at.was) c.index-views-at.is))

@@ -8,4 +8,4 @@ pub value-returns-in-Column-clause-free : goal.value-returns-in-Column-clause-fr
 value-returns-in-Column-clause-free t c = λ fits h.
     let free = subst (λ e. IsTrue (no_text e c.args.columns.now)) c.in-Column.is h in
     let free = subst IsTrue (column_free c.args.columns.now c.in-Column.name) free in
-    c.copy_at.ensures.free (rw c.place_of.ensures.value (column_no_text c.args.columns.now c.args.row.now fits c.in-Column.name free))
+    c.copy_at.ensures.free (rw c.column_index.ensures.value (column_no_text c.args.columns.now c.args.row.now fits c.in-Column.name free))

@@ -17,12 +17,12 @@ key_at keys i k h e =
     ap (doubled_key_after (take i keys)) next
     ∙ ap (λ (s : List (List ℕ)). cond (list_any (λ s. bytes_eq s k) (take i keys)) (Some k) (doubled_key_after s (drop (suc i) keys))) (sym seen)
 
-pub returns-then-has_key : goal.returns-then-has_key
-returns-then-has_key c =
+pub returns-then-has_earlier_key : goal.returns-then-has_earlier_key
+returns-then-has_earlier_key c =
     let keys = c.args.keys.now in
     let k = c.index-keys-i.result in
     let here = key_at keys c.loop-i.i k (omega arith) c.index-keys-i.is in
-    let test : list_any (λ s. bytes_eq s k) (take c.loop-i.i keys) ≡ true = sym c.has_key.ensures ∙ c.if-has_key.true in
+    let test : list_any (λ s. bytes_eq s k) (take c.loop-i.i keys) ≡ true = sym c.has_earlier_key.ensures ∙ c.if-has_earlier_key.true in
     sym (c.loop-i.invariant ∙ (here ∙ ap (λ b. cond b (Some k) (doubled_key_after (take (suc c.loop-i.i) keys) (drop (suc c.loop-i.i) keys))) test))
 
 pub loop-i-preserved : goal.loop-i-preserved
@@ -30,5 +30,5 @@ loop-i-preserved c =
     let keys = c.args.keys.now in
     let k = c.index-keys-i.result in
     let here = key_at keys c.loop-i.i k (omega arith) c.index-keys-i.is in
-    let test : list_any (λ s. bytes_eq s k) (take c.loop-i.i keys) ≡ false = sym c.has_key.ensures ∙ c.if-has_key.false in
+    let test : list_any (λ s. bytes_eq s k) (take c.loop-i.i keys) ≡ false = sym c.has_earlier_key.ensures ∙ c.if-has_earlier_key.false in
     rw add-one (c.loop-i.invariant ∙ (here ∙ ap (λ b. cond b (Some k) (doubled_key_after (take (suc c.loop-i.i) keys) (drop (suc c.loop-i.i) keys))) test))

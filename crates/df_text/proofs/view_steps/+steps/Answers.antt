@@ -8,39 +8,39 @@ use Rattle.df_text.proofs.StepFacts.{join_by_items, plain_step, step_by_word, st
 use Rattle.df_text.proofs.view_steps.+steps.Goals as goal
 
 pub apply-returns-in-Filter : goal.apply-returns-in-Filter
-apply-returns-in-Filter t c = rw (c.in-Filter.is, plain_step (filter_of c.args.place c.args.input) (map view c.args.items.now)) c.filter.ensures
+apply-returns-in-Filter t c = rw (c.in-Filter.is, plain_step (filter_of c.args.location c.args.input) (map view c.args.items.now)) c.filter.ensures
 
 pub apply-returns-in-Select : goal.apply-returns-in-Select
-apply-returns-in-Select t c = rw (c.in-Select.is, plain_step (select_of c.args.place c.args.input) (map view c.args.items.now)) c.select.ensures
+apply-returns-in-Select t c = rw (c.in-Select.is, plain_step (select_of c.args.location c.args.input) (map view c.args.items.now)) c.select.ensures
 
 pub apply-returns-in-WithColumns : goal.apply-returns-in-WithColumns
-apply-returns-in-WithColumns t c = rw (c.in-WithColumns.is, plain_step (with_columns_of c.args.place c.args.input) (map view c.args.items.now)) c.with_columns.ensures
+apply-returns-in-WithColumns t c = rw (c.in-WithColumns.is, plain_step (with_columns_of c.args.location c.args.input) (map view c.args.items.now)) c.with_columns.ensures
 
 pub apply-returns-in-GroupBy : goal.apply-returns-in-GroupBy
-apply-returns-in-GroupBy t c = rw (c.in-GroupBy.is, plain_step (group_by_of c.args.place c.args.input) (map view c.args.items.now)) c.group_by.ensures
+apply-returns-in-GroupBy t c = rw (c.in-GroupBy.is, plain_step (group_by_of c.args.location c.args.input) (map view c.args.items.now)) c.group_by.ensures
 
 pub apply-returns-in-Rolling : goal.apply-returns-in-Rolling
 apply-returns-in-Rolling t c =
-    rw (c.in-Rolling.is, plain_step (rolling_of c.args.place c.in-Rolling.kind c.args.input) (map view c.args.items.now)) c.rolling.ensures
+    rw (c.in-Rolling.is, plain_step (rolling_of c.args.location c.in-Rolling.kind c.args.input) (map view c.args.items.now)) c.rolling.ensures
 
 pub apply-returns-in-CumSum : goal.apply-returns-in-CumSum
-apply-returns-in-CumSum t c = rw (c.in-CumSum.is, plain_step (cum_sum_of c.args.place c.args.input) (map view c.args.items.now)) c.cum_sum.ensures
+apply-returns-in-CumSum t c = rw (c.in-CumSum.is, plain_step (cum_sum_of c.args.location c.args.input) (map view c.args.items.now)) c.cum_sum.ensures
 
 pub apply-returns-in-Rank : goal.apply-returns-in-Rank
-apply-returns-in-Rank t c = rw (c.in-Rank.is, plain_step (rank_of c.args.place c.args.input) (map view c.args.items.now)) c.rank.ensures
+apply-returns-in-Rank t c = rw (c.in-Rank.is, plain_step (rank_of c.args.location c.args.input) (map view c.args.items.now)) c.rank.ensures
 
 pub apply_step-apply-requires : goal.apply_step-apply-requires
 apply_step-apply-requires t c =
-    let deeper = step_deeper c.args.place (view c.args.step.now) c.in-Ok.word (map view c.in-Ok.items.now) c.in-Ok.ensures in
+    let deeper = step_deeper c.args.location (view c.args.step.now) c.in-Ok.word (map view c.in-Ok.items.now) c.in-Ok.ensures in
     (omega (arith, deeper, c.decreases), tt)
 
 pub apply_step-returns-in-Ok : goal.apply_step-returns-in-Ok
 apply_step-returns-in-Ok t c =
-    rw (step_by_word c.args.place c.args.frames.now c.args.input (view c.args.step.now), c.in-Ok.ensures) c.apply.ensures
+    rw (step_by_word c.args.location c.args.frames.now c.args.input (view c.args.step.now), c.in-Ok.ensures) c.apply.ensures
 
 pub apply_step-returns-in-Err : goal.apply_step-returns-in-Err
 apply_step-returns-in-Err t c given =
-    rw (step_by_word c.args.place c.args.frames.now c.args.input (view c.args.step.now), c.in-Err.ensures) refl
+    rw (step_by_word c.args.location c.args.frames.now c.args.input (view c.args.step.now), c.in-Err.ensures) refl
 
 pub apply_steps-apply_step-requires : goal.apply_steps-apply_step-requires
 apply_steps-apply_step-requires t c =
@@ -49,26 +49,26 @@ apply_steps-apply_step-requires t c =
 
 pub join-read_right-requires : goal.join-read_right-requires
 join-read_right-requires t c =
-    let no_deeper = third_no_deeper c.args.place (map view c.args.items.now) _ _ _ c.in_ok-kind.ensures in
+    let no_deeper = third_no_deeper c.args.location (map view c.args.items.now) _ _ _ c.in_ok-kind.ensures in
     (omega (arith, no_deeper, c.decreases), tt)
 
 pub join-returns-in-Ok-read_right : goal.join-returns-in-Ok-read_right
 join-returns-in-Ok-read_right t c =
-    rw (join_by_items c.args.place c.args.frames.now c.args.input (map view c.args.items.now), c.in_ok-kind.ensures, c.in-Ok.ensures, c.in-Ok-read_right.ensures, c.in_ok-input.ensures) refl
+    rw (join_by_items c.args.location c.args.frames.now c.args.input (map view c.args.items.now), c.in_ok-kind.ensures, c.in-Ok.ensures, c.in-Ok-read_right.ensures, c.in_ok-input.ensures) refl
 
 pub join-returns-in-Err-read_right : goal.join-returns-in-Err-read_right
 join-returns-in-Err-read_right t c given =
-    rw (join_by_items c.args.place c.args.frames.now c.args.input (map view c.args.items.now), c.in_ok-kind.ensures, c.in-Ok.ensures, c.in-Err-read_right.ensures given) refl
+    rw (join_by_items c.args.location c.args.frames.now c.args.input (map view c.args.items.now), c.in_ok-kind.ensures, c.in-Ok.ensures, c.in-Err-read_right.ensures given) refl
 
 pub apply_table-apply_steps-requires : goal.apply_table-apply_steps-requires
 apply_table-apply_steps-requires t c =
-    let no_deeper = array_at_no_deeper c.args.place (codes "steps") (table_view c.args.table.now) _ c.in-Ok.ensures in
+    let no_deeper = array_at_no_deeper c.args.location (codes "steps") (table_view c.args.table.now) _ c.in-Ok.ensures in
     (omega (arith, no_deeper, c.decreases), tt)
 
 pub apply_table-returns-in-Ok : goal.apply_table-returns-in-Ok
 apply_table-returns-in-Ok t c =
-    rw (steps_by_key c.args.place c.args.frames.now c.args.input (table_view c.args.table.now), c.in-Ok.ensures) c.apply_steps.ensures
+    rw (steps_by_key c.args.location c.args.frames.now c.args.input (table_view c.args.table.now), c.in-Ok.ensures) c.apply_steps.ensures
 
 pub apply_table-returns-in-Err : goal.apply_table-returns-in-Err
 apply_table-returns-in-Err t c given =
-    rw (steps_by_key c.args.place c.args.frames.now c.args.input (table_view c.args.table.now), c.in-Err.ensures) refl
+    rw (steps_by_key c.args.location c.args.frames.now c.args.input (table_view c.args.table.now), c.in-Err.ensures) refl

@@ -24,4 +24,4 @@ decreases-read_right l = 8 * depth (view l.right.now) + 3
 
 abbrev pub invariant-apply_steps-loop-step : goal.invariant-apply_steps-loop-step
 invariant-apply_steps-loop-step l =
-    steps_after l.place l.frames l.fn.input (items_of (map view l.steps)) ≡ steps_after l.place l.frames l.plan (items_of (map view (drop l.step-index l.steps)))
+    steps_after l.location l.frames l.fn.input (items_of (map view l.steps)) ≡ steps_after l.location l.frames l.plan (items_of (map view (drop l.step-index l.steps)))

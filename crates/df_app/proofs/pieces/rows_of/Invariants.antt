@@ -1,6 +1,0 @@
-use Rattle.std.proofs.Common.{◌≡◌}
-use Rattle.df_app.specs.Output.{rows_of}
-use Rattle.df_app.proofs.pieces.rows_of.Given as goal
-
-abbrev pub invariant-loop-made : goal.invariant-loop-made
-invariant-loop-made l = l.rows.items ≡ rows_of l.yielded

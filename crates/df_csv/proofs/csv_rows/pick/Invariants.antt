@@ -1,7 +1,0 @@
-use Rattle.std.proofs.Common.{◌≡◌, ◌++◌, take}
-use Rattle.csv.specs.Records.{fields_of}
-use Rattle.df_csv.specs.Records.{picked}
-use Rattle.df_csv.proofs.csv_rows.pick.Given as goal
-
-abbrev pub invariant-loop-place : goal.invariant-loop-place
-invariant-loop-place l = fields_of l.fields ≡ fields_of l.initial.fields ++ picked (take l.place-index l.places) (fields_of l.row)

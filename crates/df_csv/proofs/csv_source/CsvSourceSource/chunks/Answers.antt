@@ -1,6 +1,0 @@
-use Rattle.std.proofs.Common.{sym, ◌∙◌}
-use Rattle.df_csv.proofs.PieceFacts.{count_of_source}
-use Rattle.df_csv.proofs.csv_source.CsvSourceSource.chunks.Goals as goal
-
-pub returns : goal.returns
-returns c = c.count_pieces.ensures ∙ sym (count_of_source _ c.args.self.now c.self.view_is)

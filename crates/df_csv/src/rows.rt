@@ -1,0 +1,88 @@
+//! The records of a CSV file under its header.
+ghost use Rattle.std.specs.Prelude.{◌≡◌, ◌++◌, OnOk, Some};
+ghost use Rattle.csv.specs.Reading.{expected_len};
+ghost use Rattle.csv.specs.Records.{AllText, fields_of};
+ghost use Rattle.df_csv.specs.Records.{EveryText, Gives, fields_at, checked_records};
+ghost use Rattle.df_csv.specs.Rows.{IsPlain, IsNextRow, rows_left};
+
+use crate::fault::CsvFault;
+use crate::header::field_in;
+use crate::records::Records;
+use csv::{ByteRecord, ErrorKind, Reader, StringRecord};
+use std::alloc::{AllocError, Global};
+use std::io::Read;
+
+/// The most records of a file.
+const MOST_RECORDS: usize = 1_048_576;
+
+/// What the next record is: a row, none, one of another length than those before it, or not known for
+/// want of memory.
+#[derive(Debug, Drop)]
+pub enum NextRow {
+    Row,
+    End,
+    Unlike,
+    Memory,
+}
+
+/// Takes the next record.
+pub fn next_row<R: Read>(reader: &mut Reader<R>, row: &mut ByteRecord) -> NextRow
+    requires { IsPlain R.remaining reader.old }
+    ensures { IsNextRow R.remaining reader.old reader.new (fields_of row.new) result }
+{
+    match reader.read_byte_record(row) {
+        Ok(true) => NextRow::Row,
+        Ok(false) => NextRow::End,
+        Err(e) => match e.kind() {
+            ErrorKind::UnequalLengths { .. } => NextRow::Unlike,
+            // A slice is read without a fault, so that an Io error stands for memory alone.
+            ErrorKind::OutOfMemory | ErrorKind::Io(_) => NextRow::Memory,
+            ErrorKind::Utf8 { .. } => unreachable!(),
+            ErrorKind::Serialize(_) => unreachable!(),
+            ErrorKind::Deserialize { .. } => unreachable!(),
+        },
+    }
+}
+
+/// Adds the fields at these places.
+fn pick(fields: &mut StringRecord, row: &ByteRecord, places: &[usize]) -> Result<(), AllocError>
+    requires { AllText (fields_of row.now) }
+    ensures { OnOk result (fields_of fields.new ≡ fields_of fields.old ++ fields_at places.now (fields_of row.now)) }
+{
+    for place in places {
+        fields.push_field(field_in(row, *place))?;
+    }
+    Ok(())
+}
+
+/// The records under the header, which has `width` fields; of each the fields at these places.
+pub fn read_rows<R: Read>(
+    alloc: Global,
+    reader: &mut Reader<R>,
+    places: &[usize],
+    width: usize,
+) -> Result<Records, CsvFault>
+    requires plain { IsPlain R.remaining reader.old }
+    requires width { expected_len reader.old ≡ Some width }
+    requires texts { EveryText (rows_left R.remaining reader.old) }
+    ensures { Gives result (checked_records width places.now 1 (rows_left R.remaining reader.old)) }
+{
+    let mut fields = StringRecord::new(alloc);
+    let mut row = ByteRecord::new(alloc);
+    let mut count: usize = 0;
+    'records: loop {
+        match next_row(reader, &mut row) {
+            NextRow::Row => {}
+            NextRow::End => return Ok(Records::from_fields(fields, places.len(), count)),
+            NextRow::Unlike => return Err(CsvFault::BadRecord(count as u64 + 1)),
+            NextRow::Memory => return Err(CsvFault::Memory),
+        }
+        if count == MOST_RECORDS {
+            return Err(CsvFault::TooManyRecords);
+        }
+        if pick(&mut fields, &row, places).is_err() {
+            return Err(CsvFault::Memory);
+        }
+        count += 1;
+    }
+}

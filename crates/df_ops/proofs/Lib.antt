@@ -1,0 +1,14 @@
+pub mod Choices
+pub mod Keys
+pub mod Partition
+pub mod Beside
+pub mod NamedColumnsFacts
+pub mod RowWiseLaws
+pub mod Steps
+pub mod JoinLaws
+pub mod WindowFacts
+pub mod WindowLaws
+pub mod RankLaws
+pub mod Least
+pub mod MinMaxFacts
+pub mod GroupSums

@@ -1,0 +1,11 @@
+use Rattle.std.proofs.lemmas.Result.{IfOk-weaker}
+use Rattle.df_ops.proofs.JoinLaws.{inner_is_left, rows_count}
+use Rattle.df_ops.proofs.joins.join_rows.Goals as goal
+
+pub returns-clause-count : goal.returns-clause-count
+returns-clause-count c =
+    IfOk-weaker c.all_joined.result _ _
+    (λ rows e. rw e (rows_count c.args.how c.args.join_indices.now c.args.lefts.now c.args.rights.now)) c.all_joined.ensures
+
+pub returns-clause-inner_is_left : goal.returns-clause-inner_is_left
+returns-clause-inner_is_left c = inner_is_left c.args.join_indices.now c.args.rights.now c.args.lefts.now

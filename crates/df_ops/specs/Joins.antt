@@ -1,0 +1,91 @@
+-- Joins on columns of one name and type on both sides, as `join` of the Polars Python reference with `how` "inner" or
+-- "left" and `nulls_equal=False`: null keys match nothing, and a right name that stands on the left gets the suffix
+-- `_right`. That rows come in left order, and for one left row in right order, is this project's own choice.
+use Rattle.std.specs.Prelude.{ℕ, Bool, ◌&&◌, not, List, [], ◌∷◌, ◌++◌, Option, codes, filter, map, max, length, if◌then◌else◌}
+use Rattle.std.specs.List.{list_any, flat_map}
+use Rattle.std.specs.Str.{bytes_eq}
+use Rattle.df_value.specs.declared.cell.Cell.{Cell}
+use Rattle.df_value.specs.declared.cell.Cell.TheVariants as cell
+use Rattle.df_value.specs.declared.cell.CellType.{CellType}
+use Rattle.df_value.specs.Rows.{row_eq}
+use Rattle.df_value.specs.Schemas.{column_index}
+use Rattle.df_expr.specs.Value.{is_null}
+use Rattle.df_ops.specs.Groups.{key_of}
+use Rattle.df_ops.specs.NamedColumns.{has_name}
+use Rattle.df_ops.specs.declared.join_columns.JoinIndices.{JoinIndices}
+use Rattle.df_ops.specs.declared.kinds.How.{How}
+use Rattle.df_ops.specs.declared.kinds.How.TheVariants as how
+
+abbrev pub Columns : Type 0
+Columns = List (List ℕ × CellType)
+
+abbrev Rows : Type 0
+Rows = List (List Cell)
+
+-- whether a column is a key
+abbrev pub is_key : List (List ℕ) → List ℕ × CellType → Bool
+is_key keys c = list_any (λ k. bytes_eq k c.0) keys
+
+-- the right columns that are no keys
+abbrev pub columns_without_keys : List (List ℕ) → Columns → Columns
+columns_without_keys keys right = filter (λ c. not (is_key keys c)) right
+
+-- a right column beside the left ones: under its name, or where that stands on the left, with a suffix
+abbrev pub right_column : Columns → List ℕ × CellType → List ℕ × CellType
+right_column left c = if has_name c.0 left then (c.0 ++ codes "_right", c.1) else c
+
+-- the left columns, and after them the right ones that are no keys
+abbrev pub columns_of_join : Columns → Columns → List (List ℕ) → Columns
+columns_of_join left right keys = left ++ map (right_column left) (columns_without_keys keys right)
+
+-- where columns of these names stand
+abbrev pub column_indices_in : Columns → List (List ℕ) → List (Option ℕ)
+column_indices_in columns names = map (λ name. column_index name columns) names
+
+-- whether two keys match: they are the same, and no cell of them is null
+abbrev pub keys_match : List Cell → List Cell → Bool
+keys_match left right = row_eq right left && not (list_any is_null left)
+
+-- the right rows whose key matches, in their order
+abbrev pub matches_of : List (Option ℕ) → List Cell → Rows → Rows
+matches_of indices key rights = filter (λ r. keys_match key (key_of indices r)) rights
+
+-- a null for each of these places
+abbrev pub nulls_for : List (Option ℕ) → List Cell
+nulls_for indices = map (λ p. cell.Null) indices
+
+-- a left row beside each of these; in a left join, where there is none, once beside nulls
+abbrev pub left_beside : How → List Cell → List Cell → Rows → Rows
+left_beside how.Inner left nulls [] = []
+left_beside how.Left left nulls [] = (left ++ nulls) ∷ []
+left_beside h left nulls (r ∷ rs) = map (λ q. left ++ q) (r ∷ rs)
+
+-- where the keys stand on the left and on the right, and where the right columns stand that are no keys
+abbrev pub join_indices_of : Columns → Columns → List (List ℕ) → JoinIndices
+join_indices_of left right keys = record {
+  left = column_indices_in left keys;
+  right = column_indices_in right keys;
+  rest = column_indices_in right (map (λ c. c.0) (columns_without_keys keys right));
+}
+
+-- the rows that one left row gives
+unfoldable pub join_row : How → JoinIndices → Rows → List Cell → Rows
+join_row h s rights left =
+    left_beside h left (nulls_for s.rest) (map (key_of s.rest) (matches_of s.right (key_of s.left left) rights))
+
+-- the rows of a join
+abbrev pub join_rows : How → JoinIndices → Rows → Rows → Rows
+join_rows h s lefts rights = flat_map (join_row h s rights) lefts
+
+-- whether a left row has a match
+abbrev pub has_match : JoinIndices → Rows → List Cell → Bool
+has_match s rights left = list_any (λ r. keys_match (key_of s.left left) (key_of s.right r)) rights
+
+-- how many matches a left row has
+abbrev pub match_count : JoinIndices → Rows → List Cell → ℕ
+match_count s rights left = length (matches_of s.right (key_of s.left left) rights)
+
+-- how many rows a left row with so many matches gives
+abbrev pub join_count : How → ℕ → ℕ
+join_count how.Inner n = n
+join_count how.Left n = max 1 n

@@ -1,0 +1,10 @@
+pub mod NamedColumns
+pub mod Groups
+pub mod AggregateTypes
+pub mod Aggregates
+pub mod LoopStates
+pub mod RowWise
+pub mod Joins
+pub mod Windows
+pub mod Ranks
+pub mod Tables

@@ -1,0 +1,251 @@
+//! Joins of plain tables.
+ghost use Rattle.std.specs.Prelude.{◌≡◌, ◌<◌, ◌++◌, ◌∷◌, [], All, IfOk, OnOk, filter, length, map, take};
+ghost use Rattle.std.specs.List.{list_any, sum_by};
+ghost use Rattle.df_expr.specs.Value as value_spec;
+ghost use Rattle.df_ops.specs.Joins as joins;
+ghost use Rattle.df_ops.specs.Joins.{has_match, join_count, match_count};
+ghost use Rattle.df_ops.specs.Groups as groups_spec;
+ghost use Rattle.df_ops.specs.Tables as tables;
+
+use crate::groups::key_of;
+use crate::join_columns::{JoinIndices, columns_of_join, join_indices_of};
+use crate::kinds::How;
+use crate::pairs::push_made;
+use crate::plain_table::{PlainTable, table_from};
+use df_value::{Cell, Duplicate, List, Row, Text};
+use std::alloc::{AllocError, Global};
+
+/// The join of two tables.
+#[tactic(auto, unfolding(crate::specs::Tables::join_table))]
+pub fn join(
+    alloc: Global,
+    left: &PlainTable,
+    right: &PlainTable,
+    how: How,
+    keys: &[Text],
+) -> Result<PlainTable, AllocError>
+    ensures { IfOk result (λ t. t ≡ tables.join_table left.now right.now how keys.now) }
+{
+    let columns = columns_of_join(alloc, &left.columns, right.columns.as_slice(), keys);
+    table_from(columns, rows_of_join(alloc, left, right, how, keys))
+}
+
+fn rows_of_join(
+    alloc: Global,
+    left: &PlainTable,
+    right: &PlainTable,
+    how: How,
+    keys: &[Text],
+) -> Result<List<Row>, AllocError>
+    ensures { IfOk result (λ rows. rows
+        ≡ joins.join_rows how (joins.join_indices_of left.now.columns right.now.columns keys.now) left.now.rows right.now.rows) }
+{
+    let join_indices = join_indices_of(
+        alloc,
+        left.columns.as_slice(),
+        right.columns.as_slice(),
+        keys,
+    )?;
+    join_rows(
+        alloc,
+        how,
+        &join_indices,
+        left.rows.as_slice(),
+        right.rows.as_slice(),
+    )
+}
+
+/// The rows of a join, in left order, and for one left row in right order.
+pub fn join_rows(
+    alloc: Global,
+    how: How,
+    join_indices: &JoinIndices,
+    lefts: &[Row],
+    rights: &[Row],
+) -> Result<List<Row>, AllocError>
+    ensures value { IfOk result (λ rows. rows ≡ joins.join_rows how join_indices.now lefts.now rights.now) }
+
+    // Each left row gives its part.
+    ensures count { IfOk result (λ rows. length rows
+        ≡ sum_by (λ left. join_count how (match_count join_indices.now rights.now left)) lefts.now) }
+
+    // An inner join is the left join of those left rows that have a match.
+    ensures inner_is_left { joins.join_rows How.Inner join_indices.now lefts.now rights.now
+        ≡ joins.join_rows How.Left join_indices.now (filter (has_match join_indices.now rights.now) lefts.now) rights.now }
+{
+    all_joined(alloc, how, join_indices, lefts, rights)
+}
+
+fn all_joined(
+    alloc: Global,
+    how: How,
+    join_indices: &JoinIndices,
+    lefts: &[Row],
+    rights: &[Row],
+) -> Result<List<Row>, AllocError>
+    ensures { IfOk result (λ rows. rows ≡ joins.join_rows how join_indices.now lefts.now rights.now) }
+{
+    let mut rows = Vec::new(alloc);
+    for left in lefts {
+        add_joined(alloc, &mut rows, how, join_indices, left, rights)?;
+    }
+    Ok(List::from_vec(rows))
+}
+
+// Adds the rows that one left row gives.
+fn add_joined(
+    alloc: Global,
+    rows: &mut Vec<Row>,
+    how: How,
+    join_indices: &JoinIndices,
+    left: &Row,
+    rights: &[Row],
+) -> Result<(), AllocError>
+    ensures { OnOk result (rows.new.items ≡ rows.old.items ++ joins.join_row how join_indices.now rights.now left.now) }
+{
+    let mut made = join_row(alloc, how, join_indices, left, rights)?;
+    rows.append(&mut made)
+}
+
+/// The rows that one left row gives, in right order.
+pub fn join_row(
+    alloc: Global,
+    how: How,
+    join_indices: &JoinIndices,
+    left: &Row,
+    rights: &[Row],
+) -> Result<Vec<Row>, AllocError>
+    ensures value { IfOk result (λ rows. rows.items ≡ joins.join_row how join_indices.now rights.now left.now) }
+
+    // One for each match, and in a left join at least one.
+    ensures count { IfOk result (λ rows. length rows.items ≡ join_count how (match_count join_indices.now rights.now left.now)) }
+    ensures kept { how ≡ How.Left → IfOk result (λ rows. 0 < length rows.items) }
+
+    // Each begins with the left row.
+    ensures begins { IfOk result (λ rows. All (λ row. take (length left.now) row ≡ left.now) rows.items) }
+{
+    matched_row(alloc, how, join_indices, left, rights)
+}
+
+#[tactic(auto, unfolding(crate::specs::Joins::join_row))]
+fn matched_row(
+    alloc: Global,
+    how: How,
+    join_indices: &JoinIndices,
+    left: &Row,
+    rights: &[Row],
+) -> Result<Vec<Row>, AllocError>
+    ensures { IfOk result (λ rows. rows.items ≡ joins.join_row how join_indices.now rights.now left.now) }
+{
+    let key = key_of(alloc, join_indices.left.as_slice(), left)?;
+    let rests = matched_rests(
+        alloc,
+        join_indices.right.as_slice(),
+        join_indices.rest.as_slice(),
+        &key,
+        rights,
+    )?;
+    left_beside(
+        alloc,
+        how,
+        left,
+        join_indices.rest.as_slice(),
+        rests.as_slice(),
+    )
+}
+
+// Of the right rows whose key matches, the cells at the places `rest`.
+fn matched_rests(
+    alloc: Global,
+    indices: &[Option<usize>],
+    rest: &[Option<usize>],
+    key: &Row,
+    rights: &[Row],
+) -> Result<Vec<Row>, AllocError>
+    ensures { IfOk result (λ rests. rests.items ≡ map (groups_spec.key_of rest.now) (joins.matches_of indices.now key.now rights.now)) }
+{
+    let mut rests = Vec::new(alloc);
+    for right in rights {
+        add_rest(alloc, &mut rests, indices, rest, key, right)?;
+    }
+    Ok(rests)
+}
+
+// Adds the cells of a right row, if its key matches.
+fn add_rest(
+    alloc: Global,
+    rests: &mut Vec<Row>,
+    indices: &[Option<usize>],
+    rest: &[Option<usize>],
+    key: &Row,
+    right: &Row,
+) -> Result<(), AllocError>
+    ensures { OnOk result (rests.new.items
+        ≡ rests.old.items ++ map (groups_spec.key_of rest.now) (joins.matches_of indices.now key.now (right.now ∷ []))) }
+{
+    let own = key_of(alloc, indices, right)?;
+    if keys_match(key, &own) {
+        rests.push(key_of(alloc, rest, right)?)?;
+    }
+    Ok(())
+}
+
+// Whether two keys match: they are the same, and no cell of them is null.
+fn keys_match(left: &Row, right: &Row) -> bool
+    ensures { result ≡ joins.keys_match left.now right.now }
+{
+    *right == *left && !has_null(left.as_slice())
+}
+
+fn has_null(cells: &[Cell]) -> bool
+    ensures { result ≡ list_any value_spec.is_null cells.now }
+{
+    cells.iter().any(|cell| *cell == Cell::Null)
+}
+
+// The left row beside each of the rests; where there is none, a left join has it once beside nulls.
+fn left_beside(
+    alloc: Global,
+    how: How,
+    left: &Row,
+    indices: &[Option<usize>],
+    rests: &[Row],
+) -> Result<Vec<Row>, AllocError>
+    ensures { IfOk result (λ rows. rows.items ≡ joins.left_beside how left.now (joins.nulls_for indices.now) rests.now) }
+{
+    match how {
+        How::Left if rests.is_empty() => {
+            let rest = nulls(alloc, indices)?;
+            let row = row_beside(alloc, left, rest.as_slice())?;
+            Ok(vec![in alloc; row]?)
+        }
+        _ => each_beside(alloc, left, rests),
+    }
+}
+
+fn each_beside(alloc: Global, left: &Row, rests: &[Row]) -> Result<Vec<Row>, AllocError>
+    ensures { IfOk result (λ rows. rows.items ≡ map (λ rest. left.now ++ rest) rests.now) }
+{
+    let mut rows = Vec::with_capacity(alloc, rests.len())?;
+    for rest in rests {
+        push_made(&mut rows, row_beside(alloc, left, rest.as_slice()))?;
+    }
+    Ok(rows)
+}
+
+fn row_beside(alloc: Global, left: &Row, rest: &[Cell]) -> Result<Row, AllocError>
+    ensures { IfOk result (λ row. row ≡ left.now ++ rest.now) }
+{
+    let mut row = left.copy(alloc)?.into_vec();
+    for cell in rest {
+        push_made(&mut row, cell.copy(alloc))?;
+    }
+    Ok(List::from_vec(row))
+}
+
+// A null for each of these places.
+fn nulls(alloc: Global, indices: &[Option<usize>]) -> Result<Vec<Cell>, AllocError>
+    ensures { IfOk result (λ cells. cells.items ≡ joins.nulls_for indices.now) }
+{
+    indices.iter().map(|_| Cell::Null).collect(alloc)
+}

@@ -1,7 +1,0 @@
-use Rattle.std.proofs.Common.{◌≡◌, ◌++◌, take, map}
-use Rattle.df_table.specs.Tables.{aggregate_of}
-use Rattle.df_table.proofs.grouping.group_row.Given as goal
-
-abbrev pub invariant-loop-agg : goal.invariant-loop-agg
-invariant-loop-agg l =
-    l.row.items ≡ l.key ++ map (λ a. aggregate_of l.table.columns l.group.items a.1) (take l.agg-index l.aggs)

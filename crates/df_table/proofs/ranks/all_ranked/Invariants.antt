@@ -1,7 +1,0 @@
-use Rattle.std.proofs.Common.{◌≡◌, take, map}
-use Rattle.df_value.specs.Rows.{cell_at}
-use Rattle.df_table.specs.Ranks.{dense_rank_of}
-use Rattle.df_table.proofs.ranks.all_ranked.Given as goal
-
-abbrev pub invariant-loop-row : goal.invariant-loop-row
-invariant-loop-row l = l.ranks.items ≡ map (λ r. dense_rank_of l.distinct (cell_at l.place r)) (take l.row-index l.rows)

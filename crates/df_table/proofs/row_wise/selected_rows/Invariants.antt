@@ -1,6 +1,0 @@
-use Rattle.std.proofs.Common.{◌≡◌, take, map}
-use Rattle.df_table.specs.RowWise.{selected_row}
-use Rattle.df_table.proofs.row_wise.selected_rows.Given as goal
-
-abbrev pub invariant-loop-row : goal.invariant-loop-row
-invariant-loop-row l = l.selected.items ≡ map (selected_row l.columns l.items) (take l.row-index l.rows)

@@ -1,8 +1,0 @@
-use Rattle.std.proofs.Common.{◌≡◌, take, map}
-use Rattle.df_table.specs.Aggregates.{cells_of, sum_of}
-use Rattle.df_table.specs.Groups.{group_of}
-use Rattle.df_table.proofs.totals.sums_of_groups.Given as goal
-
-abbrev pub invariant-loop-key : goal.invariant-loop-key
-invariant-loop-key l =
-    l.sums.items ≡ map (λ k. sum_of (cells_of l.place (group_of l.places l.rows k))) (take l.key-index l.keys)
