@@ -7,10 +7,10 @@
 //!
 //! To add an operator: its definition over lists of rows (a file of its own in specs/), the table that it
 //! gives (specs/Tables.antt) and its body; one that puts columns among those of its input puts them by
-//! `with_columns` (named_columns.rt), one that puts a column of further cells, as a window or a rank, by `put_column`
-//! (one_column.rt). To add an aggregate: a variant of [`Agg`] with its arms in `copy` (kinds.rt), in
+//! `with_columns` (named_columns.rt), one that puts a column of further cells, as a window or a rank, by
+//! `with_column_table` (one_column.rt). To add an aggregate: a variant of [`Agg`] with its arms in `copy` (kinds.rt), in
 //! `column` and `type_of` (aggregates.rt, specs/AggregateTypes.antt), in `aggregate` (aggregates.rt) and in
-//! `aggregate_of` (specs/Tables.antt). Plans of operators, their checks and that rows fit are in `df_plan`.
+//! `aggregate_cell` (specs/Tables.antt). Plans of operators, their checks and that rows fit are in `df_plan`.
 #![tactic(auto)]
 
 mod aggregates;
