@@ -6,7 +6,8 @@ use Rattle.std.specs.Io.KnownBytes.{Keeps}
 use Rattle.df_text.specs.Document.{document_of}
 use Rattle.df_csv.specs.declared.fault.CsvFault.{CsvFault}
 use Rattle.df_csv.specs.declared.fault.CsvFault.TheVariants as csv
-use Rattle.df_app.specs.Output.{AnswersOrFails, ComesFromBytes, Contents, KnowsFiles, KnowsFilesOf, MayFailFrom, TellsOfBytes, opened_from, opened_of, outcome_of, output_made, output_of, text_from, then_run}
+use Rattle.df_value.specs.Outcomes.{then_next}
+use Rattle.df_app.specs.Output.{AnswersOrFails, ComesFromBytes, Contents, KnowsFiles, KnowsFilesOf, MayFailFrom, TellsOfBytes, opened_from, opened_of, outcome_of, output_made, output_of, text_from}
 use Rattle.df_app.specs.Ran.{IsOutput, KeepsUnlessWrite, IsOpening, IsRunOn, IsStop, IsFaultBefore, IsWriting}
 use Rattle.df_app.specs.declared.fault.RunFault.{RunFault}
 use Rattle.df_app.specs.declared.fault.RunFault.TheVariants as fault
@@ -57,7 +58,7 @@ too_large b contents chunk many =
 
 -- the output of what a document was opened to
 abbrev output_opened : ℕ → Result OpenedDocument RunFault → Result Output RunFault
-output_opened chunk r = then_run r (λ (o : OpenedDocument). Ok (output_made chunk o))
+output_opened chunk r = then_next r (λ (o : OpenedDocument). Ok (output_made chunk o))
 
 -- a document that does not open has its fault in the place of an output
 fault_of_output : (b : List ℕ) (contents : Contents) (chunk : ℕ) (f : RunFault) → opened_of b contents chunk ≡ Err f → output_of b contents chunk ≡ Err f

@@ -2,6 +2,7 @@
 -- refused, or the first fault.
 use Rattle.std.specs.Prelude.{◌≡◌, ◌≢◌, ◌≤◌, ◌*◌, ◌⊎◌, ℕ, ⊤, MatchResult, Bool, true, false, List, [], ◌∷◌, ◌++◌, length, map, nat_lt, codes, decimal, option_map, unwrap_or, slice_get, flat_map, All, Option, Some, None, IsSome, IfOk, IsOk, IsOkAnd, Result, Ok, Err, if◌then◌else◌}
 use Rattle.std.specs.List.{enumerate_from, join_by, list_all}
+use Rattle.df_value.specs.Outcomes.{then_next}
 use Rattle.df_value.specs.declared.cell.Cell.{Cell}
 use Rattle.df_value.specs.declared.chunk.Piece.{Piece}
 use Rattle.df_value.specs.declared.chunk.Piece.TheVariants as made
@@ -27,15 +28,10 @@ use Rattle.df_app.specs.declared.outcome.Outcome.TheVariants as outcome
 use Rattle.df_app.specs.declared.outcome.Output.{Output}
 use Rattle.df_app.specs.declared.opening.OpenedDocument.{OpenedDocument}
 
--- the next step's answer, or the fault
-abbrev pub then_run : {A B : Type 0} → Result A RunFault → (A → Result B RunFault) → Result B RunFault
-then_run (Ok x) next = next x
-then_run (Err f) next = Err f
-
 -- the answers that are there already, and after them that of each item in turn; the first fault ends it
 abbrev pub results_after : {A B : Type 0} → (A → Result B RunFault) → List B → List A → Result (List B) RunFault
 results_after answer out [] = Ok out
-results_after answer out (x ∷ xs) = then_run (answer x) (λ y. results_after answer (out ++ y ∷ []) xs)
+results_after answer out (x ∷ xs) = then_next (answer x) (λ y. results_after answer (out ++ y ∷ []) xs)
 
 abbrev pub of_document : Result Views ViewsFault → Result Views RunFault
 of_document (Ok document) = Ok document
@@ -135,13 +131,13 @@ plans_of document = results_after (plan_of (schemas_of document.frames)) [] docu
 -- order and typed in chunks of so many records
 abbrev pub opened_in : Views → Contents → ℕ → Result OpenedDocument RunFault
 opened_in document contents chunk =
-    then_run (plans_of document) (λ plans.
-    then_run (results_after (pieces_in contents chunk) [] document.frames) (λ pieces.
+    then_next (plans_of document) (λ plans.
+    then_next (results_after (pieces_in contents chunk) [] document.frames) (λ pieces.
     Ok (record { document = document; plans = plans; pieces = pieces })))
 
 -- the bytes of a document that is not too large, opened
 abbrev pub opened_from : List ℕ → Contents → ℕ → Result OpenedDocument RunFault
-opened_from bytes contents chunk = then_run (of_document (document_of bytes)) (λ document. opened_in document contents chunk)
+opened_from bytes contents chunk = then_next (of_document (document_of bytes)) (λ document. opened_in document contents chunk)
 
 -- a document's bytes, which are at most 1048576, and the files that it names, opened
 abbrev pub opened_of : List ℕ → Contents → ℕ → Result OpenedDocument RunFault
@@ -154,7 +150,7 @@ output_made chunk o = record { text = text_from o.document o.plans o.pieces chun
 
 -- the output of a document's bytes and of the files that it names
 abbrev pub output_of : List ℕ → Contents → ℕ → Result Output RunFault
-output_of bytes contents chunk = then_run (opened_of bytes contents chunk) (λ o. Ok (output_made chunk o))
+output_of bytes contents chunk = then_next (opened_of bytes contents chunk) (λ o. Ok (output_made chunk o))
 
 -- the bytes of the file that a frame names are known
 abbrev pub IsKnown : Contents → FrameSource → Type 0
@@ -211,5 +207,5 @@ AnswersOrFails F want result =
     (λ f. ComesFromBytes f × (TellsOfBytes f → want ≡ Err f) × ((frame : List ℕ) → f ≡ fault.Csv frame csv.ReadFault → F frame))
 
 -- the same of a call that reads no file
-abbrev pub Answers : {A : Type 0} → Result A RunFault → Result A RunFault → Type 0
-Answers want result = AnswersOrFails (λ frame. ⊥) want result
+abbrev pub AnswersOfBytes : {A : Type 0} → Result A RunFault → Result A RunFault → Type 0
+AnswersOfBytes want result = AnswersOrFails (λ frame. ⊥) want result

@@ -1,7 +1,7 @@
 //! The opening of a document: its plans are checked, and its frames are read.
 ghost use Rattle.std.specs.Prelude.{◌≡◌, ◌≤◌, [], IfOk, IfSome, length};
 ghost use Rattle.df_text.specs.Document.{document_of};
-ghost use Rattle.df_app.specs.Output.{Answers, AnswersOrFails, KnowsFiles, KnowsFilesOf, MayFailFrom, MayFailIn, results_after, of_document, opened_from, opened_in, plan_of, plans_of, schemas_of};
+ghost use Rattle.df_app.specs.Output.{AnswersOfBytes, AnswersOrFails, KnowsFiles, KnowsFilesOf, MayFailFrom, MayFailIn, results_after, of_document, opened_from, opened_in, plan_of, plans_of, schemas_of};
 ghost use Rattle.df_app.specs.Ran.{IsOpening};
 
 use crate::fault::RunFault;
@@ -103,7 +103,7 @@ fn open_views<F: Files>(
 
 // The plans of the views, checked over the schemas of the frames.
 fn checked_views(alloc: Global, document: &Views) -> Result<List<CheckedPlan>, RunFault>
-    ensures value { Answers (plans_of document.now) result }
+    ensures value { AnswersOfBytes (plans_of document.now) result }
     ensures each { IfOk result (λ plans. length plans ≡ length document.now.views) }
 {
     let schemas = copy_schemas(alloc, document.frames.as_slice())?;
@@ -111,7 +111,7 @@ fn checked_views(alloc: Global, document: &Views) -> Result<List<CheckedPlan>, R
 }
 
 fn read_document(alloc: Global, bytes: &[u8]) -> Result<Views, RunFault>
-    ensures { Answers (of_document (document_of bytes.now)) result }
+    ensures { AnswersOfBytes (of_document (document_of bytes.now)) result }
 {
     match read_views(alloc, bytes) {
         Ok(document) => Ok(document),
@@ -135,7 +135,7 @@ fn check_views(
     schemas: &[Schema],
     views: &[ViewSpec],
 ) -> Result<List<CheckedPlan>, RunFault>
-    ensures value { Answers (results_after (plan_of schemas.now) [] views.now) result }
+    ensures value { AnswersOfBytes (results_after (plan_of schemas.now) [] views.now) result }
     ensures each { IfOk result (λ plans. length plans ≡ length views.now) }
 {
     let mut plans = Vec::new(alloc);
@@ -146,7 +146,7 @@ fn check_views(
 }
 
 fn check_view(alloc: Global, schemas: &[Schema], view: &ViewSpec) -> Result<CheckedPlan, RunFault>
-    ensures { Answers (plan_of schemas.now view.now) result }
+    ensures { AnswersOfBytes (plan_of schemas.now view.now) result }
 {
     let plan = view.plan.copy(alloc)?;
     match CheckedPlan::new(alloc, plan, schemas) {

@@ -36,11 +36,11 @@ row_length w (suc n) (suc i) fs e h = row_length w n i (drop w fs) (more_rows w 
 field_of_row : (w n i j : ℕ) (fs : List (List ℕ)) → i < n → j < w → get_or fs (i * w + j) [] ≡ get_or (get_or (rows_of_width w n fs) i []) j []
 field_of_row w zero i j fs h k = absurd (omega arith)
 field_of_row w (suc n) zero j fs h k =
-    let place : 0 * w + j ≡ j = omega arith in
-    rw place (sym (get_or-take w fs j [] k))
+    let index : 0 * w + j ≡ j = omega arith in
+    rw index (sym (get_or-take w fs j [] k))
 field_of_row w (suc n) (suc i) j fs h k =
-    let place : suc i * w + j ≡ w + (i * w + j) = grind arith in
-    rw place (sym (get_or-drop w fs (i * w + j) []) ∙ field_of_row w n i j (drop w fs) (omega arith) k)
+    let index : suc i * w + j ≡ w + (i * w + j) = grind arith in
+    rw index (sym (get_or-drop w fs (i * w + j) []) ∙ field_of_row w n i j (drop w fs) (omega arith) k)
 
 -- csv's own word for a field says the same
 field_get : (fs : List (List ℕ)) (i : ℕ) → field_at fs i ≡ slice_get fs i

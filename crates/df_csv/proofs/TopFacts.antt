@@ -42,11 +42,11 @@ pub top_end_fault : (bytes : List ℕ) (columns : List (List ℕ × CellType)) (
     → all ≡ [] → header_fault columns [] ≡ Some x → records_of bytes columns ≡ Err x
 top_end_fault bytes columns all x utf8 e r f = rw (is_utf8-from_IsUtf8 (without_marks bytes) utf8, ← e, r, f) refl
 
-pub row_gives : (r : Result FieldRows CsvFault) (bytes : List ℕ) (columns : List (List ℕ × CellType)) (fields names : List (List ℕ)) (rest all : FieldRows) (places ps : List ℕ) (w : ℕ)
+pub row_gives : (r : Result FieldRows CsvFault) (bytes : List ℕ) (columns : List (List ℕ × CellType)) (fields names : List (List ℕ)) (rest all : FieldRows) (indices ps : List ℕ) (w : ℕ)
     → IsUtf8 (without_marks bytes) → all ≡ records default_config (without_marks bytes) → all ≡ fields ∷ rest → names ≡ fields
-    → header_fault columns names ≡ None → places ≡ map (λ c. header_index names c.0) columns → ps ≡ places → w ≡ length fields
+    → header_fault columns names ≡ None → indices ≡ map (λ c. header_index names c.0) columns → ps ≡ indices → w ≡ length fields
     → Gives r (checked_records w ps 1 rest) → Gives r (records_of bytes columns)
-row_gives r bytes columns fields names rest all places ps w utf8 e next n sound p q l g =
+row_gives r bytes columns fields names rest all indices ps w utf8 e next n sound p q l g =
     rw (top_row bytes columns fields rest all utf8 e next (rw n at sound)) (rw (q, p, n, l) at g)
 
 -- the fields of all records are texts

@@ -5,7 +5,7 @@ use Rattle.std.specs.Str.{all_ascii_digits, str_eq_ignore_ascii_case}
 use Rattle.df_value.specs.declared.cell.Cell.{Cell}
 use Rattle.df_value.specs.declared.cell.Cell.TheVariants as cell
 use Rattle.df_value.specs.declared.cell.CellType.{CellType}
-use Rattle.df_value.specs.declared.cell.CellType.TheVariants as kind
+use Rattle.df_value.specs.declared.cell.CellType.TheVariants as dtype
 
 -- the number that decimal digits write, when they follow those of n; the code of the digit 0 is 48
 abbrev pub decimal_after : ℕ → List ℕ → ℕ
@@ -41,11 +41,11 @@ bool_of_text text =
 
 -- the value of a type that a text writes; no text writes one of a type that base frames do not have
 abbrev pub value_of_text : CellType → List ℕ → Option Cell
-value_of_text kind.Int text = option_map cell.Int (int_of_text text)
-value_of_text kind.Bool text = option_map cell.Bool (bool_of_text text)
-value_of_text kind.Text text = Some (cell.Text text)
-value_of_text kind.Wide text = None
-value_of_text kind.Frac text = None
+value_of_text dtype.Int text = option_map cell.Int (int_of_text text)
+value_of_text dtype.Bool text = option_map cell.Bool (bool_of_text text)
+value_of_text dtype.Text text = Some (cell.Text text)
+value_of_text dtype.Wide text = None
+value_of_text dtype.Frac text = None
 
 -- the cell of a field in a column of this type, or none where the field is no value of it
 abbrev pub cell_of_text : CellType → List ℕ → Option Cell

@@ -23,7 +23,7 @@ without_marks (a ∷ b ∷ c ∷ rest) = if is_bom a b c then without_marks rest
 abbrev pub count_named : List (List ℕ) → List ℕ → ℕ
 count_named header name = count_by (λ h. bytes_eq h name) header
 
--- the first place of a name
+-- the first index of a name
 abbrev pub header_index : List (List ℕ) → List ℕ → ℕ
 header_index header name = unwrap_or (position (λ h. bytes_eq h name) header) 0
 

@@ -1,4 +1,4 @@
--- That each piece stands at its place, and that a good one begins with the row that its source says: facts for the
+-- That each piece stands at its index, and that a good one begins with the row that its source says: facts for the
 -- laws of a source.
 use Rattle.std.specs.Prelude.{◌≡◌, ◌+◌, ◌*◌, ◌<◌, ℕ, zero, suc, List, length, map, take, drop, Option, Some, option_map, slice_get}
 use Rattle.std.specs.List.{range_with_len}

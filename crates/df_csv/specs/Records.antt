@@ -14,9 +14,9 @@ use Rattle.df_csv.specs.Header.{header_fault, header_index, without_marks}
 abbrev pub FieldRows : Type 0
 FieldRows = List (List (List ℕ))
 
--- the fields at these places
+-- the fields at these indices
 abbrev pub fields_at : List ℕ → List (List ℕ) → List (List ℕ)
-fields_at places row = map (λ i. unwrap_or (field_at row i) []) places
+fields_at indices row = map (λ i. unwrap_or (field_at row i) []) indices
 
 -- rows, and then those of a list that may have a fault
 abbrev pub after_rows : FieldRows → Result FieldRows CsvFault → Result FieldRows CsvFault
@@ -26,11 +26,11 @@ after_rows xs (Err e) = Err e
 -- the picked rows of the records from the n-th on: each has as many fields as the header, and no file has
 -- more than 1048576 of them
 unfoldable pub checked_records : ℕ → List ℕ → ℕ → FieldRows → Result FieldRows CsvFault
-checked_records width places n [] = Ok []
-checked_records width places n (r ∷ rs) =
+checked_records width indices n [] = Ok []
+checked_records width indices n (r ∷ rs) =
     if not (length r == width) then Err (BadRecord n)
     else if nat_lt 1048576 n then Err TooManyRecords
-    else after_rows (fields_at places r ∷ []) (checked_records width places (n + 1) rs)
+    else after_rows (fields_at indices r ∷ []) (checked_records width indices (n + 1) rs)
 
 abbrev pub unless_bad_header : Option CsvFault → Result FieldRows CsvFault → Result FieldRows CsvFault
 unless_bad_header (Some e) rows = Err e
@@ -66,7 +66,7 @@ abbrev pub rows_of_width : ℕ → ℕ → List (List ℕ) → FieldRows
 rows_of_width width zero fields = []
 rows_of_width width (suc n) fields = take width fields ∷ rows_of_width width n (drop width fields)
 
--- the fields of the record at this place, none where there is no such record
+-- the fields of the record at this index, none where there is no such record
 abbrev pub record_at : FieldRows → ℕ → List (List ℕ)
 record_at rows i = unwrap_or (slice_get rows i) []
 

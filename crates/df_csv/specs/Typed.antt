@@ -13,19 +13,19 @@ use Rattle.df_csv.specs.declared.typed.TypedRows.{TypedRows}
 use Rattle.df_csv.specs.declared.typed.TypedRows.TheVariants as all
 use Rattle.df_csv.specs.Fields.{cell_of_text}
 
--- a cell before the rest of a row; a field that gives none is bad in the column at this place
+-- a cell before the rest of a row; a field that gives none is bad in the column at this index
 abbrev pub cell_before : ℕ → Option Cell → TypedRow → TypedRow
 cell_before at None rest = one.Bad at
 cell_before at (Some v) (one.Good vs) = one.Good (v ∷ vs)
 cell_before at (Some v) (one.Bad i) = one.Bad i
 
--- the cells of a record's fields in the columns from this place on, or the place of the first bad one
+-- the cells of a record's fields in the columns from this index on, or the index of the first bad one
 abbrev pub row_from : ℕ → List (List ℕ × CellType) → List (List ℕ) → TypedRow
 row_from at [] fields = one.Good []
 row_from at (c ∷ cs) [] = one.Good []
 row_from at (c ∷ cs) (f ∷ fs) = cell_before at (cell_of_text c.1 f) (row_from (at + 1) cs fs)
 
--- the row of a record, or the place of its first bad cell
+-- the row of a record, or the index of its first bad cell
 abbrev pub row_of : List (List ℕ × CellType) → List (List ℕ) → TypedRow
 row_of columns fields = row_from 0 columns fields
 

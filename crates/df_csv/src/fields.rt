@@ -27,13 +27,13 @@ fn bool_of(text: &str) -> Option<bool>
 
 /// The cell of a field in a column of this type: null where it is empty, and `None` where it is no
 /// value of the type.
-pub fn cell_of(alloc: Global, kind: CellType, field: &str) -> Result<Option<Cell>, AllocError>
-    ensures { IfOk result (λ cell. cell ≡ cell_of_text kind field.now) }
+pub fn cell_of(alloc: Global, dtype: CellType, field: &str) -> Result<Option<Cell>, AllocError>
+    ensures { IfOk result (λ cell. cell ≡ cell_of_text dtype field.now) }
 {
     if field.is_empty() {
         return Ok(Some(Cell::Null));
     }
-    match kind {
+    match dtype {
         CellType::Int => Ok(int_of(field).map(Cell::Int)),
         CellType::Bool => Ok(bool_of(field).map(Cell::Bool)),
         CellType::Text => Ok(Some(Cell::Text(Text::from_str(alloc, field)?))),

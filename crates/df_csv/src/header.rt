@@ -10,12 +10,12 @@ use csv::ByteRecord;
 use df_value::{CellType, Duplicate, Text};
 use std::alloc::{AllocError, Global};
 
-/// The field at this place, or an empty text where there is none.
-pub fn field_in(row: &ByteRecord, place: usize) -> &str
+/// The field at this index, or an empty text where there is none.
+pub fn field_in(row: &ByteRecord, index: usize) -> &str
     requires { AllText (fields_of row.now) }
-    ensures { result.now ≡ unwrap_or (field_at (fields_of row.now) place) [] }
+    ensures { result.now ≡ unwrap_or (field_at (fields_of row.now) index) [] }
 {
-    let field = row.get(place).unwrap_or(&[]);
+    let field = row.get(index).unwrap_or(&[]);
     // SAFETY: all fields of the record are UTF-8.
     unsafe { str::from_utf8_unchecked(field) }
 }
@@ -40,21 +40,21 @@ fn count_in(header: &[Text], name: &Text) -> usize
     header.iter().filter(|h| **h == *name).count()
 }
 
-/// The first place of a name.
+/// The first index of a name.
 fn find_in(header: &[Text], name: &Text) -> Option<usize>
     ensures { result ≡ position (λ h. bytes_eq h name.now) header.now }
 {
     header.iter().position(|h| *h == *name)
 }
 
-/// The first place of a name, or 0.
+/// The first index of a name, or 0.
 fn header_index_in(header: &[Text], name: &Text) -> usize
     ensures { result ≡ header_index header.now name.now }
 {
     find_in(header, name).unwrap_or(0)
 }
 
-/// The places of the columns.
+/// The indices of the columns.
 fn all_header_indices(
     alloc: Global,
     header: &[Text],
@@ -105,7 +105,7 @@ pub fn header_indices(
         return Err(CsvFault::MissingColumn(column.0.copy(alloc)?));
     }
     match all_header_indices(alloc, header, columns) {
-        Ok(places) => Ok(places),
+        Ok(indices) => Ok(indices),
         Err(_) => Err(CsvFault::Memory),
     }
 }

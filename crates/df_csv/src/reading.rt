@@ -37,7 +37,7 @@ fn read_text(
                 return Err(CsvFault::Memory);
             };
             match header_indices(alloc, header.as_slice(), columns) {
-                Ok(places) => read_rows(alloc, &mut reader, places.as_slice(), row.len()),
+                Ok(indices) => read_rows(alloc, &mut reader, indices.as_slice(), row.len()),
                 Err(e) => Err(e),
             }
         }

@@ -58,8 +58,8 @@ impl Records {
         requires in_columns { column < length (record_at self.now row) }
         ensures { slice_get (record_at self.now row) column ≡ Some result.now }
     {
-        let place = row * self.width + column;
-        match self.fields.get(place) {
+        let index = row * self.width + column;
+        match self.fields.get(index) {
             Some(field) => field,
             None => unreachable!(),
         }

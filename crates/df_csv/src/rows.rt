@@ -44,28 +44,28 @@ pub fn next_row<R: Read>(reader: &mut Reader<R>, row: &mut ByteRecord) -> NextRo
     }
 }
 
-/// Adds the fields at these places.
-fn pick(fields: &mut StringRecord, row: &ByteRecord, places: &[usize]) -> Result<(), AllocError>
+/// Adds the fields at these indices.
+fn pick(fields: &mut StringRecord, row: &ByteRecord, indices: &[usize]) -> Result<(), AllocError>
     requires { AllText (fields_of row.now) }
-    ensures { OnOk result (fields_of fields.new ≡ fields_of fields.old ++ fields_at places.now (fields_of row.now)) }
+    ensures { OnOk result (fields_of fields.new ≡ fields_of fields.old ++ fields_at indices.now (fields_of row.now)) }
 {
-    for place in places {
-        fields.push_field(field_in(row, *place))?;
+    for index in indices {
+        fields.push_field(field_in(row, *index))?;
     }
     Ok(())
 }
 
-/// The records under the header, which has `width` fields; of each the fields at these places.
+/// The records under the header, which has `width` fields; of each the fields at these indices.
 pub fn read_rows<R: Read>(
     alloc: Global,
     reader: &mut Reader<R>,
-    places: &[usize],
+    indices: &[usize],
     width: usize,
 ) -> Result<Records, CsvFault>
     requires plain { IsPlain R.remaining reader.old }
     requires width { expected_len reader.old ≡ Some width }
     requires texts { EveryText (rows_left R.remaining reader.old) }
-    ensures { Gives result (checked_records width places.now 1 (rows_left R.remaining reader.old)) }
+    ensures { Gives result (checked_records width indices.now 1 (rows_left R.remaining reader.old)) }
 {
     let mut fields = StringRecord::new(alloc);
     let mut row = ByteRecord::new(alloc);
@@ -73,14 +73,14 @@ pub fn read_rows<R: Read>(
     'records: loop {
         match next_row(reader, &mut row) {
             NextRow::Row => {}
-            NextRow::End => return Ok(Records::from_fields(fields, places.len(), count)),
+            NextRow::End => return Ok(Records::from_fields(fields, indices.len(), count)),
             NextRow::Unlike => return Err(CsvFault::BadRecord(count as u64 + 1)),
             NextRow::Memory => return Err(CsvFault::Memory),
         }
         if count == MOST_RECORDS {
             return Err(CsvFault::TooManyRecords);
         }
-        if pick(&mut fields, &row, places).is_err() {
+        if pick(&mut fields, &row, indices).is_err() {
             return Err(CsvFault::Memory);
         }
         count += 1;

@@ -10,7 +10,7 @@ use crate::records::Records;
 use df_value::{BadCell, CellType, Chunk, ChunkFault, List, Piece, Row, Schema, Text};
 use std::alloc::{AllocError, Global};
 
-/// The row of a record, or the place of its first bad cell.
+/// The row of a record, or the index of its first bad cell.
 #[derive(Debug, Drop)]
 pub enum TypedRow {
     Good(Row),

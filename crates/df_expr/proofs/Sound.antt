@@ -12,13 +12,14 @@ use Rattle.std.proofs.lemmas.Grind.{common_steps}
 use Rattle.df_value.specs.declared.cell.Cell.{Cell}
 use Rattle.df_value.specs.declared.cell.Cell.TheVariants as cell
 use Rattle.df_value.specs.declared.cell.CellType.{CellType}
-use Rattle.df_value.specs.declared.cell.CellType.TheVariants as kind
+use Rattle.df_value.specs.declared.cell.CellType.TheVariants as dtype
 use Rattle.df_value.specs.Cells.{fits_type, is_text}
 use Rattle.df_value.specs.CellEq.{cell_eq}
 use Rattle.df_value.specs.Rows.{cell_at, row_fits}
 use Rattle.df_value.specs.Schemas.{column_dtype, column_index}
 use Rattle.df_expr.specs.Value.{value_of, value_step, arith_of, compare_of, cell_of, fill_of, is_null}
-use Rattle.df_expr.specs.Typing.{type_of, type_step, TypeResult, both, then_typed, arith_type, ordered_type, compare_type, truth_type, truths_type, literal_type, column_type, not_text, no_text, no_text_step}
+use Rattle.df_value.specs.Outcomes.{then_next}
+use Rattle.df_expr.specs.Typing.{type_of, type_step, TypeResult, both, arith_type, ordered_type, compare_type, truth_type, truths_type, literal_type, column_type, not_text, no_text, no_text_step}
 use Rattle.df_expr.specs.declared.expr.ArithOp.{ArithOp}
 use Rattle.df_expr.specs.declared.expr.CompareOp.{CompareOp}
 use Rattle.df_expr.specs.declared.expr.Expr.{Expr}
@@ -35,17 +36,17 @@ HasValue columns row e = (t : CellType) → type_of e columns ≡ Ok t → IsTru
 abbrev Fits : TypeResult → Cell → Type 0
 Fits answer v = (t : CellType) → answer ≡ Ok t → IsTrue (fits_type t v)
 
-arith_fits : (o : ArithOp) (a b : Cell) → IsTrue (fits_type kind.Int (arith_of o a b))
+arith_fits : (o : ArithOp) (a b : Cell) → IsTrue (fits_type dtype.Int (arith_of o a b))
 arith_fits o a b = grind (arith, common_steps)
 
 both_arith : (s t : TypeResult) (o : ArithOp) (a b : Cell) → Fits (both s t arith_type) (arith_of o a b)
 both_arith s t o a b u h = grind (arith, common_steps, arith_fits o a b)
 
-bool_fits : (b : Option Bool) → IsTrue (fits_type kind.Bool (cell_of b))
+bool_fits : (b : Option Bool) → IsTrue (fits_type dtype.Bool (cell_of b))
 bool_fits None = refl
 bool_fits (Some b) = refl
 
-compare_fits : (o : CompareOp) (r : Option Ordering) → IsTrue (fits_type kind.Bool (compare_of o r))
+compare_fits : (o : CompareOp) (r : Option Ordering) → IsTrue (fits_type dtype.Bool (compare_of o r))
 compare_fits o None = refl
 compare_fits o (Some r) = refl
 
@@ -56,22 +57,22 @@ fill_fits : (s t : TypeResult) (a b : Cell) → Fits s a → Fits t b → Fits (
 fill_fits s t a b f g u h = grind (arith, common_steps, f u, g u)
 
 both_bool : (s t : TypeResult) (next : CellType → CellType → TypeResult) (v : Cell) →
-    ((a b u : CellType) → next a b ≡ Ok u → u ≡ kind.Bool) → IsTrue (fits_type kind.Bool v) →
+    ((a b u : CellType) → next a b ≡ Ok u → u ≡ dtype.Bool) → IsTrue (fits_type dtype.Bool v) →
     Fits (both s t next) v
 both_bool (Ok a) (Ok b) next v is_bool fits u h = let e = is_bool a b u h in rw e fits
 both_bool (Ok a) (Err f) next v is_bool fits u h = cc
 both_bool (Err f) t next v is_bool fits u h = cc
 
-compare_bool : (a b u : CellType) → compare_type a b ≡ Ok u → u ≡ kind.Bool
+compare_bool : (a b u : CellType) → compare_type a b ≡ Ok u → u ≡ dtype.Bool
 compare_bool a b u h = grind (arith, common_steps)
 
-truths_bool : (a b u : CellType) → truths_type a b ≡ Ok u → u ≡ kind.Bool
+truths_bool : (a b u : CellType) → truths_type a b ≡ Ok u → u ≡ dtype.Bool
 truths_bool a b u h = grind (arith, common_steps)
 
-not_fits : (s : TypeResult) (v : Cell) → IsTrue (fits_type kind.Bool v) → Fits (then_typed s truth_type) v
+not_fits : (s : TypeResult) (v : Cell) → IsTrue (fits_type dtype.Bool v) → Fits (then_next s truth_type) v
 not_fits s v fits u h = grind (arith, common_steps)
 
-null_fits : (s : TypeResult) (v : Cell) → IsTrue (fits_type kind.Bool v) → Fits (then_typed s (λ _. Ok kind.Bool)) v
+null_fits : (s : TypeResult) (v : Cell) → IsTrue (fits_type dtype.Bool v) → Fits (then_next s (λ _. Ok dtype.Bool)) v
 null_fits s v fits u h = grind (arith, common_steps)
 
 second : (a b : Bool) → IsTrue (a && b) → IsTrue b
@@ -151,9 +152,9 @@ value_fits columns row fits = ind-Expr (HasValue columns row) (λ x y is. subst 
 no_text_of : (o : Option CellType) (c : Cell) (name : List ℕ) → Fits (column_type name o) c → (o ≡ None → c ≡ cell.Null) →
     IsTrue (not_text o) → IsTrue (not (is_text c))
 no_text_of None c name fits none h = rw (none refl) refl
-no_text_of (Some kind.Text) c name fits none h = cc
-no_text_of (Some kind.Int) cell.Null name fits none h = refl
-no_text_of (Some kind.Int) (cell.Text t) name fits none h = fits kind.Int refl
+no_text_of (Some dtype.Text) c name fits none h = cc
+no_text_of (Some dtype.Int) cell.Null name fits none h = refl
+no_text_of (Some dtype.Int) (cell.Text t) name fits none h = fits dtype.Int refl
 no_text_of (Some k) c name fits none h = grind (arith, common_steps, fits k refl)
 
 beyond :

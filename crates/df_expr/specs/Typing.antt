@@ -1,10 +1,11 @@
 -- The types of expressions, as the Polars Python reference types them where this project allows the
 -- operands, and the order in which a check finds faults.
 use Rattle.std.specs.Prelude.{◌≡◌, ◌+◌, ◌&&◌, ◌||◌, ℕ, Bool, true, false, List, Option, Some, None, Result, Ok, Err, max, nat_lt, not, if◌then◌else◌}
+use Rattle.df_value.specs.Outcomes.{then_next}
 use Rattle.df_value.specs.declared.cell.Cell.{Cell}
 use Rattle.df_value.specs.declared.cell.Cell.TheVariants as cell
 use Rattle.df_value.specs.declared.cell.CellType.{CellType}
-use Rattle.df_value.specs.declared.cell.CellType.TheVariants as kind
+use Rattle.df_value.specs.declared.cell.CellType.TheVariants as dtype
 use Rattle.df_value.specs.Cells.{is_text}
 use Rattle.df_value.specs.Schemas.{column_dtype}
 use Rattle.df_expr.specs.declared.fault.ExprFault.{ExprFault}
@@ -23,48 +24,43 @@ column_type name (Some t) = Ok t
 
 -- a literal is null or a cell of its type, which is Int, Text or Bool
 abbrev pub literal_type : Cell → CellType → TypeResult
-literal_type cell.Null kind.Int = Ok kind.Int
-literal_type cell.Null kind.Text = Ok kind.Text
-literal_type cell.Null kind.Bool = Ok kind.Bool
-literal_type (cell.Int n) kind.Int = Ok kind.Int
-literal_type (cell.Text t) kind.Text = Ok kind.Text
-literal_type (cell.Bool b) kind.Bool = Ok kind.Bool
+literal_type cell.Null dtype.Int = Ok dtype.Int
+literal_type cell.Null dtype.Text = Ok dtype.Text
+literal_type cell.Null dtype.Bool = Ok dtype.Bool
+literal_type (cell.Int n) dtype.Int = Ok dtype.Int
+literal_type (cell.Text t) dtype.Text = Ok dtype.Text
+literal_type (cell.Bool b) dtype.Bool = Ok dtype.Bool
 literal_type _ _ = Err fault.WrongType
 
 -- two Ints give an Int
 abbrev pub arith_type : CellType → CellType → TypeResult
-arith_type kind.Int kind.Int = Ok kind.Int
+arith_type dtype.Int dtype.Int = Ok dtype.Int
 arith_type _ _ = Err fault.WrongType
 
 -- two operands of one ordered type have that type
 abbrev pub ordered_type : CellType → CellType → TypeResult
-ordered_type kind.Int kind.Int = Ok kind.Int
-ordered_type kind.Wide kind.Wide = Ok kind.Wide
-ordered_type kind.Text kind.Text = Ok kind.Text
-ordered_type kind.Bool kind.Bool = Ok kind.Bool
+ordered_type dtype.Int dtype.Int = Ok dtype.Int
+ordered_type dtype.Wide dtype.Wide = Ok dtype.Wide
+ordered_type dtype.Text dtype.Text = Ok dtype.Text
+ordered_type dtype.Bool dtype.Bool = Ok dtype.Bool
 ordered_type _ _ = Err fault.WrongType
 
 -- a truth is a Bool
 abbrev pub truth_type : CellType → TypeResult
-truth_type kind.Bool = Ok kind.Bool
+truth_type dtype.Bool = Ok dtype.Bool
 truth_type _ = Err fault.WrongType
-
--- the next step's answer, or the fault
-abbrev pub then_typed : TypeResult → (CellType → TypeResult) → TypeResult
-then_typed (Ok t) next = next t
-then_typed (Err f) next = Err f
 
 -- the left operand's fault comes first, then the right one's, then the node's own
 abbrev pub both : TypeResult → TypeResult → (CellType → CellType → TypeResult) → TypeResult
-both a b next = then_typed a (λ s. then_typed b (next s))
+both a b next = then_next a (λ s. then_next b (next s))
 
 -- two operands that compare
 abbrev pub compare_type : CellType → CellType → TypeResult
-compare_type s t = then_typed (ordered_type s t) (λ _. Ok kind.Bool)
+compare_type s t = then_next (ordered_type s t) (λ _. Ok dtype.Bool)
 
 -- two truths
 abbrev pub truths_type : CellType → CellType → TypeResult
-truths_type s t = then_typed (truth_type s) (λ _. truth_type t)
+truths_type s t = then_next (truth_type s) (λ _. truth_type t)
 
 -- the type of one form, from the types of its operands
 abbrev pub type_step : List (List ℕ × CellType) → Expr-F TypeResult → TypeResult
@@ -75,9 +71,9 @@ type_step schema (Expr-F.Compare op a b) = both a b compare_type
 type_step schema (Expr-F.EqMissing a b) = both a b compare_type
 type_step schema (Expr-F.And a b) = both a b truths_type
 type_step schema (Expr-F.Or a b) = both a b truths_type
-type_step schema (Expr-F.Not a) = then_typed a truth_type
-type_step schema (Expr-F.IsNull a) = then_typed a (λ _. Ok kind.Bool)
-type_step schema (Expr-F.IsNotNull a) = then_typed a (λ _. Ok kind.Bool)
+type_step schema (Expr-F.Not a) = then_next a truth_type
+type_step schema (Expr-F.IsNull a) = then_next a (λ _. Ok dtype.Bool)
+type_step schema (Expr-F.IsNotNull a) = then_next a (λ _. Ok dtype.Bool)
 type_step schema (Expr-F.FillNull a b) = both a b ordered_type
 
 -- the type of an expression, or the first fault of a walk from left to right, operands before their node
@@ -107,7 +103,7 @@ expr_check e schema = if nat_lt 32 (expr_levels e) then Err fault.TooDeep else t
 
 -- whether a type, if there is one, is no Text
 abbrev pub not_text : Option CellType → Bool
-not_text (Some kind.Text) = false
+not_text (Some dtype.Text) = false
 not_text _ = true
 
 abbrev pub no_text_step : List (List ℕ × CellType) → Expr-F Bool → Bool
@@ -146,9 +142,9 @@ abbrev pub names_column : Expr → Bool
 names_column e = fold-Expr Bool names_column_step e
 
 -- The call gave the answer that is wanted, or there was no memory for the name of a missing column.
-abbrev pub Answers : TypeResult → TypeResult → Type 0
-Answers want (Ok t) = want ≡ Ok t
-Answers want (Err fault.Memory) = (name : List ℕ) × (want ≡ Err (fault.NoColumn name))
-Answers want (Err (fault.NoColumn name)) = want ≡ Err (fault.NoColumn name)
-Answers want (Err fault.WrongType) = want ≡ Err fault.WrongType
-Answers want (Err fault.TooDeep) = want ≡ Err fault.TooDeep
+abbrev pub AnswersType : TypeResult → TypeResult → Type 0
+AnswersType want (Ok t) = want ≡ Ok t
+AnswersType want (Err fault.Memory) = (name : List ℕ) × (want ≡ Err (fault.NoColumn name))
+AnswersType want (Err (fault.NoColumn name)) = want ≡ Err (fault.NoColumn name)
+AnswersType want (Err fault.WrongType) = want ≡ Err fault.WrongType
+AnswersType want (Err fault.TooDeep) = want ≡ Err fault.TooDeep

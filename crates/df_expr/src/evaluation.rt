@@ -10,7 +10,7 @@ ghost use Rattle.df_expr.specs.Value.{value_of};
 use crate::expr::Expr;
 use crate::meter::Meter;
 use crate::operators::{Binary, Unary};
-use df_value::{Boxed, Cell, CellType, Row, Schema, Text, column_index};
+use df_value::{Boxed, Cell, CellType, Duplicate, Row, Schema, Text, column_index};
 use std::alloc::{AllocError, Global};
 
 /// The value of an expression in a row of a table with this schema. Counts one evaluation.
@@ -52,7 +52,7 @@ pub fn value(
 {
     match expr {
         Expr::Column(name) => copy_at(alloc, column_index(name, columns), row),
-        Expr::Literal(cell, _) => cell.duplicate(alloc),
+        Expr::Literal(cell, _) => cell.copy(alloc),
         Expr::Arith(op, a, b) => {
             let a = value(alloc, a.get(), columns, row)?;
             apply_binary(alloc, b, columns, row, Binary::Arith(*op), a)
@@ -117,16 +117,16 @@ fn apply_binary(
     Ok(operator.apply(&a, &b))
 }
 
-// A copy of the cell at a place, null where there is none.
-fn copy_at(alloc: Global, place: Option<usize>, row: &Row) -> Result<Cell, AllocError>
-    ensures value { IfOk result (λ c. c ≡ cell_at place row.now) }
-    ensures free { IsTrue (not (is_text (cell_at place row.now))) → IsOk result }
+// A copy of the cell at an index, null where there is none.
+fn copy_at(alloc: Global, index: Option<usize>, row: &Row) -> Result<Cell, AllocError>
+    ensures value { IfOk result (λ c. c ≡ cell_at index row.now) }
+    ensures free { IsTrue (not (is_text (cell_at index row.now))) → IsOk result }
 {
-    let Some(place) = place else {
+    let Some(index) = index else {
         return Ok(Cell::Null);
     };
-    match row.get(place) {
-        Some(cell) => cell.duplicate(alloc),
+    match row.get(index) {
+        Some(cell) => cell.copy(alloc),
         None => Ok(Cell::Null),
     }
 }

@@ -83,7 +83,7 @@ impl Duplicate for Expr {
     fn copy(&self, alloc: Global) -> Result<Expr, AllocError> {
         match self {
             Expr::Column(name) => Ok(Expr::Column(name.copy(alloc)?)),
-            Expr::Literal(cell, kind) => Ok(Expr::Literal(cell.copy(alloc)?, *kind)),
+            Expr::Literal(cell, dtype) => Ok(Expr::Literal(cell.copy(alloc)?, *dtype)),
             Expr::Arith(op, a, b) => Ok(Expr::Arith(*op, copy_of(alloc, a)?, copy_of(alloc, b)?)),
             Expr::Compare(op, a, b) => Ok(Expr::Compare(
                 *op,

@@ -2,7 +2,7 @@
 ghost use Rattle.std.specs.Prelude.{◌≡◌, ◌≤◌, ◌↔◌, IsTrue};
 ghost use Rattle.df_value.specs.Schemas.{column_dtype};
 ghost use Rattle.df_expr.specs.Typing as typing;
-ghost use Rattle.df_expr.specs.Typing.{expr_levels, expr_check, Answers};
+ghost use Rattle.df_expr.specs.Typing.{expr_levels, expr_check, AnswersType};
 
 use crate::expr::Expr;
 use crate::fault::ExprFault;
@@ -19,7 +19,7 @@ pub const MOST_EXPR_LEVELS: u32 = 32;
 /// literal of another type than stated or of type Wide or Frac, or operands of a wrong type. Memory is
 /// asked for only to name the missing column.
 pub fn check(alloc: Global, expr: &Expr, schema: &Schema) -> Result<CellType, ExprFault>
-    ensures { Answers (expr_check expr.now schema.now) result }
+    ensures { AnswersType (expr_check expr.now schema.now) result }
 {
     if !is_within(expr, MOST_EXPR_LEVELS) {
         return Err(ExprFault::TooDeep);
@@ -65,11 +65,11 @@ fn is_within(expr: &Expr, most: u32) -> bool
 }
 
 fn type_of(alloc: Global, expr: &Expr, schema: &Schema) -> Result<CellType, ExprFault>
-    ensures { Answers (typing.type_of expr.now schema.now) result }
+    ensures { AnswersType (typing.type_of expr.now schema.now) result }
 {
     match expr {
         Expr::Column(name) => column_type(alloc, name, schema),
-        Expr::Literal(cell, kind) => literal_type(cell, *kind),
+        Expr::Literal(cell, dtype) => literal_type(cell, *dtype),
         Expr::Arith(_, a, b) => {
             let a = type_of(alloc, a.get(), schema)?;
             let b = type_of(alloc, b.get(), schema)?;
@@ -99,10 +99,10 @@ fn type_of(alloc: Global, expr: &Expr, schema: &Schema) -> Result<CellType, Expr
 }
 
 fn column_type(alloc: Global, name: &Text, schema: &Schema) -> Result<CellType, ExprFault>
-    ensures { Answers (typing.column_type name.now (column_dtype name.now schema.now)) result }
+    ensures { AnswersType (typing.column_type name.now (column_dtype name.now schema.now)) result }
 {
     match schema.type_of(name) {
-        Some(kind) => Ok(kind),
+        Some(dtype) => Ok(dtype),
         None => match name.copy(alloc) {
             Ok(name) => Err(ExprFault::NoColumn(name)),
             Err(_) => Err(ExprFault::Memory),
@@ -110,14 +110,14 @@ fn column_type(alloc: Global, name: &Text, schema: &Schema) -> Result<CellType, 
     }
 }
 
-fn literal_type(cell: &Cell, kind: CellType) -> Result<CellType, ExprFault>
-    ensures { result ≡ typing.literal_type cell.now kind }
+fn literal_type(cell: &Cell, dtype: CellType) -> Result<CellType, ExprFault>
+    ensures { result ≡ typing.literal_type cell.now dtype }
 {
-    match (cell, kind) {
-        (Cell::Null, CellType::Int | CellType::Text | CellType::Bool) => Ok(kind),
-        (Cell::Int(_), CellType::Int) => Ok(kind),
-        (Cell::Text(_), CellType::Text) => Ok(kind),
-        (Cell::Bool(_), CellType::Bool) => Ok(kind),
+    match (cell, dtype) {
+        (Cell::Null, CellType::Int | CellType::Text | CellType::Bool) => Ok(dtype),
+        (Cell::Int(_), CellType::Int) => Ok(dtype),
+        (Cell::Text(_), CellType::Text) => Ok(dtype),
+        (Cell::Bool(_), CellType::Bool) => Ok(dtype),
         _ => Err(ExprFault::WrongType),
     }
 }

@@ -2,7 +2,7 @@
 -- and a mean a Frac, is this project's own choice among those of the Polars Python reference.
 use Rattle.std.specs.Prelude.{ℕ, List, Option, Some, None}
 use Rattle.df_value.specs.declared.cell.CellType.{CellType}
-use Rattle.df_value.specs.declared.cell.CellType.TheVariants as kind
+use Rattle.df_value.specs.declared.cell.CellType.TheVariants as dtype
 use Rattle.df_ops.specs.declared.kinds.Agg.{Agg}
 use Rattle.df_ops.specs.declared.kinds.Agg.TheVariants as agg
 
@@ -20,18 +20,18 @@ column_taken (agg.Mean name) = Some name
 
 -- the type that it gives of a column of this type; none where it does not take that type
 abbrev pub dtype_given : Agg → CellType → Option CellType
-dtype_given agg.Len t = Some kind.Int
-dtype_given (agg.Count name) t = Some kind.Int
-dtype_given (agg.Sum name) kind.Int = Some kind.Wide
-dtype_given (agg.Sum name) kind.Bool = Some kind.Wide
+dtype_given agg.Len t = Some dtype.Int
+dtype_given (agg.Count name) t = Some dtype.Int
+dtype_given (agg.Sum name) dtype.Int = Some dtype.Wide
+dtype_given (agg.Sum name) dtype.Bool = Some dtype.Wide
 dtype_given (agg.Sum name) t = None
-dtype_given (agg.Min name) kind.Frac = None
+dtype_given (agg.Min name) dtype.Frac = None
 dtype_given (agg.Min name) t = Some t
-dtype_given (agg.Max name) kind.Frac = None
+dtype_given (agg.Max name) dtype.Frac = None
 dtype_given (agg.Max name) t = Some t
 dtype_given (agg.First name) t = Some t
 dtype_given (agg.Last name) t = Some t
-dtype_given (agg.NUnique name) kind.Frac = None
-dtype_given (agg.NUnique name) t = Some kind.Int
-dtype_given (agg.Mean name) kind.Int = Some kind.Frac
+dtype_given (agg.NUnique name) dtype.Frac = None
+dtype_given (agg.NUnique name) t = Some dtype.Int
+dtype_given (agg.Mean name) dtype.Int = Some dtype.Frac
 dtype_given (agg.Mean name) t = None

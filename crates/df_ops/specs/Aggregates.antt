@@ -13,7 +13,7 @@ use Rattle.df_ops.specs.Groups.{keys_of}
 use Rattle.df_ops.specs.declared.min_max.MinMax.{MinMax}
 use Rattle.df_ops.specs.declared.min_max.MinMax.TheVariants as min_max
 
--- the cells of the rows at a place
+-- the cells of the rows at an index
 abbrev pub cells_of : Option ℕ → List (List Cell) → List Cell
 cells_of index rows = map (cell_at index) rows
 
@@ -75,7 +75,7 @@ mean_at sum (suc n) = cell.Frac (sum, pos (suc n))
 abbrev pub mean_of : List Cell → Cell
 mean_of cells = mean_at (sum_of cells) (count_of cells)
 
--- the number of distinct cells at a place, null being one: as many as a grouping by that column has keys
+-- the number of distinct cells at an index, null being one: as many as a grouping by that column has keys
 abbrev pub n_unique_of : Option ℕ → List (List Cell) → ℕ
 n_unique_of index rows = length (keys_of (index ∷ []) rows)
 

@@ -5,7 +5,7 @@ use Rattle.std.specs.List.{list_any}
 use Rattle.df_value.specs.declared.cell.Cell.{Cell}
 use Rattle.df_value.specs.Rows.{cell_at, row_eq}
 
--- the cells of a row at these places
+-- the cells of a row at these indices
 abbrev pub key_of : List (Option ℕ) → List Cell → List Cell
 key_of indices row = map (λ p. cell_at p row) indices
 

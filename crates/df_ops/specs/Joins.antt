@@ -50,7 +50,7 @@ keys_match left right = row_eq right left && not (list_any is_null left)
 abbrev pub matches_of : List (Option ℕ) → List Cell → Rows → Rows
 matches_of indices key rights = filter (λ r. keys_match key (key_of indices r)) rights
 
--- a null for each of these places
+-- a null for each of these indices
 abbrev pub nulls_for : List (Option ℕ) → List Cell
 nulls_for indices = map (λ p. cell.Null) indices
 

@@ -12,7 +12,7 @@ use Rattle.df_ops.specs.Groups.{keys_of}
 use Rattle.df_ops.specs.declared.kinds.RankKind.{RankKind}
 use Rattle.df_ops.specs.declared.kinds.RankKind.TheVariants as rank
 
--- the distinct cells at a place, each as the key of a grouping by that place alone
+-- the distinct cells at an index, each as the key of a grouping by that column alone
 abbrev pub distinct_at : Option ℕ → List (List Cell) → List (List Cell)
 distinct_at index rows = keys_of (index ∷ []) rows
 
@@ -33,7 +33,7 @@ abbrev pub dense_rank_of : List (List Cell) → Cell → Cell
 dense_rank_of distinct c =
     if is_null c then cell.Null else cell.Int (pos (rank_number distinct c))
 
--- the ranks of the cells at a place
+-- the ranks of the cells at an index
 abbrev pub dense_rank : Option ℕ → List (List Cell) → List Cell
 dense_rank index rows = map (λ r. dense_rank_of (distinct_at index rows) (cell_at index r)) rows
 

@@ -5,7 +5,7 @@ use Rattle.std.specs.List.{zip}
 use Rattle.df_value.specs.declared.cell.Cell.{Cell}
 use Rattle.df_value.specs.declared.cell.Cell.TheVariants as cell
 use Rattle.df_value.specs.declared.cell.CellType.{CellType}
-use Rattle.df_value.specs.declared.cell.CellType.TheVariants as kind
+use Rattle.df_value.specs.declared.cell.CellType.TheVariants as dtype
 use Rattle.df_value.specs.Rows.{cell_at}
 use Rattle.df_value.specs.Schemas.{column_index, column_dtype}
 use Rattle.df_expr.specs.declared.expr.Expr.{Expr, fold-Expr}
@@ -15,11 +15,11 @@ use Rattle.df_ops.specs.NamedColumns.{has_name, with_columns}
 
 -- the type of one form, from the types of its operands
 abbrev pub expr_dtype_step : List (List ℕ × CellType) → Expr-F CellType → CellType
-expr_dtype_step columns (Expr-F.Column name) = unwrap_or (column_dtype name columns) kind.Int
+expr_dtype_step columns (Expr-F.Column name) = unwrap_or (column_dtype name columns) dtype.Int
 expr_dtype_step columns (Expr-F.Literal c k) = k
-expr_dtype_step columns (Expr-F.Arith op a b) = kind.Int
+expr_dtype_step columns (Expr-F.Arith op a b) = dtype.Int
 expr_dtype_step columns (Expr-F.FillNull a b) = a
-expr_dtype_step columns _ = kind.Bool
+expr_dtype_step columns _ = dtype.Bool
 
 -- the type that an expression has if it checks
 abbrev pub expr_dtype : Expr → List (List ℕ × CellType) → CellType

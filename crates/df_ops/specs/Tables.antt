@@ -4,7 +4,7 @@ use Rattle.std.specs.Prelude.{ℕ, pos, List, [], ◌∷◌, ◌++◌, Option, S
 use Rattle.df_value.specs.declared.cell.Cell.{Cell}
 use Rattle.df_value.specs.declared.cell.Cell.TheVariants as cell
 use Rattle.df_value.specs.declared.cell.CellType.{CellType}
-use Rattle.df_value.specs.declared.cell.CellType.TheVariants as kind
+use Rattle.df_value.specs.declared.cell.CellType.TheVariants as dtype
 use Rattle.df_value.specs.Schemas.{column_index, column_dtype}
 use Rattle.df_expr.specs.declared.expr.Expr.{Expr}
 use Rattle.df_ops.specs.Groups.{keys_of, group_of}
@@ -37,11 +37,11 @@ aggregate_cell columns rows (agg.Mean name) = mean_of (cells_of (column_index na
 
 -- the type of a column, Int where there is none
 abbrev pub dtype_at : List (List ℕ × CellType) → List ℕ → CellType
-dtype_at columns name = unwrap_or (column_dtype name columns) kind.Int
+dtype_at columns name = unwrap_or (column_dtype name columns) dtype.Int
 
 abbrev pub dtype_of_taken : List (List ℕ × CellType) → Agg → Option (List ℕ) → CellType
-dtype_of_taken columns a None = kind.Int
-dtype_of_taken columns a (Some name) = unwrap_or (dtype_given a (dtype_at columns name)) kind.Int
+dtype_of_taken columns a None = dtype.Int
+dtype_of_taken columns a (Some name) = unwrap_or (dtype_given a (dtype_at columns name)) dtype.Int
 
 -- the type of an aggregate, where it checks
 abbrev pub aggregate_dtype : List (List ℕ × CellType) → Agg → CellType
@@ -106,8 +106,8 @@ rolling_table t name k column w m =
 
 -- the cumulative sums of a column
 unfoldable pub cum_sum_table : PlainTable → List ℕ → List ℕ → PlainTable
-cum_sum_table t name column = with_column_table t name kind.Wide (cum_sum (cells_of (column_index column t.columns) t.rows))
+cum_sum_table t name column = with_column_table t name dtype.Wide (cum_sum (cells_of (column_index column t.columns) t.rows))
 
 -- the ranks of a column
 unfoldable pub rank_table : PlainTable → List ℕ → RankKind → List ℕ → PlainTable
-rank_table t name k column = with_column_table t name kind.Int (ranks_of k (column_index column t.columns) t.rows)
+rank_table t name k column = with_column_table t name dtype.Int (ranks_of k (column_index column t.columns) t.rows)

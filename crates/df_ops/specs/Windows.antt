@@ -6,7 +6,7 @@ use Rattle.std.specs.List.{range_with_len}
 use Rattle.df_value.specs.declared.cell.Cell.{Cell}
 use Rattle.df_value.specs.declared.cell.Cell.TheVariants as cell
 use Rattle.df_value.specs.declared.cell.CellType.{CellType}
-use Rattle.df_value.specs.declared.cell.CellType.TheVariants as kind
+use Rattle.df_value.specs.declared.cell.CellType.TheVariants as dtype
 use Rattle.df_expr.specs.Value.{is_null}
 use Rattle.df_ops.specs.Aggregates.{count_of, sum_of, min_or_max_of, last_cell}
 use Rattle.df_ops.specs.declared.min_max.MinMax.TheVariants as min_max
@@ -38,9 +38,9 @@ size_of (negsuc n) = 0
 
 -- the type of a column of rolling values
 abbrev pub rolling_dtype : RollKind → CellType
-rolling_dtype roll.Sum = kind.Wide
-rolling_dtype roll.Min = kind.Int
-rolling_dtype roll.Max = kind.Int
+rolling_dtype roll.Sum = dtype.Wide
+rolling_dtype roll.Min = dtype.Int
+rolling_dtype roll.Max = dtype.Int
 
 -- the rolling values of a column
 abbrev pub rolling_cells : RollKind → ℕ → ℕ → List Cell → List Cell

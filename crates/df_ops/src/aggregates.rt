@@ -36,7 +36,7 @@ pub fn aggregate(
     }
 }
 
-/// The number of cells of the rows at a place that are not null.
+/// The number of cells of the rows at an index that are not null.
 pub fn count_of(index: Option<usize>, rows: &[Row]) -> usize
     ensures value { result ≡ aggregates.count_of (cells_of index rows.now) }
     ensures within { result ≤ length rows.now }
@@ -68,7 +68,7 @@ fn one_if_non_null(index: Option<usize>, row: &Row) -> usize
     }
 }
 
-/// The sum of the Int cells of the rows at a place, or the number of trues among its Bool cells.
+/// The sum of the Int cells of the rows at an index, or the number of trues among its Bool cells.
 pub fn sum_of(index: Option<usize>, rows: &[Row]) -> i128
     ensures { result ≡ aggregates.sum_of (cells_of index rows.now) }
 {
@@ -93,7 +93,7 @@ pub fn next_sum(sum: i128, n: Option<i64>) -> i128
     }
 }
 
-/// What the cell of a row at a place adds to a sum.
+/// What the cell of a row at an index adds to a sum.
 pub fn number_at(index: Option<usize>, row: &Row) -> Option<i64>
     ensures { result ≡ number_of (cell_at index row.now) }
 {
@@ -104,7 +104,7 @@ pub fn number_at(index: Option<usize>, row: &Row) -> Option<i64>
     }
 }
 
-/// The mean of the Int cells of the rows at a place that are not null; null where there is none.
+/// The mean of the Int cells of the rows at an index that are not null; null where there is none.
 pub fn mean_of(index: Option<usize>, rows: &[Row]) -> Cell
     ensures { result ≡ aggregates.mean_of (cells_of index rows.now) }
 {
@@ -136,7 +136,7 @@ pub fn min_or_max(
     }
 }
 
-// The cell of a row at a place, null where there is no row.
+// The cell of a row at an index, null where there is no row.
 fn cell_of(alloc: Global, index: Option<usize>, row: Option<&Row>) -> Result<Cell, AllocError>
     ensures { IfOk result (λ c. c ≡ unwrap_or (option_map (λ r. cell_at index r.now) row.entry) cell.Null) }
 {
@@ -170,17 +170,17 @@ impl Agg {
     }
 
     /// The type that is given of a column of this type; none where the aggregate does not take it.
-    pub fn type_of(&self, kind: CellType) -> Option<CellType>
-        ensures { result ≡ dtype_given self.now kind }
+    pub fn type_of(&self, dtype: CellType) -> Option<CellType>
+        ensures { result ≡ dtype_given self.now dtype }
     {
-        match (self, kind) {
+        match (self, dtype) {
             (Agg::Len | Agg::Count(_), _) => Some(CellType::Int),
             (Agg::Sum(_), CellType::Int | CellType::Bool) => Some(CellType::Wide),
             (Agg::Mean(_), CellType::Int) => Some(CellType::Frac),
             (Agg::Sum(_) | Agg::Mean(_), _) => None,
-            (Agg::First(_) | Agg::Last(_), kind) => Some(kind),
+            (Agg::First(_) | Agg::Last(_), dtype) => Some(dtype),
             (Agg::Min(_) | Agg::Max(_) | Agg::NUnique(_), CellType::Frac) => None,
-            (Agg::Min(_) | Agg::Max(_), kind) => Some(kind),
+            (Agg::Min(_) | Agg::Max(_), dtype) => Some(dtype),
             (Agg::NUnique(_), _) => Some(CellType::Int),
         }
     }

@@ -7,9 +7,8 @@ use crate::aggregates::aggregate;
 use crate::groups::{group_of, keys_of};
 use crate::join_columns::column_indices_in;
 use crate::kinds::Agg;
-use crate::pairs::push_made;
 use crate::plain_table::{PlainTable, table_from};
-use df_value::{CellType, Duplicate, List, Row, Text, type_of};
+use df_value::{CellType, Duplicate, List, Row, Text, push_made, type_of};
 use std::alloc::{AllocError, Global};
 
 /// The groups of a table, by the first appearance of their keys.

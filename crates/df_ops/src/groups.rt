@@ -5,11 +5,10 @@ ghost use Rattle.df_value.specs.CellEq.{cell_eq};
 ghost use Rattle.df_value.specs.Rows.{cell_at, row_eq};
 ghost use Rattle.df_ops.specs.Groups as groups;
 
-use crate::pairs::push_made;
-use df_value::{Cell, Duplicate, List, Row};
+use df_value::{Cell, Duplicate, List, Row, push_made};
 use std::alloc::{AllocError, Global};
 
-/// The distinct keys of the rows, by first appearance: the cells at `indices`, null where a place is
+/// The distinct keys of the rows, by first appearance: the cells at `indices`, null where an index is
 /// none. Null is a key like any other.
 pub fn keys_of(
     alloc: Global,
@@ -46,7 +45,7 @@ fn stands_in(key: &Row, keys: &[Row]) -> bool
     keys.iter().any(|k| *key == *k)
 }
 
-/// The cells of a row at these places.
+/// The cells of a row at these indices.
 pub fn key_of(alloc: Global, indices: &[Option<usize>], row: &Row) -> Result<Row, AllocError>
     ensures { IfOk result (λ k. k ≡ groups.key_of indices.now row.now) }
 {
@@ -57,7 +56,7 @@ pub fn key_of(alloc: Global, indices: &[Option<usize>], row: &Row) -> Result<Row
     Ok(List::from_vec(key))
 }
 
-/// A copy of the cell at a place, null where there is none.
+/// A copy of the cell at an index, null where there is none.
 pub fn copy_at(alloc: Global, index: Option<usize>, row: &Row) -> Result<Cell, AllocError>
     ensures { IfOk result (λ c. c ≡ cell_at index row.now) }
 {
@@ -117,7 +116,7 @@ fn is_in_group(indices: &[Option<usize>], row: &Row, key: &Row) -> bool
     true
 }
 
-// Whether a row has this cell at a place.
+// Whether a row has this cell at an index.
 fn is_at(index: Option<usize>, row: &Row, cell: &Cell) -> bool
     ensures { result ≡ cell_eq (cell_at index row.now) cell.now }
 {

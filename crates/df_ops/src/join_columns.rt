@@ -60,7 +60,7 @@ fn rest_places(
     Ok(List::from_vec(indices))
 }
 
-// Adds the place of a column, if it is no key.
+// Adds the index of a column, if it is no key.
 fn add_place(
     indices: &mut Vec<Option<usize>>,
     right: &[(Text, CellType)],

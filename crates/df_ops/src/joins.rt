@@ -10,9 +10,8 @@ ghost use Rattle.df_ops.specs.Tables as tables;
 use crate::groups::key_of;
 use crate::join_columns::{JoinIndices, columns_of_join, join_indices_of};
 use crate::kinds::How;
-use crate::pairs::push_made;
 use crate::plain_table::{PlainTable, table_from};
-use df_value::{Cell, Duplicate, List, Row, Text};
+use df_value::{Cell, Duplicate, List, Row, Text, push_made};
 use std::alloc::{AllocError, Global};
 
 /// The join of two tables.
@@ -154,7 +153,7 @@ fn matched_row(
     )
 }
 
-// Of the right rows whose key matches, the cells at the places `rest`.
+// Of the right rows whose key matches, the cells at the indices `rest`.
 fn matched_rests(
     alloc: Global,
     indices: &[Option<usize>],
@@ -243,7 +242,7 @@ fn row_beside(alloc: Global, left: &Row, rest: &[Cell]) -> Result<Row, AllocErro
     Ok(List::from_vec(row))
 }
 
-// A null for each of these places.
+// A null for each of these indices.
 fn nulls(alloc: Global, indices: &[Option<usize>]) -> Result<Vec<Cell>, AllocError>
     ensures { IfOk result (λ cells. cells.items ≡ joins.nulls_for indices.now) }
 {

@@ -22,7 +22,6 @@ mod kinds;
 mod min_max;
 mod named_columns;
 mod one_column;
-mod pairs;
 mod plain_table;
 mod ranks;
 mod row_wise;

@@ -17,7 +17,7 @@ pub enum MinMax {
     Max,
 }
 
-/// Of the cells of the rows at a place that are not null, the one that no other lies beyond; none where
+/// Of the cells of the rows at an index that are not null, the one that no other lies beyond; none where
 /// all are null. Cells of one type compare as numbers, by their bytes, or false before true.
 pub fn min_or_max_of<'a>(min_max: MinMax, index: Option<usize>, rows: &'a [Row]) -> Option<&'a Cell>
     ensures { option_map (λ c. c.now) result ≡ min_or_max_in min_max (non_null (cells_of index rows.now)) }
@@ -25,7 +25,7 @@ pub fn min_or_max_of<'a>(min_max: MinMax, index: Option<usize>, rows: &'a [Row])
     min_or_max_so_far(min_max, index, rows)
 }
 
-/// The least and the greatest cell of the rows at a place that are not null; none where all are null.
+/// The least and the greatest cell of the rows at an index that are not null; none where all are null.
 pub fn min_and_max_of<'a>(index: Option<usize>, rows: &'a [Row]) -> Option<(&'a Cell, &'a Cell)>
     ensures least { IfSome result (λ p. min_or_max_in MinMax.Min (non_null (cells_of index rows.now)) ≡ Some p.0.now) }
     ensures greatest { IfSome result (λ p. min_or_max_in MinMax.Max (non_null (cells_of index rows.now)) ≡ Some p.1.now) }
@@ -84,7 +84,7 @@ fn is_beyond(min_max: MinMax, a: &Cell, b: &Cell) -> bool
     }
 }
 
-/// The cell at a place, if it is there and not null.
+/// The cell at an index, if it is there and not null.
 pub fn non_null_at<'a>(index: Option<usize>, row: &'a Row) -> Option<&'a Cell>
     ensures { option_map (λ c. c.now) result ≡ non_null_of (cell_at index row.now) }
 {

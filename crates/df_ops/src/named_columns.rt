@@ -4,8 +4,7 @@ ghost use Rattle.std.specs.Option.{option_copied};
 ghost use Rattle.df_ops.specs.NamedColumns as named_columns;
 ghost use Rattle.df_ops.specs.NamedColumns.{added_or_own};
 
-use crate::pairs::push_made;
-use df_value::{Duplicate, List, Text};
+use df_value::{Duplicate, List, Text, push_made};
 use std::alloc::{AllocError, Global};
 
 /// Each of one's own, replaced in its place by the added one of its name; then the added ones of new

@@ -5,10 +5,9 @@ ghost use Rattle.df_ops.specs.Tables as tables;
 ghost use Rattle.df_ops.specs.RowWise as row_wise_spec;
 
 use crate::named_columns::with_columns;
-use crate::pairs::{both, push_made};
 use crate::plain_table::{PlainTable, table_from};
 use crate::row_wise::{named_cells, unnamed};
-use df_value::{Cell, CellType, Duplicate, List, Row, Text};
+use df_value::{Cell, CellType, Duplicate, List, Row, Text, both, push_made};
 use std::alloc::{AllocError, Global};
 
 /// The table with a column of these cells, in the place of the column of its name or at the end.
@@ -17,14 +16,14 @@ pub fn with_column_table(
     alloc: Global,
     table: &PlainTable,
     name: &Text,
-    kind: CellType,
+    dtype: CellType,
     cells: &[Cell],
 ) -> Result<PlainTable, AllocError>
-    ensures { IfOk result (λ t. t ≡ tables.with_column_table table.now name.now kind cells.now) }
+    ensures { IfOk result (λ t. t ≡ tables.with_column_table table.now name.now dtype cells.now) }
 {
     let columns = table.columns.as_slice();
     let rows = with_column_rows(alloc, columns, name, table.rows.as_slice(), cells);
-    table_from(columns_with(alloc, columns, name, kind), rows)
+    table_from(columns_with(alloc, columns, name, dtype), rows)
 }
 
 // The columns with one more put among them.
@@ -32,11 +31,11 @@ fn columns_with(
     alloc: Global,
     columns: &[(Text, CellType)],
     name: &Text,
-    kind: CellType,
+    dtype: CellType,
 ) -> Result<List<(Text, CellType)>, AllocError>
-    ensures { IfOk result (λ cs. cs ≡ named_columns_spec.with_columns columns.now ((name.now, kind) ∷ [])) }
+    ensures { IfOk result (λ cs. cs ≡ named_columns_spec.with_columns columns.now ((name.now, dtype) ∷ [])) }
 {
-    let added = [(name.copy(alloc)?, kind)];
+    let added = [(name.copy(alloc)?, dtype)];
     with_columns(alloc, columns, &added)
 }
 

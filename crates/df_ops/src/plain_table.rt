@@ -1,8 +1,7 @@
 //! Plain tables.
 ghost use Rattle.std.specs.Prelude.{◌≡◌, IfOk, Ok};
 
-use crate::pairs::both;
-use df_value::{CellType, List, Row, Text};
+use df_value::{CellType, List, Row, Text, both};
 use std::alloc::AllocError;
 
 /// Rows under columns of these names and types.

@@ -42,7 +42,7 @@ fn ranks(
     }
 }
 
-/// The ranks of the cells at a place.
+/// The ranks of the cells at an index.
 pub fn dense_rank(
     alloc: Global,
     index: Option<usize>,

@@ -8,10 +8,9 @@ ghost use Rattle.df_ops.specs.RowWise as row_wise;
 ghost use Rattle.df_ops.specs.RowWise.{item_column, item_cell, KeepsOthers};
 
 use crate::named_columns::with_columns;
-use crate::pairs::{both, push_made};
 use crate::plain_table::{PlainTable, table_from};
 use df_expr::{Expr, value};
-use df_value::{Cell, CellType, Duplicate, List, Row, Text, type_of};
+use df_value::{Cell, CellType, Duplicate, List, Row, Text, both, push_made, type_of};
 use std::alloc::{AllocError, Global};
 
 /// The table with the rows whose predicate is true.
@@ -261,7 +260,7 @@ fn expr_dtype(expr: &Expr, columns: &[(Text, CellType)]) -> CellType
 {
     match expr {
         Expr::Column(name) => type_of(name, columns).unwrap_or(CellType::Int),
-        Expr::Literal(_, kind) => *kind,
+        Expr::Literal(_, dtype) => *dtype,
         Expr::Arith(_, _, _) => CellType::Int,
         Expr::FillNull(a, _) => expr_dtype(a.get(), columns),
         _ => CellType::Bool,

@@ -9,7 +9,7 @@ use crate::groups::{group_of, keys_of};
 use df_value::Row;
 use std::alloc::{AllocError, Global};
 
-/// The sum of each group's cells at a place, in the order of the keys. Together they are the sum of all
+/// The sum of each group's cells at an index, in the order of the keys. Together they are the sum of all
 /// rows.
 pub fn group_sums(
     alloc: Global,

@@ -34,7 +34,7 @@ pub fn rolling_table(
     with_column_table(alloc, table, output, rolling_dtype(kind), cells.as_slice())
 }
 
-// The rolling values of the cells at a place.
+// The rolling values of the cells at an index.
 fn rolling_cells(
     alloc: Global,
     kind: RollKind,
@@ -117,7 +117,7 @@ pub fn cum_sum_table(
     with_column_table(alloc, table, output, CellType::Wide, cells.as_slice())
 }
 
-/// The cumulative sums of the cells at a place.
+/// The cumulative sums of the cells at an index.
 #[tactic(auto, using(crate::proofs::WindowFacts::running_is))]
 pub fn cum_sum(alloc: Global, index: Option<usize>, rows: &[Row]) -> Result<Vec<Cell>, AllocError>
     ensures value { IfOk result (λ cells. cells.items ≡ windows.cum_sum (cells_of index rows.now)) }

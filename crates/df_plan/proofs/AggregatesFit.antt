@@ -6,7 +6,7 @@ use Rattle.std.proofs.lemmas.Grind.{common_steps}
 use Rattle.df_value.specs.declared.cell.Cell.{Cell}
 use Rattle.df_value.specs.declared.cell.Cell.TheVariants as cell
 use Rattle.df_value.specs.declared.cell.CellType.{CellType}
-use Rattle.df_value.specs.declared.cell.CellType.TheVariants as kind
+use Rattle.df_value.specs.declared.cell.CellType.TheVariants as dtype
 use Rattle.df_value.specs.Cells.{fits_type}
 use Rattle.df_value.specs.Rows.{cell_at, row_fits, rows_fit}
 use Rattle.df_value.specs.Schemas.{column_dtype, column_index}
@@ -78,7 +78,7 @@ pub extreme_fits : (e : MinMax) (t : CellType) (cs : List Cell) → IsTrue (list
 extreme_fits e t cs h =
     find_fits (fits_type t) (is_min_or_max e (non_null cs)) (non_null cs) refl (filter_fits (fits_type t) (λ c. not (is_null c)) cs h)
 
-mean_fits : (s : ℤ) (n : ℕ) → IsTrue (fits_type kind.Frac (mean_at s n))
+mean_fits : (s : ℤ) (n : ℕ) → IsTrue (fits_type dtype.Frac (mean_at s n))
 mean_fits s zero = refl
 mean_fits s (suc n) = refl
 
@@ -92,13 +92,13 @@ min_type name t u h = grind (arith, common_steps)
 max_type : (name : List ℕ) (t u : CellType) → dtype_given (agg.Max name) t ≡ Some u → t ≡ u
 max_type name t u h = grind (arith, common_steps)
 
-sum_type : (name : List ℕ) (t u : CellType) → dtype_given (agg.Sum name) t ≡ Some u → kind.Wide ≡ u
+sum_type : (name : List ℕ) (t u : CellType) → dtype_given (agg.Sum name) t ≡ Some u → dtype.Wide ≡ u
 sum_type name t u h = grind (arith, common_steps)
 
-n_unique_type : (name : List ℕ) (t u : CellType) → dtype_given (agg.NUnique name) t ≡ Some u → kind.Int ≡ u
+n_unique_type : (name : List ℕ) (t u : CellType) → dtype_given (agg.NUnique name) t ≡ Some u → dtype.Int ≡ u
 n_unique_type name t u h = grind (arith, common_steps)
 
-mean_type : (name : List ℕ) (t u : CellType) → dtype_given (agg.Mean name) t ≡ Some u → kind.Frac ≡ u
+mean_type : (name : List ℕ) (t u : CellType) → dtype_given (agg.Mean name) t ≡ Some u → dtype.Frac ≡ u
 mean_type name t u h = grind (arith, common_steps)
 
 -- the aggregate of a column of type t, where its type is u
@@ -108,8 +108,8 @@ given_fits :
     IsTrue (fits_type u (aggregate_cell columns rows a))
 given_fits columns rows name t is fit agg.Len taken u given = cc
 given_fits columns rows name t is fit (agg.Count c) taken u given =
-    let e : kind.Int ≡ u = cc in is_type kind.Int u (aggregate_cell columns rows (agg.Count c)) e refl
-given_fits columns rows name t is fit (agg.Sum c) taken u given = is_type kind.Wide u (aggregate_cell columns rows (agg.Sum c)) (sum_type c t u given) refl
+    let e : dtype.Int ≡ u = cc in is_type dtype.Int u (aggregate_cell columns rows (agg.Count c)) e refl
+given_fits columns rows name t is fit (agg.Sum c) taken u given = is_type dtype.Wide u (aggregate_cell columns rows (agg.Sum c)) (sum_type c t u given) refl
 given_fits columns rows name t is fit (agg.Min c) taken u given =
     let named : c ≡ name = cc in
     is_type t u (aggregate_cell columns rows (agg.Min c)) (min_type c t u given) (extreme_fits end.Min t (cells_of (column_index c columns) rows) (cells_fit columns c t (ap (λ n. column_dtype n columns) named ∙ is) rows fit))
@@ -125,9 +125,9 @@ given_fits columns rows name t is fit (agg.Last c) taken u given =
     let e : t ≡ u = cc in
     let cells = cells_of (column_index c columns) rows in
     is_type t u (last_cell cells) e (at_fits (fits_type t) cells (length cells - 1) refl (cells_fit columns c t (ap (λ n. column_dtype n columns) named ∙ is) rows fit))
-given_fits columns rows name t is fit (agg.NUnique c) taken u given = is_type kind.Int u (aggregate_cell columns rows (agg.NUnique c)) (n_unique_type c t u given) refl
+given_fits columns rows name t is fit (agg.NUnique c) taken u given = is_type dtype.Int u (aggregate_cell columns rows (agg.NUnique c)) (n_unique_type c t u given) refl
 given_fits columns rows name t is fit (agg.Mean c) taken u given =
-    is_type kind.Frac u (aggregate_cell columns rows (agg.Mean c)) (mean_type c t u given) (mean_fits (sum_of (cells_of (column_index c columns) rows)) (count_of (cells_of (column_index c columns) rows)))
+    is_type dtype.Frac u (aggregate_cell columns rows (agg.Mean c)) (mean_type c t u given) (mean_fits (sum_of (cells_of (column_index c columns) rows)) (count_of (cells_of (column_index c columns) rows)))
 
 given_found : (name : List ℕ) (o : Option CellType) (u : CellType) → given_type name o ≡ Ok u → o ≡ Some u
 given_found name None u h = cc
@@ -136,7 +136,7 @@ given_found name (Some t) u h = cc
 given_is :
     (columns : Columns) (rows : Rows) → IsTrue (rows_fit columns rows) → (a : Agg) (name : List ℕ) → column_taken a ≡ Some name →
     (o : Option CellType) → column_dtype name columns ≡ o → (u : CellType) → taken_type name a o ≡ Ok u →
-    (u ≡ unwrap_or (dtype_given a (unwrap_or o kind.Int)) kind.Int) × IsTrue (fits_type u (aggregate_cell columns rows a))
+    (u ≡ unwrap_or (dtype_given a (unwrap_or o dtype.Int)) dtype.Int) × IsTrue (fits_type u (aggregate_cell columns rows a))
 given_is columns rows fit a name taken None is u h = cc
 given_is columns rows fit a name taken (Some t) is u h =
     let found = given_found name (dtype_given a t) u h in
@@ -146,7 +146,7 @@ taken_is :
     (columns : Columns) (rows : Rows) → IsTrue (rows_fit columns rows) → (a : Agg) (o : Option (List ℕ)) → column_taken a ≡ o →
     (u : CellType) → type_of_column columns a o ≡ Ok u →
     (u ≡ dtype_of_taken columns a o) × IsTrue (fits_type u (aggregate_cell columns rows a))
-taken_is columns rows fit agg.Len None is u h = let e : kind.Int ≡ u = cc in (sym e, is_type kind.Int u (cell.Int (pos (length rows))) e refl)
+taken_is columns rows fit agg.Len None is u h = let e : dtype.Int ≡ u = cc in (sym e, is_type dtype.Int u (cell.Int (pos (length rows))) e refl)
 taken_is columns rows fit (agg.Count c) None is u h = cc
 taken_is columns rows fit (agg.Sum c) None is u h = cc
 taken_is columns rows fit (agg.Min c) None is u h = cc

@@ -3,14 +3,15 @@ use Rattle.std.proofs.Common.{◌≡◌, ℕ, ◌∙◌, Bool, true, false, cond
 use Rattle.std.specs.Prelude.{Ok, Err, Option, Some, None, unwrap_or, nat_lt}
 use Rattle.std.specs.List.{AllByRecursion}
 use Rattle.df_value.specs.declared.cell.CellType.{CellType}
-use Rattle.df_value.specs.declared.cell.CellType.TheVariants as kind
+use Rattle.df_value.specs.declared.cell.CellType.TheVariants as dtype
 use Rattle.df_value.specs.Schemas.{column_dtype, doubled_name_after}
 use Rattle.df_expr.specs.declared.expr.Expr.{Expr}
 use Rattle.df_ops.specs.Tables.{key_column, aggregate_column, aggregate_dtype, group_by_columns}
 use Rattle.df_ops.specs.NamedColumns.{with_columns}
 use Rattle.df_ops.specs.RowWise.{item_column, with_columns_schema}
 use Rattle.df_plan.specs.ItemChecks.{Columns, CheckResult, DtypeResult, ColumnResult, key_type, aggregate_type, key_column_result, aggregate_column_result, select_column_result, with_columns_column_result, with_column, columns_after}
-use Rattle.df_plan.specs.Checks.{to_schema, to_schema_unless, added_columns_check, filter_check, select_check, with_columns_check, group_by_check, then_check, plan_check, columns_of, plan_levels, plan_scans}
+use Rattle.df_value.specs.Outcomes.{then_next}
+use Rattle.df_plan.specs.Checks.{to_schema, to_schema_unless, added_columns_check, filter_check, select_check, with_columns_check, group_by_check, plan_check, columns_of, plan_levels, plan_scans}
 use Rattle.df_plan.specs.JoinChecks.{join_check, join_schema, fault_first, either_name, keys_fault, doubled_key_after}
 use Rattle.df_ops.specs.Joins.{columns_of_join}
 use Rattle.df_plan.specs.declared.fault.PlanFault.{PlanFault}
@@ -21,7 +22,7 @@ use Rattle.df_plan.proofs.AggregatesFit.{aggregate_fits}
 use Rattle.df_plan.proofs.ItemKinds.{HasKind, output_found, added_found, named_ok}
 
 pub then_ok :
-    (c : CheckResult) (next : Columns → CheckResult) (cs : Columns) → then_check c next ≡ Ok cs →
+    (c : CheckResult) (next : Columns → CheckResult) (cs : Columns) → then_next c next ≡ Ok cs →
     (o : Columns) × ((c ≡ Ok o) × (next o ≡ Ok cs))
 then_ok (Ok o) next cs h = (o, (refl, h))
 then_ok (Err f) next cs h = cc
@@ -53,11 +54,11 @@ IsColumn columns name = (t : CellType) × (column_dtype name columns ≡ Some t)
 
 key_is : (name : List ℕ) (o : Option CellType) (t : CellType) → key_type name o ≡ Ok t → o ≡ Some t
 key_is name None t h = cc
-key_is name (Some kind.Frac) t h = cc
-key_is name (Some kind.Int) t h = cc
-key_is name (Some kind.Wide) t h = cc
-key_is name (Some kind.Text) t h = cc
-key_is name (Some kind.Bool) t h = cc
+key_is name (Some dtype.Frac) t h = cc
+key_is name (Some dtype.Int) t h = cc
+key_is name (Some dtype.Wide) t h = cc
+key_is name (Some dtype.Text) t h = cc
+key_is name (Some dtype.Bool) t h = cc
 
 key_found :
     (columns : Columns) (name : List ℕ) (c : List ℕ × CellType) → key_column_result columns name ≡ Ok c →
@@ -65,7 +66,7 @@ key_found :
 key_found columns name c h =
     let typed = named_ok name (key_type name (column_dtype name columns)) c h in
     let is : column_dtype name columns ≡ Some typed.0 = key_is name (column_dtype name columns) typed.0 typed.1.0 in
-    (typed.1.1 ∙ ap (λ (u : Option CellType). (name, unwrap_or u kind.Int)) (sym is), (typed.0, is))
+    (typed.1.1 ∙ ap (λ (u : Option CellType). (name, unwrap_or u dtype.Int)) (sym is), (typed.0, is))
 
 -- an aggregate takes its column's type
 abbrev pub IsTaken : Columns → List ℕ × Agg → Type 0
@@ -89,11 +90,11 @@ settled_is_at [] None o h = cc
 settled_is_at (c ∷ cs) None o h = chosen (nat_lt 32 (length (c ∷ cs))) (c ∷ cs) o fault.TooWide h
 
 pub filter_found : (columns : Columns) (k : DtypeResult) (cs : Columns) → filter_check columns k ≡ Ok cs → cs ≡ columns
-filter_found columns (Ok kind.Bool) cs h = cc
-filter_found columns (Ok kind.Int) cs h = cc
-filter_found columns (Ok kind.Wide) cs h = cc
-filter_found columns (Ok kind.Text) cs h = cc
-filter_found columns (Ok kind.Frac) cs h = cc
+filter_found columns (Ok dtype.Bool) cs h = cc
+filter_found columns (Ok dtype.Int) cs h = cc
+filter_found columns (Ok dtype.Wide) cs h = cc
+filter_found columns (Ok dtype.Text) cs h = cc
+filter_found columns (Ok dtype.Frac) cs h = cc
 filter_found columns (Err f) cs h = cc
 
 pub select_found :
@@ -120,7 +121,7 @@ pub group_found :
     group_by_check columns keys aggs ≡ Ok cs → (cs ≡ group_by_columns columns keys aggs) × (AllByRecursion (IsColumn columns) keys × AllByRecursion (IsTaken columns) aggs)
 group_found columns [] aggs cs h = cc
 group_found columns (k ∷ ks) aggs cs h =
-    let first = then_ok (columns_after (key_column_result columns) [] (k ∷ ks)) (λ out. then_check (columns_after (aggregate_column_result columns) out aggs) to_schema) cs h in
+    let first = then_ok (columns_after (key_column_result columns) [] (k ∷ ks)) (λ out. then_next (columns_after (aggregate_column_result columns) out aggs) to_schema) cs h in
     let second = then_ok (columns_after (aggregate_column_result columns) first.0 aggs) to_schema cs first.1.1 in
     let of_keys = each_found (key_column_result columns) (key_column columns) (IsColumn columns) (key_found columns) [] (k ∷ ks) first.0 first.1.0 in
     let of_aggregates = each_found (aggregate_column_result columns) (aggregate_column columns) (IsTaken columns) (aggregate_found columns) first.0 aggs second.0 second.1.0 in

@@ -4,7 +4,7 @@ use Rattle.std.proofs.lemmas.Grind.{common_steps}
 use Rattle.std.specs.Prelude.{Ok, Err, Option, Some, None, unwrap_or, nat_lt}
 use Rattle.df_value.specs.declared.cell.Cell.{Cell}
 use Rattle.df_value.specs.declared.cell.CellType.{CellType}
-use Rattle.df_value.specs.declared.cell.CellType.TheVariants as kind
+use Rattle.df_value.specs.declared.cell.CellType.TheVariants as dtype
 use Rattle.df_value.specs.Schemas.{column_dtype}
 use Rattle.df_expr.specs.declared.fault.ExprFault.{ExprFault}
 use Rattle.df_expr.specs.declared.fault.ExprFault.TheVariants as expr
@@ -12,7 +12,8 @@ use Rattle.df_expr.specs.declared.expr.Expr.{Expr}
 use Rattle.df_expr.specs.declared.expr.Expr.TheOpen.{Expr-F}
 use Rattle.df_expr.specs.declared.expr.Expr.TheFolds.{fold-roll-Expr, ind-Expr, map-Expr}
 use Rattle.df_expr.specs.declared.expr.Expr.TheViews.{roll-Expr}
-use Rattle.df_expr.specs.Typing.{TypeResult, type_of, type_step, column_type, literal_type, then_typed, both, arith_type, ordered_type, compare_type, truth_type, truths_type, expr_levels, names_column, expr_check as checked_expr}
+use Rattle.df_value.specs.Outcomes.{then_next}
+use Rattle.df_expr.specs.Typing.{TypeResult, type_of, type_step, column_type, literal_type, both, arith_type, ordered_type, compare_type, truth_type, truths_type, expr_levels, names_column, expr_check as checked_expr}
 use Rattle.df_ops.specs.RowWise.{expr_dtype, expr_dtype_step, item_column}
 use Rattle.df_plan.specs.ItemChecks.{Columns, DtypeResult, named_column, of_expr, expr_type, output_type, select_column_result, with_columns_column_result}
 use Rattle.df_plan.specs.declared.fault.PlanFault.{PlanFault}
@@ -22,30 +23,30 @@ use Rattle.df_plan.specs.declared.fault.PlanFault.TheVariants as fault
 abbrev Gives : TypeResult → CellType → Type 0
 Gives answer k = (t : CellType) → answer ≡ Ok t → k ≡ t
 
-column_gives : (name : List ℕ) (o : Option CellType) → Gives (column_type name o) (unwrap_or o kind.Int)
+column_gives : (name : List ℕ) (o : Option CellType) → Gives (column_type name o) (unwrap_or o dtype.Int)
 column_gives name None t h = cc
 column_gives name (Some k) t h = cc
 
 literal_gives : (c : Cell) (k : CellType) → Gives (literal_type c k) k
 literal_gives c k t h = grind (arith, common_steps)
 
-arith_gives : (a b : TypeResult) → Gives (both a b arith_type) kind.Int
+arith_gives : (a b : TypeResult) → Gives (both a b arith_type) dtype.Int
 arith_gives a b t h = grind (arith, common_steps)
 
-compare_gives : (a b : TypeResult) → Gives (both a b compare_type) kind.Bool
+compare_gives : (a b : TypeResult) → Gives (both a b compare_type) dtype.Bool
 compare_gives (Ok s) (Ok u) t h = grind (arith, common_steps)
 compare_gives (Ok s) (Err f) t h = cc
 compare_gives (Err f) b t h = cc
 
-truths_give : (a b : TypeResult) → Gives (both a b truths_type) kind.Bool
+truths_give : (a b : TypeResult) → Gives (both a b truths_type) dtype.Bool
 truths_give (Ok s) (Ok u) t h = grind (arith, common_steps)
 truths_give (Ok s) (Err f) t h = cc
 truths_give (Err f) b t h = cc
 
-not_gives : (a : TypeResult) → Gives (then_typed a truth_type) kind.Bool
+not_gives : (a : TypeResult) → Gives (then_next a truth_type) dtype.Bool
 not_gives a t h = grind (arith, common_steps)
 
-null_gives : (a : TypeResult) → Gives (then_typed a (λ _. Ok kind.Bool)) kind.Bool
+null_gives : (a : TypeResult) → Gives (then_next a (λ _. Ok dtype.Bool)) dtype.Bool
 null_gives a t h = grind (arith, common_steps)
 
 ordered_first : (a b t : CellType) → ordered_type a b ≡ Ok t → a ≡ t

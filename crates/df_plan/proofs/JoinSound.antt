@@ -8,7 +8,7 @@ use Rattle.std.proofs.lemmas.List.Folds.{list_any-append, list_all-append}
 use Rattle.df_value.specs.declared.cell.Cell.{Cell}
 use Rattle.df_value.specs.declared.cell.Cell.TheVariants as cell
 use Rattle.df_value.specs.declared.cell.CellType.{CellType}
-use Rattle.df_value.specs.declared.cell.CellType.TheVariants as kind
+use Rattle.df_value.specs.declared.cell.CellType.TheVariants as dtype
 use Rattle.df_value.specs.Cells.{fits_type}
 use Rattle.df_value.specs.Rows.{row_fits, rows_fit, cell_at}
 use Rattle.df_value.specs.Schemas.{doubled_name_after, column_index}
@@ -122,7 +122,7 @@ each_found left keys seen (d ∷ ds) h =
     (each_found left keys seen ds a) (passed (λ c. not (is_key keys c)) ds))
     h
 
--- the cells of a right row at the places of these columns fit them, also under their names in the result
+-- the cells of a right row at the indices of these columns fit them, also under their names in the result
 rest_fits :
     (left right : Columns) (row : List Cell) → IsTrue (row_fits right row) → (os : Columns) → AllByRecursion (IsFound right) os →
     IsTrue (row_fits (map (right_column left) os) (key_of (column_indices_in right (map (λ c. c.0) os)) row))
@@ -134,11 +134,11 @@ rest_fits left right row fits (o ∷ os) h =
     (rest_fits left right row fits os h.1)
 
 null_fits : (t : CellType) → IsTrue (fits_type t cell.Null)
-null_fits kind.Int = refl
-null_fits kind.Wide = refl
-null_fits kind.Text = refl
-null_fits kind.Bool = refl
-null_fits kind.Frac = refl
+null_fits dtype.Int = refl
+null_fits dtype.Wide = refl
+null_fits dtype.Text = refl
+null_fits dtype.Bool = refl
+null_fits dtype.Frac = refl
 
 nulls_fit : (left right os : Columns) → IsTrue (row_fits (map (right_column left) os) (nulls_for (column_indices_in right (map (λ c. c.0) os))))
 nulls_fit left right [] = refl

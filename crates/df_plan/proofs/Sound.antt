@@ -5,7 +5,7 @@ use Rattle.std.specs.List.{list_any, list_all, AllByRecursion}
 use Rattle.std.proofs.lemmas.List.Folds.{list_all-append}
 use Rattle.df_value.specs.declared.cell.Cell.{Cell}
 use Rattle.df_value.specs.declared.cell.CellType.{CellType}
-use Rattle.df_value.specs.declared.cell.CellType.TheVariants as kind
+use Rattle.df_value.specs.declared.cell.CellType.TheVariants as dtype
 use Rattle.df_value.specs.Cells.{fits_type}
 use Rattle.df_value.specs.Rows.{row_fits, rows_fit, row_eq, cell_at}
 use Rattle.df_value.specs.Schemas.{column_dtype, column_index, doubled_name_after}
@@ -17,7 +17,8 @@ use Rattle.df_ops.specs.RowWise.{item_column, keeps, filter_rows, select_row, wi
 use Rattle.df_expr.specs.declared.expr.Expr.{Expr}
 use Rattle.df_plan.proofs.ItemKinds.{HasKind}
 use Rattle.df_plan.specs.ItemChecks.{Columns, CheckResult, expr_type}
-use Rattle.df_plan.specs.Checks.{then_check, filter_check, select_check, with_columns_check, group_by_check, frame_check, check_step, columns_of, plan_check}
+use Rattle.df_value.specs.Outcomes.{then_next}
+use Rattle.df_plan.specs.Checks.{filter_check, select_check, with_columns_check, group_by_check, frame_check, check_step, columns_of, plan_check}
 use Rattle.df_plan.specs.JoinChecks.{join_check}
 use Rattle.df_ops.specs.Joins.{columns_of_join, join_rows, join_indices_of}
 use Rattle.df_ops.specs.declared.kinds.Agg.{Agg}
@@ -46,7 +47,7 @@ abbrev Rows : Type 0
 Rows = List (List Cell)
 
 key_fits_at :
-    (o : Option CellType) (t : CellType) (v : Cell) → o ≡ Some t → IsTrue (fits_type t v) → IsTrue (fits_type (unwrap_or o kind.Int) v)
+    (o : Option CellType) (t : CellType) (v : Cell) → o ≡ Some t → IsTrue (fits_type t v) → IsTrue (fits_type (unwrap_or o dtype.Int) v)
 key_fits_at o t v e h = rw e h
 
 -- the key of a row that fits
@@ -55,7 +56,7 @@ key_fits :
     IsTrue (row_fits (map (key_column columns) names) (key_of (column_indices columns names) row))
 key_fits columns row fits [] h = refl
 key_fits columns row fits (name ∷ names) h =
-    both_true (fits_type (unwrap_or (column_dtype name columns) kind.Int) (cell_at (column_index name columns) row)) _
+    both_true (fits_type (unwrap_or (column_dtype name columns) dtype.Int) (cell_at (column_index name columns) row)) _
     (key_fits_at (column_dtype name columns) h.0.0 _ h.0.1 (column_fits columns row fits name h.0.0 h.0.1))
     (key_fits columns row fits names h.1)
 
@@ -108,7 +109,7 @@ HasRows c t = (cs : Columns) → c ≡ Ok cs → (t.columns ≡ cs) × IsTrue (r
 
 group_has_rows :
     (c : CheckResult) (t : PlainTable) (keys : List (List ℕ)) (aggs : List (List ℕ × Agg)) → HasRows c t →
-    HasRows (then_check c (λ columns. group_by_check columns keys aggs)) (group_by_table t keys aggs)
+    HasRows (then_next c (λ columns. group_by_check columns keys aggs)) (group_by_table t keys aggs)
 unfolding group_by_table
 group_has_rows c t keys aggs of_input cs h =
     let input = then_ok c (λ columns. group_by_check columns keys aggs) cs h in
@@ -122,7 +123,7 @@ group_has_rows c t keys aggs of_input cs h =
 
 filter_has_rows :
     (c : CheckResult) (t : PlainTable) (p : Expr) → HasRows c t →
-    HasRows (then_check c (λ columns. filter_check columns (expr_type p columns))) (filter_table t p)
+    HasRows (then_next c (λ columns. filter_check columns (expr_type p columns))) (filter_table t p)
 unfolding filter_table
 filter_has_rows c t p of_input cs h =
     let input = then_ok c (λ columns. filter_check columns (expr_type p columns)) cs h in
@@ -133,7 +134,7 @@ filter_has_rows c t p of_input cs h =
 
 select_has_rows :
     (c : CheckResult) (t : PlainTable) (items : List (List ℕ × Expr)) → HasRows c t →
-    HasRows (then_check c (λ columns. select_check columns items)) (select_table t items)
+    HasRows (then_next c (λ columns. select_check columns items)) (select_table t items)
 unfolding select_table
 select_has_rows c t items of_input cs h =
     let input = then_ok c (λ columns. select_check columns items) cs h in
@@ -148,7 +149,7 @@ select_has_rows c t items of_input cs h =
 
 with_has_rows :
     (c : CheckResult) (t : PlainTable) (items : List (List ℕ × Expr)) → HasRows c t →
-    HasRows (then_check c (λ columns. with_columns_check columns items)) (with_columns_table t items)
+    HasRows (then_next c (λ columns. with_columns_check columns items)) (with_columns_table t items)
 unfolding with_columns_table
 with_has_rows c t items of_input cs h =
     let input = then_ok c (λ columns. with_columns_check columns items) cs h in
@@ -163,10 +164,10 @@ with_has_rows c t items of_input cs h =
 
 join_has_rows :
     (c d : CheckResult) (t u : PlainTable) (how : How) (keys : List (List ℕ)) → HasRows c t → HasRows d u →
-    HasRows (then_check c (λ ls. then_check d (λ rs. join_check ls rs keys))) (join_table t u how keys)
+    HasRows (then_next c (λ ls. then_next d (λ rs. join_check ls rs keys))) (join_table t u how keys)
 unfolding join_table
 join_has_rows c d t u how keys of_left of_right cs h =
-    let first = then_ok c (λ ls. then_check d (λ rs. join_check ls rs keys)) cs h in
+    let first = then_ok c (λ ls. then_next d (λ rs. join_check ls rs keys)) cs h in
     let second = then_ok d (λ rs. join_check first.0 rs keys) cs first.1.1 in
     let l = of_left first.0 first.1.0 in
     let r = of_right second.0 second.1.0 in
@@ -185,7 +186,7 @@ put_has_rows :
     (c : CheckResult) (t : PlainTable) (name : List ℕ) (k : CellType) (cells : List Cell) (next : Columns → CheckResult) (Found : Columns → Type 0) →
     ((columns cs : Columns) → next columns ≡ Ok cs → IsPut columns name k cs × Found columns) →
     (Found t.columns → IsTrue (rows_fit t.columns t.rows) → IsTrue (list_all (fits_type k) cells)) →
-    HasRows c t → HasRows (then_check c next) (with_column_table t name k cells)
+    HasRows c t → HasRows (then_next c next) (with_column_table t name k cells)
 unfolding with_column_table
 put_has_rows c t name k cells next Found finds typed of_input cs h =
     let input = then_ok c next cs h in
@@ -198,29 +199,29 @@ put_has_rows c t name k cells next Found finds typed of_input cs h =
 
 roll_has_rows :
     (c : CheckResult) (t : PlainTable) (name : List ℕ) (k : RollKind) (column : List ℕ) (w m : ℤ) → HasRows c t →
-    HasRows (then_check c (λ columns. rolling_check columns name k column w m)) (rolling_table t name k column (size_of w) (size_of m))
+    HasRows (then_next c (λ columns. rolling_check columns name k column w m)) (rolling_table t name k column (size_of w) (size_of m))
 unfolding rolling_table
 roll_has_rows c t name k column w m =
     let cells = cells_of (column_index column t.columns) t.rows in
     put_has_rows c t name (rolling_dtype k) (rolling_cells k (size_of w) (size_of m) cells) (λ columns. rolling_check columns name k column w m) (IsWhole column)
-    (roll_found name k column w m) (λ is fit. rolled_fits k (size_of w) (size_of m) cells (cells_fit t.columns column kind.Int is t.rows fit))
+    (roll_found name k column w m) (λ is fit. rolled_fits k (size_of w) (size_of m) cells (cells_fit t.columns column dtype.Int is t.rows fit))
 
 cum_sum_has_rows :
     (c : CheckResult) (t : PlainTable) (name column : List ℕ) → HasRows c t →
-    HasRows (then_check c (λ columns. cum_sum_check columns name column)) (cum_sum_table t name column)
+    HasRows (then_next c (λ columns. cum_sum_check columns name column)) (cum_sum_table t name column)
 unfolding cum_sum_table
 cum_sum_has_rows c t name column =
     let cells = cells_of (column_index column t.columns) t.rows in
-    put_has_rows c t name kind.Wide (cum_sum cells) (λ columns. cum_sum_check columns name column) (IsWhole column)
+    put_has_rows c t name dtype.Wide (cum_sum cells) (λ columns. cum_sum_check columns name column) (IsWhole column)
     (cum_sum_found name column) (λ is fit. sums_fit cells)
 
 rank_has_rows :
     (c : CheckResult) (t : PlainTable) (name : List ℕ) (k : RankKind) (column : List ℕ) → HasRows c t →
-    HasRows (then_check c (λ columns. rank_check columns name column)) (rank_table t name k column)
+    HasRows (then_next c (λ columns. rank_check columns name column)) (rank_table t name k column)
 unfolding rank_table
 rank_has_rows c t name k column =
     let place = column_index column t.columns in
-    put_has_rows c t name kind.Int (ranks_of k place t.rows) (λ columns. rank_check columns name column) (λ columns. Unit {0})
+    put_has_rows c t name dtype.Int (ranks_of k place t.rows) (λ columns. rank_check columns name column) (λ columns. Unit {0})
     (rank_found name column) (λ is fit. ranks_fit k place t.rows)
 
 -- where all frames fit their schemas, the frame of an index has rows that fit the schema there

@@ -5,7 +5,7 @@ use Rattle.std.specs.List.{list_all, range_with_len}
 use Rattle.df_value.specs.declared.cell.Cell.{Cell}
 use Rattle.df_value.specs.declared.cell.Cell.TheVariants as cell
 use Rattle.df_value.specs.declared.cell.CellType.{CellType}
-use Rattle.df_value.specs.declared.cell.CellType.TheVariants as kind
+use Rattle.df_value.specs.declared.cell.CellType.TheVariants as dtype
 use Rattle.df_value.specs.Cells.{fits_type}
 use Rattle.df_value.specs.Rows.{row_fits, rows_fit, cell_at}
 use Rattle.df_value.specs.Schemas.{doubled_name_after, column_dtype}
@@ -69,47 +69,47 @@ left_pass q zero cs h = h
 left_pass q (suc n) [] h = refl
 left_pass q (suc n) (c ∷ cs) h = left_pass q n cs (second_of_two (q c) (list_all q cs) h)
 
-value_fits : (k : RollKind) (window : List Cell) → IsTrue (list_all (fits_type kind.Int) window) → IsTrue (fits_type (rolling_dtype k) (window_value k window))
+value_fits : (k : RollKind) (window : List Cell) → IsTrue (list_all (fits_type dtype.Int) window) → IsTrue (fits_type (rolling_dtype k) (window_value k window))
 value_fits roll.Sum window h = refl
-value_fits roll.Min window h = extreme_fits end.Min kind.Int window h
-value_fits roll.Max window h = extreme_fits end.Max kind.Int window h
+value_fits roll.Min window h = extreme_fits end.Min dtype.Int window h
+value_fits roll.Max window h = extreme_fits end.Max dtype.Int window h
 
 null_fits : (t : CellType) → IsTrue (fits_type t cell.Null)
 null_fits t = refl
 
 window_fits :
-    (k : RollKind) (m : ℕ) (window : List Cell) → IsTrue (list_all (fits_type kind.Int) window) → IsTrue (fits_type (rolling_dtype k) (rolling_cell k m window))
+    (k : RollKind) (m : ℕ) (window : List Cell) → IsTrue (list_all (fits_type dtype.Int) window) → IsTrue (fits_type (rolling_dtype k) (rolling_cell k m window))
 window_fits k m window h =
     either (λ (c : Cell). IsTrue (fits_type (rolling_dtype k) c)) (nat_lt (count_of window) m) cell.Null (window_value k window)
     (null_fits (rolling_dtype k)) (value_fits k window h)
 
 -- the rolling values of an Int column fit their type
 pub rolled_fits :
-    (k : RollKind) (w m : ℕ) (cells : List Cell) → IsTrue (list_all (fits_type kind.Int) cells) → IsTrue (list_all (fits_type (rolling_dtype k)) (rolling_cells k w m cells))
+    (k : RollKind) (w m : ℕ) (cells : List Cell) → IsTrue (list_all (fits_type dtype.Int) cells) → IsTrue (list_all (fits_type (rolling_dtype k)) (rolling_cells k w m cells))
 rolled_fits k w m cells h =
     each_passes (fits_type (rolling_dtype k)) (λ i. rolling_cell k m (window_of w (take (i + 1) cells)))
     (λ i. window_fits k m (window_of w (take (i + 1) cells))
-    (left_pass (fits_type kind.Int) _ (take (i + 1) cells) (taken_pass (fits_type kind.Int) (i + 1) cells h)))
+    (left_pass (fits_type dtype.Int) _ (take (i + 1) cells) (taken_pass (fits_type dtype.Int) (i + 1) cells h)))
     0 (length cells)
 
-running_fits : (cells : List Cell) → IsTrue (fits_type kind.Wide (cum_sum_at cells))
+running_fits : (cells : List Cell) → IsTrue (fits_type dtype.Wide (cum_sum_at cells))
 running_fits cells =
-    either (λ (c : Cell). IsTrue (fits_type kind.Wide c)) (is_null (last_cell cells)) cell.Null (cell.Wide (sum_of cells)) refl refl
+    either (λ (c : Cell). IsTrue (fits_type dtype.Wide c)) (is_null (last_cell cells)) cell.Null (cell.Wide (sum_of cells)) refl refl
 
-pub sums_fit : (cells : List Cell) → IsTrue (list_all (fits_type kind.Wide) (cum_sum cells))
+pub sums_fit : (cells : List Cell) → IsTrue (list_all (fits_type dtype.Wide) (cum_sum cells))
 sums_fit cells =
-    each_passes (fits_type kind.Wide) (λ i. cum_sum_at (take (i + 1) cells)) (λ i. running_fits (take (i + 1) cells)) 0 (length cells)
+    each_passes (fits_type dtype.Wide) (λ i. cum_sum_at (take (i + 1) cells)) (λ i. running_fits (take (i + 1) cells)) 0 (length cells)
 
-dense_fits : (distinct : Rows) (c : Cell) → IsTrue (fits_type kind.Int (dense_rank_of distinct c))
-dense_fits distinct c = either (λ (c : Cell). IsTrue (fits_type kind.Int c)) (is_null c) cell.Null _ refl refl
+dense_fits : (distinct : Rows) (c : Cell) → IsTrue (fits_type dtype.Int (dense_rank_of distinct c))
+dense_fits distinct c = either (λ (c : Cell). IsTrue (fits_type dtype.Int c)) (is_null c) cell.Null _ refl refl
 
 each_dense_fits : (distinct : Rows) (place : Option ℕ) (rows : Rows) →
-    IsTrue (list_all (fits_type kind.Int) (map (λ r. dense_rank_of distinct (cell_at place r)) rows))
+    IsTrue (list_all (fits_type dtype.Int) (map (λ r. dense_rank_of distinct (cell_at place r)) rows))
 each_dense_fits distinct place [] = refl
 each_dense_fits distinct place (r ∷ rows) =
-    both_true (fits_type kind.Int (dense_rank_of distinct (cell_at place r))) _ (dense_fits distinct (cell_at place r)) (each_dense_fits distinct place rows)
+    both_true (fits_type dtype.Int (dense_rank_of distinct (cell_at place r))) _ (dense_fits distinct (cell_at place r)) (each_dense_fits distinct place rows)
 
-pub ranks_fit : (k : RankKind) (place : Option ℕ) (rows : Rows) → IsTrue (list_all (fits_type kind.Int) (ranks_of k place rows))
+pub ranks_fit : (k : RankKind) (place : Option ℕ) (rows : Rows) → IsTrue (list_all (fits_type dtype.Int) (ranks_of k place rows))
 ranks_fit rank.Dense place rows = each_dense_fits (distinct_at place rows) place rows
 
 -- the columns of a result into which this one was put
@@ -122,22 +122,22 @@ output_found :
 output_found columns name t (Ok u) cs h = (settled_is_at (with_columns columns ((name, t) ∷ [])) (doubled_name_after [] ((name, t) ∷ [])) cs h, (u, refl))
 output_found columns name t (Err f) cs h = cc
 
-whole_is : (name : List ℕ) (o : Option CellType) (u : CellType) → whole_type name o ≡ Ok u → o ≡ Some kind.Int
+whole_is : (name : List ℕ) (o : Option CellType) (u : CellType) → whole_type name o ≡ Ok u → o ≡ Some dtype.Int
 whole_is name None u h = cc
-whole_is name (Some kind.Int) u h = refl
-whole_is name (Some kind.Wide) u h = cc
-whole_is name (Some kind.Text) u h = cc
-whole_is name (Some kind.Bool) u h = cc
-whole_is name (Some kind.Frac) u h = cc
+whole_is name (Some dtype.Int) u h = refl
+whole_is name (Some dtype.Wide) u h = cc
+whole_is name (Some dtype.Text) u h = cc
+whole_is name (Some dtype.Bool) u h = cc
+whole_is name (Some dtype.Frac) u h = cc
 
 -- a column is there and is Int
 abbrev pub IsWhole : List ℕ → Columns → Type 0
-IsWhole column columns = column_dtype column columns ≡ Some kind.Int
+IsWhole column columns = column_dtype column columns ≡ Some dtype.Int
 
 pub cum_sum_found :
-    (name column : List ℕ) (columns cs : Columns) → cum_sum_check columns name column ≡ Ok cs → IsPut columns name kind.Wide cs × IsWhole column columns
+    (name column : List ℕ) (columns cs : Columns) → cum_sum_check columns name column ≡ Ok cs → IsPut columns name dtype.Wide cs × IsWhole column columns
 cum_sum_found name column columns cs h =
-    let found = output_found columns name kind.Wide (whole_type column (column_dtype column columns)) cs h in
+    let found = output_found columns name dtype.Wide (whole_type column (column_dtype column columns)) cs h in
     (found.0, whole_is column (column_dtype column columns) found.1.0 found.1.1)
 
 chosen_ok : (b : Bool) (c : CheckResult) (f : PlanFault) (cs : Columns) → cond {A = CheckResult} b c (Err f) ≡ Ok cs → c ≡ Ok cs
@@ -153,5 +153,5 @@ roll_found name k column w m columns cs h =
     (found.0, whole_is column (column_dtype column columns) found.1.0 found.1.1)
 
 pub rank_found :
-    (name column : List ℕ) (columns cs : Columns) → rank_check columns name column ≡ Ok cs → IsPut columns name kind.Int cs × Unit {0}
-rank_found name column columns cs h = ((output_found columns name kind.Int (key_type column (column_dtype column columns)) cs h).0, tt)
+    (name column : List ℕ) (columns cs : Columns) → rank_check columns name column ≡ Ok cs → IsPut columns name dtype.Int cs × Unit {0}
+rank_found name column columns cs h = ((output_found columns name dtype.Int (key_type column (column_dtype column columns)) cs h).0, tt)

@@ -1,6 +1,7 @@
 -- The check of a plan: the columns of its result, or the first fault.
 use Rattle.std.specs.Prelude.{◌≡◌, ◌≢◌, ◌+◌, ℕ, List, [], Option, Some, None, Result, Ok, Err, MatchResult, max, nat_lt, slice_get, if◌then◌else◌}
-use Rattle.df_value.specs.declared.cell.CellType.TheVariants as kind
+use Rattle.df_value.specs.Outcomes.{then_next}
+use Rattle.df_value.specs.declared.cell.CellType.TheVariants as dtype
 use Rattle.df_value.specs.Schemas.{doubled_name_after}
 use Rattle.df_expr.specs.declared.expr.Expr.{Expr}
 use Rattle.df_expr.specs.declared.fault.ExprFault.TheVariants as expr
@@ -15,35 +16,30 @@ use Rattle.df_plan.specs.JoinChecks.{join_check}
 use Rattle.df_plan.specs.WindowChecks.{rolling_check, cum_sum_check, rank_check}
 use Rattle.df_plan.specs.ItemChecks.{DtypeResult, columns_after, expr_type, key_column_result, aggregate_column_result, select_column_result, with_columns_column_result}
 
--- the next step's answer, or the fault
-abbrev pub then_check : CheckResult → (Columns → CheckResult) → CheckResult
-then_check (Ok columns) next = next columns
-then_check (Err f) next = Err f
-
 abbrev pub to_schema : Columns → CheckResult
 to_schema columns = to_schema_unless columns (doubled_name_after [] columns)
 
 -- the columns of a filter are its input's, if the predicate's type is Bool
 abbrev pub filter_check : Columns → DtypeResult → CheckResult
-filter_check columns (Ok kind.Bool) = Ok columns
+filter_check columns (Ok dtype.Bool) = Ok columns
 filter_check columns (Ok t) = Err (fault.Expr expr.WrongType)
 filter_check columns (Err f) = Err f
 
 -- the columns of a select: one for each item, checked in turn
 abbrev pub select_check : Columns → List (List ℕ × Expr) → CheckResult
 select_check columns [] = Err fault.EmptyList
-select_check columns items = then_check (columns_after (select_column_result columns) [] items) to_schema
+select_check columns items = then_next (columns_after (select_column_result columns) [] items) to_schema
 
 -- the columns of a with_columns: the items', checked in turn, put among the input's
 abbrev pub with_columns_check : Columns → List (List ℕ × Expr) → CheckResult
-with_columns_check columns items = then_check (columns_after (with_columns_column_result columns) [] items) (added_columns_check columns)
+with_columns_check columns items = then_next (columns_after (with_columns_column_result columns) [] items) (added_columns_check columns)
 
 -- the columns of a group-by: its keys, each checked in turn, then its outputs
 abbrev pub group_by_check : Columns → List (List ℕ) → List (List ℕ × Agg) → CheckResult
 group_by_check columns [] aggs = Err fault.EmptyList
 group_by_check columns keys aggs =
-    then_check (columns_after (key_column_result columns) [] keys)
-    (λ out. then_check (columns_after (aggregate_column_result columns) out aggs) to_schema)
+    then_next (columns_after (key_column_result columns) [] keys)
+    (λ out. then_next (columns_after (aggregate_column_result columns) out aggs) to_schema)
 
 abbrev pub frame_check : ℕ → Option Columns → CheckResult
 frame_check frame None = Err (fault.NoFrame frame)
@@ -52,16 +48,16 @@ frame_check frame (Some columns) = Ok columns
 -- the check of one node, after that of its input
 abbrev pub check_step : List Columns → Plan-F CheckResult → CheckResult
 check_step frames (Plan-F.Scan frame) = frame_check frame (slice_get frames frame)
-check_step frames (Plan-F.Filter input p) = then_check input (λ columns. filter_check columns (expr_type p columns))
-check_step frames (Plan-F.Select input items) = then_check input (λ columns. select_check columns items)
-check_step frames (Plan-F.WithColumns input items) = then_check input (λ columns. with_columns_check columns items)
-check_step frames (Plan-F.GroupBy input keys aggs) = then_check input (λ columns. group_by_check columns keys aggs)
+check_step frames (Plan-F.Filter input p) = then_next input (λ columns. filter_check columns (expr_type p columns))
+check_step frames (Plan-F.Select input items) = then_next input (λ columns. select_check columns items)
+check_step frames (Plan-F.WithColumns input items) = then_next input (λ columns. with_columns_check columns items)
+check_step frames (Plan-F.GroupBy input keys aggs) = then_next input (λ columns. group_by_check columns keys aggs)
 check_step frames (Plan-F.Join left right h keys) =
-    then_check left (λ ls. then_check right (λ rs. join_check ls rs keys))
+    then_next left (λ ls. then_next right (λ rs. join_check ls rs keys))
 check_step frames (Plan-F.Rolling input output k column w m) =
-    then_check input (λ columns. rolling_check columns output k column w m)
-check_step frames (Plan-F.CumSum input output column) = then_check input (λ columns. cum_sum_check columns output column)
-check_step frames (Plan-F.Rank input output k column) = then_check input (λ columns. rank_check columns output column)
+    then_next input (λ columns. rolling_check columns output k column w m)
+check_step frames (Plan-F.CumSum input output column) = then_next input (λ columns. cum_sum_check columns output column)
+check_step frames (Plan-F.Rank input output k column) = then_next input (λ columns. rank_check columns output column)
 
 -- the columns of a plan's result, or the first fault of a walk that visits inputs before their node
 abbrev pub columns_of : Plan → List Columns → CheckResult
@@ -103,7 +99,3 @@ plan_check p frames =
     if nat_lt 12 (plan_levels p) then Err fault.TooDeep
     else if nat_lt 3 (plan_scans p) then Err fault.TooManyScans
     else columns_of p frames
-
--- The call answers what is wanted, unless it answers that memory was refused.
-abbrev pub Answers : {T : Type 0} → Result T PlanFault → Result T PlanFault → Type 0
-Answers want result = MatchResult result (λ x. want ≡ Ok x) (λ f. f ≢ fault.Memory → want ≡ Err f)

@@ -2,7 +2,7 @@
 -- it gives are this project's own choice among those of the Polars Python reference.
 use Rattle.std.specs.Prelude.{ℕ, List, [], ◌∷◌, ◌++◌, Option, Some, None, Result, Ok, Err, if◌then◌else◌}
 use Rattle.df_value.specs.declared.cell.CellType.{CellType}
-use Rattle.df_value.specs.declared.cell.CellType.TheVariants as kind
+use Rattle.df_value.specs.declared.cell.CellType.TheVariants as dtype
 use Rattle.df_value.specs.Schemas.{column_dtype}
 use Rattle.df_expr.specs.declared.fault.ExprFault.TheVariants as expr
 use Rattle.df_expr.specs.declared.expr.Expr.{Expr}
@@ -36,7 +36,7 @@ named_column name (Err f) = Err f
 -- the type of a key, or of a column that is ranked: it must be there, and may have every type but Frac
 abbrev pub key_type : List ℕ → Option CellType → DtypeResult
 key_type name None = Err (fault.Expr (expr.NoColumn name))
-key_type name (Some kind.Frac) = Err (fault.WrongType name)
+key_type name (Some dtype.Frac) = Err (fault.WrongType name)
 key_type name (Some t) = Ok t
 
 -- a type, or a refusal of the column
@@ -50,7 +50,7 @@ taken_type name a None = Err (fault.Expr (expr.NoColumn name))
 taken_type name a (Some t) = given_type name (dtype_given a t)
 
 abbrev pub type_of_column : Columns → Agg → Option (List ℕ) → DtypeResult
-type_of_column columns a None = Ok kind.Int
+type_of_column columns a None = Ok dtype.Int
 type_of_column columns a (Some name) = taken_type name a (column_dtype name columns)
 
 -- the type of an aggregate

@@ -3,7 +3,7 @@ use Rattle.std.specs.Prelude.{ℕ, List, [], ◌∷◌, ◌++◌, Option, Some, 
 use Rattle.std.specs.List.{list_any}
 use Rattle.std.specs.Str.{bytes_eq}
 use Rattle.df_value.specs.declared.cell.CellType.{CellType}
-use Rattle.df_value.specs.declared.cell.CellType.TheVariants as kind
+use Rattle.df_value.specs.declared.cell.CellType.TheVariants as dtype
 use Rattle.df_value.specs.Schemas.{column_dtype, doubled_name_after}
 use Rattle.df_expr.specs.declared.fault.ExprFault.TheVariants as expr
 use Rattle.df_plan.specs.declared.fault.PlanFault.{PlanFault}
@@ -17,10 +17,10 @@ use Rattle.df_ops.specs.Joins.{columns_of_join}
 abbrev pub join_key_type : List ℕ → Option CellType → Option CellType → DtypeResult
 join_key_type name None right = Err (fault.Expr (expr.NoColumn name))
 join_key_type name (Some t) None = Err (fault.Expr (expr.NoColumn name))
-join_key_type name (Some kind.Int) (Some kind.Int) = Ok kind.Int
-join_key_type name (Some kind.Wide) (Some kind.Wide) = Ok kind.Wide
-join_key_type name (Some kind.Text) (Some kind.Text) = Ok kind.Text
-join_key_type name (Some kind.Bool) (Some kind.Bool) = Ok kind.Bool
+join_key_type name (Some dtype.Int) (Some dtype.Int) = Ok dtype.Int
+join_key_type name (Some dtype.Wide) (Some dtype.Wide) = Ok dtype.Wide
+join_key_type name (Some dtype.Text) (Some dtype.Text) = Ok dtype.Text
+join_key_type name (Some dtype.Bool) (Some dtype.Bool) = Ok dtype.Bool
 join_key_type name (Some t) (Some u) = Err (fault.WrongType name)
 
 abbrev pub join_key : Columns → Columns → List ℕ → DtypeResult

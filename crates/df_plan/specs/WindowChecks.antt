@@ -2,7 +2,7 @@
 -- project's own choice.
 use Rattle.std.specs.Prelude.{ℕ, ℤ, pos, Bool, ◌&&◌, int_le, List, [], ◌∷◌, Option, Some, None, Ok, Err, if◌then◌else◌}
 use Rattle.df_value.specs.declared.cell.CellType.{CellType}
-use Rattle.df_value.specs.declared.cell.CellType.TheVariants as kind
+use Rattle.df_value.specs.declared.cell.CellType.TheVariants as dtype
 use Rattle.df_value.specs.Schemas.{column_dtype}
 use Rattle.df_expr.specs.declared.fault.ExprFault.TheVariants as expr
 use Rattle.df_plan.specs.declared.fault.PlanFault.TheVariants as fault
@@ -18,7 +18,7 @@ is_window w m = int_le (pos 1) w && (int_le w (pos 65536) && (int_le (pos 1) m &
 -- the type of a column that must be there and be Int
 abbrev pub whole_type : List ℕ → Option CellType → DtypeResult
 whole_type name None = Err (fault.Expr (expr.NoColumn name))
-whole_type name (Some kind.Int) = Ok kind.Int
+whole_type name (Some dtype.Int) = Ok dtype.Int
 whole_type name (Some t) = Err (fault.WrongType name)
 
 -- an output of this type put among the columns, if the column that it is taken from is sound
@@ -34,8 +34,8 @@ rolling_check columns output k column w m =
 
 -- of an Int column
 abbrev pub cum_sum_check : Columns → List ℕ → List ℕ → CheckResult
-cum_sum_check columns output column = output_column_check columns output kind.Wide (whole_type column (column_dtype column columns))
+cum_sum_check columns output column = output_column_check columns output dtype.Wide (whole_type column (column_dtype column columns))
 
 -- of a column that could be a key
 abbrev pub rank_check : Columns → List ℕ → List ℕ → CheckResult
-rank_check columns output column = output_column_check columns output kind.Int (key_type column (column_dtype column columns))
+rank_check columns output column = output_column_check columns output dtype.Int (key_type column (column_dtype column columns))

@@ -2,11 +2,11 @@
 ghost use Rattle.std.specs.Prelude.{◌≡◌, ◌+◌, ◌<◌, ◌≤◌, ◌↔◌, [], Err, IsTrue, MatchOption, MatchResult, None, slice_get};
 ghost use Rattle.df_value.specs.Schemas.{doubled_name_after};
 ghost use Rattle.df_plan.specs.Checks as checks;
-ghost use Rattle.df_plan.specs.Checks.{plan_check, columns_of, plan_levels, plan_scans, to_schema_unless, filter_check, select_check, with_columns_check, added_columns_check, group_by_check, frame_check, Answers};
+ghost use Rattle.df_value.specs.Outcomes.{Answers};
+ghost use Rattle.df_plan.specs.Checks.{plan_check, columns_of, plan_levels, plan_scans, to_schema_unless, filter_check, select_check, with_columns_check, added_columns_check, group_by_check, frame_check};
 ghost use Rattle.df_plan.specs.JoinChecks.{join_check};
 ghost use Rattle.df_plan.specs.ItemChecks as item_checks;
 
-use crate::drops::then_drop;
 use crate::fault::PlanFault;
 use crate::items::{Added, Aggregates, Columns, Keys, Outputs, check_each, expr_type};
 use crate::join_checks::check_join;
@@ -14,7 +14,9 @@ use crate::plan::Plan;
 use crate::window_checks::{check_cum_sum, check_rank, check_rolling};
 use df_expr::{Expr, ExprFault};
 use df_ops::{Agg, with_columns};
-use df_value::{CellType, Duplicate, List, Schema, SchemaFault, Text, first_doubled_name};
+use df_value::{
+    CellType, Duplicate, List, Schema, SchemaFault, Text, first_doubled_name, then_drop,
+};
 use std::alloc::Global;
 
 /// The most levels of a plan: the nodes on its longest path.
@@ -25,7 +27,7 @@ pub const MOST_SCANS: u32 = 3;
 
 /// The schema of a plan's result over frames of these schemas, or the first fault.
 pub fn check(alloc: Global, plan: &Plan, frames: &[Schema]) -> Result<Schema, PlanFault>
-    ensures { Answers (plan_check plan.now frames.now) result }
+    ensures { Answers PlanFault.Memory (plan_check plan.now frames.now) result }
 {
     if !is_within(plan, MOST_PLAN_LEVELS) {
         return Err(PlanFault::TooDeep);
@@ -79,7 +81,7 @@ fn scans_left(plan: &Plan, most: u32) -> Option<u32>
 }
 
 fn check_node(alloc: Global, plan: &Plan, frames: &[Schema]) -> Result<Schema, PlanFault>
-    ensures { Answers (columns_of plan.now frames.now) result }
+    ensures { Answers PlanFault.Memory (columns_of plan.now frames.now) result }
 {
     match plan {
         Plan::Scan(frame) => copy_schema(alloc, frames, *frame),
@@ -107,10 +109,10 @@ fn check_node(alloc: Global, plan: &Plan, frames: &[Schema]) -> Result<Schema, P
             let right = check_node(alloc, right.get(), frames);
             check_inputs(alloc, left, right, keys.as_slice())
         }
-        Plan::Rolling(input, output, kind, column, w, m) => {
+        Plan::Rolling(input, output, dtype, column, w, m) => {
             let columns = check_node(alloc, input.get(), frames)?;
             then_drop(
-                check_rolling(alloc, &columns, output, *kind, column, *w, *m),
+                check_rolling(alloc, &columns, output, *dtype, column, *w, *m),
                 columns,
             )
         }
@@ -132,7 +134,7 @@ fn check_inputs(
     right: Result<Schema, PlanFault>,
     keys: &[Text],
 ) -> Result<Schema, PlanFault>
-    ensures { MatchResult right (λ columns. Answers (join_check left columns keys.now) result) (λ f. result ≡ Err f) }
+    ensures { MatchResult right (λ columns. Answers PlanFault.Memory (join_check left columns keys.now) result) (λ f. result ≡ Err f) }
 {
     match right {
         Ok(right) => check_join(alloc, &left, &right, keys),
@@ -141,7 +143,7 @@ fn check_inputs(
 }
 
 fn copy_schema(alloc: Global, frames: &[Schema], frame: usize) -> Result<Schema, PlanFault>
-    ensures { Answers (frame_check frame (slice_get frames.now frame)) result }
+    ensures { Answers PlanFault.Memory (frame_check frame (slice_get frames.now frame)) result }
 {
     match frames.get(frame) {
         Some(schema) => Ok(schema.copy(alloc)?),
@@ -150,7 +152,7 @@ fn copy_schema(alloc: Global, frames: &[Schema], frame: usize) -> Result<Schema,
 }
 
 fn check_filter(alloc: Global, input: Schema, predicate: &Expr) -> Result<Schema, PlanFault>
-    ensures { Answers (filter_check input (item_checks.expr_type predicate.now input)) result }
+    ensures { Answers PlanFault.Memory (filter_check input (item_checks.expr_type predicate.now input)) result }
 {
     match expr_type(alloc, &input, predicate) {
         Ok(CellType::Bool) => Ok(input),
@@ -160,7 +162,7 @@ fn check_filter(alloc: Global, input: Schema, predicate: &Expr) -> Result<Schema
 }
 
 fn check_select(alloc: Global, input: &Schema, items: &[(Text, Expr)]) -> Result<Schema, PlanFault>
-    ensures { Answers (select_check input.now items.now) result }
+    ensures { Answers PlanFault.Memory (select_check input.now items.now) result }
 {
     if items.is_empty() {
         return Err(PlanFault::EmptyList);
@@ -173,7 +175,7 @@ fn check_select(alloc: Global, input: &Schema, items: &[(Text, Expr)]) -> Result
 }
 
 fn check_added(alloc: Global, input: &Schema, items: &[(Text, Expr)]) -> Result<Schema, PlanFault>
-    ensures { Answers (with_columns_check input.now items.now) result }
+    ensures { Answers PlanFault.Memory (with_columns_check input.now items.now) result }
 {
     let out = List::from_vec(Vec::new(alloc));
     match check_each::<(Text, Expr), Added>(alloc, input, out, items) {
@@ -188,7 +190,7 @@ fn check_groups(
     keys: &[Text],
     aggs: &[(Text, Agg)],
 ) -> Result<Schema, PlanFault>
-    ensures { Answers (group_by_check input.now keys.now aggs.now) result }
+    ensures { Answers PlanFault.Memory (group_by_check input.now keys.now aggs.now) result }
 {
     if keys.is_empty() {
         return Err(PlanFault::EmptyList);
@@ -201,7 +203,7 @@ fn check_groups(
 
 /// The schema of a table with columns put among its own.
 pub fn put(alloc: Global, input: &Schema, added: &Columns) -> Result<Schema, PlanFault>
-    ensures { Answers (added_columns_check input.now added.now) result }
+    ensures { Answers PlanFault.Memory (added_columns_check input.now added.now) result }
 {
     if let Some(name) = first_doubled_name(added.as_slice()) {
         return Err(PlanFault::DoubledName(name.copy(alloc)?));
@@ -212,7 +214,7 @@ pub fn put(alloc: Global, input: &Schema, added: &Columns) -> Result<Schema, Pla
 
 /// The schema of these columns: no name may stand twice, and then they may not be too many.
 pub fn to_schema(alloc: Global, columns: Columns) -> Result<Schema, PlanFault>
-    ensures { Answers (checks.to_schema columns) result }
+    ensures { Answers PlanFault.Memory (checks.to_schema columns) result }
 {
     if let Some(name) = first_doubled_name(columns.as_slice()) {
         return Err(PlanFault::DoubledName(name.copy(alloc)?));
@@ -222,7 +224,7 @@ pub fn to_schema(alloc: Global, columns: Columns) -> Result<Schema, PlanFault>
 
 fn schema_of(columns: Columns) -> Result<Schema, PlanFault>
     requires { doubled_name_after [] columns ≡ None }
-    ensures { Answers (to_schema_unless columns None) result }
+    ensures { Answers PlanFault.Memory (to_schema_unless columns None) result }
 {
     match Schema::new(columns) {
         Ok(schema) => Ok(schema),

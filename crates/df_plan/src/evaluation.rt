@@ -6,13 +6,12 @@ ghost use Rattle.df_ops.specs.Tables as tables;
 ghost use Rattle.df_ops.specs.Windows as windows;
 
 use crate::checked::CheckedPlan;
-use crate::drops::{both, then_drop};
 use crate::plan::Plan;
 use df_ops::{
     PlainTable, RollKind, cum_sum_table, filter_table, group_by, join, rank_table, rolling_table,
     select_table, size_of, with_columns_table,
 };
-use df_value::{Duplicate, List, Row, Schema, Text};
+use df_value::{Duplicate, List, Row, Schema, Text, both, then_drop};
 use std::alloc::{AllocError, Global};
 
 /// The rows that a plan gives over frames: `frames[i]` are the rows of frame i, by rising number.

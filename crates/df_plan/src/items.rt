@@ -1,7 +1,7 @@
 //! The check of the items of a node's list: what column each gives.
 ghost use Rattle.std.specs.Prelude.{◌≡◌};
 ghost use Rattle.df_value.specs.Schemas.{column_dtype};
-ghost use Rattle.df_plan.specs.Checks.{Answers};
+ghost use Rattle.df_value.specs.Outcomes.{Answers};
 ghost use Rattle.df_plan.specs.ItemChecks as item_checks;
 ghost use Rattle.df_plan.specs.ItemChecks.{ColumnResult, key_column_result, aggregate_column_result, select_column_result, with_columns_column_result, columns_after};
 
@@ -21,7 +21,7 @@ pub trait ColumnOf<T> {
 
     /// The column that the item gives, or its first fault.
     fn column(alloc: Global, input: &Schema, item: &T) -> Result<(Text, CellType), PlanFault>
-        ensures { Answers (column_of input.now item.now) result };
+        ensures { Answers PlanFault.Memory (column_of input.now item.now) result };
 }
 
 /// The keys of a group-by.
@@ -40,8 +40,8 @@ impl ColumnOf<Text> for Keys {
     ghost column_of = { key_column_result };
 
     fn column(alloc: Global, input: &Schema, name: &Text) -> Result<(Text, CellType), PlanFault> {
-        let kind = key_type(alloc, input, name)?;
-        Ok((name.copy(alloc)?, kind))
+        let dtype = key_type(alloc, input, name)?;
+        Ok((name.copy(alloc)?, dtype))
     }
 }
 
@@ -53,8 +53,8 @@ impl ColumnOf<(Text, Agg)> for Aggregates {
         input: &Schema,
         item: &(Text, Agg),
     ) -> Result<(Text, CellType), PlanFault> {
-        let kind = aggregate_type(alloc, input, &item.1)?;
-        Ok((item.0.copy(alloc)?, kind))
+        let dtype = aggregate_type(alloc, input, &item.1)?;
+        Ok((item.0.copy(alloc)?, dtype))
     }
 }
 
@@ -67,11 +67,11 @@ impl ColumnOf<(Text, Expr)> for Outputs {
         input: &Schema,
         item: &(Text, Expr),
     ) -> Result<(Text, CellType), PlanFault> {
-        let kind = expr_type(alloc, input, &item.1)?;
+        let dtype = expr_type(alloc, input, &item.1)?;
         if !names_column(&item.1) {
             return Err(PlanFault::ConstantColumn(item.0.copy(alloc)?));
         }
-        Ok((item.0.copy(alloc)?, kind))
+        Ok((item.0.copy(alloc)?, dtype))
     }
 }
 
@@ -83,8 +83,8 @@ impl ColumnOf<(Text, Expr)> for Added {
         input: &Schema,
         item: &(Text, Expr),
     ) -> Result<(Text, CellType), PlanFault> {
-        let kind = expr_type(alloc, input, &item.1)?;
-        Ok((item.0.copy(alloc)?, kind))
+        let dtype = expr_type(alloc, input, &item.1)?;
+        Ok((item.0.copy(alloc)?, dtype))
     }
 }
 
@@ -95,7 +95,7 @@ pub fn check_each<T, N: ColumnOf<T>>(
     out: Columns,
     items: &[T],
 ) -> Result<Columns, PlanFault>
-    ensures { Answers (columns_after (N.column_of input.now) out items.now) result }
+    ensures { Answers PlanFault.Memory (columns_after (N.column_of input.now) out items.now) result }
 {
     let mut out = out.into_vec();
     for item in items {
@@ -106,32 +106,32 @@ pub fn check_each<T, N: ColumnOf<T>>(
 
 /// The type of a key's column, which must be there and not Frac.
 pub fn key_type(alloc: Global, input: &Schema, name: &Text) -> Result<CellType, PlanFault>
-    ensures { Answers (item_checks.key_type name.now (column_dtype name.now input.now)) result }
+    ensures { Answers PlanFault.Memory (item_checks.key_type name.now (column_dtype name.now input.now)) result }
 {
     match input.type_of(name) {
         Some(CellType::Frac) => Err(PlanFault::WrongType(name.copy(alloc)?)),
-        Some(kind) => Ok(kind),
+        Some(dtype) => Ok(dtype),
         None => Err(PlanFault::Expr(ExprFault::NoColumn(name.copy(alloc)?))),
     }
 }
 
 fn aggregate_type(alloc: Global, input: &Schema, agg: &Agg) -> Result<CellType, PlanFault>
-    ensures { Answers (item_checks.aggregate_type input.now agg.now) result }
+    ensures { Answers PlanFault.Memory (item_checks.aggregate_type input.now agg.now) result }
 {
     let Some(name) = agg.column() else {
         return Ok(CellType::Int);
     };
     match input.type_of(name) {
-        Some(kind) => given_type(alloc, name, agg.type_of(kind)),
+        Some(dtype) => given_type(alloc, name, agg.type_of(dtype)),
         None => Err(PlanFault::Expr(ExprFault::NoColumn(name.copy(alloc)?))),
     }
 }
 
 fn given_type(alloc: Global, name: &Text, given: Option<CellType>) -> Result<CellType, PlanFault>
-    ensures { Answers (item_checks.given_type name.now given) result }
+    ensures { Answers PlanFault.Memory (item_checks.given_type name.now given) result }
 {
     match given {
-        Some(kind) => Ok(kind),
+        Some(dtype) => Ok(dtype),
         None => Err(PlanFault::WrongType(name.copy(alloc)?)),
     }
 }
@@ -139,10 +139,10 @@ fn given_type(alloc: Global, name: &Text, given: Option<CellType>) -> Result<Cel
 /// The type of an expression in a plan.
 #[tactic(auto, unfolding(crate::specs::ItemChecks::expr_type))]
 pub fn expr_type(alloc: Global, input: &Schema, expr: &Expr) -> Result<CellType, PlanFault>
-    ensures { Answers (item_checks.expr_type expr.now input.now) result }
+    ensures { Answers PlanFault.Memory (item_checks.expr_type expr.now input.now) result }
 {
     match check(alloc, expr, input) {
-        Ok(kind) => Ok(kind),
+        Ok(dtype) => Ok(dtype),
         Err(ExprFault::Memory) => Err(PlanFault::Memory),
         Err(fault) => Err(PlanFault::Expr(fault)),
     }

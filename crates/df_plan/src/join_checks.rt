@@ -4,7 +4,7 @@ ghost use Rattle.std.specs.List.{list_any};
 ghost use Rattle.std.specs.Option.{option_copied};
 ghost use Rattle.std.specs.Str.{bytes_eq};
 ghost use Rattle.df_value.specs.Schemas.{column_dtype};
-ghost use Rattle.df_plan.specs.Checks.{Answers};
+ghost use Rattle.df_value.specs.Outcomes.{Answers};
 ghost use Rattle.df_plan.specs.JoinChecks as join_checks;
 ghost use Rattle.df_plan.specs.JoinChecks.{join_check, join_key_type, keys_fault, doubled_key_after};
 
@@ -23,7 +23,7 @@ pub fn check_join(
     right: &Schema,
     keys: &[Text],
 ) -> Result<Schema, PlanFault>
-    ensures { Answers (join_check left.now right.now keys.now) result }
+    ensures { Answers PlanFault.Memory (join_check left.now right.now keys.now) result }
 {
     if keys.is_empty() {
         return Err(PlanFault::EmptyList);
@@ -35,7 +35,7 @@ pub fn check_join(
 
 // The schema of these columns of a join by these keys.
 fn join_schema(alloc: Global, columns: Columns, keys: &[Text]) -> Result<Schema, PlanFault>
-    ensures { Answers (join_checks.join_schema columns keys.now) result }
+    ensures { Answers PlanFault.Memory (join_checks.join_schema columns keys.now) result }
 {
     match doubled_key(keys) {
         Some(name) => Err(PlanFault::DoubledName(name.copy(alloc)?)),
@@ -80,11 +80,11 @@ fn key_type(
     left: Option<CellType>,
     right: Option<CellType>,
 ) -> Result<CellType, PlanFault>
-    ensures { Answers (join_key_type name.now left right) result }
+    ensures { Answers PlanFault.Memory (join_key_type name.now left right) result }
 {
     match (left, right) {
         (Some(CellType::Frac), Some(_)) => Err(PlanFault::WrongType(name.copy(alloc)?)),
-        (Some(kind), Some(other)) if kind == other => Ok(kind),
+        (Some(dtype), Some(other)) if dtype == other => Ok(dtype),
         (Some(_), Some(_)) => Err(PlanFault::WrongType(name.copy(alloc)?)),
         _ => Err(PlanFault::Expr(ExprFault::NoColumn(name.copy(alloc)?))),
     }

@@ -12,7 +12,6 @@
 
 mod checked;
 mod checks;
-mod drops;
 mod evaluation;
 mod fault;
 mod items;

@@ -1,10 +1,9 @@
 //! The forms of a plan.
 ghost use Rattle.std.specs.Prelude.{◌≡◌, ◌↔◌, IfOk, IsTrue};
 
-use crate::drops::both;
 use df_expr::Expr;
 use df_ops::{Agg, How, RankKind, RollKind};
-use df_value::{Boxed, Duplicate, Exact, List, Text, same};
+use df_value::{Boxed, Duplicate, Exact, List, Text, both, same};
 use std::alloc::{AllocError, Global};
 
 /// How a table is made of frames.

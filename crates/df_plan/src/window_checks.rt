@@ -1,7 +1,8 @@
 //! The checks of rolling windows, cumulative sums and ranks.
 ghost use Rattle.std.specs.Prelude.{◌≡◌, ◌∷◌, []};
 ghost use Rattle.df_value.specs.Schemas.{column_dtype};
-ghost use Rattle.df_plan.specs.Checks.{Answers, added_columns_check};
+ghost use Rattle.df_value.specs.Outcomes.{Answers};
+ghost use Rattle.df_plan.specs.Checks.{added_columns_check};
 ghost use Rattle.df_plan.specs.WindowChecks as window_checks;
 ghost use Rattle.df_plan.specs.WindowChecks.{rolling_check, cum_sum_check, rank_check};
 ghost use Rattle.df_ops.specs.Windows as windows;
@@ -24,7 +25,7 @@ pub fn check_rolling(
     w: i64,
     m: i64,
 ) -> Result<Schema, PlanFault>
-    ensures { Answers (rolling_check input.now output.now kind column.now w m) result }
+    ensures { Answers PlanFault.Memory (rolling_check input.now output.now kind column.now w m) result }
 {
     if !is_window(w, m) {
         return Err(PlanFault::BadWindow);
@@ -40,7 +41,7 @@ pub fn check_cum_sum(
     output: &Text,
     column: &Text,
 ) -> Result<Schema, PlanFault>
-    ensures { Answers (cum_sum_check input.now output.now column.now) result }
+    ensures { Answers PlanFault.Memory (cum_sum_check input.now output.now column.now) result }
 {
     whole_type(alloc, input, column)?;
     put_one(alloc, input, output, CellType::Wide)
@@ -53,7 +54,7 @@ pub fn check_rank(
     output: &Text,
     column: &Text,
 ) -> Result<Schema, PlanFault>
-    ensures { Answers (rank_check input.now output.now column.now) result }
+    ensures { Answers PlanFault.Memory (rank_check input.now output.now column.now) result }
 {
     key_type(alloc, input, column)?;
     put_one(alloc, input, output, CellType::Int)
@@ -66,7 +67,7 @@ fn is_window(w: i64, m: i64) -> bool
 }
 
 fn whole_type(alloc: Global, input: &Schema, name: &Text) -> Result<CellType, PlanFault>
-    ensures { Answers (window_checks.whole_type name.now (column_dtype name.now input.now)) result }
+    ensures { Answers PlanFault.Memory (window_checks.whole_type name.now (column_dtype name.now input.now)) result }
 {
     match input.type_of(name) {
         Some(CellType::Int) => Ok(CellType::Int),
@@ -81,7 +82,7 @@ fn put_one(
     output: &Text,
     kind: CellType,
 ) -> Result<Schema, PlanFault>
-    ensures { Answers (added_columns_check input.now ((output.now, kind) ∷ [])) result }
+    ensures { Answers PlanFault.Memory (added_columns_check input.now ((output.now, kind) ∷ [])) result }
 {
     let added = vec![in alloc; (output.copy(alloc)?, kind)]?;
     put(alloc, input, &List::from_vec(added))

@@ -7,7 +7,7 @@ use Rattle.unicode_width.specs.Width.{str_width}
 use Rattle.df_value.specs.declared.cell.Cell.{Cell}
 use Rattle.df_value.specs.declared.cell.Cell.TheVariants as cell
 use Rattle.df_value.specs.declared.cell.CellType.{CellType}
-use Rattle.df_value.specs.declared.cell.CellType.TheVariants as kind
+use Rattle.df_value.specs.declared.cell.CellType.TheVariants as dtype
 
 -- the lower-case hexadecimal digit
 abbrev pub hex_digit : ℕ → ℕ
@@ -31,7 +31,7 @@ cell_text (cell.Bool true) = codes "true"
 cell_text (cell.Bool false) = codes "false"
 cell_text (cell.Frac f) = signed_decimal f.0 ++ (codes "/" ++ signed_decimal f.1)
 
--- the cell of a row at a place, null where the row is shorter
+-- the cell of a row at an index, null where the row is shorter
 abbrev pub cell_or_null : ℕ → List Cell → Cell
 cell_or_null at row = unwrap_or (slice_get row at) cell.Null
 
@@ -53,7 +53,7 @@ column_widths columns rows = map (λ c. column_width c.0 c.1.0 rows) (enumerate_
 
 -- whether the texts of a column of this type stand at its left
 abbrev pub is_left : CellType → Bool
-is_left kind.Text = true
+is_left dtype.Text = true
 is_left _ = false
 
 -- a text, filled with spaces up to a width: at its right where it stands at the left, else at its left

@@ -112,13 +112,13 @@ fn push_gap(out: &mut Vec<u8>, first: bool) -> Result<(), AllocError>
     Ok(())
 }
 
-fn is_text(kind: CellType) -> bool
-    ensures { result ≡ is_left kind }
+fn is_text(dtype: CellType) -> bool
+    ensures { result ≡ is_left dtype }
 {
-    matches!(kind, CellType::Text)
+    matches!(dtype, CellType::Text)
 }
 
-// Appends a line: at each place the text there, filled to the width there.
+// Appends a line: at each index the text there, filled to the width there.
 fn push_line(
     out: &mut Vec<u8>,
     columns: &[(Text, CellType)],

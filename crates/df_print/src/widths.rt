@@ -27,7 +27,7 @@ pub fn print_cell(alloc: Global, cell: &Cell) -> Result<String, AllocError>
     }
 }
 
-/// The cell of a row at a place as it is printed; a cell that is missing prints as null.
+/// The cell of a row at an index as it is printed; a cell that is missing prints as null.
 pub fn print_cell_at(alloc: Global, at: usize, row: &Row) -> Result<String, AllocError>
     ensures { IfOk result (λ s. string_bytes s ≡ cell_text (cell_or_null at row.now)) }
 {
@@ -37,7 +37,7 @@ pub fn print_cell_at(alloc: Global, at: usize, row: &Row) -> Result<String, Allo
     }
 }
 
-// How many columns of a terminal the cell at a place takes, or this width, where it is greater.
+// How many columns of a terminal the cell at an index takes, or this width, where it is greater.
 fn widened(alloc: Global, width: usize, at: usize, row: &Row) -> Result<usize, AllocError>
     ensures greater { IfOk result (λ w. w ≡ max width (width_of (cell_text (cell_or_null at row.now)))) }
     ensures utf8 { IfOk result (λ _. IsUtf8 (cell_text (cell_or_null at row.now))) }
@@ -46,7 +46,7 @@ fn widened(alloc: Global, width: usize, at: usize, row: &Row) -> Result<usize, A
     Ok(width.max(text.as_str().width()))
 }
 
-/// How many columns of a terminal the column at a place takes: the greatest width of its texts, which
+/// How many columns of a terminal the column at an index takes: the greatest width of its texts, which
 /// are its name and its cells as they are printed.
 ///
 /// So every text of the column, filled with spaces up to this width, takes exactly this width, at

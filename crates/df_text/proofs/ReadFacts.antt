@@ -3,12 +3,15 @@ use Rattle.std.proofs.Common.{◌≡◌, ◌+◌, Bool, true, false, cond, List,
 use Rattle.std.specs.List.{All}
 use Rattle.std.proofs.lemmas.List.{append_assoc, append-nil, length-append}
 use Rattle.std.proofs.lemmas.List.Elements.{All-append, All-cons, All-nil}
+use Rattle.df_text.specs.declared.fault.ViewsFault.TheVariants as fault
 use Rattle.df_text.specs.declared.fault.ViewsFault.{ViewsFault}
-use Rattle.df_text.specs.Reading.{Answers, read_each, then_read, read_after}
+use Rattle.df_value.specs.Outcomes.{then_next}
+use Rattle.df_value.specs.Outcomes.{Answers}
+use Rattle.df_text.specs.Reading.{read_each, read_after}
 
 -- a fact of what the second reading gives
 pub then_gives : {A B : Type 0} (P : B → Type 0) (r : Result A ViewsFault) (next : A → Result B ViewsFault)
-    → ((x : A) → r ≡ Ok x → IfOk (next x) P) → IfOk (then_read r next) P
+    → ((x : A) → r ≡ Ok x → IfOk (next x) P) → IfOk (then_next r next) P
 then_gives P (Ok x) next h = h x refl
 then_gives P (Err f) next h = tt
 
@@ -23,7 +26,7 @@ given P (Ok y) x h e = let same : y ≡ x = cc in subst P same h
 given P (Err f) x h e = absurd (cc)
 
 -- a fact of what a call answers
-pub answers_give : {A : Type 0} (P : A → Type 0) (want result : Result A ViewsFault) → IfOk want P → Answers want result → IfOk result P
+pub answers_give : {A : Type 0} (P : A → Type 0) (want result : Result A ViewsFault) → IfOk want P → Answers fault.Memory want result → IfOk result P
 answers_give P want (Ok x) h a = given P want x h a
 answers_give P want (Err f) h a = tt
 
@@ -49,7 +52,7 @@ after_each : {A : Type 0} → List A → Result (List A) ViewsFault → Result (
 after_each done (Ok xs) = Ok (done ++ xs)
 after_each done (Err f) = Err f
 
-after_first : {A : Type 0} (done : List A) (x : A) (r : Result (List A) ViewsFault) → after_each (done ++ x ∷ []) r ≡ after_each done (then_read r (λ xs. Ok (x ∷ xs)))
+after_first : {A : Type 0} (done : List A) (x : A) (r : Result (List A) ViewsFault) → after_each (done ++ x ∷ []) r ≡ after_each done (then_next r (λ xs. Ok (x ∷ xs)))
 unfolding after_each
 after_first done x (Ok xs) = ap Ok (append_assoc done (x ∷ []) xs)
 after_first done x (Err f) = refl
@@ -61,8 +64,8 @@ each_after_done {A = A} read done (d ∷ ds) = at (read d) (λ x. each_after_don
   where
     at : (r : Result A ViewsFault)
         → ((x : A) → read_after (λ _ d. read d) (done ++ x ∷ []) ds ≡ after_each (done ++ x ∷ []) (read_each read ds))
-        → then_read r (λ x. read_after (λ _ d. read d) (done ++ x ∷ []) ds)
-        ≡ after_each done (then_read r (λ x. then_read (read_each read ds) (λ xs. Ok (x ∷ xs))))
+        → then_next r (λ x. read_after (λ _ d. read d) (done ++ x ∷ []) ds)
+        ≡ after_each done (then_next r (λ x. then_next (read_each read ds) (λ xs. Ok (x ∷ xs))))
     at (Ok x) more = more x ∙ after_first done x (read_each read ds)
     at (Err f) more = refl
 

@@ -2,13 +2,14 @@
 use Rattle.std.proofs.Common.{◌≡◌, ℕ, ◌+◌, ◌<◌, ◌≤◌, ◌∙◌, List, [], ◌∷◌, ◌++◌, length, get_or, map, drop, Result, Ok, ap, sym}
 use Rattle.std.proofs.lemmas.List.{drop_more, drop_all}
 use Rattle.df_text.specs.declared.fault.ViewsFault.{ViewsFault}
-use Rattle.df_text.specs.Reading.{then_read, read_after}
+use Rattle.df_value.specs.Outcomes.{then_next}
+use Rattle.df_text.specs.Reading.{read_after}
 
 -- what is read of the next value comes first
 next_read :
     {V D A : Type 0} (see : V → D) (read : List A → D → Result A ViewsFault) (vs : List V) (i : ℕ) (done : List A) (v : V) →
     i < length vs → v ≡ get_or vs i v →
-    read_after read done (map see (drop i vs)) ≡ then_read (read done (see v)) (λ x. read_after read (done ++ x ∷ []) (map see (drop (i + 1) vs)))
+    read_after read done (map see (drop i vs)) ≡ then_next (read done (see v)) (λ x. read_after read (done ++ x ∷ []) (map see (drop (i + 1) vs)))
 next_read see read vs i done v h is =
     ap (λ l. read_after read done (map see l)) (drop_more vs i v h ∙ ap (λ w. w ∷ drop (i + 1) vs) (sym is))
 
@@ -20,7 +21,7 @@ pub read_more :
 read_more see read vs i whole done more v x h is so_far one pushed =
     so_far
     ∙ (next_read see read vs i done v h is
-    ∙ (ap (λ r. then_read r (λ y. read_after read (done ++ y ∷ []) (map see (drop (i + 1) vs)))) one
+    ∙ (ap (λ r. then_next r (λ y. read_after read (done ++ y ∷ []) (map see (drop (i + 1) vs)))) one
     ∙ ap (λ o. read_after read o (map see (drop (i + 1) vs))) (sym pushed)))
 
 -- past the last value all is read

@@ -12,7 +12,7 @@ use Rattle.std.specs.Str.{bytes_eq}
 use Rattle.toml.specs.Data.{Data, string, integer, float, boolean, datetime, array, table, Items, no_items, item, Members, no_members, member}
 use Rattle.df_value.specs.Schemas.{is_base, is_base_type}
 use Rattle.df_value.specs.declared.cell.CellType.{CellType}
-use Rattle.df_value.specs.declared.cell.CellType.TheVariants as kind
+use Rattle.df_value.specs.declared.cell.CellType.TheVariants as dtype
 use Rattle.df_value.specs.declared.schema.SchemaFault.{SchemaFault}
 use Rattle.df_value.specs.SchemaFaults.{schema_fault}
 use Rattle.df_ops.specs.declared.kinds.How.{How}
@@ -43,10 +43,10 @@ use Rattle.df_text.specs.Document.{IsDocument, is_top_key, at_most, document_of,
 use Rattle.df_text.proofs.ReadFacts.{then_gives, if_gives, given, all_give, each_give, length_gives}
 
 -- the three words name base types
-word_of : (a b c : Bool) (at : Location) (t : CellType) → cond a (Ok kind.Int) (cond b (Ok kind.Text) (cond c (Ok kind.Bool) (Err (fault.Word at)))) ≡ Ok t → is_base_type t ≡ true
-word_of true b c at t e = let same : kind.Int ≡ t = cc in rw (← same) refl
-word_of false true c at t e = let same : kind.Text ≡ t = cc in rw (← same) refl
-word_of false false true at t e = let same : kind.Bool ≡ t = cc in rw (← same) refl
+word_of : (a b c : Bool) (at : Location) (t : CellType) → cond a (Ok dtype.Int) (cond b (Ok dtype.Text) (cond c (Ok dtype.Bool) (Err (fault.Word at)))) ≡ Ok t → is_base_type t ≡ true
+word_of true b c at t e = let same : dtype.Int ≡ t = cc in rw (← same) refl
+word_of false true c at t e = let same : dtype.Text ≡ t = cc in rw (← same) refl
+word_of false false true at t e = let same : dtype.Bool ≡ t = cc in rw (← same) refl
 word_of false false false at t e = absurd (cc)
 
 column_base : (at : Location) (d : Data) → IfOk (schema_column_of at d) (λ (c : List ℕ × CellType). is_base_type c.1 ≡ true)

@@ -10,7 +10,7 @@ use Rattle.df_text.specs.declared.document.Location.{Location}
 use Rattle.df_text.specs.declared.view_steps.StepWord.{StepWord}
 use Rattle.df_text.specs.declared.view_steps.StepWord.TheVariants as step_word
 use Rattle.df_text.specs.declared.fault.ViewsFault.{ViewsFault}
-use Rattle.df_text.specs.Reading.{then_read}
+use Rattle.df_value.specs.Outcomes.{then_next}
 use Rattle.df_text.specs.Tree.{text_in, array_in, triple_in, list_of}
 use Rattle.df_text.specs.Sources.{array_or_none}
 use Rattle.df_text.proofs.TreeFacts.{list_of-items}
@@ -23,19 +23,19 @@ items_of-list no_items = refl
 items_of-list (item d ds) = ap (item d) (items_of-list ds)
 
 after_word : (apply : StepWord → Items → Result Plan ViewsFault) (ds : Items) (r : Result StepWord ViewsFault)
-    → then_read r (λ word. apply word ds) ≡ then_read (then_read {B = StepWord × List Data} r (λ word. Ok (word, list_of ds))) (λ s. apply s.0 (items_of s.1))
+    → then_next r (λ word. apply word ds) ≡ then_next (then_next {B = StepWord × List Data} r (λ word. Ok (word, list_of ds))) (λ s. apply s.0 (items_of s.1))
 after_word apply ds (Ok word) = ap (apply word) (sym (items_of-list ds))
 after_word apply ds (Err f) = refl
 
 after_text : (at : Location) (apply : StepWord → Items → Result Plan ViewsFault) (ds : Items) (r : Result (List ℕ) ViewsFault)
-    → then_read r (λ name. then_read (step_of_word at name) (λ word. apply word ds))
-    ≡ then_read (then_read {B = StepWord × List Data} r (λ name. then_read (step_of_word at name) (λ word. Ok (word, list_of ds)))) (λ s. apply s.0 (items_of s.1))
+    → then_next r (λ name. then_next (step_of_word at name) (λ word. apply word ds))
+    ≡ then_next (then_next {B = StepWord × List Data} r (λ name. then_next (step_of_word at name) (λ word. Ok (word, list_of ds)))) (λ s. apply s.0 (items_of s.1))
 after_text at apply ds (Ok name) = after_word apply ds (step_of_word at name)
 after_text at apply ds (Err f) = refl
 
 -- a step is its word, and then the items after it
 pub step_by_word : (at : Location) (frames : List FrameSpec) (input : Plan) (d : Data)
-    → step_of at frames input d ≡ then_read (step_in at d) (λ s. applied_step at frames s.0 input (items_of s.1))
+    → step_of at frames input d ≡ then_next (step_in at d) (λ s. applied_step at frames s.0 input (items_of s.1))
 unfolding list_of
 step_by_word at frames input (array (item w ds)) = after_text at (λ word rest. applied_step at frames word input rest) ds (text_in at w)
 step_by_word at frames input (array no_items) = refl
@@ -49,7 +49,7 @@ step_by_word at frames input (table ms) = refl
 -- a join has three items
 pub join_by_items : (at : Location) (frames : List FrameSpec) (input : Plan) (ds : List Data)
     → applied_step at frames step_word.Join input (items_of ds)
-    ≡ then_read (triple_in at ds) (λ t. then_read (kind_and_keys at t.0 t.1) (λ h. then_read (side_of at frames t.2) (λ p. Ok (Join input p h.0 h.1))))
+    ≡ then_next (triple_in at ds) (λ t. then_next (kind_and_keys at t.0 t.1) (λ h. then_next (side_of at frames t.2) (λ p. Ok (Join input p h.0 h.1))))
 join_by_items at frames input [] = refl
 join_by_items at frames input (a ∷ []) = refl
 join_by_items at frames input (a ∷ b ∷ []) = refl
@@ -57,7 +57,7 @@ join_by_items at frames input (a ∷ b ∷ c ∷ []) = refl
 join_by_items at frames input (a ∷ b ∷ c ∷ d ∷ ds) = refl
 
 steps_of_array : (at : Location) (frames : List FrameSpec) (input : Plan) (d : Data)
-    → all_steps at frames input d ≡ then_read (array_in at d) (λ ds. steps_after at frames input (items_of ds))
+    → all_steps at frames input d ≡ then_next (array_in at d) (λ ds. steps_after at frames input (items_of ds))
 steps_of_array at frames input (array ds) = ap (steps_after at frames input) (sym (items_of-list ds))
 steps_of_array at frames input (string s) = refl
 steps_of_array at frames input (integer n) = refl
@@ -68,7 +68,7 @@ steps_of_array at frames input (table ms) = refl
 
 -- the plan after the steps that were found at a key
 after_found : Location → List FrameSpec → Plan → Option Data → Result Plan ViewsFault
-after_found at frames input found = then_read (array_or_none at found) (λ ds. steps_after at frames input (items_of ds))
+after_found at frames input found = then_next (array_or_none at found) (λ ds. steps_after at frames input (items_of ds))
 
 steps_at_key : (at : Location) (frames : List FrameSpec) (input : Plan) (o : Ordering) (d : Data) (r : Result Plan ViewsFault) (found : Option Data)
     → r ≡ after_found at frames input found
@@ -80,7 +80,7 @@ steps_at_key at frames input Greater d r found e = e
 
 -- the steps of a table are those that a look-up finds
 pub steps_by_key : (at : Location) (frames : List FrameSpec) (input : Plan) (ms : Members)
-    → steps_at at frames input ms ≡ then_read (array_or_none at (get_member (codes "steps") ms)) (λ ds. steps_after at frames input (items_of ds))
+    → steps_at at frames input ms ≡ then_next (array_or_none at (get_member (codes "steps") ms)) (λ ds. steps_after at frames input (items_of ds))
 unfolding after_found
 steps_by_key at frames input no_members = refl
 steps_by_key at frames input (member k d ms) =

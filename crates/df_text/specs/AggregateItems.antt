@@ -12,7 +12,7 @@ use Rattle.df_text.specs.declared.aggregates.ColumnWord.TheVariants as column_wo
 use Rattle.df_text.specs.declared.document.Location.{Location}
 use Rattle.df_text.specs.declared.fault.ViewsFault.{ViewsFault}
 use Rattle.df_text.specs.declared.fault.ViewsFault.TheVariants as fault
-use Rattle.df_text.specs.Reading.{then_read}
+use Rattle.df_value.specs.Outcomes.{then_next}
 use Rattle.df_text.specs.Tree.{text_in, array_in, first_in, only_in, none_in}
 
 -- the aggregate that a word names
@@ -43,13 +43,13 @@ column_agg column_word.Mean column = agg.Mean column
 -- an aggregate under its output's name, where these items stand after the word
 abbrev pub output_and_aggregate_of : Location → AggWord → Data → List Data → Result (List ℕ × Agg) ViewsFault
 output_and_aggregate_of at agg_word.Len output rest =
-    then_read (none_in at rest) (λ _. then_read (text_in at output) (λ name. Ok (name, agg.Len)))
+    then_next (none_in at rest) (λ _. then_next (text_in at output) (λ name. Ok (name, agg.Len)))
 output_and_aggregate_of at (agg_word.Column word) output rest =
-    then_read (only_in at rest) (λ c. then_read (text_in at output) (λ name.
-    then_read (text_in at c) (λ column. Ok (name, column_agg word column))))
+    then_next (only_in at rest) (λ c. then_next (text_in at output) (λ name.
+    then_next (text_in at c) (λ column. Ok (name, column_agg word column))))
 
 -- an array of an output's name, the word of an aggregate, and its column if the aggregate takes one
 abbrev pub aggregate_item_of : Location → Data → Result (List ℕ × Agg) ViewsFault
 aggregate_item_of at d =
-    then_read (array_in at d) (λ ds. then_read (first_in at ds) (λ o. then_read (first_in at o.1) (λ w.
-    then_read (text_in at w.0) (λ word. then_read (agg_of_word at word) (λ a. output_and_aggregate_of at a o.0 w.1)))))
+    then_next (array_in at d) (λ ds. then_next (first_in at ds) (λ o. then_next (first_in at o.1) (λ w.
+    then_next (text_in at w.0) (λ word. then_next (agg_of_word at word) (λ a. output_and_aggregate_of at a o.0 w.1)))))

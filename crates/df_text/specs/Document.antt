@@ -12,7 +12,8 @@ use Rattle.df_text.specs.declared.document.Location.{Location}
 use Rattle.df_text.specs.declared.document.Location.TheVariants as location
 use Rattle.df_text.specs.declared.fault.ViewsFault.{ViewsFault}
 use Rattle.df_text.specs.declared.fault.ViewsFault.TheVariants as fault
-use Rattle.df_text.specs.Reading.{then_read, read_after}
+use Rattle.df_value.specs.Outcomes.{then_next}
+use Rattle.df_text.specs.Reading.{read_after}
 use Rattle.df_text.specs.Tree.{tree_of, keys_pass, value_at, text_in, table_value}
 use Rattle.df_text.specs.Frames.{frames_of}
 use Rattle.df_text.specs.Sources.{array_or_none, source_at, frame_named}
@@ -31,8 +32,8 @@ pub record ViewEntries : Type 0 where
 abbrev pub entries_of_view : Location → Members → Result ViewEntries ViewsFault
 entries_of_view at ms =
     if keys_pass is_view_key ms then
-    then_read (value_at at (codes "name") ms) (λ n. then_read (text_in at n) (λ name.
-    then_read (source_at at ms) (λ source. Ok (record { name = name; source = source }))))
+    then_next (value_at at (codes "name") ms) (λ n. then_next (text_in at n) (λ name.
+    then_next (source_at at ms) (λ source. Ok (record { name = name; source = source }))))
     else Err (fault.Shape at)
 
 -- a name that none of these views has
@@ -43,10 +44,10 @@ new_view_name at name views = if list_any (λ (v : ViewSpec). bytes_eq v.name na
 abbrev pub view_of : List FrameSpec → List ViewSpec → Data → Result ViewSpec ViewsFault
 view_of frames before d =
     let at = location.View (length before) in
-    then_read (table_value at d) (λ ms. then_read (entries_of_view at ms) (λ entries.
-    then_read (new_view_name at entries.name before) (λ name.
-    then_read (frame_named at entries.source frames) (λ index.
-    then_read (steps_at at frames (plan.Scan index) ms) (λ p.
+    then_next (table_value at d) (λ ms. then_next (entries_of_view at ms) (λ entries.
+    then_next (new_view_name at entries.name before) (λ name.
+    then_next (frame_named at entries.source frames) (λ index.
+    then_next (steps_at at frames (plan.Scan index) ms) (λ p.
     Ok (record { name = name; plan = p }))))))
 
 abbrev pub view_specs_of : List FrameSpec → List Data → Result (List ViewSpec) ViewsFault
@@ -64,7 +65,7 @@ all_tables at ds = if list_all is_table ds then Ok ds else Err (fault.Shape at)
 
 -- the array of tables at a key of the top; a missing one is empty
 abbrev pub tables_at : List ℕ → Members → Result (List Data) ViewsFault
-tables_at key ms = then_read (array_or_none location.Top (get_member key ms)) (all_tables location.Top)
+tables_at key ms = then_next (array_or_none location.Top (get_member key ms)) (all_tables location.Top)
 
 abbrev pub at_most : ℕ → ViewsFault → List Data → Result (List Data) ViewsFault
 at_most n many ds = if nat_lt n (length ds) then Err many else Ok ds
@@ -77,16 +78,16 @@ pub record Tables : Type 0 where
 abbrev pub top_tables_of : Members → Result Tables ViewsFault
 top_tables_of ms =
     if keys_pass is_top_key ms then
-    then_read (tables_at (codes "frame") ms) (λ frames. then_read (tables_at (codes "view") ms) (λ views.
-    then_read (at_most 8 fault.TooManyFrames frames) (λ few. then_read (at_most 32 fault.TooManyViews views) (λ some.
+    then_next (tables_at (codes "frame") ms) (λ frames. then_next (tables_at (codes "view") ms) (λ views.
+    then_next (at_most 8 fault.TooManyFrames frames) (λ few. then_next (at_most 32 fault.TooManyViews views) (λ some.
     Ok (record { frames = few; views = some })))))
     else Err (fault.Shape location.Top)
 
 -- what bytes say as a view document
 abbrev pub document_of : List ℕ → Result Views ViewsFault
 document_of bytes =
-    then_read (tree_of bytes) (λ ms. then_read (top_tables_of ms) (λ tables.
-    then_read (frames_of tables.frames) (λ frames. then_read (view_specs_of frames tables.views) (λ views.
+    then_next (tree_of bytes) (λ ms. then_next (top_tables_of ms) (λ tables.
+    then_next (frames_of tables.frames) (λ frames. then_next (view_specs_of frames tables.views) (λ views.
     Ok (record { frames = frames; views = views })))))
 
 -- among what every document that is read keeps to: few frames and views, columns of base types, and plans that

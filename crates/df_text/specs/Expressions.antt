@@ -4,7 +4,7 @@ use Rattle.std.specs.Prelude.{ℕ, List, codes, Result, Ok, Err, if◌then◌els
 use Rattle.std.specs.Str.{bytes_eq}
 use Rattle.toml.specs.Data.{Data, string, integer, boolean, array, Items, no_items, item}
 use Rattle.df_value.specs.declared.cell.Cell.TheVariants as cell
-use Rattle.df_value.specs.declared.cell.CellType.TheVariants as kind
+use Rattle.df_value.specs.declared.cell.CellType.TheVariants as dtype
 use Rattle.df_expr.specs.declared.expr.ArithOp.TheVariants as arith
 use Rattle.df_expr.specs.declared.expr.CompareOp.TheVariants as compare
 use Rattle.df_expr.specs.declared.expr.Expr.{Expr}
@@ -18,7 +18,7 @@ use Rattle.df_text.specs.declared.expressions.BinaryWord.TheVariants as binary
 use Rattle.df_text.specs.declared.document.Location.{Location}
 use Rattle.df_text.specs.declared.fault.ViewsFault.{ViewsFault}
 use Rattle.df_text.specs.declared.fault.ViewsFault.TheVariants as fault
-use Rattle.df_text.specs.Reading.{then_read}
+use Rattle.df_value.specs.Outcomes.{then_next}
 use Rattle.df_text.specs.Tree.{text_in}
 use Rattle.df_text.specs.Frames.{type_of_word}
 
@@ -62,32 +62,32 @@ binary_expr_of binary.FillNull a b = expr.FillNull a b
 
 -- a word and what its operand says
 abbrev pub with_operand : UnaryWord → Result Expr ViewsFault → Result Expr ViewsFault
-with_operand op a = then_read a (λ x. Ok (unary_expr_of op x))
+with_operand op a = then_next a (λ x. Ok (unary_expr_of op x))
 
 -- a word and what its operands say, the left one first
 abbrev pub with_operands : BinaryWord → Result Expr ViewsFault → Result Expr ViewsFault → Result Expr ViewsFault
-with_operands op a b = then_read a (λ x. then_read b (λ y. Ok (binary_expr_of op x y)))
+with_operands op a b = then_next a (λ x. then_next b (λ y. Ok (binary_expr_of op x y)))
 
 -- the column of a name
 abbrev pub column_expr_of : Location → Data → Result Expr ViewsFault
-column_expr_of at name = then_read (text_in at name) (λ n. Ok (expr.Column n))
+column_expr_of at name = then_next (text_in at name) (λ n. Ok (expr.Column n))
 
 -- the null literal of the type that a word names
 abbrev pub null_of : Location → Data → Result Expr ViewsFault
-null_of at word = then_read (text_in at word) (λ w. then_read (type_of_word at w) (λ t. Ok (expr.Literal cell.Null t)))
+null_of at word = then_next (text_in at word) (λ w. then_next (type_of_word at w) (λ t. Ok (expr.Literal cell.Null t)))
 
 -- what the first item of an array names
 abbrev pub word_of : Location → Items → Result ExprWord ViewsFault
 word_of at no_items = Err (fault.Shape at)
-word_of at (item word ds) = then_read (text_in at word) (form_of_word at)
+word_of at (item word ds) = then_next (text_in at word) (form_of_word at)
 
 abbrev mutual
   -- what a value says as an expression
   pub expr_of : Location → Data → Result Expr ViewsFault
-  expr_of at (integer n) = Ok (expr.Literal (cell.Int n) kind.Int)
-  expr_of at (boolean b) = Ok (expr.Literal (cell.Bool b) kind.Bool)
-  expr_of at (string s) = Ok (expr.Literal (cell.Text s) kind.Text)
-  expr_of at (array ds) = then_read (word_of at ds) (λ word. form_of at word ds)
+  expr_of at (integer n) = Ok (expr.Literal (cell.Int n) dtype.Int)
+  expr_of at (boolean b) = Ok (expr.Literal (cell.Bool b) dtype.Bool)
+  expr_of at (string s) = Ok (expr.Literal (cell.Text s) dtype.Text)
+  expr_of at (array ds) = then_next (word_of at ds) (λ word. form_of at word ds)
   expr_of at _ = Err (fault.Shape at)
 
   -- what the items of an array say, the first of which names this form

@@ -5,7 +5,7 @@ use Rattle.std.specs.List.{list_any}
 use Rattle.std.specs.Str.{bytes_eq}
 use Rattle.toml.specs.Data.{Data, Members, get_member}
 use Rattle.df_value.specs.declared.cell.CellType.{CellType}
-use Rattle.df_value.specs.declared.cell.CellType.TheVariants as kind
+use Rattle.df_value.specs.declared.cell.CellType.TheVariants as dtype
 use Rattle.df_value.specs.declared.schema.SchemaFault.{SchemaFault}
 use Rattle.df_value.specs.SchemaFaults.{schema_fault}
 use Rattle.df_text.specs.declared.document.FrameSpec.{FrameSpec}
@@ -15,7 +15,8 @@ use Rattle.df_text.specs.declared.document.Location.{Location}
 use Rattle.df_text.specs.declared.document.Location.TheVariants as location
 use Rattle.df_text.specs.declared.fault.ViewsFault.{ViewsFault}
 use Rattle.df_text.specs.declared.fault.ViewsFault.TheVariants as fault
-use Rattle.df_text.specs.Reading.{then_read, read_after, read_each}
+use Rattle.df_value.specs.Outcomes.{then_next}
+use Rattle.df_text.specs.Reading.{read_after, read_each}
 use Rattle.df_text.specs.Tree.{keys_pass, value_at, text_in, array_in, table_value, pair_in}
 
 abbrev pub is_frame_key : List ℕ → Bool
@@ -24,8 +25,8 @@ is_frame_key k =
 
 -- where the records come from, by what stands at `path` and at `text`: one of them is there, and is a text
 abbrev pub one_source : Location → Option Data → Option Data → Result FrameSource ViewsFault
-one_source at (Some p) None = then_read (text_in at p) (λ path. Ok (source.Path path))
-one_source at None (Some t) = then_read (text_in at t) (λ text. Ok (source.Text text))
+one_source at (Some p) None = then_next (text_in at p) (λ path. Ok (source.Path path))
+one_source at None (Some t) = then_next (text_in at t) (λ text. Ok (source.Text text))
 one_source at (Some p) (Some t) = Err (fault.Shape at)
 one_source at None None = Err (fault.Shape at)
 
@@ -42,25 +43,25 @@ pub record FrameEntries : Type 0 where
 abbrev pub entries_of_frame : Location → Members → Result FrameEntries ViewsFault
 entries_of_frame at ms =
     if keys_pass is_frame_key ms then
-    then_read (value_at at (codes "name") ms) (λ n. then_read (text_in at n) (λ name.
-    then_read (value_at at (codes "columns") ms) (λ c. then_read (array_in at c) (λ columns.
-    then_read (source_of at ms) (λ source. Ok (record { name = name; columns = columns; source = source }))))))
+    then_next (value_at at (codes "name") ms) (λ n. then_next (text_in at n) (λ name.
+    then_next (value_at at (codes "columns") ms) (λ c. then_next (array_in at c) (λ columns.
+    then_next (source_of at ms) (λ source. Ok (record { name = name; columns = columns; source = source }))))))
     else Err (fault.Shape at)
 
 -- the type that a word names
 abbrev pub type_of_word : Location → List ℕ → Result CellType ViewsFault
 type_of_word at w =
-    if bytes_eq w (codes "Int") then Ok kind.Int
-    else if bytes_eq w (codes "Text") then Ok kind.Text
-    else if bytes_eq w (codes "Bool") then Ok kind.Bool
+    if bytes_eq w (codes "Int") then Ok dtype.Int
+    else if bytes_eq w (codes "Text") then Ok dtype.Text
+    else if bytes_eq w (codes "Bool") then Ok dtype.Bool
     else Err (fault.Word at)
 
 -- an array of two texts, a name and the word of a type
 abbrev pub schema_column_of : Location → Data → Result (List ℕ × CellType) ViewsFault
 schema_column_of at d =
-    then_read (array_in at d) (λ ds. then_read (pair_in at ds) (λ p.
-    then_read (text_in at p.0) (λ name. then_read (text_in at p.1) (λ word.
-    then_read (type_of_word at word) (λ t. Ok (name, t))))))
+    then_next (array_in at d) (λ ds. then_next (pair_in at ds) (λ p.
+    then_next (text_in at p.0) (λ name. then_next (text_in at p.1) (λ word.
+    then_next (type_of_word at word) (λ t. Ok (name, t))))))
 
 abbrev pub unless_fault : ℕ → List (List ℕ × CellType) → Option SchemaFault → Result (List (List ℕ × CellType)) ViewsFault
 unless_fault index columns (Some f) = Err (fault.Schema index f)
@@ -78,10 +79,10 @@ new_name at name frames = if list_any (λ (f : FrameSpec). bytes_eq f.name name)
 abbrev pub frame_of : List FrameSpec → Data → Result FrameSpec ViewsFault
 frame_of before d =
     let at = location.Frame (length before) in
-    then_read (table_value at d) (λ ms. then_read (entries_of_frame at ms) (λ entries.
-    then_read (read_each (schema_column_of at) entries.columns) (λ columns.
-    then_read (schema_of (length before) columns) (λ schema.
-    then_read (new_name at entries.name before) (λ name.
+    then_next (table_value at d) (λ ms. then_next (entries_of_frame at ms) (λ entries.
+    then_next (read_each (schema_column_of at) entries.columns) (λ columns.
+    then_next (schema_of (length before) columns) (λ schema.
+    then_next (new_name at entries.name before) (λ name.
     Ok (record { name = name; schema = schema; source = entries.source }))))))
 
 abbrev pub frames_of : List Data → Result (List FrameSpec) ViewsFault

@@ -6,24 +6,25 @@ use Rattle.df_plan.specs.declared.plan.Plan.{Plan}
 use Rattle.df_plan.specs.declared.plan.Plan.TheVariants as plan
 use Rattle.df_text.specs.declared.document.Location.{Location}
 use Rattle.df_text.specs.declared.fault.ViewsFault.{ViewsFault}
-use Rattle.df_text.specs.Reading.{then_read, read_each}
+use Rattle.df_value.specs.Outcomes.{then_next}
+use Rattle.df_text.specs.Reading.{read_each}
 use Rattle.df_text.specs.Tree.{text_in, array_in, only_in, pair_in}
 use Rattle.df_text.specs.Expressions.{expr_of}
 
 -- one expression
 abbrev pub filter_of : Location → Plan → List Data → Result Plan ViewsFault
-filter_of at input ds = then_read (only_in at ds) (λ d. then_read (expr_of at d) (λ e. Ok (plan.Filter input e)))
+filter_of at input ds = then_next (only_in at ds) (λ d. then_next (expr_of at d) (λ e. Ok (plan.Filter input e)))
 
 -- an array of an output's name and its expression
 abbrev pub item_of : Location → Data → Result (List ℕ × Expr) ViewsFault
 item_of at d =
-    then_read (array_in at d) (λ ds. then_read (pair_in at ds) (λ p.
-    then_read (text_in at p.0) (λ name. then_read (expr_of at p.1) (λ e. Ok (name, e)))))
+    then_next (array_in at d) (λ ds. then_next (pair_in at ds) (λ p.
+    then_next (text_in at p.0) (λ name. then_next (expr_of at p.1) (λ e. Ok (name, e)))))
 
 -- any number of outputs
 abbrev pub select_of : Location → Plan → List Data → Result Plan ViewsFault
-select_of at input ds = then_read (read_each (item_of at) ds) (λ items. Ok (plan.Select input items))
+select_of at input ds = then_next (read_each (item_of at) ds) (λ items. Ok (plan.Select input items))
 
 -- any number of outputs
 abbrev pub with_columns_of : Location → Plan → List Data → Result Plan ViewsFault
-with_columns_of at input ds = then_read (read_each (item_of at) ds) (λ items. Ok (plan.WithColumns input items))
+with_columns_of at input ds = then_next (read_each (item_of at) ds) (λ items. Ok (plan.WithColumns input items))

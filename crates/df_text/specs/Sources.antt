@@ -7,7 +7,7 @@ use Rattle.df_text.specs.declared.document.FrameSpec.{FrameSpec}
 use Rattle.df_text.specs.declared.document.Location.{Location}
 use Rattle.df_text.specs.declared.fault.ViewsFault.{ViewsFault}
 use Rattle.df_text.specs.declared.fault.ViewsFault.TheVariants as fault
-use Rattle.df_text.specs.Reading.{then_read}
+use Rattle.df_value.specs.Outcomes.{then_next}
 use Rattle.df_text.specs.Tree.{keys_pass, value_at, text_in, array_in}
 
 -- the keys of a right side
@@ -26,8 +26,8 @@ few_steps at steps = if nat_lt 64 (length steps) then Err (fault.Shape at) else 
 -- the name at `from`, where `steps` is an array of at most 64 items or missing (a fault in any of these is the same one)
 abbrev pub source_at : Location → Members → Result (List ℕ) ViewsFault
 source_at at ms =
-    then_read (value_at at (codes "from") ms) (λ s. then_read (text_in at s) (λ source.
-    then_read (array_or_none at (get_member (codes "steps") ms)) (λ ds. then_read (few_steps at ds) (λ _. Ok source))))
+    then_next (value_at at (codes "from") ms) (λ s. then_next (text_in at s) (λ source.
+    then_next (array_or_none at (get_member (codes "steps") ms)) (λ ds. then_next (few_steps at ds) (λ _. Ok source))))
 
 -- the same of a table that has no other key
 abbrev pub only_source_at : Location → Members → Result (List ℕ) ViewsFault

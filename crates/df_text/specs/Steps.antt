@@ -16,7 +16,8 @@ use Rattle.df_text.specs.declared.document.FrameSpec.{FrameSpec}
 use Rattle.df_text.specs.declared.document.Location.{Location}
 use Rattle.df_text.specs.declared.fault.ViewsFault.{ViewsFault}
 use Rattle.df_text.specs.declared.fault.ViewsFault.TheVariants as fault
-use Rattle.df_text.specs.Reading.{then_read, read_each}
+use Rattle.df_value.specs.Outcomes.{then_next}
+use Rattle.df_text.specs.Reading.{read_each}
 use Rattle.df_text.specs.Tree.{text_in, array_in, first_in, list_of}
 use Rattle.df_text.specs.AggregateItems.{aggregate_item_of}
 use Rattle.df_text.specs.RowWiseSteps.{filter_of, select_of, with_columns_of}
@@ -41,8 +42,8 @@ step_of_word at w =
 -- an array of key names, and then any number of aggregates
 abbrev pub group_by_of : Location → Plan → List Data → Result Plan ViewsFault
 group_by_of at input ds =
-    then_read (first_in at ds) (λ k. then_read (array_in at k.0) (λ ks.
-    then_read (read_each (text_in at) ks) (λ keys. then_read (read_each (aggregate_item_of at) k.1) (λ aggregates.
+    then_next (first_in at ds) (λ k. then_next (array_in at k.0) (λ ks.
+    then_next (read_each (text_in at) ks) (λ keys. then_next (read_each (aggregate_item_of at) k.1) (λ aggregates.
     Ok (plan.GroupBy input keys aggregates)))))
 
 -- the kind of join that a word names
@@ -55,25 +56,25 @@ kind_of_word at w =
 -- the kind of a join, and then an array of key names
 abbrev pub kind_and_keys : Location → Data → Data → Result (How × List (List ℕ)) ViewsFault
 kind_and_keys at kind keys =
-    then_read (text_in at kind) (λ w. then_read (kind_of_word at w) (λ h.
-    then_read (array_in at keys) (λ ks. then_read (read_each (text_in at) ks) (λ names. Ok (h, names)))))
+    then_next (text_in at kind) (λ w. then_next (kind_of_word at w) (λ h.
+    then_next (array_in at keys) (λ ks. then_next (read_each (text_in at) ks) (λ names. Ok (h, names)))))
 
 -- the step that a value names, with the items after its word as a list (as `step_of` reads it)
 abbrev pub step_in : Location → Data → Result (StepWord × List Data) ViewsFault
 step_in at d =
-    then_read (array_in at d) (λ ds. then_read (first_in at ds) (λ s. then_read (text_in at s.0) (λ w.
-    then_read (step_of_word at w) (λ word. Ok (word, s.1)))))
+    then_next (array_in at d) (λ ds. then_next (first_in at ds) (λ s. then_next (text_in at s.0) (λ w.
+    then_next (step_of_word at w) (λ word. Ok (word, s.1)))))
 
 abbrev mutual
   -- the plan after all steps, in order
   pub steps_after : Location → List FrameSpec → Plan → Items → Result Plan ViewsFault
   steps_after at frames input no_items = Ok input
-  steps_after at frames input (item d ds) = then_read (step_of at frames input d) (λ next. steps_after at frames next ds)
+  steps_after at frames input (item d ds) = then_next (step_of at frames input d) (λ next. steps_after at frames next ds)
 
   -- the plan after a step
   pub step_of : Location → List FrameSpec → Plan → Data → Result Plan ViewsFault
   step_of at frames input (array (item w ds)) =
-      then_read (text_in at w) (λ name. then_read (step_of_word at name) (λ word. applied_step at frames word input ds))
+      then_next (text_in at w) (λ name. then_next (step_of_word at name) (λ word. applied_step at frames word input ds))
   step_of at frames input _ = Err (fault.Shape at)
 
   -- the plan after a step of this word, with the items after the word
@@ -86,14 +87,14 @@ abbrev mutual
   applied_step at frames step_word.CumSum input ds = cum_sum_of at input (list_of ds)
   applied_step at frames step_word.Rank input ds = rank_of at input (list_of ds)
   applied_step at frames step_word.Join input (item kind (item keys (item right no_items))) =
-      then_read (kind_and_keys at kind keys) (λ h. then_read (side_of at frames right) (λ p. Ok (plan.Join input p h.0 h.1)))
+      then_next (kind_and_keys at kind keys) (λ h. then_next (side_of at frames right) (λ p. Ok (plan.Join input p h.0 h.1)))
   applied_step at frames step_word.Join input _ = Err (fault.Shape at)
 
   -- the plan of a right side: a frame's name, or a table that begins with a frame
   pub side_of : Location → List FrameSpec → Data → Result Plan ViewsFault
-  side_of at frames (string name) = then_read (frame_named at name frames) (λ i. Ok (plan.Scan i))
+  side_of at frames (string name) = then_next (frame_named at name frames) (λ i. Ok (plan.Scan i))
   side_of at frames (table ms) =
-      then_read (only_source_at at ms) (λ source. then_read (frame_named at source frames) (λ i. steps_at at frames (plan.Scan i) ms))
+      then_next (only_source_at at ms) (λ source. then_next (frame_named at source frames) (λ i. steps_at at frames (plan.Scan i) ms))
   side_of at frames _ = Err (fault.Shape at)
 
   -- the plan after the steps at the key `steps`; without that key it is the plan before

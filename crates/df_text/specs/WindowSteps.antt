@@ -11,7 +11,7 @@ use Rattle.df_ops.specs.declared.kinds.RollKind.{RollKind}
 use Rattle.df_text.specs.declared.document.Location.{Location}
 use Rattle.df_text.specs.declared.fault.ViewsFault.{ViewsFault}
 use Rattle.df_text.specs.declared.fault.ViewsFault.TheVariants as fault
-use Rattle.df_text.specs.Reading.{then_read}
+use Rattle.df_value.specs.Outcomes.{then_next}
 use Rattle.df_text.specs.Tree.{text_in, pair_in, triple_in}
 
 -- the whole number that a value is; a float is none
@@ -22,7 +22,7 @@ int_in at _ = Err (fault.Shape at)
 -- an output's name and a column's
 abbrev pub names_in : Location → Data → Data → Result (List ℕ × List ℕ) ViewsFault
 names_in at output column =
-    then_read (text_in at output) (λ o. then_read (text_in at column) (λ c. Ok (o, c)))
+    then_next (text_in at output) (λ o. then_next (text_in at column) (λ c. Ok (o, c)))
 
 -- an output, a column, w (the window's rows) and, if it stands there, m (how many cells that are not null a result wants)
 abbrev pub window_items : Location → List Data → Result (Data × Data × Data × Option Data) ViewsFault
@@ -32,23 +32,23 @@ window_items at _ = Err (fault.Shape at)
 
 -- w and m of a rolling window; without m, m is w
 abbrev pub window_numbers : Location → Data → Option Data → Result (ℤ × ℤ) ViewsFault
-window_numbers at rows None = then_read (int_in at rows) (λ r. Ok (r, r))
-window_numbers at rows (Some least) = then_read (int_in at rows) (λ r. then_read (int_in at least) (λ l. Ok (r, l)))
+window_numbers at rows None = then_next (int_in at rows) (λ r. Ok (r, r))
+window_numbers at rows (Some least) = then_next (int_in at rows) (λ r. then_next (int_in at least) (λ l. Ok (r, l)))
 
 -- the output, the column, w and m of a rolling window
 abbrev pub window_parts : Location → List Data → Result ((List ℕ × List ℕ) × (ℤ × ℤ)) ViewsFault
 window_parts at ds =
-    then_read (window_items at ds) (λ w. then_read (names_in at w.0 w.1) (λ n. then_read (window_numbers at w.2 w.3) (λ r. Ok (n, r))))
+    then_next (window_items at ds) (λ w. then_next (names_in at w.0 w.1) (λ n. then_next (window_numbers at w.2 w.3) (λ r. Ok (n, r))))
 
 -- a rolling window over a plan
 abbrev pub rolling_of : Location → RollKind → Plan → List Data → Result Plan ViewsFault
 rolling_of at kind input ds =
-    then_read (window_parts at ds) (λ w. Ok (plan.Rolling input w.0.0 kind w.0.1 w.1.0 w.1.1))
+    then_next (window_parts at ds) (λ w. Ok (plan.Rolling input w.0.0 kind w.0.1 w.1.0 w.1.1))
 
 -- a cumulative sum over a plan, of an output and a column
 abbrev pub cum_sum_of : Location → Plan → List Data → Result Plan ViewsFault
 cum_sum_of at input ds =
-    then_read (pair_in at ds) (λ p. then_read (names_in at p.0 p.1) (λ n. Ok (plan.CumSum input n.0 n.1)))
+    then_next (pair_in at ds) (λ p. then_next (names_in at p.0 p.1) (λ n. Ok (plan.CumSum input n.0 n.1)))
 
 -- the kind of rank that a word names
 abbrev pub rank_of_word : Location → List ℕ → Result RankKind ViewsFault
@@ -57,10 +57,10 @@ rank_of_word at w = if bytes_eq w (codes "dense") then Ok rank.Dense else Err (f
 -- an output, the kind of rank, and a column, read in this order: an unknown kind comes before a column that is no text
 abbrev pub rank_parts : Location → List Data → Result (List ℕ × RankKind × List ℕ) ViewsFault
 rank_parts at ds =
-    then_read (triple_in at ds) (λ t. then_read (text_in at t.0) (λ output.
-    then_read (text_in at t.1) (λ w. then_read (rank_of_word at w) (λ kind.
-    then_read (text_in at t.2) (λ column. Ok (output, kind, column))))))
+    then_next (triple_in at ds) (λ t. then_next (text_in at t.0) (λ output.
+    then_next (text_in at t.1) (λ w. then_next (rank_of_word at w) (λ kind.
+    then_next (text_in at t.2) (λ column. Ok (output, kind, column))))))
 
 -- a rank over a plan
 abbrev pub rank_of : Location → Plan → List Data → Result Plan ViewsFault
-rank_of at input ds = then_read (rank_parts at ds) (λ r. Ok (plan.Rank input r.0 r.1 r.2))
+rank_of at input ds = then_next (rank_parts at ds) (λ r. Ok (plan.Rank input r.0 r.1 r.2))

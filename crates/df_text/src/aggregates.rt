@@ -1,7 +1,8 @@
 //! The aggregates of a `group_by`.
 ghost use Rattle.std.specs.Prelude.{◌≡◌, map, codes};
 ghost use Rattle.toml.specs.View.{view};
-ghost use Rattle.df_text.specs.Reading.{Answers, read_each};
+ghost use Rattle.df_value.specs.Outcomes.{Answers};
+ghost use Rattle.df_text.specs.Reading.{read_each};
 ghost use Rattle.df_text.specs.AggregateItems as aggregate_items;
 ghost use Rattle.df_text.specs.AggregateItems.{agg_of_word, output_and_aggregate_of, aggregate_item_of};
 
@@ -39,7 +40,7 @@ pub fn read_aggregates(
     location: Location,
     values: &[Value],
 ) -> Result<List<(Text, Agg)>, ViewsFault>
-    ensures { Answers (read_each (aggregate_item_of location) (map view values.now)) result }
+    ensures { Answers ViewsFault.Memory (read_each (aggregate_item_of location) (map view values.now)) result }
 {
     let mut aggregates = Vec::new(alloc);
     for value in values {
@@ -55,7 +56,7 @@ fn read_aggregate(
     location: Location,
     value: &Value,
 ) -> Result<(Text, Agg), ViewsFault>
-    ensures { Answers (aggregate_item_of location (view value.now)) result }
+    ensures { Answers ViewsFault.Memory (aggregate_item_of location (view value.now)) result }
 {
     let (output, rest) = first_in(location, array_in(location, value)?)?;
     let (word, rest) = first_in(location, rest)?;
@@ -89,7 +90,7 @@ fn read_output(
     output: &Value,
     rest: &[Value],
 ) -> Result<(Text, Agg), ViewsFault>
-    ensures { Answers (output_and_aggregate_of location word (view output.now) (map view rest.now)) result }
+    ensures { Answers ViewsFault.Memory (output_and_aggregate_of location word (view output.now) (map view rest.now)) result }
 {
     match word {
         AggWord::Len => {

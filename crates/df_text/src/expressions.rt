@@ -1,7 +1,7 @@
 //! The expressions of a view.
 ghost use Rattle.std.specs.Prelude.{◌≡◌, map, codes};
 ghost use Rattle.toml.specs.View.{items_of, view};
-ghost use Rattle.df_text.specs.Reading.{Answers};
+ghost use Rattle.df_value.specs.Outcomes.{Answers};
 ghost use Rattle.df_text.specs.Expressions.{form_of_word, unary_expr_of, binary_expr_of, with_operand, with_operands, column_expr_of, null_of, word_of, expr_of, form_of};
 
 use crate::document::Location;
@@ -44,7 +44,7 @@ pub enum BinaryWord {
 /// The expression that a value says.
 #[cycle(expressions)]
 pub fn read_expr(alloc: Global, location: Location, value: &Value) -> Result<Expr, ViewsFault>
-    ensures { Answers (expr_of location (view value.now)) result }
+    ensures { Answers ViewsFault.Memory (expr_of location (view value.now)) result }
 {
     match value {
         Value::Integer(n) => Ok(Expr::Literal(Cell::Int(*n), CellType::Int)),
@@ -69,7 +69,7 @@ fn read_form(
     word: ExprWord,
     items: &[Value],
 ) -> Result<Expr, ViewsFault>
-    ensures { Answers (form_of location word (items_of (map view items.now))) result }
+    ensures { Answers ViewsFault.Memory (form_of location word (items_of (map view items.now))) result }
 {
     match (word, items) {
         (ExprWord::Column, [_word, name]) => read_column(alloc, location, name),
@@ -91,7 +91,7 @@ fn read_unary(
     op: UnaryWord,
     a: &Value,
 ) -> Result<Expr, ViewsFault>
-    ensures { Answers (with_operand op (expr_of location (view a.now))) result }
+    ensures { Answers ViewsFault.Memory (with_operand op (expr_of location (view a.now))) result }
 {
     Ok(unary(op, read_boxed(alloc, location, a)?))
 }
@@ -106,7 +106,7 @@ fn read_binary(
     op: BinaryWord,
     a: Boxed<Expr>,
 ) -> Result<Expr, ViewsFault>
-    ensures { Answers (with_operands op (Ok a) (expr_of location (view b.now))) result }
+    ensures { Answers ViewsFault.Memory (with_operands op (Ok a) (expr_of location (view b.now))) result }
 {
     match read_boxed(alloc, location, b) {
         Ok(b) => Ok(binary(op, a, b)),
@@ -117,7 +117,7 @@ fn read_binary(
 /// An operand, where an expression keeps it.
 #[cycle(expressions)]
 fn read_boxed(alloc: Global, location: Location, value: &Value) -> Result<Boxed<Expr>, ViewsFault>
-    ensures { Answers (expr_of location (view value.now)) result }
+    ensures { Answers ViewsFault.Memory (expr_of location (view value.now)) result }
 {
     Ok(Boxed::new(alloc, read_expr(alloc, location, value)?)?)
 }
@@ -161,7 +161,7 @@ fn form_named(location: Location, word: &str) -> Result<ExprWord, ViewsFault>
 
 /// The column of a name.
 fn read_column(alloc: Global, location: Location, name: &Value) -> Result<Expr, ViewsFault>
-    ensures { Answers (column_expr_of location (view name.now)) result }
+    ensures { Answers ViewsFault.Memory (column_expr_of location (view name.now)) result }
 {
     let name = text_in(location, name)?;
     Ok(Expr::Column(Text::from_str(alloc, name)?))
@@ -169,7 +169,7 @@ fn read_column(alloc: Global, location: Location, name: &Value) -> Result<Expr, 
 
 /// The null literal of the type that a word names.
 fn read_null(location: Location, word: &Value) -> Result<Expr, ViewsFault>
-    ensures { Answers (null_of location (view word.now)) result }
+    ensures { Answers ViewsFault.Memory (null_of location (view word.now)) result }
 {
     let kind = type_named(location, text_in(location, word)?)?;
     Ok(Expr::Literal(Cell::Null, kind))

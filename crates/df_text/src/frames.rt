@@ -4,7 +4,8 @@ ghost use Rattle.std.specs.List.{list_any, list_all};
 ghost use Rattle.std.specs.Map.{keys_of};
 ghost use Rattle.std.specs.Str.{bytes_eq};
 ghost use Rattle.toml.specs.View.{table_view, view};
-ghost use Rattle.df_text.specs.Reading.{Answers, read_each};
+ghost use Rattle.df_value.specs.Outcomes.{Answers};
+ghost use Rattle.df_text.specs.Reading.{read_each};
 ghost use Rattle.df_text.specs.declared.fault.ViewsFault.TheVariants.{Memory};
 ghost use Rattle.df_text.specs.Tree as tree_spec;
 ghost use Rattle.df_text.specs.Tree.{keys_pass};
@@ -28,7 +29,7 @@ struct FrameEntries<'a> {
 
 /// The frames of these tables, or the first fault.
 pub fn read_frames(alloc: Global, tables: &[Value]) -> Result<List<FrameSpec>, ViewsFault>
-    ensures { Answers (frames_of (map view tables.now)) result }
+    ensures { Answers ViewsFault.Memory (frames_of (map view tables.now)) result }
 {
     let mut frames = Vec::new(alloc);
     for table in tables {
@@ -40,7 +41,7 @@ pub fn read_frames(alloc: Global, tables: &[Value]) -> Result<List<FrameSpec>, V
 
 /// A frame after those that stand before it.
 fn read_frame(alloc: Global, before: &[FrameSpec], value: &Value) -> Result<FrameSpec, ViewsFault>
-    ensures { Answers (frame_of before.now (view value.now)) result }
+    ensures { Answers ViewsFault.Memory (frame_of before.now (view value.now)) result }
 {
     let location = Location::Frame(before.len());
     let entries = frame_entries(alloc, location, table_value(location, value)?)?;
@@ -83,7 +84,7 @@ fn frame_entries(
 
 /// Where the records of a frame come from: exactly one of the keys `path` and `text` says it.
 fn read_source(alloc: Global, location: Location, table: &Table) -> Result<FrameSource, ViewsFault>
-    ensures { Answers (source_of location (table_view table.now)) result }
+    ensures { Answers ViewsFault.Memory (source_of location (table_view table.now)) result }
 {
     match (find(table, "path"), find(table, "text")) {
         (Some(path), None) => Ok(FrameSource::Path(copied_text(alloc, location, path)?)),
@@ -94,7 +95,7 @@ fn read_source(alloc: Global, location: Location, table: &Table) -> Result<Frame
 
 /// A copy of the text that a value is.
 fn copied_text(alloc: Global, location: Location, value: &Value) -> Result<Text, ViewsFault>
-    ensures { Answers (tree_spec.text_in location (view value.now)) result }
+    ensures { Answers ViewsFault.Memory (tree_spec.text_in location (view value.now)) result }
 {
     Ok(Text::from_str(alloc, text_in(location, value)?)?)
 }
@@ -124,7 +125,7 @@ fn read_columns(
     location: Location,
     values: &[Value],
 ) -> Result<List<(Text, CellType)>, ViewsFault>
-    ensures { Answers (read_each (schema_column_of location) (map view values.now)) result }
+    ensures { Answers ViewsFault.Memory (read_each (schema_column_of location) (map view values.now)) result }
 {
     let mut columns = Vec::new(alloc);
     for value in values {
@@ -139,12 +140,12 @@ fn read_column(
     location: Location,
     value: &Value,
 ) -> Result<(Text, CellType), ViewsFault>
-    ensures { Answers (schema_column_of location (view value.now)) result }
+    ensures { Answers ViewsFault.Memory (schema_column_of location (view value.now)) result }
 {
     let pair = pair_in(location, array_in(location, value)?)?;
     let name = text_in(location, pair.0)?;
-    let kind = type_named(location, text_in(location, pair.1)?)?;
-    Ok((Text::from_str(alloc, name)?, kind))
+    let dtype = type_named(location, text_in(location, pair.1)?)?;
+    Ok((Text::from_str(alloc, name)?, dtype))
 }
 
 /// The type that a word names.

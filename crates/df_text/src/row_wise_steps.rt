@@ -1,7 +1,8 @@
 //! The steps that make each row of one row.
 ghost use Rattle.std.specs.Prelude.{◌≡◌, map};
 ghost use Rattle.toml.specs.View.{view};
-ghost use Rattle.df_text.specs.Reading.{Answers, read_each};
+ghost use Rattle.df_value.specs.Outcomes.{Answers};
+ghost use Rattle.df_text.specs.Reading.{read_each};
 ghost use Rattle.df_text.specs.RowWiseSteps.{filter_of, item_of, select_of, with_columns_of};
 
 use crate::document::Location;
@@ -21,7 +22,7 @@ pub fn filter(
     input: Plan,
     items: &[Value],
 ) -> Result<Plan, ViewsFault>
-    ensures { Answers (filter_of location input (map view items.now)) result }
+    ensures { Answers ViewsFault.Memory (filter_of location input (map view items.now)) result }
 {
     let input = Boxed::new(alloc, input)?;
     let predicate = only_in(location, items)?;
@@ -38,7 +39,7 @@ pub fn select(
     input: Plan,
     items: &[Value],
 ) -> Result<Plan, ViewsFault>
-    ensures { Answers (select_of location input (map view items.now)) result }
+    ensures { Answers ViewsFault.Memory (select_of location input (map view items.now)) result }
 {
     let input = Boxed::new(alloc, input)?;
     Ok(Plan::Select(input, read_items(alloc, location, items)?))
@@ -51,7 +52,7 @@ pub fn with_columns(
     input: Plan,
     items: &[Value],
 ) -> Result<Plan, ViewsFault>
-    ensures { Answers (with_columns_of location input (map view items.now)) result }
+    ensures { Answers ViewsFault.Memory (with_columns_of location input (map view items.now)) result }
 {
     let input = Boxed::new(alloc, input)?;
     Ok(Plan::WithColumns(input, read_items(alloc, location, items)?))
@@ -63,7 +64,7 @@ fn read_items(
     location: Location,
     values: &[Value],
 ) -> Result<List<(Text, Expr)>, ViewsFault>
-    ensures { Answers (read_each (item_of location) (map view values.now)) result }
+    ensures { Answers ViewsFault.Memory (read_each (item_of location) (map view values.now)) result }
 {
     let mut items = Vec::new(alloc);
     for value in values {
@@ -75,7 +76,7 @@ fn read_items(
 
 /// An output's name and its expression.
 fn read_item(alloc: Global, location: Location, value: &Value) -> Result<(Text, Expr), ViewsFault>
-    ensures { Answers (item_of location (view value.now)) result }
+    ensures { Answers ViewsFault.Memory (item_of location (view value.now)) result }
 {
     let (name, expr) = pair_in(location, array_in(location, value)?)?;
     let name = Text::from_str(alloc, text_in(location, name)?)?;

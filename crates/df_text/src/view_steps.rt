@@ -2,7 +2,8 @@
 ghost use Rattle.std.specs.Prelude.{◌≡◌, MatchResult, Ok, Err, map, codes};
 ghost use Rattle.toml.specs.View.{items_of, table_view, view};
 ghost use Rattle.df_text.specs.declared.view_steps.StepWord.TheVariants.{Join};
-ghost use Rattle.df_text.specs.Reading.{Answers, read_each};
+ghost use Rattle.df_value.specs.Outcomes.{Answers};
+ghost use Rattle.df_text.specs.Reading.{read_each};
 ghost use Rattle.df_text.specs.Tree as tree_spec;
 ghost use Rattle.df_text.specs.Steps as steps_spec;
 ghost use Rattle.df_text.specs.Steps.{step_of_word, group_by_of, kind_of_word, steps_after, step_of, applied_step, side_of, steps_at};
@@ -41,7 +42,7 @@ pub fn apply_table(
     input: Plan,
     table: &Table,
 ) -> Result<Plan, ViewsFault>
-    ensures { Answers (steps_at location frames.now input (table_view table.now)) result }
+    ensures { Answers ViewsFault.Memory (steps_at location frames.now input (table_view table.now)) result }
 {
     match array_or_none(location, table, "steps") {
         Ok(steps) => apply_steps(alloc, location, frames, input, steps),
@@ -61,7 +62,7 @@ fn apply_steps(
     input: Plan,
     steps: &[Value],
 ) -> Result<Plan, ViewsFault>
-    ensures { Answers (steps_after location frames.now input (items_of (map view steps.now))) result }
+    ensures { Answers ViewsFault.Memory (steps_after location frames.now input (items_of (map view steps.now))) result }
 {
     let mut plan = input;
     for step in steps {
@@ -79,7 +80,7 @@ fn apply_step(
     input: Plan,
     step: &Value,
 ) -> Result<Plan, ViewsFault>
-    ensures { Answers (step_of location frames.now input (view step.now)) result }
+    ensures { Answers ViewsFault.Memory (step_of location frames.now input (view step.now)) result }
 {
     match step_in(location, step) {
         Ok((word, items)) => apply(alloc, location, frames, word, input, items),
@@ -111,7 +112,7 @@ fn apply(
     input: Plan,
     items: &[Value],
 ) -> Result<Plan, ViewsFault>
-    ensures { Answers (applied_step location frames.now word input (items_of (map view items.now))) result }
+    ensures { Answers ViewsFault.Memory (applied_step location frames.now word input (items_of (map view items.now))) result }
 {
     match word {
         StepWord::Filter => filter(alloc, location, input, items),
@@ -134,7 +135,7 @@ fn join(
     input: Plan,
     items: &[Value],
 ) -> Result<Plan, ViewsFault>
-    ensures { Answers (applied_step location frames.now Join input (items_of (map view items.now))) result }
+    ensures { Answers ViewsFault.Memory (applied_step location frames.now Join input (items_of (map view items.now))) result }
 {
     let input = Boxed::new(alloc, input)?;
     let (kind, keys, right) = triple_in(location, items)?;
@@ -155,7 +156,7 @@ fn read_right(
     frames: &[FrameSpec],
     right: &Value,
 ) -> Result<Boxed<Plan>, ViewsFault>
-    ensures { Answers (side_of location frames.now (view right.now)) result }
+    ensures { Answers ViewsFault.Memory (side_of location frames.now (view right.now)) result }
 {
     let plan = match right {
         Value::String(name) => Plan::Scan(frame_of_name(location, name.as_str(), frames)?),
@@ -175,7 +176,7 @@ fn kind_and_keys(
     kind: &Value,
     keys: &Value,
 ) -> Result<(How, List<Text>), ViewsFault>
-    ensures { Answers (steps_spec.kind_and_keys location (view kind.now) (view keys.now)) result }
+    ensures { Answers ViewsFault.Memory (steps_spec.kind_and_keys location (view kind.now) (view keys.now)) result }
 {
     let how = kind_named(location, text_in(location, kind)?)?;
     let keys = read_names(alloc, location, array_in(location, keys)?)?;
@@ -219,7 +220,7 @@ fn group_by(
     input: Plan,
     items: &[Value],
 ) -> Result<Plan, ViewsFault>
-    ensures { Answers (group_by_of location input (map view items.now)) result }
+    ensures { Answers ViewsFault.Memory (group_by_of location input (map view items.now)) result }
 {
     let input = Boxed::new(alloc, input)?;
     let (keys, aggregates) = first_in(location, items)?;
@@ -230,7 +231,7 @@ fn group_by(
 
 /// A list of names.
 fn read_names(alloc: Global, location: Location, values: &[Value]) -> Result<List<Text>, ViewsFault>
-    ensures { Answers (read_each (tree_spec.text_in location) (map view values.now)) result }
+    ensures { Answers ViewsFault.Memory (read_each (tree_spec.text_in location) (map view values.now)) result }
 {
     let mut names = Vec::new(alloc);
     for value in values {

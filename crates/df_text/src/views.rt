@@ -6,7 +6,7 @@ ghost use Rattle.std.specs.Option.{option_copied};
 ghost use Rattle.std.specs.Str.{bytes_eq};
 ghost use Rattle.toml.specs.Data.{get_member};
 ghost use Rattle.toml.specs.View.{table_view, view};
-ghost use Rattle.df_text.specs.Reading.{Answers};
+ghost use Rattle.df_value.specs.Outcomes.{Answers};
 ghost use Rattle.df_text.specs.Tree.{keys_pass};
 ghost use Rattle.df_text.specs.Document as document_spec;
 ghost use Rattle.df_text.specs.Document.{IsDocument, entries_of_view, view_of, view_specs_of, top_tables_of, document_of};
@@ -71,7 +71,7 @@ struct ViewEntries<'a> {
 /// a join is checked as a view that has no name. `Memory` says that a growth was refused, and can stand in
 /// the place of any other answer.
 pub fn read_views(alloc: Global, bytes: &[u8]) -> Result<Views, ViewsFault>
-    ensures answer { Answers (document_of bytes.now) result }
+    ensures answer { Answers ViewsFault.Memory (document_of bytes.now) result }
     ensures sound { IfOk result (λ v. IsDocument v) }
 {
     let table = parse(alloc, bytes)?;
@@ -160,7 +160,7 @@ fn read_view_tables(
     frames: &[FrameSpec],
     tables: &[Value],
 ) -> Result<List<ViewSpec>, ViewsFault>
-    ensures { Answers (view_specs_of frames.now (map view tables.now)) result }
+    ensures { Answers ViewsFault.Memory (view_specs_of frames.now (map view tables.now)) result }
 {
     let mut views = Vec::new(alloc);
     for table in tables {
@@ -177,7 +177,7 @@ fn read_view(
     before: &[ViewSpec],
     value: &Value,
 ) -> Result<ViewSpec, ViewsFault>
-    ensures { Answers (view_of frames.now before.now (view value.now)) result }
+    ensures { Answers ViewsFault.Memory (view_of frames.now before.now (view value.now)) result }
 {
     let location = Location::View(before.len());
     let table = table_value(location, value)?;

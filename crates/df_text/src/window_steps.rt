@@ -1,7 +1,7 @@
 //! The steps that add a column over a column's rows.
 ghost use Rattle.std.specs.Prelude.{◌≡◌, MatchResult, Ok, Err, map, codes, option_map};
 ghost use Rattle.toml.specs.View.{view};
-ghost use Rattle.df_text.specs.Reading.{Answers};
+ghost use Rattle.df_value.specs.Outcomes.{Answers};
 ghost use Rattle.df_text.specs.WindowSteps as window_steps;
 ghost use Rattle.df_text.specs.WindowSteps.{window_parts, rolling_of, cum_sum_of, rank_of_word, rank_parts, rank_of};
 
@@ -21,7 +21,7 @@ pub fn rolling(
     input: Plan,
     items: &[Value],
 ) -> Result<Plan, ViewsFault>
-    ensures { Answers (rolling_of location kind input (map view items.now)) result }
+    ensures { Answers ViewsFault.Memory (rolling_of location kind input (map view items.now)) result }
 {
     let input = Boxed::new(alloc, input)?;
     match read_window(alloc, location, items) {
@@ -41,7 +41,7 @@ fn read_window(
     location: Location,
     items: &[Value],
 ) -> Result<((Text, Text), (i64, i64)), ViewsFault>
-    ensures { Answers (window_parts location (map view items.now)) result }
+    ensures { Answers ViewsFault.Memory (window_parts location (map view items.now)) result }
 {
     let (output, column, rows, least) = window_items(location, items)?;
     let names = names_in(alloc, location, output, column)?;
@@ -95,7 +95,7 @@ pub fn cum_sum(
     input: Plan,
     items: &[Value],
 ) -> Result<Plan, ViewsFault>
-    ensures { Answers (cum_sum_of location input (map view items.now)) result }
+    ensures { Answers ViewsFault.Memory (cum_sum_of location input (map view items.now)) result }
 {
     let input = Boxed::new(alloc, input)?;
     let (output, column) = pair_in(location, items)?;
@@ -110,7 +110,7 @@ pub fn rank(
     input: Plan,
     items: &[Value],
 ) -> Result<Plan, ViewsFault>
-    ensures { Answers (rank_of location input (map view items.now)) result }
+    ensures { Answers ViewsFault.Memory (rank_of location input (map view items.now)) result }
 {
     let input = Boxed::new(alloc, input)?;
     match read_rank(alloc, location, items) {
@@ -128,7 +128,7 @@ fn read_rank(
     location: Location,
     items: &[Value],
 ) -> Result<(Text, RankKind, Text), ViewsFault>
-    ensures { Answers (rank_parts location (map view items.now)) result }
+    ensures { Answers ViewsFault.Memory (rank_parts location (map view items.now)) result }
 {
     let (output, kind, column) = triple_in(location, items)?;
     let output = text_in(location, output)?;
@@ -161,7 +161,7 @@ fn names_in(
     output: &Value,
     column: &Value,
 ) -> Result<(Text, Text), ViewsFault>
-    ensures { Answers (window_steps.names_in location (view output.now) (view column.now)) result }
+    ensures { Answers ViewsFault.Memory (window_steps.names_in location (view output.now) (view column.now)) result }
 {
     let output = text_in(location, output)?;
     let column = text_in(location, column)?;

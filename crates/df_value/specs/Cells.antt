@@ -4,16 +4,16 @@ use Rattle.std.specs.Prelude.{Bool, true, false}
 use Rattle.df_value.specs.declared.cell.Cell.{Cell}
 use Rattle.df_value.specs.declared.cell.Cell.TheVariants as cell
 use Rattle.df_value.specs.declared.cell.CellType.{CellType}
-use Rattle.df_value.specs.declared.cell.CellType.TheVariants as kind
+use Rattle.df_value.specs.declared.cell.CellType.TheVariants as dtype
 
 -- whether a cell is null or of this type
 abbrev pub fits_type : CellType → Cell → Bool
 fits_type t cell.Null = true
-fits_type kind.Int (cell.Int n) = true
-fits_type kind.Wide (cell.Wide n) = true
-fits_type kind.Text (cell.Text t) = true
-fits_type kind.Bool (cell.Bool b) = true
-fits_type kind.Frac (cell.Frac f) = true
+fits_type dtype.Int (cell.Int n) = true
+fits_type dtype.Wide (cell.Wide n) = true
+fits_type dtype.Text (cell.Text t) = true
+fits_type dtype.Bool (cell.Bool b) = true
+fits_type dtype.Frac (cell.Frac f) = true
 fits_type t _ = false
 
 -- whether a cell is a text, so that a copy of it takes memory

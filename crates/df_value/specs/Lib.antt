@@ -9,3 +9,4 @@ pub mod SchemaFaults
 pub mod Chunks
 pub mod ChunkFaults
 pub mod Same
+pub mod Outcomes

@@ -16,7 +16,7 @@ row_fits columns row = pointwise (λ c v. fits_type c.1 v) columns row
 abbrev pub rows_fit : List (List ℕ × CellType) → List (List Cell) → Bool
 rows_fit columns rows = list_all (row_fits columns) rows
 
--- the cell at this place, null where there is none
+-- the cell at this index, null where there is none
 abbrev pub cell_at : Option ℕ → List Cell → Cell
 cell_at None row = cell.Null
 cell_at (Some i) row = unwrap_or (slice_get row i) cell.Null

@@ -3,7 +3,7 @@ use Rattle.std.specs.Prelude.{◌≡◌, ◌<◌, ◌≤◌, ℕ, Bool, true, fa
 use Rattle.std.specs.List.{list_any, list_all}
 use Rattle.std.specs.Str.{bytes_eq}
 use Rattle.df_value.specs.declared.cell.CellType.{CellType}
-use Rattle.df_value.specs.declared.cell.CellType.TheVariants as kind
+use Rattle.df_value.specs.declared.cell.CellType.TheVariants as dtype
 
 -- the first name that stands earlier, where the columns seen stand before the list
 abbrev pub doubled_name_after : List (List ℕ × CellType) → List (List ℕ × CellType) → Option (List ℕ)
@@ -17,7 +17,7 @@ pub record IsSchema (columns : List (List ℕ × CellType)) : Type 0 where
   pub few : length columns ≤ 32
   pub distinct : doubled_name_after [] columns ≡ None
 
--- the place of the column of this name
+-- the index of the column of this name
 abbrev pub column_index : List ℕ → List (List ℕ × CellType) → Option ℕ
 column_index name columns = position (λ c. bytes_eq c.0 name) columns
 
@@ -27,9 +27,9 @@ column_dtype name columns = option_map (λ c. c.1) (find (λ c. bytes_eq c.0 nam
 
 -- whether a base frame may have columns of this type
 abbrev pub is_base_type : CellType → Bool
-is_base_type kind.Int = true
-is_base_type kind.Text = true
-is_base_type kind.Bool = true
+is_base_type dtype.Int = true
+is_base_type dtype.Text = true
+is_base_type dtype.Bool = true
 is_base_type _ = false
 
 -- whether a base frame may have these columns

@@ -37,10 +37,10 @@ pub type Row = List<Cell>;
 
 impl Cell {
     /// Whether this cell may stand in a column of this type: it is null or of the type.
-    pub fn fits(&self, kind: CellType) -> bool
-        ensures { result ≡ fits_type kind self.now }
+    pub fn fits(&self, dtype: CellType) -> bool
+        ensures { result ≡ fits_type dtype self.now }
     {
-        match (kind, self) {
+        match (dtype, self) {
             (_, Cell::Null) => true,
             (CellType::Int, Cell::Int(_)) => true,
             (CellType::Wide, Cell::Wide(_)) => true,
@@ -48,21 +48,6 @@ impl Cell {
             (CellType::Bool, Cell::Bool(_)) => true,
             (CellType::Frac, Cell::Frac(_)) => true,
             _ => false,
-        }
-    }
-
-    /// An equal cell. Only a text takes memory.
-    pub fn duplicate(&self, alloc: Global) -> Result<Cell, AllocError>
-        ensures value { IfOk result (λ c. c ≡ self.now) }
-        ensures free { IsTrue (not (is_text self.now)) → IsOk result }
-    {
-        match self {
-            Cell::Null => Ok(Cell::Null),
-            Cell::Int(n) => Ok(Cell::Int(*n)),
-            Cell::Wide(n) => Ok(Cell::Wide(*n)),
-            Cell::Text(t) => Ok(Cell::Text(t.copy(alloc)?)),
-            Cell::Bool(b) => Ok(Cell::Bool(*b)),
-            Cell::Frac(f) => Ok(Cell::Frac(*f)),
         }
     }
 }
@@ -86,7 +71,18 @@ impl Duplicate for CellType {
 }
 
 impl Duplicate for Cell {
-    fn copy(&self, alloc: Global) -> Result<Cell, AllocError> {
-        self.duplicate(alloc)
+    /// An equal cell. Only a text takes memory.
+    fn copy(&self, alloc: Global) -> Result<Cell, AllocError>
+        ensures value { IfOk result (λ c. c ≡ self.now) }
+        ensures free { IsTrue (not (is_text self.now)) → IsOk result }
+    {
+        match self {
+            Cell::Null => Ok(Cell::Null),
+            Cell::Int(n) => Ok(Cell::Int(*n)),
+            Cell::Wide(n) => Ok(Cell::Wide(*n)),
+            Cell::Text(t) => Ok(Cell::Text(t.copy(alloc)?)),
+            Cell::Bool(b) => Ok(Cell::Bool(*b)),
+            Cell::Frac(f) => Ok(Cell::Frac(*f)),
+        }
     }
 }

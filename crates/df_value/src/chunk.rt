@@ -62,7 +62,7 @@ pub struct RefusedRows {
 pub struct BadCell {
     /// The number of its record, from 1.
     pub number: u64,
-    /// The place of its column in the schema, from 0.
+    /// The index of its column in the schema, from 0.
     pub column: usize,
 }
 

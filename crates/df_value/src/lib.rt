@@ -10,6 +10,7 @@ mod chunk;
 mod frac;
 mod list;
 mod ordering;
+mod results;
 mod schema;
 mod source;
 mod text;
@@ -20,6 +21,7 @@ pub use chunk::{BadCell, Chunk, ChunkFault, MOST_ROWS_OF_CHUNK, Piece, RefusedRo
 pub use frac::Frac;
 pub use list::List;
 pub use ordering::{compare, order};
+pub use results::{both, push_made, then_drop};
 pub use schema::{MOST_COLUMNS, Schema, SchemaFault, column_index, first_doubled_name, type_of};
 pub use source::Source;
 pub use sqlite_items::Boxed;

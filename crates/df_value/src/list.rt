@@ -58,7 +58,7 @@ impl<T> List<T> {
         self.items.len() == 0
     }
 
-    /// The item at this place, if there is one.
+    /// The item at this index, if there is one.
     pub fn get(&self, at: usize) -> Option<&T>
         ensures { option_copied result ≡ slice_get self.now at }
     {

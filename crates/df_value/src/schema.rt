@@ -77,7 +77,7 @@ impl Schema {
         &self.columns
     }
 
-    /// The place of the column of this name, from 0.
+    /// The index of the column of this name, from 0.
     pub fn position(&self, name: &Text) -> Option<usize>
         ensures value { result ≡ schemas.column_index name.now self.now }
         ensures within { IfSome result (λ i. i < length self.now) }
@@ -123,10 +123,10 @@ impl Exact for Schema {
     ghost decides = { λ a b. list_decides (pair_decides bytes_eq-Decides (Prim.search rules)) a b };
 }
 
-fn is_base(kind: CellType) -> bool
-    ensures { result ≡ is_base_type kind }
+fn is_base(dtype: CellType) -> bool
+    ensures { result ≡ is_base_type dtype }
 {
-    matches!(kind, CellType::Int | CellType::Text | CellType::Bool)
+    matches!(dtype, CellType::Int | CellType::Text | CellType::Bool)
 }
 
 fn fits_columns(columns: &[(Text, CellType)], cells: &[Cell]) -> bool
@@ -163,7 +163,7 @@ fn stands_in(name: &Text, columns: &[(Text, CellType)]) -> bool
     columns.iter().any(|c| c.0 == *name)
 }
 
-/// The place of the column of this name, from 0.
+/// The index of the column of this name, from 0.
 pub fn column_index(name: &Text, columns: &[(Text, CellType)]) -> Option<usize>
     ensures value { result ≡ schemas.column_index name.now columns.now }
     ensures within { IfSome result (λ i. i < length columns.now) }

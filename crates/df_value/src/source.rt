@@ -12,23 +12,23 @@ pub trait Source {
     // The chunks, in their order.
     ghost made: { Self → List Piece };
 
-    // The number of the first row of the chunk at each place.
+    // The number of the first row of the chunk at each index.
     ghost start_of: { Self → ℕ → ℕ };
 
     /// How many chunks there are.
     fn chunks(&self) -> u64
         ensures { result ≡ length (made self.now) };
 
-    /// The chunk at this place, from 0. `Err` says that memory was refused.
+    /// The chunk at this index, from 0. `Err` says that memory was refused.
     fn chunk(&self, alloc: Global, n: u64) -> Result<Piece, AllocError>
         requires { n < length (made self.now) }
         ensures { IfOk result (λ chunk. slice_get (made self.now) n ≡ Some chunk) };
 
-    /// The number of the first row of the chunk at this place, which is known of a bad one too.
+    /// The number of the first row of the chunk at this index, which is known of a bad one too.
     fn start(&self, n: u64) -> u32
         requires { n < length (made self.now) }
         ensures { result ≡ start_of self.now n };
 
-    // A good chunk begins with the row that `start_of` has for its place.
+    // A good chunk begins with the row that `start_of` has for its index.
     ghost starts: { (source : Self) (n : ℕ) (chunk : ChunkParts) → slice_get (made source) n ≡ Some (made_as.Good chunk) → chunk.first ≡ start_of source n };
 }

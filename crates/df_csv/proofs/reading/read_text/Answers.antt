@@ -23,7 +23,7 @@ returns-in-Ok-header_indices c =
     let all = opened (λ (s : Bor (List ℕ)). Some s.now) c.from_reader-reader.result c.args.bytes.now c.from_reader-reader.ensures.state (c.from_reader-reader.ensures.source ∙ ap (λ t. Some (strip_bom t)) c.requires.marks) in
     let utf8 = rw c.requires.marks at c.requires.utf8 in
     row_gives c.read_rows.result c.args.bytes.now c.args.columns.now (fields_of c.next_row.new.row) c.as_slice.result.now
-    (rows_left (λ (s : Bor (List ℕ)). Some s.now) c.next_row.new.reader) _ c.in-Ok-header_indices.places.items c.as_slice-in-Ok-header_indices.result.now c.len.result
+    (rows_left (λ (s : Bor (List ℕ)). Some s.now) c.next_row.new.reader) _ c.in-Ok-header_indices.indices.items c.as_slice-in-Ok-header_indices.result.now c.len.result
     utf8 all c.in-Row.ensures.1 (c.as_slice.ensures.value ∙ c.in-Ok.ensures)
     c.in-Ok-header_indices.ensures.0 c.in-Ok-header_indices.ensures.1 c.as_slice-in-Ok-header_indices.ensures.value c.len.ensures c.read_rows.ensures
 

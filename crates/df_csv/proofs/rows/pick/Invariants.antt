@@ -3,5 +3,5 @@ use Rattle.csv.specs.Records.{fields_of}
 use Rattle.df_csv.specs.Records.{fields_at}
 use Rattle.df_csv.proofs.rows.pick.Given as goal
 
-abbrev pub invariant-loop-place : goal.invariant-loop-place
-invariant-loop-place l = fields_of l.fields ≡ fields_of l.initial.fields ++ fields_at (take l.place-index l.places) (fields_of l.row)
+abbrev pub invariant-loop-index : goal.invariant-loop-index
+invariant-loop-index l = fields_of l.fields ≡ fields_of l.initial.fields ++ fields_at (take l.index-index l.indices) (fields_of l.row)

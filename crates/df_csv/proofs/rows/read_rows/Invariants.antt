@@ -11,9 +11,9 @@ invariant-records g l = record {
   width : expected_len l.reader ≡ Some l.width;
   below : l.count ≤ 1048576;
   texts : EveryText (rows_left g.R.Read.remaining l.reader);
-  even : length (fields_of l.fields) ≡ l.count * length l.places;
-  so_far : checked_records l.width l.places 1 (rows_left g.R.Read.remaining l.initial.reader)
-      ≡ after_rows (rows_of_width (length l.places) l.count (fields_of l.fields)) (checked_records l.width l.places (l.count + 1) (rows_left g.R.Read.remaining l.reader));
+  even : length (fields_of l.fields) ≡ l.count * length l.indices;
+  so_far : checked_records l.width l.indices 1 (rows_left g.R.Read.remaining l.initial.reader)
+      ≡ after_rows (rows_of_width (length l.indices) l.count (fields_of l.fields)) (checked_records l.width l.indices (l.count + 1) (rows_left g.R.Read.remaining l.reader));
 }
 
 abbrev pub decreases-records : goal.decreases-records

@@ -10,7 +10,7 @@ returns c =
 pub loop-cell-preserved : goal.loop-cell-preserved
 loop-cell-preserved c =
     joined_more (λ (cells : List Cell). cells) (λ xs ys. refl) c.args.left.now c.args.rest.now _ _ _ _ c.loop-cell-test.true c.cell-item.is c.loop-cell.invariant
-    (c.in_ok-push_made.ensures.2 ∙ ap (λ (v : Cell). c.loop-cell.row.items ++ v ∷ []) (made_is _ _ _ c.copy-in-loop-cell.ensures c.in_ok-push_made.ensures.1))
+    (c.in_ok-push_made.ensures.2 ∙ ap (λ (v : Cell). c.loop-cell.row.items ++ v ∷ []) (made_is _ _ _ c.copy-in-loop-cell.ensures.value c.in_ok-push_made.ensures.1))
 
 pub loop-cell-init : goal.loop-cell-init
 loop-cell-init c = c.into_vec-row.ensures ∙ (c.in_ok-copy.ensures ∙ sym (append-nil _))

@@ -39,5 +39,5 @@ loop-column-preserved c =
     (cc) (cc) c.loop-column.yielded_by _ c.in-Some.is c.next.ensures.steps in
     zipped_more (λ (k : List ℕ × CellType) (v : Cell). (k.0, v)) named_cells (λ _ _ _ _. refl) columns cells (length c.loop-column.yielded) _ _ _ _ _ _ _
     turn.0 turn.1 (turn.2 _) (turn.3 _) (length_push c.loop-column.yielded _) c.loop-column.invariant
-    (paired (made_is _ _ _ c.copy.ensures (made_has (λ p. c.copy.result ≡ Ok p.0) _ _ c.both.ensures.first c.in_ok-push_made.ensures.1)) (made_is _ _ _ c.copy-in-loop-column.ensures (made_has (λ p. c.copy-in-loop-column.result ≡ Ok p.1) _ _ c.both.ensures.second c.in_ok-push_made.ensures.1)))
+    (paired (made_is _ _ _ c.copy.ensures (made_has (λ p. c.copy.result ≡ Ok p.0) _ _ c.both.ensures.first c.in_ok-push_made.ensures.1)) (made_is _ _ _ c.copy-in-loop-column.ensures.value (made_has (λ p. c.copy-in-loop-column.result ≡ Ok p.1) _ _ c.both.ensures.second c.in_ok-push_made.ensures.1)))
     c.in_ok-push_made.ensures.2

@@ -3,7 +3,7 @@ use Rattle.df_ops.proofs.Steps.{mapped_more, all_done, made_is}
 use Rattle.df_ops.proofs.row_wise.unnamed.Goals as goal
 
 pub loop-cell-preserved : goal.loop-cell-preserved
-loop-cell-preserved c = mapped_more _ _ _ _ _ _ _ (omega arith) c.cell-item.is c.loop-cell.invariant (made_is _ _ _ c.copy.ensures c.in_ok-push_made.ensures.1) c.in_ok-push_made.ensures.2
+loop-cell-preserved c = mapped_more _ _ _ _ _ _ _ (omega arith) c.cell-item.is c.loop-cell.invariant (made_is _ _ _ c.copy.ensures.value c.in_ok-push_made.ensures.1) c.in_ok-push_made.ensures.2
 
 pub returns : goal.returns
 returns c =

@@ -1,5 +1,5 @@
-//! Calls that take values which may have been refused. Each stands for two `?`: the proof of a loop gets dearer with
-//! each exit.
+//! Calls over values that may have been refused, and one that drops. Each stands for exits of its caller, whose proof
+//! grows with every value that lives at every exit.
 ghost use Rattle.std.specs.Prelude.{◌≡◌, ◌++◌, ◌∷◌, [], IfOk, Ok, OnOk};
 
 use std::alloc::AllocError;
@@ -23,4 +23,12 @@ pub fn push_made<T: Drop>(items: &mut Vec<T>, made: Result<T, AllocError>) -> Re
     ensures { OnOk result ((x : T) × (made ≡ Ok x) × (items.new.items ≡ items.old.items ++ x ∷ [])) }
 {
     Ok(items.push(made?)?)
+}
+
+/// What was made, once a value that it was made of is dropped.
+pub fn then_drop<R, T: Drop>(made: R, value: T) -> R
+    ensures { result ≡ made }
+{
+    drop(value);
+    made
 }
