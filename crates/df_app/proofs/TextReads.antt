@@ -8,7 +8,7 @@ use Rattle.df_csv.specs.Header.{doubled_column, missing_column, header_index, wi
 use Rattle.df_csv.specs.Records.{Gives, FieldRows, after_rows, unless_bad_header, fields_at, records_of, checked_records, records_under_header}
 use Rattle.df_csv.specs.declared.fault.CsvFault.{CsvFault}
 use Rattle.df_csv.specs.declared.fault.CsvFault.TheVariants as csv
-use Rattle.df_ops.proofs.Choices.{either}
+use Rattle.df_value.specs.Choices.{either}
 
 -- not the fault of a failed read
 abbrev IsRead : Result FieldRows CsvFault → Type 0

@@ -7,7 +7,8 @@ use Rattle.df_value.specs.declared.cell.Cell.{Cell}
 use Rattle.df_value.specs.declared.chunk.Piece.{Piece}
 use Rattle.df_value.specs.declared.chunk.Piece.TheVariants as made
 use Rattle.df_plan.specs.CheckedParts.{CheckedParts}
-use Rattle.df_plan.specs.Checks.{Columns, CheckResult, plan_check}
+use Rattle.df_value.specs.Schemas.{Columns}
+use Rattle.df_plan.specs.Checks.{CheckResult, plan_check}
 use Rattle.df_plan.specs.Meaning.{table_of}
 use Rattle.df_csv.specs.Records.{FieldRows as Records, file_records, records_of}
 use Rattle.df_csv.specs.Typed.{pieces_of}
@@ -139,10 +140,14 @@ opened_in document contents chunk =
 abbrev pub opened_from : List ℕ → Contents → ℕ → Result OpenedDocument RunFault
 opened_from bytes contents chunk = then_next (of_document (document_of bytes)) (λ document. opened_in document contents chunk)
 
--- a document's bytes, which are at most 1048576, and the files that it names, opened
+-- a document has at most so many bytes, this project's own choice
+abbrev pub most_bytes_of_document : ℕ
+most_bytes_of_document = 1048576
+
+-- a document's bytes, which may not be too many, and the files that it names, opened
 abbrev pub opened_of : List ℕ → Contents → ℕ → Result OpenedDocument RunFault
 opened_of bytes contents chunk =
-    if nat_lt 1048576 (length bytes) then Err fault.TooLarge else opened_from bytes contents chunk
+    if nat_lt most_bytes_of_document (length bytes) then Err fault.TooLarge else opened_from bytes contents chunk
 
 -- what is written of an opened document, and how the run then ends
 abbrev pub output_made : ℕ → OpenedDocument → Output
@@ -165,7 +170,7 @@ abbrev pub KnowsFilesOf : Contents → Views → Type 0
 KnowsFilesOf contents document = IfOk (plans_of document) (λ plans. AreKnown contents document.frames)
 
 abbrev pub KnowsFiles : Contents → List ℕ → Type 0
-KnowsFiles contents bytes = length bytes ≤ 1048576 → IfOk (document_of bytes) (KnowsFilesOf contents)
+KnowsFiles contents bytes = length bytes ≤ most_bytes_of_document → IfOk (document_of bytes) (KnowsFilesOf contents)
 
 -- a frame's records stand in a file, which may fail to open or to be read
 abbrev pub IsFile : FrameSource → Type 0

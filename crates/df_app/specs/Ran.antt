@@ -7,14 +7,14 @@ use Rattle.df_app.specs.declared.outcome.Outcome.{Outcome}
 use Rattle.df_app.specs.declared.outcome.Output.{Output}
 use Rattle.df_csv.specs.declared.fault.CsvFault.TheVariants as csv
 use Rattle.df_app.specs.declared.opening.OpenedDocument.{OpenedDocument}
-use Rattle.df_app.specs.Output.{Contents, MayFailFrom, opened_of, output_of}
+use Rattle.df_app.specs.Output.{most_bytes_of_document, Contents, MayFailFrom, opened_of, output_of}
 
 -- What a fault says that comes before anything is written. But for a failed read of the document or of a file and for
 -- want of memory, it is the fault that the bytes have in the place of an output; and a file that cannot be read is that
 -- of a frame to which the run comes.
 abbrev pub IsFaultBefore : List ℕ → Contents → ℕ → RunFault → Type 0
 IsFaultBefore bytes contents chunk fault.ReadFault = ⊤
-IsFaultBefore bytes contents chunk (fault.Csv frame csv.ReadFault) = (length bytes ≤ 1048576) × MayFailFrom bytes contents chunk frame
+IsFaultBefore bytes contents chunk (fault.Csv frame csv.ReadFault) = (length bytes ≤ most_bytes_of_document) × MayFailFrom bytes contents chunk frame
 IsFaultBefore bytes contents chunk fault.Memory = ⊤
 IsFaultBefore bytes contents chunk fault.Write = ⊥
 IsFaultBefore bytes contents chunk f = output_of bytes contents chunk ≡ Err f

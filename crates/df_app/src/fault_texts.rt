@@ -10,9 +10,9 @@ use df_text::{CsvFault, Location, ViewsFault, escape};
 use df_value::{SchemaFault, Text};
 use std::alloc::{AllocError, Global};
 
-/// The text of a fault, as the program prints it behind `dfviews: `: the code of the fault, before it
-/// the name of the view or frame, behind it the place, the name or the number that it is about. Names
-/// are escaped as in a printed table.
+/// The text of a fault, as the program prints it behind `dfviews: `: the code of the fault, before
+/// it the name of the view or frame, behind it the place, the name or the number that it is about.
+/// Names are escaped as in a printed table.
 pub fn fault_text(alloc: Global, fault: &RunFault) -> Result<String, AllocError>
     ensures { IfOk result (λ text. string_bytes text ≡ fault_text_of fault.now) }
 {
@@ -50,7 +50,8 @@ fn full_text(alloc: Global, fault: &RunFault) -> Result<String, AllocError>
 }
 
 fn text_under_name(alloc: Global, name: &Text, text: String) -> Result<String, AllocError>
-    ensures { IfOk result (λ all. string_bytes all ≡ texts.text_under_name name.now (string_bytes text)) }
+    ensures { IfOk result
+        (λ all. string_bytes all ≡ texts.text_under_name name.now (string_bytes text)) }
 {
     let name = escape(alloc, name.as_str())?;
     let name = name.as_str();

@@ -11,9 +11,10 @@ pub trait Files {
     // The bytes of the file under each path, where they are known.
     ghost bytes_at: { Self → List ℕ → Option (List ℕ) } = { λ _ _. None };
 
-    /// Opens the file under a path, which is taken as the document writes it. `None` where it cannot be
-    /// opened.
+    /// Opens the file under a path, which is taken as the document writes it. `None` where it
+    /// cannot be opened.
     fn open(&mut self, path: &str) -> Option<Self::Reader>
         ensures same { bytes_at self.new ≡ bytes_at self.old }
-        ensures whole { IfSome result (λ reader. Self.Reader.remaining reader ≡ bytes_at self.old path.now) };
+        ensures whole { IfSome result
+            (λ reader. Self.Reader.remaining reader ≡ bytes_at self.old path.now) };
 }

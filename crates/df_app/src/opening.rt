@@ -1,5 +1,6 @@
 //! The opening of a document: its plans are checked, and its frames are read.
 ghost use Rattle.std.specs.Prelude.{◌≡◌, ◌≤◌, [], IfOk, IfSome, length};
+ghost use Rattle.df_value.specs.Limits.{most_rows_of_chunk};
 ghost use Rattle.df_text.specs.Document.{document_of};
 ghost use Rattle.df_app.specs.Output.{AnswersOfBytes, AnswersOrFails, KnowsFiles, KnowsFilesOf, MayFailFrom, MayFailIn, results_after, of_document, opened_from, opened_in, plan_of, plans_of, schemas_of};
 ghost use Rattle.df_app.specs.Ran.{IsOpening};
@@ -16,8 +17,8 @@ use std::io::Read;
 /// The most bytes of a view document.
 pub const MOST_BYTES_OF_DOCUMENT: usize = 1_048_576;
 
-/// A document that was read, with the checked plans of its views and the records of its frames in typed
-/// pieces, each in the document's order.
+/// A document that was read, with the checked plans of its views and the records of its frames in
+/// typed pieces, each in the document's order.
 #[derive(Debug, Drop)]
 pub struct OpenedDocument {
     pub document: Views,
@@ -37,9 +38,10 @@ pub fn open_document<V: Read, F: Files>(
     chunk: usize,
 ) -> Result<OpenedDocument, RunFault>
     requires some { 1 ≤ chunk }
-    requires few { chunk ≤ 65536 }
+    requires few { chunk ≤ most_rows_of_chunk }
     ensures same { F.bytes_at files.new ≡ F.bytes_at files.old }
-    ensures value { IfSome (V.remaining reader.old) (λ bytes. KnowsFiles (F.bytes_at files.old) bytes →
+    ensures value { IfSome (V.remaining reader.old)
+        (λ bytes. KnowsFiles (F.bytes_at files.old) bytes →
         IsOpening bytes (F.bytes_at files.old) chunk result) }
     ensures plans { IfOk result (λ o. length o.plans ≡ length o.document.views) }
     ensures pieces { IfOk result (λ o. length o.pieces ≡ length o.document.frames) }
@@ -59,7 +61,7 @@ fn open_bytes<F: Files>(
     chunk: usize,
 ) -> Result<OpenedDocument, RunFault>
     requires some { 1 ≤ chunk }
-    requires few { chunk ≤ 65536 }
+    requires few { chunk ≤ most_rows_of_chunk }
     ensures same { F.bytes_at files.new ≡ F.bytes_at files.old }
     ensures value { IfOk (document_of bytes.now) (KnowsFilesOf (F.bytes_at files.old)) →
         AnswersOrFails (MayFailFrom bytes.now (F.bytes_at files.old) chunk)
@@ -80,7 +82,7 @@ fn open_views<F: Files>(
     chunk: usize,
 ) -> Result<OpenedDocument, RunFault>
     requires some { 1 ≤ chunk }
-    requires few { chunk ≤ 65536 }
+    requires few { chunk ≤ most_rows_of_chunk }
     ensures same { F.bytes_at files.new ≡ F.bytes_at files.old }
     ensures value { KnowsFilesOf (F.bytes_at files.old) document →
         AnswersOrFails (MayFailIn document (F.bytes_at files.old) chunk)

@@ -16,7 +16,9 @@ use std::alloc::{AllocError, Global};
 pub fn output(alloc: Global, opened: OpenedDocument, chunk: usize) -> Result<Output, AllocError>
     requires of_views { length opened.plans ≡ length opened.document.views }
     requires of_frames { length opened.pieces ≡ length opened.document.frames }
-    ensures { IfOk result (λ o. (o.text ≡ text_from opened.document opened.plans opened.pieces chunk) × (o.outcome ≡ outcome_of opened.pieces)) }
+    ensures { IfOk result
+        (λ o. (o.text ≡ text_from opened.document opened.plans opened.pieces chunk)
+        × (o.outcome ≡ outcome_of opened.pieces)) }
 {
     let OpenedDocument {
         document,
@@ -65,7 +67,8 @@ fn print_views(
     frames: &[List<Row>],
 ) -> Result<Vec<List<u8>>, AllocError>
     requires { length plans.now ≡ length views.now }
-    ensures { IfOk result (λ tables. tables.items ≡ map (printed_view frames.now) (paired views.now plans.now)) }
+    ensures { IfOk result
+        (λ tables. tables.items ≡ map (printed_view frames.now) (paired views.now plans.now)) }
 {
     let mut tables = Vec::with_capacity(alloc, views.len() + 1)?;
     for i in 0..views.len() {
@@ -98,7 +101,8 @@ fn joined(alloc: Global, blocks: &[List<u8>]) -> Result<List<u8>, AllocError>
 }
 
 fn joined_behind(alloc: Global, first: &List<u8>, rest: &[List<u8>]) -> Result<List<u8>, AllocError>
-    ensures { IfOk result (λ text. text ≡ first.now ++ flat_map (λ block. codes "\n" ++ block) rest.now) }
+    ensures { IfOk result
+        (λ text. text ≡ first.now ++ flat_map (λ block. codes "\n" ++ block) rest.now) }
 {
     let mut text = Vec::from_slice(alloc, first.as_slice())?;
     for block in rest {

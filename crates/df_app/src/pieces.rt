@@ -1,5 +1,6 @@
 //! The frames of a document in pieces: chunks of rows, or bad cells.
 ghost use Rattle.std.specs.Prelude.{◌≡◌, ◌++◌, ◌≤◌, [], IfErr, IfOk, IfSome, OnOk, length, map};
+ghost use Rattle.df_value.specs.Limits.{most_rows_of_chunk};
 ghost use Rattle.std.specs.List.{list_all};
 ghost use Rattle.df_csv.specs.Records.{GivesRead, IsRecords, file_records};
 ghost use Rattle.df_csv.specs.Typed.{pieces_of};
@@ -24,7 +25,7 @@ pub fn all_pieces<F: Files>(
     chunk: usize,
 ) -> Result<List<List<Piece>>, RunFault>
     requires some { 1 ≤ chunk }
-    requires few { chunk ≤ 65536 }
+    requires few { chunk ≤ most_rows_of_chunk }
     ensures same { F.bytes_at files.new ≡ F.bytes_at files.old }
     ensures value { AreKnown (F.bytes_at files.old) frames.now →
         AnswersOrFails (MayFail (F.bytes_at files.old) chunk frames.now)
@@ -45,7 +46,7 @@ fn read_pieces<F: Files>(
     chunk: usize,
 ) -> Result<List<Piece>, RunFault>
     requires some { 1 ≤ chunk }
-    requires few { chunk ≤ 65536 }
+    requires few { chunk ≤ most_rows_of_chunk }
     ensures same { F.bytes_at files.new ≡ F.bytes_at files.old }
     ensures value { IsKnown (F.bytes_at files.old) frame.now.source →
         AnswersOrFails (λ name. (frame.now.name ≡ name) × IsFile frame.now.source)
@@ -88,7 +89,8 @@ fn read_file<F: Files>(
     schema: &Schema,
 ) -> Result<Records, CsvFault>
     ensures same { F.bytes_at files.new ≡ F.bytes_at files.old }
-    ensures value { IfSome (F.bytes_at files.old path.now) (λ bytes. GivesRead result (file_records bytes schema.now)) }
+    ensures value { IfSome (F.bytes_at files.old path.now)
+        (λ bytes. GivesRead result (file_records bytes schema.now)) }
     ensures sound { IfOk result (λ records. IsRecords (length schema.now) records) }
 {
     match files.open(path) {
@@ -105,7 +107,7 @@ fn pieces(
     chunk: usize,
 ) -> Result<List<Piece>, AllocError>
     requires some { 1 ≤ chunk }
-    requires few { chunk ≤ 65536 }
+    requires few { chunk ≤ most_rows_of_chunk }
     requires sound { IsRecords (length schema.now) records.now }
     ensures { IfOk result (λ pieces. pieces ≡ pieces_of schema.now chunk records.now) }
 {

@@ -1,5 +1,6 @@
 //! The words of the program's command line.
 ghost use Rattle.std.specs.Prelude.{◌≡◌, ◌≤◌, IfOk, IfSome, false, codes, map, option_map};
+ghost use Rattle.df_value.specs.Limits.{most_rows_of_chunk};
 ghost use Rattle.clap.specs.Words.{FailsBy, app_of, fault_of, first_value, found_of, one_text, rule_of};
 ghost use Rattle.clap.specs.Values.{IsUnsignedIn};
 ghost use Rattle.df_app.specs.CommandLine as command_line_spec;
@@ -17,8 +18,9 @@ use std::alloc::{AllocError, Global};
 pub fn words<'a>(alloc: Global, words: &'a [&'a str]) -> Result<Words<'a>, Error>
     ensures says { IfOk result (λ w. Says (map (λ word. word.now) words.entry.now) w) }
     ensures workers { IfOk result (λ w. (1 ≤ w.workers) × (w.workers ≤ 16)) }
-    ensures chunk { IfOk result (λ w. (1 ≤ w.chunk) × (w.chunk ≤ 65536)) }
-    ensures refused { FailsBy (fault_of command_line_spec.command_line (map (λ word. word.now) words.entry.now)) result }
+    ensures chunk { IfOk result (λ w. (1 ≤ w.chunk) × (w.chunk ≤ most_rows_of_chunk)) }
+    ensures refused { FailsBy (fault_of command_line_spec.command_line
+        (map (λ word. word.now) words.entry.now)) result }
 {
     let matches = command(alloc)?.try_get_matches_from(words)?;
     Ok(words_in(&matches))
@@ -74,11 +76,16 @@ fn chunk_option<'a>(alloc: Global) -> Arg<'a>
 }
 
 fn words_in<'a>(matches: &ArgMatches<'a>) -> Words<'a>
-    requires workers { IfSome (one_text (found_of matches.now) (codes "workers")) (IsUnsignedIn 1 16) }
-    requires chunk { IfSome (one_text (found_of matches.now) (codes "chunk")) (IsUnsignedIn 1 65536) }
-    ensures views { option_map (λ v. v.now) result.views ≡ first_value (found_of matches.now) (codes "views") }
-    ensures workers { result.workers ≡ number_or 4 (one_text (found_of matches.now) (codes "workers")) }
-    ensures chunk { result.chunk ≡ number_or 1000 (one_text (found_of matches.now) (codes "chunk")) }
+    requires workers { IfSome (one_text (found_of matches.now) (codes "workers"))
+        (IsUnsignedIn 1 16) }
+    requires chunk { IfSome (one_text (found_of matches.now) (codes "chunk"))
+        (IsUnsignedIn 1 65536) }
+    ensures views { option_map (λ v. v.now) result.views
+        ≡ first_value (found_of matches.now) (codes "views") }
+    ensures workers { result.workers
+        ≡ number_or 4 (one_text (found_of matches.now) (codes "workers")) }
+    ensures chunk { result.chunk
+        ≡ number_or 1000 (one_text (found_of matches.now) (codes "chunk")) }
 {
     Words {
         views: matches.get_str("views"),

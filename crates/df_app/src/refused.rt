@@ -16,7 +16,8 @@ pub fn refused_lines(
     chunk: usize,
 ) -> Result<List<u8>, AllocError>
     requires { length pieces.now ≡ length frames.now }
-    ensures { IfOk result (λ lines. lines ≡ flat_map (refused_in chunk) (paired frames.now pieces.now)) }
+    ensures { IfOk result
+        (λ lines. lines ≡ flat_map (refused_in chunk) (paired frames.now pieces.now)) }
 {
     let mut lines = Vec::new(alloc);
     for i in 0..frames.len() {
@@ -33,7 +34,8 @@ fn push_refused(
     pieces: &[Piece],
     chunk: usize,
 ) -> Result<(), AllocError>
-    ensures { OnOk result (lines.new.items ≡ lines.old.items ++ refused_in chunk (frame.now, pieces.now)) }
+    ensures { OnOk result
+        (lines.new.items ≡ lines.old.items ++ refused_in chunk (frame.now, pieces.now)) }
 {
     for n in 0..pieces.len() {
         // In u128 no product of two sizes is too large.
@@ -50,7 +52,8 @@ fn push_line(
     first: u128,
     made: &Piece,
 ) -> Result<(), AllocError>
-    ensures { OnOk result (lines.new.items ≡ lines.old.items ++ output.refused_line frame.now first made.now) }
+    ensures { OnOk result
+        (lines.new.items ≡ lines.old.items ++ output.refused_line frame.now first made.now) }
 {
     match made {
         Piece::Good(_) => Ok(()),
@@ -67,7 +70,8 @@ fn refused_line(
     first: u128,
     cell: BadCell,
 ) -> Result<String, AllocError>
-    ensures { IfOk result (λ line. string_bytes line ≡ output.refused_line frame.now first (Bad cell)) }
+    ensures { IfOk result
+        (λ line. string_bytes line ≡ output.refused_line frame.now first (Bad cell)) }
 {
     let frame_name = escape(alloc, frame.name.as_str())?;
     let column_name = escape(alloc, name_in(&frame.schema, cell.column))?;

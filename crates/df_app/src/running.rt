@@ -1,5 +1,6 @@
 //! A run, from the bytes of a document to what is written.
 ghost use Rattle.std.specs.Prelude.{◌≡◌, ◌≤◌, IfErr, IfSome};
+ghost use Rattle.df_value.specs.Limits.{most_rows_of_chunk};
 ghost use Rattle.df_app.specs.Output.{KnowsFiles};
 ghost use Rattle.df_app.specs.Ran.{IsOutput, KeepsUnlessWrite, IsRunOn, IsWriting};
 
@@ -17,11 +18,11 @@ use std::io::{Read, Write};
 ///
 /// The document is read whole, at most 1,048,576 bytes; its plans are checked in the order of the
 /// views; its frames are read in their order and typed in chunks of `chunk` records, 1 to 65,536. A
-/// file that cannot be opened, or of which a read fails, is a `ReadFault` of its frame. A chunk with a
-/// bad cell does not enter its frame. Only then is anything written: the tables of the views in the
-/// document's order, then a line for each refused chunk. At a fault other than [`RunFault::Write`]
-/// nothing was written, at that one a prefix of the output. What is written does not depend on
-/// `workers`, 1 to 16; one thread does the work.
+/// file that cannot be opened, or of which a read fails, is a `ReadFault` of its frame. A chunk
+/// with a bad cell does not enter its frame. Only then is anything written: the tables of the views
+/// in the document's order, then a line for each refused chunk. At a fault other than
+/// [`RunFault::Write`] nothing was written, at that one a prefix of the output. What is written
+/// does not depend on `workers`, 1 to 16; one thread does the work.
 pub fn run<V: Read, F: Files, W: Write>(
     alloc: Global,
     reader: &mut V,
@@ -33,10 +34,13 @@ pub fn run<V: Read, F: Files, W: Write>(
     requires workers { 1 ≤ workers }
     requires few_workers { workers ≤ 16 }
     requires some { 1 ≤ chunk }
-    requires few { chunk ≤ 65536 }
-    ensures ran { IfSome (V.remaining reader.old) (λ bytes. KnowsFiles (F.bytes_at files.old) bytes →
-        IsRunOn bytes (F.bytes_at files.old) chunk (W.contents writer.old) (W.contents writer.new) result) }
-    ensures nothing_else { IfErr result (KeepsUnlessWrite (W.contents writer.old) (W.contents writer.new)) }
+    requires few { chunk ≤ most_rows_of_chunk }
+    ensures ran { IfSome (V.remaining reader.old)
+        (λ bytes. KnowsFiles (F.bytes_at files.old) bytes →
+        IsRunOn bytes (F.bytes_at files.old) chunk (W.contents writer.old)
+        (W.contents writer.new) result) }
+    ensures nothing_else { IfErr result
+        (KeepsUnlessWrite (W.contents writer.old) (W.contents writer.new)) }
     ensures same { F.bytes_at files.new ≡ F.bytes_at files.old }
 {
     match read_output(alloc, reader, files, chunk) {
@@ -52,9 +56,10 @@ fn read_output<V: Read, F: Files>(
     chunk: usize,
 ) -> Result<Output, RunFault>
     requires some { 1 ≤ chunk }
-    requires few { chunk ≤ 65536 }
+    requires few { chunk ≤ most_rows_of_chunk }
     ensures same { F.bytes_at files.new ≡ F.bytes_at files.old }
-    ensures value { IfSome (V.remaining reader.old) (λ bytes. KnowsFiles (F.bytes_at files.old) bytes →
+    ensures value { IfSome (V.remaining reader.old)
+        (λ bytes. KnowsFiles (F.bytes_at files.old) bytes →
         IsOutput bytes (F.bytes_at files.old) chunk result) }
 {
     match open_document(alloc, reader, files, chunk) {

@@ -6,7 +6,7 @@ use Rattle.std.proofs.lemmas.Bool.{cases_Bool}
 use Rattle.std.proofs.lemmas.Bool.Decides.{nat_tests}
 use Rattle.std.proofs.lemmas.List.{length-take}
 use Rattle.std.proofs.lemmas.List.Elements.{All-drop, All-head, All-tail, All-take}
-use Rattle.df_value.specs.Cells.{fits_type}
+use Rattle.df_value.specs.Cells.{fits_dtype}
 use Rattle.df_value.specs.ChunkFaults.{chunk_fault}
 use Rattle.df_value.specs.Rows.{row_fits}
 use Rattle.df_value.specs.declared.cell.Cell.TheVariants as cell
@@ -20,32 +20,32 @@ use Rattle.df_csv.specs.declared.typed.TypedRows.TheVariants as all
 use Rattle.df_csv.specs.Fields.{bool_of_text, cell_of_text, int_of_text, value_of_text}
 use Rattle.df_csv.specs.Typed.{row_from, row_of, rows_typed, cell_before, row_before}
 
-null_fits : (k : CellType) → fits_type k cell.Null ≡ true
+null_fits : (k : CellType) → fits_dtype k cell.Null ≡ true
 null_fits dtype.Int = refl
 null_fits dtype.Wide = refl
 null_fits dtype.Text = refl
 null_fits dtype.Bool = refl
 null_fits dtype.Frac = refl
 
-some_cell : (k : CellType) (a b : Cell) (o : Option Cell) → o ≡ Some a → o ≡ Some b → fits_type k a ≡ true → fits_type k b ≡ true
-some_cell k a b o e h f = let q : a ≡ b = cc in subst (λ v. fits_type k v ≡ true) q f
+some_cell : (k : CellType) (a b : Cell) (o : Option Cell) → o ≡ Some a → o ≡ Some b → fits_dtype k a ≡ true → fits_dtype k b ≡ true
+some_cell k a b o e h f = let q : a ≡ b = cc in subst (λ v. fits_dtype k v ≡ true) q f
 
-int_fits : (o : Option ℤ) (v : Cell) → option_map cell.Int o ≡ Some v → fits_type dtype.Int v ≡ true
+int_fits : (o : Option ℤ) (v : Cell) → option_map cell.Int o ≡ Some v → fits_dtype dtype.Int v ≡ true
 int_fits (Some n) v e = some_cell dtype.Int (cell.Int n) v _ refl e refl
 int_fits None v e = cc
 
-bool_fits : (o : Option Bool) (v : Cell) → option_map cell.Bool o ≡ Some v → fits_type dtype.Bool v ≡ true
+bool_fits : (o : Option Bool) (v : Cell) → option_map cell.Bool o ≡ Some v → fits_dtype dtype.Bool v ≡ true
 bool_fits (Some b) v e = some_cell dtype.Bool (cell.Bool b) v _ refl e refl
 bool_fits None v e = cc
 
-value_fits : (k : CellType) (f : List ℕ) (v : Cell) → value_of_text k f ≡ Some v → fits_type k v ≡ true
+value_fits : (k : CellType) (f : List ℕ) (v : Cell) → value_of_text k f ≡ Some v → fits_dtype k v ≡ true
 value_fits dtype.Int f v e = int_fits (int_of_text f) v e
 value_fits dtype.Bool f v e = bool_fits (bool_of_text f) v e
 value_fits dtype.Text f v e = some_cell dtype.Text (cell.Text f) v _ refl e refl
 value_fits dtype.Wide f v e = cc
 value_fits dtype.Frac f v e = cc
 
-cell_fits : (k : CellType) (f : List ℕ) (v : Cell) → cell_of_text k f ≡ Some v → fits_type k v ≡ true
+cell_fits : (k : CellType) (f : List ℕ) (v : Cell) → cell_of_text k f ≡ Some v → fits_dtype k v ≡ true
 cell_fits k f v e = elim (cases_Bool (nat_eq (length f) 0)) [
   | inl is ↦ some_cell k cell.Null v _ refl (rw is at e) (null_fits k)
   | inr isnt ↦ value_fits k f v (rw isnt at e)

@@ -2,6 +2,7 @@
 -- The records are those that the crate csv defines for commas and double quotes (RFC 4180, and beside its line
 -- ends a lone CR or LF); blank lines are passed over.
 use Rattle.std.specs.Prelude.{◌≡◌, ◌≢◌, ◌+◌, ◌≤◌, ◌==◌, ℕ, zero, suc, not, nat_lt, List, [], ◌∷◌, ◌++◌, length, map, take, drop, Option, Some, None, slice_get, unwrap_or, Result, Ok, Err, All, ⊤, if◌then◌else◌}
+use Rattle.df_value.specs.Limits.{most_rows_of_frame}
 use Rattle.std.specs.Str.{is_utf8}
 use Rattle.csv.specs.Reading.{default_config, records}
 use Rattle.csv.specs.Records.{AllText, field_at}
@@ -24,12 +25,12 @@ after_rows xs (Ok ys) = Ok (xs ++ ys)
 after_rows xs (Err e) = Err e
 
 -- the picked rows of the records from the n-th on: each has as many fields as the header, and no file has
--- more than 1048576 of them
+-- more of them than a frame can accept
 unfoldable pub checked_records : ℕ → List ℕ → ℕ → FieldRows → Result FieldRows CsvFault
 checked_records width indices n [] = Ok []
 checked_records width indices n (r ∷ rs) =
     if not (length r == width) then Err (BadRecord n)
-    else if nat_lt 1048576 n then Err TooManyRecords
+    else if nat_lt most_rows_of_frame n then Err TooManyRecords
     else after_rows (fields_at indices r ∷ []) (checked_records width indices (n + 1) rs)
 
 abbrev pub unless_bad_header : Option CsvFault → Result FieldRows CsvFault → Result FieldRows CsvFault
@@ -47,9 +48,13 @@ abbrev pub records_of : List ℕ → List (List ℕ × CellType) → Result Fiel
 records_of bytes columns =
     if is_utf8 (without_marks bytes) then records_under_header columns (records default_config (without_marks bytes)) else Err NotText
 
--- the records of a file, which has at most 67108864 bytes
+-- a file has at most so many bytes, this project's own choice
+abbrev pub most_bytes_of_file : ℕ
+most_bytes_of_file = 67108864
+
+-- the records of a file, which may not be too large
 abbrev pub file_records : List ℕ → List (List ℕ × CellType) → Result FieldRows CsvFault
-file_records bytes columns = if nat_lt 67108864 (length bytes) then Err TooLarge else records_of bytes columns
+file_records bytes columns = if nat_lt most_bytes_of_file (length bytes) then Err TooLarge else records_of bytes columns
 
 -- the answer is what the text says, unless memory ran out
 abbrev pub Gives : Result FieldRows CsvFault → Result FieldRows CsvFault → Type 0
@@ -72,7 +77,7 @@ record_at rows i = unwrap_or (slice_get rows i) []
 
 -- few enough records, each with so many fields
 pub record IsRecords (width : ℕ) (rows : FieldRows) : Type 0 where
-  pub few : length rows ≤ 1048576
+  pub few : length rows ≤ most_rows_of_frame
   pub even : All (λ r. length r ≡ width) rows
 
 -- every field of these records is text

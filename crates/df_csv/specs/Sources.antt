@@ -1,5 +1,6 @@
 -- The pieces of a CSV file as a list of chunks with the numbers of their first rows.
 use Rattle.std.specs.Prelude.{◌*◌, ◌<◌, ◌≤◌, ℕ, List, length}
+use Rattle.df_value.specs.Limits.{most_rows_of_chunk}
 use Rattle.df_value.specs.declared.cell.CellType.{CellType}
 use Rattle.df_value.specs.declared.chunk.Piece.{Piece}
 use Rattle.df_csv.specs.Records.{IsRecords, FieldRows}
@@ -11,11 +12,11 @@ pub record CsvParts : Type 0 where
   pub schema : List (List ℕ × CellType)
   pub size : ℕ
 
--- what a source keeps: few enough records of the schema's width, and pieces of 1 to 65536 of them
+-- what a source keeps: few enough records of the schema's width, and pieces of at least 1 of them and no more than a chunk has
 pub record IsCsvSource (records : FieldRows) (schema : List (List ℕ × CellType)) (size : ℕ) : Type 0 where
   pub sound : IsRecords (length schema) records
   pub some : 0 < size
-  pub short : size ≤ 65536
+  pub short : size ≤ most_rows_of_chunk
 
 -- the chunks of a source: its pieces
 abbrev pub chunks_of : CsvParts → List Piece

@@ -95,7 +95,8 @@ pub fn header_indices(
     columns: &[(Text, CellType)],
 ) -> Result<Vec<usize>, CsvFault>
     ensures { MatchResult result
-        (λ v. (header_fault columns.now header.now ≡ None) × (v.items ≡ map (λ c. header_index header.now c.0) columns.now))
+        (λ v. (header_fault columns.now header.now ≡ None)
+        × (v.items ≡ map (λ c. header_index header.now c.0) columns.now))
         (λ e. e ≢ CsvFault.Memory → header_fault columns.now header.now ≡ Some e) }
 {
     if let Some(column) = first_doubled(header, columns) {

@@ -1,5 +1,6 @@
 //! The pieces of a CSV file.
 ghost use Rattle.std.specs.Prelude.{◌≡◌, ◌<◌, ◌≤◌, IfOk, Some, length, slice_get};
+ghost use Rattle.df_value.specs.Limits.{most_rows_of_chunk};
 ghost use Rattle.df_csv.specs.Records.{IsRecords};
 ghost use Rattle.df_csv.specs.Typed.{piece_count, pieces_of};
 
@@ -16,8 +17,8 @@ pub fn count_pieces(records: &Records, k: usize) -> usize
     records.len().div_ceil(k)
 }
 
-/// Piece `n`, from 0, of the typed pieces of `k` records: [`type_chunk`] of the records from `n * k`
-/// on, of which the last piece may have fewer. `Err` says that memory was refused.
+/// Piece `n`, from 0, of the typed pieces of `k` records: [`type_chunk`] of the records from `n *
+/// k` on, of which the last piece may have fewer. `Err` says that memory was refused.
 pub fn type_piece(
     alloc: Global,
     records: &Records,
@@ -27,7 +28,7 @@ pub fn type_piece(
 ) -> Result<Piece, AllocError>
     requires sound { IsRecords (length schema.now) records.now }
     requires some { 0 < k }
-    requires short { k ≤ 65536 }
+    requires short { k ≤ most_rows_of_chunk }
     requires within { n < piece_count k (length records.now) }
     ensures { IfOk result (λ made. slice_get (pieces_of schema.now k records.now) n ≡ Some made) }
 {

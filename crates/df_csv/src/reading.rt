@@ -52,14 +52,14 @@ fn read_text(
 
 /// The records of a CSV text: of each the fields of the schema's columns.
 ///
-/// Byte order marks at the start are taken off. Fields are separated by commas and may stand in double
-/// quotes; blank lines are passed over. The first record is the header, whose names say which fields
-/// are whose; other columns are passed over.
+/// Byte order marks at the start are taken off. Fields are separated by commas and may stand in
+/// double quotes; blank lines are passed over. The first record is the header, whose names say
+/// which fields are whose; other columns are passed over.
 ///
-/// The first of these is answered: `NotText`; `DoubledHeader` of the first column of the schema that
-/// the header names twice; `MissingColumn` of the first that it does not name; then, by the records
-/// in order, `BadRecord` of one that is not as long as the header, and `TooManyRecords` at the record
-/// with the number 1,048,577. `Memory` comes where memory was refused.
+/// The first of these is answered: `NotText`; `DoubledHeader` of the first column of the schema
+/// that the header names twice; `MissingColumn` of the first that it does not name; then, by the
+/// records in order, `BadRecord` of one that is not as long as the header, and `TooManyRecords` at
+/// the record with the number 1,048,577. `Memory` comes where memory was refused.
 pub fn parse_records(alloc: Global, bytes: &[u8], schema: &Schema) -> Result<Records, CsvFault>
     ensures value { Gives result (records_of bytes.now schema.now) }
     ensures sound { IfOk result (λ records. IsRecords (length schema.now) records) }
@@ -80,7 +80,8 @@ pub fn read_records<R: Read>(
     reader: &mut R,
     schema: &Schema,
 ) -> Result<Records, CsvFault>
-    ensures value { IfSome (R.remaining reader.old) (λ bytes. GivesRead result (file_records bytes schema.now)) }
+    ensures value { IfSome (R.remaining reader.old)
+        (λ bytes. GivesRead result (file_records bytes schema.now)) }
     ensures sound { IfOk result (λ records. IsRecords (length schema.now) records) }
 {
     match read_limited(alloc, reader, MOST_BYTES_OF_FILE) {

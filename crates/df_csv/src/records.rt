@@ -26,7 +26,8 @@ impl Model for Records {
 
     ghost view = { λ r. rows_of_width r.width r.count (fields_of r.fields) };
 
-    ghost invariant = { λ r. (length (fields_of r.fields) ≡ r.count * r.width) × (length (fields_of r.fields) < 2 ^ 64) };
+    ghost invariant = { λ r. (length (fields_of r.fields) ≡ r.count * r.width)
+        × (length (fields_of r.fields) < 2 ^ 64) };
 }
 
 impl Records {

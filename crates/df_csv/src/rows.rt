@@ -9,14 +9,12 @@ use crate::fault::CsvFault;
 use crate::header::field_in;
 use crate::records::Records;
 use csv::{ByteRecord, ErrorKind, Reader, StringRecord};
+use df_value::MOST_ROWS_OF_FRAME;
 use std::alloc::{AllocError, Global};
 use std::io::Read;
 
-/// The most records of a file.
-const MOST_RECORDS: usize = 1_048_576;
-
-/// What the next record is: a row, none, one of another length than those before it, or not known for
-/// want of memory.
+/// What the next record is: a row, none, one of another length than those before it, or not known
+/// for want of memory.
 #[derive(Debug, Drop)]
 pub enum NextRow {
     Row,
@@ -47,7 +45,8 @@ pub fn next_row<R: Read>(reader: &mut Reader<R>, row: &mut ByteRecord) -> NextRo
 /// Adds the fields at these indices.
 fn pick(fields: &mut StringRecord, row: &ByteRecord, indices: &[usize]) -> Result<(), AllocError>
     requires { AllText (fields_of row.now) }
-    ensures { OnOk result (fields_of fields.new ≡ fields_of fields.old ++ fields_at indices.now (fields_of row.now)) }
+    ensures { OnOk result
+        (fields_of fields.new ≡ fields_of fields.old ++ fields_at indices.now (fields_of row.now)) }
 {
     for index in indices {
         fields.push_field(field_in(row, *index))?;
@@ -65,7 +64,8 @@ pub fn read_rows<R: Read>(
     requires plain { IsPlain R.remaining reader.old }
     requires width { expected_len reader.old ≡ Some width }
     requires texts { EveryText (rows_left R.remaining reader.old) }
-    ensures { Gives result (checked_records width indices.now 1 (rows_left R.remaining reader.old)) }
+    ensures { Gives result
+        (checked_records width indices.now 1 (rows_left R.remaining reader.old)) }
 {
     let mut fields = StringRecord::new(alloc);
     let mut row = ByteRecord::new(alloc);
@@ -77,7 +77,7 @@ pub fn read_rows<R: Read>(
             NextRow::Unlike => return Err(CsvFault::BadRecord(count as u64 + 1)),
             NextRow::Memory => return Err(CsvFault::Memory),
         }
-        if count == MOST_RECORDS {
+        if count == MOST_ROWS_OF_FRAME {
             return Err(CsvFault::TooManyRecords);
         }
         if pick(&mut fields, &row, indices).is_err() {

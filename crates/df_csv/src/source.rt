@@ -1,5 +1,6 @@
 //! The pieces of a CSV file as a source of chunks.
 ghost use Rattle.std.specs.Prelude.{◌≡◌, ◌≤◌, IsTrue, length};
+ghost use Rattle.df_value.specs.Limits.{most_rows_of_chunk};
 ghost use Rattle.df_value.specs.Schemas.{is_base};
 ghost use Rattle.df_csv.specs.Records.{IsRecords};
 
@@ -33,7 +34,7 @@ impl CsvSource {
         requires sound { IsRecords (length schema) records }
         requires base { IsTrue (is_base schema) }
         requires some { 1 ≤ size }
-        requires short { size ≤ 65536 }
+        requires short { size ≤ most_rows_of_chunk }
         ensures records { result.records ≡ records }
         ensures schema { result.schema ≡ schema }
         ensures size { result.size ≡ size }

@@ -1,5 +1,6 @@
 //! The typed pieces of a CSV file.
 ghost use Rattle.std.specs.Prelude.{◌≡◌, ◌+◌, ◌<◌, ◌≤◌, IfOk, None, drop, length, take};
+ghost use Rattle.df_value.specs.Limits.{most_rows_of_chunk};
 ghost use Rattle.df_value.specs.Chunks.{MakesChunk};
 ghost use Rattle.df_value.specs.ChunkFaults.{chunk_fault};
 ghost use Rattle.df_csv.specs.Records.{IsRecords, record_at};
@@ -56,7 +57,8 @@ fn type_rows(
 ) -> Result<TypedRows, AllocError>
     requires sound { IsRecords (length columns.now) records.now }
     requires within { first + len ≤ length records.now }
-    ensures { IfOk result (λ rows. rows ≡ rows_typed columns.now (first + 1) (take len (drop first records.now))) }
+    ensures { IfOk result
+        (λ rows. rows ≡ rows_typed columns.now (first + 1) (take len (drop first records.now))) }
 {
     let mut rows = Vec::with_capacity(alloc, len)?;
     for i in 0..len {
@@ -90,12 +92,13 @@ fn chunk_of(
     }
 }
 
-/// The typed piece of the `len` records behind the first `first`: the chunk of their rows, whose first
-/// number is `first`, or their first bad cell, by record and then by column.
+/// The typed piece of the `len` records behind the first `first`: the chunk of their rows, whose
+/// first number is `first`, or their first bad cell, by record and then by column.
 ///
-/// An empty field is null. An Int is an optional sign and decimal digits, within i64; a Bool is `true`
-/// or `false`, where ASCII case is ignored; a Text is any other field. Anything else is a bad cell. The
-/// number of a bad cell is its record's in the file, from 1. `Err` says that memory was refused.
+/// An empty field is null. An Int is an optional sign and decimal digits, within i64; a Bool is
+/// `true` or `false`, where ASCII case is ignored; a Text is any other field. Anything else is a
+/// bad cell. The number of a bad cell is its record's in the file, from 1. `Err` says that memory
+/// was refused.
 pub fn type_chunk(
     alloc: Global,
     records: &Records,
@@ -105,8 +108,9 @@ pub fn type_chunk(
 ) -> Result<Piece, AllocError>
     requires sound { IsRecords (length schema.now) records.now }
     requires within { first + len ≤ length records.now }
-    requires short { len ≤ 65536 }
-    ensures { IfOk result (λ made. made ≡ piece_of schema.now first (take len (drop first records.now))) }
+    requires short { len ≤ most_rows_of_chunk }
+    ensures { IfOk result
+        (λ made. made ≡ piece_of schema.now first (take len (drop first records.now))) }
 {
     let columns = schema.columns().as_slice();
     match type_rows(alloc, columns, records, first as usize, len)? {

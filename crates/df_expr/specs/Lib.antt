@@ -1,3 +1,4 @@
+pub mod Limits
 pub mod Arithmetic
 pub mod Logic
 pub mod Value

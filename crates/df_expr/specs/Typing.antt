@@ -8,6 +8,7 @@ use Rattle.df_value.specs.declared.cell.CellType.{CellType}
 use Rattle.df_value.specs.declared.cell.CellType.TheVariants as dtype
 use Rattle.df_value.specs.Cells.{is_text}
 use Rattle.df_value.specs.Schemas.{column_dtype}
+use Rattle.df_expr.specs.Limits.{most_expr_levels}
 use Rattle.df_expr.specs.declared.fault.ExprFault.{ExprFault}
 use Rattle.df_expr.specs.declared.fault.ExprFault.TheVariants as fault
 use Rattle.df_expr.specs.declared.expr.Expr.{Expr, fold-Expr}
@@ -18,67 +19,67 @@ abbrev pub TypeResult : Type 0
 TypeResult = Result CellType ExprFault
 
 -- a column of the schema has its type there
-abbrev pub column_type : List ℕ → Option CellType → TypeResult
-column_type name None = Err (fault.NoColumn name)
-column_type name (Some t) = Ok t
+abbrev pub column_dtype_check : List ℕ → Option CellType → TypeResult
+column_dtype_check name None = Err (fault.NoColumn name)
+column_dtype_check name (Some t) = Ok t
 
 -- a literal is null or a cell of its type, which is Int, Text or Bool
-abbrev pub literal_type : Cell → CellType → TypeResult
-literal_type cell.Null dtype.Int = Ok dtype.Int
-literal_type cell.Null dtype.Text = Ok dtype.Text
-literal_type cell.Null dtype.Bool = Ok dtype.Bool
-literal_type (cell.Int n) dtype.Int = Ok dtype.Int
-literal_type (cell.Text t) dtype.Text = Ok dtype.Text
-literal_type (cell.Bool b) dtype.Bool = Ok dtype.Bool
-literal_type _ _ = Err fault.WrongType
+abbrev pub literal_dtype : Cell → CellType → TypeResult
+literal_dtype cell.Null dtype.Int = Ok dtype.Int
+literal_dtype cell.Null dtype.Text = Ok dtype.Text
+literal_dtype cell.Null dtype.Bool = Ok dtype.Bool
+literal_dtype (cell.Int n) dtype.Int = Ok dtype.Int
+literal_dtype (cell.Text t) dtype.Text = Ok dtype.Text
+literal_dtype (cell.Bool b) dtype.Bool = Ok dtype.Bool
+literal_dtype _ _ = Err fault.WrongType
 
 -- two Ints give an Int
-abbrev pub arith_type : CellType → CellType → TypeResult
-arith_type dtype.Int dtype.Int = Ok dtype.Int
-arith_type _ _ = Err fault.WrongType
+abbrev pub arith_dtype : CellType → CellType → TypeResult
+arith_dtype dtype.Int dtype.Int = Ok dtype.Int
+arith_dtype _ _ = Err fault.WrongType
 
 -- two operands of one ordered type have that type
-abbrev pub ordered_type : CellType → CellType → TypeResult
-ordered_type dtype.Int dtype.Int = Ok dtype.Int
-ordered_type dtype.Wide dtype.Wide = Ok dtype.Wide
-ordered_type dtype.Text dtype.Text = Ok dtype.Text
-ordered_type dtype.Bool dtype.Bool = Ok dtype.Bool
-ordered_type _ _ = Err fault.WrongType
+abbrev pub ordered_dtype : CellType → CellType → TypeResult
+ordered_dtype dtype.Int dtype.Int = Ok dtype.Int
+ordered_dtype dtype.Wide dtype.Wide = Ok dtype.Wide
+ordered_dtype dtype.Text dtype.Text = Ok dtype.Text
+ordered_dtype dtype.Bool dtype.Bool = Ok dtype.Bool
+ordered_dtype _ _ = Err fault.WrongType
 
 -- a truth is a Bool
-abbrev pub truth_type : CellType → TypeResult
-truth_type dtype.Bool = Ok dtype.Bool
-truth_type _ = Err fault.WrongType
+abbrev pub bool_dtype : CellType → TypeResult
+bool_dtype dtype.Bool = Ok dtype.Bool
+bool_dtype _ = Err fault.WrongType
 
 -- the left operand's fault comes first, then the right one's, then the node's own
 abbrev pub both : TypeResult → TypeResult → (CellType → CellType → TypeResult) → TypeResult
 both a b next = then_next a (λ s. then_next b (next s))
 
 -- two operands that compare
-abbrev pub compare_type : CellType → CellType → TypeResult
-compare_type s t = then_next (ordered_type s t) (λ _. Ok dtype.Bool)
+abbrev pub compare_dtype : CellType → CellType → TypeResult
+compare_dtype s t = then_next (ordered_dtype s t) (λ _. Ok dtype.Bool)
 
 -- two truths
-abbrev pub truths_type : CellType → CellType → TypeResult
-truths_type s t = then_next (truth_type s) (λ _. truth_type t)
+abbrev pub bools_dtype : CellType → CellType → TypeResult
+bools_dtype s t = then_next (bool_dtype s) (λ _. bool_dtype t)
 
 -- the type of one form, from the types of its operands
-abbrev pub type_step : List (List ℕ × CellType) → Expr-F TypeResult → TypeResult
-type_step schema (Expr-F.Column name) = column_type name (column_dtype name schema)
-type_step schema (Expr-F.Literal c k) = literal_type c k
-type_step schema (Expr-F.Arith op a b) = both a b arith_type
-type_step schema (Expr-F.Compare op a b) = both a b compare_type
-type_step schema (Expr-F.EqMissing a b) = both a b compare_type
-type_step schema (Expr-F.And a b) = both a b truths_type
-type_step schema (Expr-F.Or a b) = both a b truths_type
-type_step schema (Expr-F.Not a) = then_next a truth_type
-type_step schema (Expr-F.IsNull a) = then_next a (λ _. Ok dtype.Bool)
-type_step schema (Expr-F.IsNotNull a) = then_next a (λ _. Ok dtype.Bool)
-type_step schema (Expr-F.FillNull a b) = both a b ordered_type
+abbrev pub dtype_step : List (List ℕ × CellType) → Expr-F TypeResult → TypeResult
+dtype_step schema (Expr-F.Column name) = column_dtype_check name (column_dtype name schema)
+dtype_step schema (Expr-F.Literal c k) = literal_dtype c k
+dtype_step schema (Expr-F.Arith op a b) = both a b arith_dtype
+dtype_step schema (Expr-F.Compare op a b) = both a b compare_dtype
+dtype_step schema (Expr-F.EqMissing a b) = both a b compare_dtype
+dtype_step schema (Expr-F.And a b) = both a b bools_dtype
+dtype_step schema (Expr-F.Or a b) = both a b bools_dtype
+dtype_step schema (Expr-F.Not a) = then_next a bool_dtype
+dtype_step schema (Expr-F.IsNull a) = then_next a (λ _. Ok dtype.Bool)
+dtype_step schema (Expr-F.IsNotNull a) = then_next a (λ _. Ok dtype.Bool)
+dtype_step schema (Expr-F.FillNull a b) = both a b ordered_dtype
 
 -- the type of an expression, or the first fault of a walk from left to right, operands before their node
-abbrev pub type_of : Expr → List (List ℕ × CellType) → TypeResult
-type_of e schema = fold-Expr TypeResult (type_step schema) e
+abbrev pub dtype_of : Expr → List (List ℕ × CellType) → TypeResult
+dtype_of e schema = fold-Expr TypeResult (dtype_step schema) e
 
 abbrev pub expr_levels_step : Expr-F ℕ → ℕ
 expr_levels_step (Expr-F.Column name) = 1
@@ -99,7 +100,7 @@ expr_levels e = fold-Expr ℕ expr_levels_step e
 
 -- the answer of a check: too many levels come before all else
 abbrev pub expr_check : Expr → List (List ℕ × CellType) → TypeResult
-expr_check e schema = if nat_lt 32 (expr_levels e) then Err fault.TooDeep else type_of e schema
+expr_check e schema = if nat_lt most_expr_levels (expr_levels e) then Err fault.TooDeep else dtype_of e schema
 
 -- whether a type, if there is one, is no Text
 abbrev pub not_text : Option CellType → Bool

@@ -1,9 +1,9 @@
 //! The value of an expression in a row.
 ghost use Rattle.std.specs.Prelude.{◌≡◌, ◌+◌, ◌<◌, ◌^◌, IfOk, IsOk, IsTrue, Ok, not};
 ghost use Rattle.df_value.specs.declared.cell.CellType.{CellType};
-ghost use Rattle.df_value.specs.Cells.{fits_type, is_text};
+ghost use Rattle.df_value.specs.Cells.{fits_dtype, is_text};
 ghost use Rattle.df_value.specs.Rows.{cell_at, row_fits};
-ghost use Rattle.df_expr.specs.Typing.{type_of, no_text};
+ghost use Rattle.df_expr.specs.Typing.{dtype_of, no_text};
 ghost use Rattle.df_expr.specs.Operators.{binary_value, unary_value};
 ghost use Rattle.df_expr.specs.Value.{value_of};
 
@@ -27,19 +27,22 @@ pub fn eval(
     ensures value { IfOk result (λ c. c ≡ value_of expr.now schema.now row.now) }
     ensures counted { meter.new ≡ record meter.old { evals = meter.old.evals + 1 } }
 
-    // Over a row that fits the schema, the value of an expression that checks is null or of its type.
+    // Over a row that fits the schema, the value of an expression that checks is null or of its
+    // type.
     ensures typed { IsTrue (row_fits schema.now row.now) → (t : CellType) →
-        type_of expr.now schema.now ≡ Ok t → IsTrue (fits_type t (value_of expr.now schema.now row.now)) }
+        dtype_of expr.now schema.now ≡ Ok t
+        → IsTrue (fits_dtype t (value_of expr.now schema.now row.now)) }
 
     // Only a text takes memory.
-    ensures free { IsTrue (row_fits schema.now row.now) → IsTrue (no_text expr.now schema.now) → IsOk result }
+    ensures free { IsTrue (row_fits schema.now row.now) → IsTrue (no_text expr.now schema.now)
+        → IsOk result }
 {
     meter.evals += 1;
     value(alloc, expr, schema.columns().as_slice(), row)
 }
 
-/// As [`eval`], over columns that need not be a schema, and without a count: for the plain evaluation of
-/// whole tables, which counts no work.
+/// As [`eval`], over columns that need not be a schema, and without a count: for the plain
+/// evaluation of whole tables, which counts no work.
 #[cycle(values)]
 pub fn value(
     alloc: Global,
@@ -48,7 +51,8 @@ pub fn value(
     row: &Row,
 ) -> Result<Cell, AllocError>
     ensures value { IfOk result (λ c. c ≡ value_of expr.now columns.now row.now) }
-    ensures free { IsTrue (row_fits columns.now row.now) → IsTrue (no_text expr.now columns.now) → IsOk result }
+    ensures free { IsTrue (row_fits columns.now row.now) → IsTrue (no_text expr.now columns.now)
+        → IsOk result }
 {
     match expr {
         Expr::Column(name) => copy_at(alloc, column_index(name, columns), row),
@@ -92,15 +96,17 @@ fn apply_unary(
     row: &Row,
     operator: Unary,
 ) -> Result<Cell, AllocError>
-    ensures value { IfOk result (λ c. c ≡ unary_value operator (value_of a.now columns.now row.now)) }
-    ensures free { IsTrue (row_fits columns.now row.now) → IsTrue (no_text a.now columns.now) → IsOk result }
+    ensures value { IfOk result
+        (λ c. c ≡ unary_value operator (value_of a.now columns.now row.now)) }
+    ensures free { IsTrue (row_fits columns.now row.now) → IsTrue (no_text a.now columns.now)
+        → IsOk result }
 {
     let a = value(alloc, a.get(), columns, row)?;
     Ok(operator.apply(&a))
 }
 
-// The value of an operator over its left operand's value and the value of its right operand. The right operand
-// comes before all that is read of it, since the recursion ends by its depth.
+// The value of an operator over its left operand's value and the value of its right operand. The
+// right operand comes before all that is read of it, since the recursion ends by its depth.
 #[cycle(values)]
 fn apply_binary(
     alloc: Global,
@@ -110,8 +116,10 @@ fn apply_binary(
     operator: Binary,
     a: Cell,
 ) -> Result<Cell, AllocError>
-    ensures value { IfOk result (λ c. c ≡ binary_value operator a (value_of b.now columns.now row.now)) }
-    ensures free { IsTrue (row_fits columns.now row.now) → IsTrue (no_text b.now columns.now) → IsOk result }
+    ensures value { IfOk result
+        (λ c. c ≡ binary_value operator a (value_of b.now columns.now row.now)) }
+    ensures free { IsTrue (row_fits columns.now row.now) → IsTrue (no_text b.now columns.now)
+        → IsOk result }
 {
     let b = value(alloc, b.get(), columns, row)?;
     Ok(operator.apply(&a, &b))

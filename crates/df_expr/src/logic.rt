@@ -9,7 +9,8 @@ use df_value::Cell;
 pub fn kleene_and(a: Option<bool>, b: Option<bool>) -> Option<bool>
     ensures value { result ≡ logic.kleene_and a b }
     ensures symmetric { logic.kleene_and a b ≡ logic.kleene_and b a }
-    ensures de_morgan { logic.kleene_not (logic.kleene_and a b) ≡ logic.kleene_or (logic.kleene_not a) (logic.kleene_not b) }
+    ensures de_morgan { logic.kleene_not (logic.kleene_and a b)
+        ≡ logic.kleene_or (logic.kleene_not a) (logic.kleene_not b) }
 {
     match (a, b) {
         (Some(false), _) | (_, Some(false)) => Some(false),
@@ -22,7 +23,8 @@ pub fn kleene_and(a: Option<bool>, b: Option<bool>) -> Option<bool>
 pub fn kleene_or(a: Option<bool>, b: Option<bool>) -> Option<bool>
     ensures value { result ≡ logic.kleene_or a b }
     ensures symmetric { logic.kleene_or a b ≡ logic.kleene_or b a }
-    ensures de_morgan { logic.kleene_not (logic.kleene_or a b) ≡ logic.kleene_and (logic.kleene_not a) (logic.kleene_not b) }
+    ensures de_morgan { logic.kleene_not (logic.kleene_or a b)
+        ≡ logic.kleene_and (logic.kleene_not a) (logic.kleene_not b) }
 {
     match (a, b) {
         (Some(true), _) | (_, Some(true)) => Some(true),

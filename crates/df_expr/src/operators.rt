@@ -16,7 +16,8 @@ use std::cmp::Ordering;
 /// The result of two Int cells, wrapped at 64 bits; null where a cell is null or no Int.
 pub fn arith(op: ArithOp, a: &Cell, b: &Cell) -> Cell
     ensures value { result ≡ arith_of op a.now b.now }
-    ensures null_spreads { (arith_of op cell.Null b.now ≡ cell.Null) × (arith_of op a.now cell.Null ≡ cell.Null) }
+    ensures null_spreads { (arith_of op cell.Null b.now ≡ cell.Null)
+        × (arith_of op a.now cell.Null ≡ cell.Null) }
 {
     match (a, b) {
         (Cell::Int(a), Cell::Int(b)) => Cell::Int(op.apply(*a, *b)),
@@ -55,7 +56,8 @@ pub fn eq_missing(a: &Cell, b: &Cell) -> bool
     ensures exact { IsTrue result ↔ (a.now ≡ b.now) }
     ensures reflexive { IsTrue (cell_eq a.now a.now) }
     ensures symmetric { cell_eq a.now b.now ≡ cell_eq b.now a.now }
-    ensures transitive { (c : AnyCell) → IsTrue (cell_eq a.now b.now) → IsTrue (cell_eq b.now c) → IsTrue (cell_eq a.now c) }
+    ensures transitive { (c : AnyCell) → IsTrue (cell_eq a.now b.now) → IsTrue (cell_eq b.now c)
+        → IsTrue (cell_eq a.now c) }
 {
     *a == *b
 }

@@ -15,16 +15,16 @@ pub const MOST_EXPR_LEVELS: u32 = 32;
 /// The type of an expression over the columns of a schema.
 ///
 /// Refused is first an expression of more than 32 levels. Then comes the first fault of a walk that
-/// visits operands from left to right and then their node: a column that the schema does not have, a
-/// literal of another type than stated or of type Wide or Frac, or operands of a wrong type. Memory is
-/// asked for only to name the missing column.
+/// visits operands from left to right and then their node: a column that the schema does not have,
+/// a literal of another type than stated or of type Wide or Frac, or operands of a wrong type.
+/// Memory is asked for only to name the missing column.
 pub fn check(alloc: Global, expr: &Expr, schema: &Schema) -> Result<CellType, ExprFault>
     ensures { AnswersType (expr_check expr.now schema.now) result }
 {
     if !is_within(expr, MOST_EXPR_LEVELS) {
         return Err(ExprFault::TooDeep);
     }
-    type_of(alloc, expr, schema)
+    dtype_of(alloc, expr, schema)
 }
 
 /// Whether a column stands in an expression; if none does, its value is the same in every row.
@@ -64,44 +64,45 @@ fn is_within(expr: &Expr, most: u32) -> bool
     }
 }
 
-fn type_of(alloc: Global, expr: &Expr, schema: &Schema) -> Result<CellType, ExprFault>
-    ensures { AnswersType (typing.type_of expr.now schema.now) result }
+fn dtype_of(alloc: Global, expr: &Expr, schema: &Schema) -> Result<CellType, ExprFault>
+    ensures { AnswersType (typing.dtype_of expr.now schema.now) result }
 {
     match expr {
-        Expr::Column(name) => column_type(alloc, name, schema),
-        Expr::Literal(cell, dtype) => literal_type(cell, *dtype),
+        Expr::Column(name) => column_dtype_check(alloc, name, schema),
+        Expr::Literal(cell, dtype) => literal_dtype(cell, *dtype),
         Expr::Arith(_, a, b) => {
-            let a = type_of(alloc, a.get(), schema)?;
-            let b = type_of(alloc, b.get(), schema)?;
-            arith_type(a, b)
+            let a = dtype_of(alloc, a.get(), schema)?;
+            let b = dtype_of(alloc, b.get(), schema)?;
+            arith_dtype(a, b)
         }
         Expr::Compare(_, a, b) | Expr::EqMissing(a, b) => {
-            let a = type_of(alloc, a.get(), schema)?;
-            let b = type_of(alloc, b.get(), schema)?;
-            compare_type(a, b)
+            let a = dtype_of(alloc, a.get(), schema)?;
+            let b = dtype_of(alloc, b.get(), schema)?;
+            compare_dtype(a, b)
         }
         Expr::And(a, b) | Expr::Or(a, b) => {
-            let a = type_of(alloc, a.get(), schema)?;
-            let b = type_of(alloc, b.get(), schema)?;
-            truths_type(a, b)
+            let a = dtype_of(alloc, a.get(), schema)?;
+            let b = dtype_of(alloc, b.get(), schema)?;
+            bools_dtype(a, b)
         }
-        Expr::Not(a) => truth_type(type_of(alloc, a.get(), schema)?),
+        Expr::Not(a) => bool_dtype(dtype_of(alloc, a.get(), schema)?),
         Expr::IsNull(a) | Expr::IsNotNull(a) => {
-            type_of(alloc, a.get(), schema)?;
+            dtype_of(alloc, a.get(), schema)?;
             Ok(CellType::Bool)
         }
         Expr::FillNull(a, b) => {
-            let a = type_of(alloc, a.get(), schema)?;
-            let b = type_of(alloc, b.get(), schema)?;
-            ordered_type(a, b)
+            let a = dtype_of(alloc, a.get(), schema)?;
+            let b = dtype_of(alloc, b.get(), schema)?;
+            ordered_dtype(a, b)
         }
     }
 }
 
-fn column_type(alloc: Global, name: &Text, schema: &Schema) -> Result<CellType, ExprFault>
-    ensures { AnswersType (typing.column_type name.now (column_dtype name.now schema.now)) result }
+fn column_dtype_check(alloc: Global, name: &Text, schema: &Schema) -> Result<CellType, ExprFault>
+    ensures { AnswersType
+        (typing.column_dtype_check name.now (column_dtype name.now schema.now)) result }
 {
-    match schema.type_of(name) {
+    match schema.dtype_of(name) {
         Some(dtype) => Ok(dtype),
         None => match name.copy(alloc) {
             Ok(name) => Err(ExprFault::NoColumn(name)),
@@ -110,8 +111,8 @@ fn column_type(alloc: Global, name: &Text, schema: &Schema) -> Result<CellType, 
     }
 }
 
-fn literal_type(cell: &Cell, dtype: CellType) -> Result<CellType, ExprFault>
-    ensures { result ≡ typing.literal_type cell.now dtype }
+fn literal_dtype(cell: &Cell, dtype: CellType) -> Result<CellType, ExprFault>
+    ensures { result ≡ typing.literal_dtype cell.now dtype }
 {
     match (cell, dtype) {
         (Cell::Null, CellType::Int | CellType::Text | CellType::Bool) => Ok(dtype),
@@ -122,8 +123,8 @@ fn literal_type(cell: &Cell, dtype: CellType) -> Result<CellType, ExprFault>
     }
 }
 
-fn arith_type(a: CellType, b: CellType) -> Result<CellType, ExprFault>
-    ensures { result ≡ typing.arith_type a b }
+fn arith_dtype(a: CellType, b: CellType) -> Result<CellType, ExprFault>
+    ensures { result ≡ typing.arith_dtype a b }
 {
     match (a, b) {
         (CellType::Int, CellType::Int) => Ok(CellType::Int),
@@ -131,8 +132,8 @@ fn arith_type(a: CellType, b: CellType) -> Result<CellType, ExprFault>
     }
 }
 
-fn ordered_type(a: CellType, b: CellType) -> Result<CellType, ExprFault>
-    ensures { result ≡ typing.ordered_type a b }
+fn ordered_dtype(a: CellType, b: CellType) -> Result<CellType, ExprFault>
+    ensures { result ≡ typing.ordered_dtype a b }
 {
     if a == b && a != CellType::Frac {
         Ok(a)
@@ -141,15 +142,15 @@ fn ordered_type(a: CellType, b: CellType) -> Result<CellType, ExprFault>
     }
 }
 
-fn compare_type(a: CellType, b: CellType) -> Result<CellType, ExprFault>
-    ensures { result ≡ typing.compare_type a b }
+fn compare_dtype(a: CellType, b: CellType) -> Result<CellType, ExprFault>
+    ensures { result ≡ typing.compare_dtype a b }
 {
-    ordered_type(a, b)?;
+    ordered_dtype(a, b)?;
     Ok(CellType::Bool)
 }
 
-fn truth_type(a: CellType) -> Result<CellType, ExprFault>
-    ensures { result ≡ typing.truth_type a }
+fn bool_dtype(a: CellType) -> Result<CellType, ExprFault>
+    ensures { result ≡ typing.bool_dtype a }
 {
     match a {
         CellType::Bool => Ok(CellType::Bool),
@@ -157,9 +158,9 @@ fn truth_type(a: CellType) -> Result<CellType, ExprFault>
     }
 }
 
-fn truths_type(a: CellType, b: CellType) -> Result<CellType, ExprFault>
-    ensures { result ≡ typing.truths_type a b }
+fn bools_dtype(a: CellType, b: CellType) -> Result<CellType, ExprFault>
+    ensures { result ≡ typing.bools_dtype a b }
 {
-    truth_type(a)?;
-    truth_type(b)
+    bool_dtype(a)?;
+    bool_dtype(b)
 }

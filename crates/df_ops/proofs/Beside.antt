@@ -2,7 +2,7 @@
 use Rattle.std.proofs.Common.{◌≡◌, ℕ, Bool, true, false, ◌∙◌, cond, List, [], ◌∷◌, ◌++◌, map, filter, refl, ap, sym}
 use Rattle.std.specs.Prelude.{Option, Some, not, unwrap_or, ◌||◌}
 use Rattle.std.specs.Str.{bytes_eq}
-use Rattle.df_ops.specs.NamedColumns.{has_name, first_of_name, added_or_own, with_columns}
+use Rattle.df_ops.specs.NamedColumns.{has_column, first_of_name, added_or_own, with_columns}
 
 -- the items of two lists that stand beside each other are related
 abbrev pub Beside : {A B : Type 0} → (List ℕ × A → List ℕ × B → Type 0) → List (List ℕ × A) → List (List ℕ × B) → Type 0
@@ -17,12 +17,12 @@ Names {A} {B} R = (c : List ℕ × A) (v : List ℕ × B) → R c v → c.0 ≡ 
 
 pub has_beside :
     {A B : Type 0} (R : List ℕ × A → List ℕ × B → Type 0) → Names R → (name : List ℕ) (cs : List (List ℕ × A)) (vs : List (List ℕ × B)) →
-    Beside R cs vs → has_name name cs ≡ has_name name vs
+    Beside R cs vs → has_column name cs ≡ has_column name vs
 has_beside R names name [] [] h = refl
 has_beside R names name [] (v ∷ vs) h = absurd h
 has_beside R names name (c ∷ cs) [] h = absurd h
 has_beside R names name (c ∷ cs) (v ∷ vs) h =
-    ap (λ n. bytes_eq n name || has_name name cs) (names c v h.0) ∙ ap (λ b. bytes_eq v.0 name || b) (has_beside R names name cs vs h.1)
+    ap (λ n. bytes_eq n name || has_column name cs) (names c v h.0) ∙ ap (λ b. bytes_eq v.0 name || b) (has_beside R names name cs vs h.1)
 
 pub append_beside :
     {A B : Type 0} (R : List ℕ × A → List ℕ × B → Type 0) (cs : List (List ℕ × A)) (vs : List (List ℕ × B)) (ds : List (List ℕ × A)) (ws : List (List ℕ × B)) →
@@ -76,18 +76,18 @@ beside_if R false false e c v k cs vs h = h
 new_beside :
     {A B : Type 0} (R : List ℕ × A → List ℕ × B → Type 0) → Names R → (own : List (List ℕ × A)) (cells : List (List ℕ × B)) → Beside R own cells →
     (cs : List (List ℕ × A)) (vs : List (List ℕ × B)) → Beside R cs vs →
-    Beside R (filter (λ a. not (has_name a.0 own)) cs) (filter (λ a. not (has_name a.0 cells)) vs)
+    Beside R (filter (λ a. not (has_column a.0 own)) cs) (filter (λ a. not (has_column a.0 cells)) vs)
 new_beside R names own cells k [] [] h = tt
 new_beside R names own cells k [] (v ∷ vs) h = absurd h
 new_beside R names own cells k (c ∷ cs) [] h = absurd h
 new_beside R names own cells k (c ∷ cs) (v ∷ vs) h =
-    let same : has_name c.0 own ≡ has_name v.0 cells = has_beside R names c.0 own cells k ∙ ap (λ n. has_name n cells) (names c v h.0) in
-    beside_if R (not (has_name c.0 own)) (not (has_name v.0 cells)) (ap not same) c v h.0 _ _ (new_beside R names own cells k cs vs h.1)
+    let same : has_column c.0 own ≡ has_column v.0 cells = has_beside R names c.0 own cells k ∙ ap (λ n. has_column n cells) (names c v h.0) in
+    beside_if R (not (has_column c.0 own)) (not (has_column v.0 cells)) (ap not same) c v h.0 _ _ (new_beside R names own cells k cs vs h.1)
 
-pub placed_beside :
+pub with_columns-beside :
     {A B : Type 0} (R : List ℕ × A → List ℕ × B → Type 0) → Names R → (own : List (List ℕ × A)) (cells : List (List ℕ × B)) → Beside R own cells →
     (cs : List (List ℕ × A)) (vs : List (List ℕ × B)) → Beside R cs vs → Beside R (with_columns own cs) (with_columns cells vs)
 unfolding with_columns
-placed_beside R names own cells k cs vs h =
+with_columns-beside R names own cells k cs vs h =
     append_beside R (map (added_or_own cs) own) (map (added_or_own vs) cells) _ _
     (replaced_beside R names cs vs h own cells k) (new_beside R names own cells k cs vs h)

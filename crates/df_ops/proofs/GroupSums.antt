@@ -7,7 +7,7 @@ use Rattle.std.proofs.lemmas.Bool.{false≢true}
 use Rattle.std.proofs.lemmas.Int.{ints}
 use Rattle.df_value.specs.Rows.{cell_at, row_eq}
 use Rattle.df_value.specs.declared.cell.Cell.{Cell}
-use Rattle.df_value.proofs.RowEq.{row_eq-Decides}
+use Rattle.df_value.specs.RowEq.{row_eq-Decides}
 use Rattle.df_ops.specs.Aggregates.{cells_of, sum_of, sum_with, number_of, total}
 use Rattle.df_ops.specs.Groups.{keys_of, group_of, key_of}
 use Rattle.df_ops.proofs.Keys.{found_after, keys_of-IsDistinct}

@@ -9,9 +9,9 @@ use Rattle.df_value.specs.declared.cell.Cell.{Cell}
 use Rattle.df_ops.specs.Groups.{key_of}
 use Rattle.df_ops.specs.Joins.{has_match, join_count, join_row, join_rows, keys_match, match_count, matches_of, nulls_for, left_beside}
 use Rattle.df_ops.specs.declared.join_columns.JoinIndices.{JoinIndices}
-use Rattle.df_ops.specs.declared.kinds.How.{How}
-use Rattle.df_ops.specs.declared.kinds.How.TheVariants as how
-use Rattle.df_ops.proofs.Choices.{by_test}
+use Rattle.df_ops.specs.declared.joins.How.{How}
+use Rattle.df_ops.specs.declared.joins.How.TheVariants as how
+use Rattle.df_value.specs.Choices.{by_test}
 
 abbrev Rows : Type 0
 Rows = List (List Cell)

@@ -6,9 +6,9 @@ use Rattle.std.proofs.lemmas.Map.Keys.{IsDistinct-push, IsDistinct-from_apart}
 use Rattle.std.proofs.lemmas.Map.Made.{AllPairs-from_IsDistinct}
 use Rattle.df_value.specs.Rows.{row_eq}
 use Rattle.df_value.specs.declared.cell.Cell.{Cell}
-use Rattle.df_value.proofs.RowEq.{row_eq-Decides, row_eq-equivalence}
+use Rattle.df_value.specs.RowEq.{row_eq-Decides, row_eq-equivalence}
 use Rattle.df_ops.specs.Groups.{distinct_after, keys_of, key_of}
-use Rattle.df_ops.proofs.Choices.{either, by_test}
+use Rattle.df_value.specs.Choices.{either, by_test}
 
 or_true : (a : Bool) → (a || true) ≡ true
 or_true true = refl

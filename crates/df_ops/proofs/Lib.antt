@@ -1,4 +1,3 @@
-pub mod Choices
 pub mod Keys
 pub mod Partition
 pub mod Beside

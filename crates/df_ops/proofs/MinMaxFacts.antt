@@ -8,7 +8,7 @@ use Rattle.std.specs.declared.cmp.Ordering.TheVariants as ordering
 use Rattle.df_value.specs.declared.cell.Cell.{Cell}
 use Rattle.df_value.specs.declared.cell.Cell.TheVariants as cell
 use Rattle.df_value.specs.CellOrder.{cell_cmp, cell_cmp_total}
-use Rattle.df_value.proofs.CellOrders.{exact, to_itself}
+use Rattle.df_value.specs.CellOrders.{exact, to_itself}
 use Rattle.df_ops.specs.declared.min_max.MinMax.{MinMax}
 use Rattle.df_ops.specs.declared.min_max.MinMax.TheVariants as min_max
 use Rattle.df_ops.specs.Aggregates.{is_beyond, is_min_or_max, min_or_max_in, non_null}

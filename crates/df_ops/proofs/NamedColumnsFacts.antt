@@ -8,10 +8,11 @@ use Rattle.std.proofs.lemmas.Slice.Eq.{bytes_eq-Decides}
 use Rattle.std.proofs.lemmas.List.Folds.{list_any-append}
 use Rattle.std.proofs.lemmas.List.Elements.{filter-append}
 use Rattle.df_value.specs.declared.cell.CellType.{CellType}
-use Rattle.df_value.specs.Schemas.{doubled_name_after}
-use Rattle.df_ops.specs.Joins.{Columns}
-use Rattle.df_ops.specs.NamedColumns.{has_name, first_of_name, added_or_own, with_columns}
-use Rattle.df_ops.proofs.Choices.{by_test}
+use Rattle.df_value.specs.Schemas.{doubled_column_after}
+use Rattle.df_value.specs.Schemas.{Columns}
+use Rattle.df_ops.specs.NamedColumns.{has_column, first_of_name, added_or_own, with_columns}
+use Rattle.df_value.specs.Names.{AreDistinct, distinct-head, distinct-cons}
+use Rattle.df_value.specs.Choices.{by_test, neither}
 use Rattle.df_ops.proofs.Beside.{Beside, has_beside, append_beside, found_or}
 
 -- what is found under a name has it
@@ -29,9 +30,9 @@ none_at : {A : Type 0} (b c : Bool) (x : A) (o : Option A) → (b || c) ≡ fals
 none_at true c x o h k = cc
 none_at false c x o h k = k h
 
-none_found : {T : Type 0} (name : List ℕ) (xs : List (List ℕ × T)) → has_name name xs ≡ false → first_of_name name xs ≡ None
+none_found : {T : Type 0} (name : List ℕ) (xs : List (List ℕ × T)) → has_column name xs ≡ false → first_of_name name xs ≡ None
 none_found name [] h = refl
-none_found name (x ∷ xs) h = none_at (bytes_eq x.0 name) (has_name name xs) x (first_of_name name xs) h (none_found name xs)
+none_found name (x ∷ xs) h = none_at (bytes_eq x.0 name) (has_column name xs) x (first_of_name name xs) h (none_found name xs)
 
 same_found :
     {A : Type 0} (b b' : Bool) (r o : A) (x y : Option A) → b' ≡ b → (b ≡ true → r ≡ o) → (b ≡ false → x ≡ y) →
@@ -47,7 +48,7 @@ or_later false c h e = h
 
 -- nothing put has the name, so what is found under it is what stood there
 pub kept_own :
-    {T : Type 0} (name : List ℕ) (added own ys : List (List ℕ × T)) → has_name name added ≡ false → has_name name own ≡ true →
+    {T : Type 0} (name : List ℕ) (added own ys : List (List ℕ × T)) → has_column name added ≡ false → has_column name own ≡ true →
     first_of_name name (map (added_or_own added) own ++ ys) ≡ first_of_name name own
 kept_own name added [] ys h k = cc
 kept_own name added (o ∷ own) ys h k =
@@ -55,25 +56,17 @@ kept_own name added (o ∷ own) ys h k =
     same_found (bytes_eq o.0 name) (bytes_eq (added_or_own added o).0 name) (added_or_own added o) o _ (first_of_name name own)
     (ap (λ n. bytes_eq n name) (replaced_name added o))
     (λ e. ap (λ u. unwrap_or u o) (subst (λ n. first_of_name n added ≡ None) (sym ((bytes_eq-Decides o.0 name).0 e)) none))
-    (λ e. kept_own name added own ys h (or_later (bytes_eq o.0 name) (has_name name own) k e))
+    (λ e. kept_own name added own ys h (or_later (bytes_eq o.0 name) (has_column name own) k e))
 
 -- no name stands twice, where the columns seen stand before the list
-abbrev pub Apart : Columns → Columns → Type 0
-Apart seen cs = doubled_name_after seen cs ≡ None
+abbrev Apart : Columns → Columns → Type 0
+Apart seen cs = AreDistinct (λ c. c.0) seen cs
 
-apart_here : (b : Bool) (x : List ℕ) (o : Option (List ℕ)) → cond b (Some x) o ≡ None → (b ≡ false) × (o ≡ None)
-apart_here true x o h = cc
-apart_here false x o h = (refl, h)
+head_apart : (seen : Columns) (c : List ℕ × CellType) (cs : Columns) → Apart seen (c ∷ cs) → (has_column c.0 seen ≡ false) × Apart (seen ++ c ∷ []) cs
+head_apart seen c cs h = distinct-head (λ c. c.0) seen c cs h
 
-apart_from : (b : Bool) (x : List ℕ) (o : Option (List ℕ)) → b ≡ false → o ≡ None → cond b (Some x) o ≡ None
-apart_from true x o e h = cc
-apart_from false x o e h = h
-
-pub head_apart : (seen : Columns) (c : List ℕ × CellType) (cs : Columns) → Apart seen (c ∷ cs) → (has_name c.0 seen ≡ false) × Apart (seen ++ c ∷ []) cs
-head_apart seen c cs h = apart_here (has_name c.0 seen) c.0 (doubled_name_after (seen ++ c ∷ []) cs) h
-
-cons_apart : (seen : Columns) (c : List ℕ × CellType) (cs : Columns) → has_name c.0 seen ≡ false → Apart (seen ++ c ∷ []) cs → Apart seen (c ∷ cs)
-cons_apart seen c cs e h = apart_from (has_name c.0 seen) c.0 (doubled_name_after (seen ++ c ∷ []) cs) e h
+cons_apart : (seen : Columns) (c : List ℕ × CellType) (cs : Columns) → has_column c.0 seen ≡ false → Apart (seen ++ c ∷ []) cs → Apart seen (c ∷ cs)
+cons_apart seen c cs e h = distinct-cons (λ c. c.0) seen c cs e h
 
 abbrev OneName : List ℕ × CellType → List ℕ × CellType → Type 0
 OneName c d = c.0 ≡ d.0
@@ -85,7 +78,7 @@ apart_beside seen seen' [] (d ∷ ds) h k a = absurd k
 apart_beside seen seen' (c ∷ cs) [] h k a = absurd k
 apart_beside seen seen' (c ∷ cs) (d ∷ ds) h k a =
     let here = head_apart seen c cs a in
-    let same : has_name c.0 seen ≡ has_name d.0 seen' = has_beside OneName (λ x y e. e) c.0 seen seen' h ∙ ap (λ n. has_name n seen') k.0 in
+    let same : has_column c.0 seen ≡ has_column d.0 seen' = has_beside OneName (λ x y e. e) c.0 seen seen' h ∙ ap (λ n. has_column n seen') k.0 in
     cons_apart seen' d ds (sym same ∙ here.0)
     (apart_beside (seen ++ c ∷ []) (seen' ++ d ∷ []) cs ds (append_beside OneName seen seen' (c ∷ []) (d ∷ []) h (k.0, tt)) k.1 here.1)
 
@@ -105,10 +98,6 @@ append_apart seen (x ∷ xs) ys h k =
     cons_apart seen x (xs ++ ys) here.0
     (append_apart (seen ++ x ∷ []) xs ys here.1 (subst (λ (s : Columns). Apart s ys) (sym joined) k))
 
-pub neither : (a b : Bool) → (a || b) ≡ false → (a ≡ false) × (b ≡ false)
-neither true b h = cc
-neither false b h = (refl, h)
-
 both_false : (a b : Bool) → a ≡ false → b ≡ false → (a || b) ≡ false
 both_false true b h k = cc
 both_false false b h k = k
@@ -127,29 +116,29 @@ is_new false h = refl
 -- those of new names, after one's own
 new_apart :
     (own seen added : Columns) → Apart seen added →
-    Apart (own ++ filter (λ a. not (has_name a.0 own)) seen) (filter (λ a. not (has_name a.0 own)) added)
+    Apart (own ++ filter (λ a. not (has_column a.0 own)) seen) (filter (λ a. not (has_column a.0 own)) added)
 new_apart own seen [] h = refl
 new_apart own seen (a ∷ as') h =
-    let is : List ℕ × CellType → Bool = λ a. not (has_name a.0 own) in
+    let is : List ℕ × CellType → Bool = λ a. not (has_column a.0 own) in
     let here = head_apart seen a as' h in
     let rest = new_apart own (seen ++ a ∷ []) as' here.1 in
     let split : filter is (seen ++ a ∷ []) ≡ filter is seen ++ cond (is a) (a ∷ []) [] = filter-append is seen (a ∷ []) in
     by_test (λ (l : Columns). Apart (own ++ filter is seen) l) (is a) (a ∷ filter is as') (filter is as')
     (λ e. let taken : filter is (seen ++ a ∷ []) ≡ filter is seen ++ a ∷ [] = split ∙ ap (λ b. filter is seen ++ cond b (a ∷ []) []) e in
     let joined : own ++ (filter is seen ++ a ∷ []) ≡ (own ++ filter is seen) ++ a ∷ [] = sym (append_assoc own (filter is seen) (a ∷ [])) in
-    let none : has_name a.0 (own ++ filter is seen) ≡ false =
+    let none : has_column a.0 (own ++ filter is seen) ≡ false =
     list_any-append (λ x. bytes_eq x.0 a.0) own (filter is seen)
-    ∙ both_false (has_name a.0 own) (has_name a.0 (filter is seen)) (is_new (has_name a.0 own) e) (none_kept (λ x. bytes_eq x.0 a.0) is seen here.0) in
+    ∙ both_false (has_column a.0 own) (has_column a.0 (filter is seen)) (is_new (has_column a.0 own) e) (none_kept (λ x. bytes_eq x.0 a.0) is seen here.0) in
     cons_apart (own ++ filter is seen) a (filter is as') none
     (subst (λ (s : Columns). Apart s (filter is as')) (ap (λ s. own ++ s) taken ∙ joined) rest))
     (λ e. let passed : filter is (seen ++ a ∷ []) ≡ filter is seen = split ∙ (ap (λ b. filter is seen ++ cond b (a ∷ []) []) e ∙ append-nil (filter is seen)) in
     subst (λ (s : Columns). Apart (own ++ s) (filter is as')) passed rest)
 
 -- where no two columns have one name, and no two of those that are put, no two of the result have one
-pub placed_apart : (own added : Columns) → doubled_name_after [] own ≡ None → doubled_name_after [] added ≡ None → doubled_name_after [] (with_columns own added) ≡ None
+pub with_columns-distinct : (own added : Columns) → doubled_column_after [] own ≡ None → doubled_column_after [] added ≡ None → doubled_column_after [] (with_columns own added) ≡ None
 unfolding with_columns
-placed_apart own added h k =
-    let new = filter (λ a. not (has_name a.0 own)) added in
+with_columns-distinct own added h k =
+    let new = filter (λ a. not (has_column a.0 own)) added in
     let nil : own ++ [] ≡ own = append-nil own in
     let after : Apart own new = subst (λ (s : Columns). Apart s new) nil (new_apart own [] added k) in
     apart_beside [] [] (own ++ new) (with_columns own added) tt

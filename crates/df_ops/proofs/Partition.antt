@@ -7,7 +7,7 @@ use Rattle.std.proofs.lemmas.Map.Keys.{IsDistinct-head, IsDistinct-tail}
 use Rattle.std.proofs.lemmas.Bool.{false≢true}
 use Rattle.df_value.specs.Rows.{row_eq}
 use Rattle.df_value.specs.declared.cell.Cell.{Cell}
-use Rattle.df_value.proofs.RowEq.{row_eq-Decides}
+use Rattle.df_value.specs.RowEq.{row_eq-Decides}
 use Rattle.df_ops.specs.Groups.{keys_of, group_of, key_of}
 use Rattle.df_ops.proofs.Keys.{found_after, keys_of-IsDistinct}
 

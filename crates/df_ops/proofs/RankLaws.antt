@@ -15,9 +15,9 @@ use Rattle.df_value.specs.Rows.{cell_at, row_eq}
 use Rattle.df_expr.specs.Value.{is_null}
 use Rattle.df_ops.specs.Groups.{distinct_after, key_of}
 use Rattle.df_ops.specs.Ranks.{dense_rank_of, distinct_at, is_non_null_key, is_smaller, dense_rank, rank_number, GreatestCounts, HasRank, RanksAgree, RanksRise, RanksWithin}
-use Rattle.df_value.proofs.CellOrders.{exact, to_itself}
-use Rattle.df_value.proofs.RowEq.{row_eq-Decides}
-use Rattle.df_ops.proofs.Choices.{either}
+use Rattle.df_value.specs.CellOrders.{exact, to_itself}
+use Rattle.df_value.specs.RowEq.{row_eq-Decides}
+use Rattle.df_value.specs.Choices.{either}
 use Rattle.df_ops.proofs.MinMaxFacts.{less}
 use Rattle.df_ops.proofs.Keys.{each_row, keys_of-IsDistinct, found_after}
 use Rattle.df_ops.proofs.Partition.{once}

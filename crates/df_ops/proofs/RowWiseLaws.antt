@@ -7,7 +7,7 @@ use Rattle.std.proofs.lemmas.Iterator.Adapters.{position_from-zero}
 use Rattle.df_value.specs.declared.cell.Cell.{Cell}
 use Rattle.df_value.specs.declared.cell.Cell.TheVariants as cell
 use Rattle.df_value.specs.declared.cell.CellType.{CellType}
-use Rattle.df_value.specs.Cells.{fits_type}
+use Rattle.df_value.specs.Cells.{fits_dtype}
 use Rattle.df_value.specs.Rows.{cell_at, row_fits}
 use Rattle.df_expr.specs.declared.expr.Expr.{Expr}
 use Rattle.df_expr.specs.declared.expr.Expr.TheVariants as expr
@@ -16,9 +16,9 @@ use Rattle.df_expr.specs.declared.expr.Expr.TheFolds.{fold-roll-Expr}
 use Rattle.df_expr.specs.declared.expr.Expr.TheViews.{roll-Expr}
 use Rattle.df_expr.specs.Logic.{kleene_and}
 use Rattle.df_expr.specs.Value.{value_of, value_step, truth_of, cell_of}
-use Rattle.df_ops.specs.NamedColumns.{has_name, first_of_name, with_columns}
+use Rattle.df_ops.specs.NamedColumns.{has_column, first_of_name, with_columns}
 use Rattle.df_ops.specs.RowWise.{is_true, keeps, filter_rows, item_column, item_cell, named_cells, with_columns_row, with_columns_schema, KeepsOthers}
-use Rattle.df_ops.proofs.Beside.{Beside, has_beside, placed_beside}
+use Rattle.df_ops.proofs.Beside.{Beside, has_beside, with_columns-beside}
 use Rattle.df_ops.proofs.NamedColumnsFacts.{kept_own}
 
 abbrev Columns : Type 0
@@ -131,19 +131,19 @@ named_names : (columns : Columns) (row : List Cell) → IsTrue (row_fits columns
 named_names [] [] h = tt
 named_names [] (v ∷ row) h = tt
 named_names (c ∷ columns) [] h = cc
-named_names (c ∷ columns) (v ∷ row) h = (refl, named_names columns row (second_of_two (fits_type c.1 v) (row_fits columns row) h))
+named_names (c ∷ columns) (v ∷ row) h = (refl, named_names columns row (second_of_two (fits_dtype c.1 v) (row_fits columns row) h))
 
 unnamed : (columns : Columns) (row : List Cell) → IsTrue (row_fits columns row) → map (λ c. c.1) (named_cells columns row) ≡ row
 unnamed [] [] h = refl
 unnamed [] (v ∷ row) h = cc
 unnamed (c ∷ columns) [] h = cc
-unnamed (c ∷ columns) (v ∷ row) h = ap (λ r. v ∷ r) (unnamed columns row (second_of_two (fits_type c.1 v) (row_fits columns row) h))
+unnamed (c ∷ columns) (v ∷ row) h = ap (λ r. v ∷ r) (unnamed columns row (second_of_two (fits_dtype c.1 v) (row_fits columns row) h))
 
 item_names : (columns : Columns) (row : List Cell) (items : List (List ℕ × Expr)) → Beside OneName (map (item_column columns) items) (map (item_cell columns row) items)
 item_names columns row [] = tt
 item_names columns row (i ∷ items) = (refl, item_names columns row items)
 
-has_item : (columns : Columns) (row : List Cell) (name : List ℕ) (items : List (List ℕ × Expr)) → has_name name (map (item_cell columns row) items) ≡ has_name name items
+has_item : (columns : Columns) (row : List Cell) (name : List ℕ) (items : List (List ℕ × Expr)) → has_column name (map (item_cell columns row) items) ≡ has_column name items
 has_item columns row name [] = refl
 has_item columns row name (i ∷ items) = ap (λ b. bytes_eq i.0 name || b) (has_item columns row name items)
 
@@ -160,9 +160,9 @@ keeps_others columns items row fits name here other =
     let values = map (item_cell columns row) items in
     let test : List ℕ × CellType → Bool = λ c. bytes_eq c.0 name in
     let names = named_names columns row fits in
-    let all = placed_beside OneName (λ c v e. e) columns own names (map (item_column columns) items) values (item_names columns row items) in
-    let none : has_name name values ≡ false = has_item columns row name items ∙ not_true (has_name name items) other in
-    let some : has_name name own ≡ true = sym (has_beside OneName (λ c v e. e) name columns own names) ∙ here in
+    let all = with_columns-beside OneName (λ c v e. e) columns own names (map (item_column columns) items) values (item_names columns row items) in
+    let none : has_column name values ≡ false = has_item columns row name items ∙ not_true (has_column name items) other in
+    let some : has_column name own ≡ true = sym (has_beside OneName (λ c v e. e) name columns own names) ∙ here in
     let kept : first_of_name name (with_columns own values) ≡ first_of_name name own = kept_own name values own _ none some in
     ap (λ o. cell_at o (map (λ c. c.1) (with_columns own values))) (position_from-zero test (with_columns_schema columns items))
     ∙ (cell_named name (with_columns_schema columns items) (with_columns own values) all

@@ -10,7 +10,7 @@ use Rattle.df_expr.specs.Value.{is_null}
 use Rattle.df_ops.specs.Aggregates.{cells_of, sum_of, sum_with, number_of, last_cell}
 use Rattle.df_ops.specs.LoopStates.{cum_sum_after, cum_sum_cell}
 use Rattle.df_ops.specs.Windows.{rolling_cells, rolling_cell, cum_sum, cum_sum_at, window_of}
-use Rattle.df_ops.specs.declared.kinds.RollKind.{RollKind}
+use Rattle.df_ops.specs.declared.windows.RollKind.{RollKind}
 
 abbrev Rows : Type 0
 Rows = List (List Cell)

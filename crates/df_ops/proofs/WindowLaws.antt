@@ -10,8 +10,8 @@ use Rattle.df_value.specs.declared.cell.Cell.TheVariants as cell
 use Rattle.df_expr.specs.Value.{is_null}
 use Rattle.df_ops.specs.Aggregates.{count_of, non_null, sum_of, last_cell}
 use Rattle.df_ops.specs.Windows.{rolling_cell, cum_sum, cum_sum_at, window_of, EndsInSum, IsCumSum}
-use Rattle.df_ops.specs.declared.kinds.RollKind.{RollKind}
-use Rattle.df_ops.specs.declared.kinds.RollKind.TheVariants as roll
+use Rattle.df_ops.specs.declared.windows.RollKind.{RollKind}
+use Rattle.df_ops.specs.declared.windows.RollKind.TheVariants as roll
 use Rattle.df_ops.proofs.WindowFacts.{last_is}
 
 is_kept : (b : Bool) → IsTrue (not b) → b ≡ false

@@ -3,28 +3,25 @@
 -- `_right`. That rows come in left order, and for one left row in right order, is this project's own choice.
 use Rattle.std.specs.Prelude.{ℕ, Bool, ◌&&◌, not, List, [], ◌∷◌, ◌++◌, Option, codes, filter, map, max, length, if◌then◌else◌}
 use Rattle.std.specs.List.{list_any, flat_map}
-use Rattle.std.specs.Str.{bytes_eq}
 use Rattle.df_value.specs.declared.cell.Cell.{Cell}
 use Rattle.df_value.specs.declared.cell.Cell.TheVariants as cell
 use Rattle.df_value.specs.declared.cell.CellType.{CellType}
 use Rattle.df_value.specs.Rows.{row_eq}
-use Rattle.df_value.specs.Schemas.{column_index}
+use Rattle.df_value.specs.Names.{has_name}
+use Rattle.df_value.specs.Schemas.{Columns}
 use Rattle.df_expr.specs.Value.{is_null}
 use Rattle.df_ops.specs.Groups.{key_of}
-use Rattle.df_ops.specs.NamedColumns.{has_name}
+use Rattle.df_ops.specs.NamedColumns.{has_column, column_indices}
 use Rattle.df_ops.specs.declared.join_columns.JoinIndices.{JoinIndices}
-use Rattle.df_ops.specs.declared.kinds.How.{How}
-use Rattle.df_ops.specs.declared.kinds.How.TheVariants as how
-
-abbrev pub Columns : Type 0
-Columns = List (List ℕ × CellType)
+use Rattle.df_ops.specs.declared.joins.How.{How}
+use Rattle.df_ops.specs.declared.joins.How.TheVariants as how
 
 abbrev Rows : Type 0
 Rows = List (List Cell)
 
 -- whether a column is a key
 abbrev pub is_key : List (List ℕ) → List ℕ × CellType → Bool
-is_key keys c = list_any (λ k. bytes_eq k c.0) keys
+is_key keys c = has_name (λ k. k) c.0 keys
 
 -- the right columns that are no keys
 abbrev pub columns_without_keys : List (List ℕ) → Columns → Columns
@@ -32,15 +29,11 @@ columns_without_keys keys right = filter (λ c. not (is_key keys c)) right
 
 -- a right column beside the left ones: under its name, or where that stands on the left, with a suffix
 abbrev pub right_column : Columns → List ℕ × CellType → List ℕ × CellType
-right_column left c = if has_name c.0 left then (c.0 ++ codes "_right", c.1) else c
+right_column left c = if has_column c.0 left then (c.0 ++ codes "_right", c.1) else c
 
 -- the left columns, and after them the right ones that are no keys
 abbrev pub columns_of_join : Columns → Columns → List (List ℕ) → Columns
 columns_of_join left right keys = left ++ map (right_column left) (columns_without_keys keys right)
-
--- where columns of these names stand
-abbrev pub column_indices_in : Columns → List (List ℕ) → List (Option ℕ)
-column_indices_in columns names = map (λ name. column_index name columns) names
 
 -- whether two keys match: they are the same, and no cell of them is null
 abbrev pub keys_match : List Cell → List Cell → Bool
@@ -60,12 +53,12 @@ left_beside how.Inner left nulls [] = []
 left_beside how.Left left nulls [] = (left ++ nulls) ∷ []
 left_beside h left nulls (r ∷ rs) = map (λ q. left ++ q) (r ∷ rs)
 
--- where the keys stand on the left and on the right, and where the right columns stand that are no keys
+-- the column indices of the keys on the left and on the right, and of the right columns that are no keys
 abbrev pub join_indices_of : Columns → Columns → List (List ℕ) → JoinIndices
 join_indices_of left right keys = record {
-  left = column_indices_in left keys;
-  right = column_indices_in right keys;
-  rest = column_indices_in right (map (λ c. c.0) (columns_without_keys keys right));
+  left = column_indices left keys;
+  right = column_indices right keys;
+  rest = column_indices right (map (λ c. c.0) (columns_without_keys keys right));
 }
 
 -- the rows that one left row gives

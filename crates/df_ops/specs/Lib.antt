@@ -1,6 +1,6 @@
 pub mod NamedColumns
 pub mod Groups
-pub mod AggregateTypes
+pub mod AggregateDtypes
 pub mod Aggregates
 pub mod LoopStates
 pub mod RowWise

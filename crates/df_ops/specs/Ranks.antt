@@ -9,8 +9,8 @@ use Rattle.df_value.specs.CellOrder.{cell_cmp}
 use Rattle.df_value.specs.Rows.{cell_at}
 use Rattle.df_expr.specs.Value.{is_null}
 use Rattle.df_ops.specs.Groups.{keys_of}
-use Rattle.df_ops.specs.declared.kinds.RankKind.{RankKind}
-use Rattle.df_ops.specs.declared.kinds.RankKind.TheVariants as rank
+use Rattle.df_ops.specs.declared.ranks.RankKind.{RankKind}
+use Rattle.df_ops.specs.declared.ranks.RankKind.TheVariants as rank
 
 -- the distinct cells at an index, each as the key of a grouping by that column alone
 abbrev pub distinct_at : Option ℕ → List (List Cell) → List (List Cell)

@@ -11,7 +11,7 @@ use Rattle.df_value.specs.Schemas.{column_index, column_dtype}
 use Rattle.df_expr.specs.declared.expr.Expr.{Expr, fold-Expr}
 use Rattle.df_expr.specs.declared.expr.Expr.TheOpen.{Expr-F}
 use Rattle.df_expr.specs.Value.{value_of}
-use Rattle.df_ops.specs.NamedColumns.{has_name, with_columns}
+use Rattle.df_ops.specs.NamedColumns.{has_column, with_columns}
 
 -- the type of one form, from the types of its operands
 abbrev pub expr_dtype_step : List (List ℕ × CellType) → Expr-F CellType → CellType
@@ -65,7 +65,7 @@ with_columns_schema columns items = with_columns columns (map (item_column colum
 -- every column that no item names has in the result's row the cell that it had
 abbrev pub KeepsOthers : List (List ℕ × CellType) → List (List ℕ × Expr) → List Cell → List Cell → Type 0
 KeepsOthers columns items row result =
-    (name : List ℕ) → IsTrue (has_name name columns) → IsTrue (not (has_name name items)) →
+    (name : List ℕ) → IsTrue (has_column name columns) → IsTrue (not (has_column name items)) →
     cell_at (column_index name (with_columns_schema columns items)) result ≡ cell_at (column_index name columns) row
 
 -- a row with one more cell put among its own under a name

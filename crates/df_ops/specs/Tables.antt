@@ -8,17 +8,17 @@ use Rattle.df_value.specs.declared.cell.CellType.TheVariants as dtype
 use Rattle.df_value.specs.Schemas.{column_index, column_dtype}
 use Rattle.df_expr.specs.declared.expr.Expr.{Expr}
 use Rattle.df_ops.specs.Groups.{keys_of, group_of}
-use Rattle.df_ops.specs.AggregateTypes.{column_taken, dtype_given}
+use Rattle.df_ops.specs.AggregateDtypes.{input_column, output_dtype}
 use Rattle.df_ops.specs.Aggregates.{cells_of, count_of, sum_of, min_or_max_of, first_cell, last_cell, n_unique_of, mean_of}
 use Rattle.df_ops.specs.RowWise.{item_column, filter_rows, select_row, with_columns_row, with_columns_schema, with_column_rows}
 use Rattle.df_ops.specs.declared.min_max.MinMax.TheVariants as min_max
 use Rattle.df_ops.specs.Joins.{columns_of_join, join_rows, join_indices_of}
-use Rattle.df_ops.specs.declared.kinds.Agg.{Agg}
-use Rattle.df_ops.specs.declared.kinds.Agg.TheVariants as agg
-use Rattle.df_ops.specs.declared.kinds.How.{How}
-use Rattle.df_ops.specs.declared.kinds.RankKind.{RankKind}
-use Rattle.df_ops.specs.declared.kinds.RollKind.{RollKind}
-use Rattle.df_ops.specs.NamedColumns.{with_columns}
+use Rattle.df_ops.specs.declared.agg.Agg.{Agg}
+use Rattle.df_ops.specs.declared.agg.Agg.TheVariants as agg
+use Rattle.df_ops.specs.declared.joins.How.{How}
+use Rattle.df_ops.specs.declared.ranks.RankKind.{RankKind}
+use Rattle.df_ops.specs.declared.windows.RollKind.{RollKind}
+use Rattle.df_ops.specs.NamedColumns.{with_columns, column_indices}
 use Rattle.df_ops.specs.Ranks.{ranks_of}
 use Rattle.df_ops.specs.Windows.{rolling_cells, rolling_dtype, cum_sum}
 use Rattle.df_ops.specs.declared.plain_table.PlainTable.{PlainTable}
@@ -39,13 +39,13 @@ aggregate_cell columns rows (agg.Mean name) = mean_of (cells_of (column_index na
 abbrev pub dtype_at : List (List ℕ × CellType) → List ℕ → CellType
 dtype_at columns name = unwrap_or (column_dtype name columns) dtype.Int
 
-abbrev pub dtype_of_taken : List (List ℕ × CellType) → Agg → Option (List ℕ) → CellType
-dtype_of_taken columns a None = dtype.Int
-dtype_of_taken columns a (Some name) = unwrap_or (dtype_given a (dtype_at columns name)) dtype.Int
+abbrev pub output_dtype_over : List (List ℕ × CellType) → Agg → Option (List ℕ) → CellType
+output_dtype_over columns a None = dtype.Int
+output_dtype_over columns a (Some name) = unwrap_or (output_dtype a (dtype_at columns name)) dtype.Int
 
 -- the type of an aggregate, where it checks
 abbrev pub aggregate_dtype : List (List ℕ × CellType) → Agg → CellType
-aggregate_dtype columns a = dtype_of_taken columns a (column_taken a)
+aggregate_dtype columns a = output_dtype_over columns a (input_column a)
 
 -- the key, and after it the aggregates of its group
 abbrev pub group_row :
@@ -57,9 +57,6 @@ key_column columns name = (name, dtype_at columns name)
 
 abbrev pub aggregate_column : List (List ℕ × CellType) → List ℕ × Agg → List ℕ × CellType
 aggregate_column columns a = (a.0, aggregate_dtype columns a.1)
-
-abbrev pub column_indices : List (List ℕ × CellType) → List (List ℕ) → List (Option ℕ)
-column_indices columns names = map (λ name. column_index name columns) names
 
 abbrev pub group_by_columns : List (List ℕ × CellType) → List (List ℕ) → List (List ℕ × Agg) → List (List ℕ × CellType)
 group_by_columns columns keys aggs = map (key_column columns) keys ++ map (aggregate_column columns) aggs

@@ -10,8 +10,8 @@ use Rattle.df_value.specs.declared.cell.CellType.TheVariants as dtype
 use Rattle.df_expr.specs.Value.{is_null}
 use Rattle.df_ops.specs.Aggregates.{count_of, sum_of, min_or_max_of, last_cell}
 use Rattle.df_ops.specs.declared.min_max.MinMax.TheVariants as min_max
-use Rattle.df_ops.specs.declared.kinds.RollKind.{RollKind}
-use Rattle.df_ops.specs.declared.kinds.RollKind.TheVariants as roll
+use Rattle.df_ops.specs.declared.windows.RollKind.{RollKind}
+use Rattle.df_ops.specs.declared.windows.RollKind.TheVariants as roll
 
 -- what f gives of the cells up to each one, that one included
 abbrev pub each_prefix : (List Cell → Cell) → List Cell → List Cell

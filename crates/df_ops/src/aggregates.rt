@@ -5,11 +5,11 @@ ghost use Rattle.df_value.specs.Rows.{cell_at};
 ghost use Rattle.df_expr.specs.Value.{is_null};
 ghost use Rattle.df_ops.specs.Aggregates as aggregates;
 ghost use Rattle.df_ops.specs.Aggregates.{cells_of, non_null, mean_at, number_of, sum_with};
-ghost use Rattle.df_ops.specs.AggregateTypes.{column_taken, dtype_given};
+ghost use Rattle.df_ops.specs.AggregateDtypes.{input_column, output_dtype};
 ghost use Rattle.df_ops.specs.Tables.{aggregate_cell};
 
+use crate::agg::Agg;
 use crate::groups::{copy_at, keys_of};
-use crate::kinds::Agg;
 use crate::min_max::{MinMax, min_or_max_of, non_null_at};
 use df_value::{Cell, CellType, Duplicate, Frac, Row, Text, column_index};
 use std::alloc::{AllocError, Global};
@@ -42,7 +42,8 @@ pub fn count_of(index: Option<usize>, rows: &[Row]) -> usize
     ensures within { result ≤ length rows.now }
 
     // With the number of nulls it is the number of rows.
-    ensures with_nulls { result + length (filter is_null (cells_of index rows.now)) ≡ length rows.now }
+    ensures with_nulls { result + length (filter is_null (cells_of index rows.now))
+        ≡ length rows.now }
 {
     count_non_null(index, rows)
 }
@@ -138,7 +139,8 @@ pub fn min_or_max(
 
 // The cell of a row at an index, null where there is no row.
 fn cell_of(alloc: Global, index: Option<usize>, row: Option<&Row>) -> Result<Cell, AllocError>
-    ensures { IfOk result (λ c. c ≡ unwrap_or (option_map (λ r. cell_at index r.now) row.entry) cell.Null) }
+    ensures { IfOk result
+        (λ c. c ≡ unwrap_or (option_map (λ r. cell_at index r.now) row.entry) cell.Null) }
 {
     match row {
         Some(row) => copy_at(alloc, index, row),
@@ -151,37 +153,4 @@ fn n_unique_of(alloc: Global, index: Option<usize>, rows: &[Row]) -> Result<Cell
 {
     let keys = keys_of(alloc, &[index], rows)?;
     Ok(Cell::Int(keys.len() as i64))
-}
-
-impl Agg {
-    /// The column that is taken; the length takes none.
-    pub fn column(&self) -> Option<&Text>
-        ensures { option_map (λ t. t.now) result ≡ column_taken self.now }
-    {
-        match self {
-            Agg::Len => None,
-            Agg::Count(column) | Agg::Sum(column) | Agg::Min(column) | Agg::Max(column) => {
-                Some(column)
-            }
-            Agg::First(column) | Agg::Last(column) | Agg::NUnique(column) | Agg::Mean(column) => {
-                Some(column)
-            }
-        }
-    }
-
-    /// The type that is given of a column of this type; none where the aggregate does not take it.
-    pub fn type_of(&self, dtype: CellType) -> Option<CellType>
-        ensures { result ≡ dtype_given self.now dtype }
-    {
-        match (self, dtype) {
-            (Agg::Len | Agg::Count(_), _) => Some(CellType::Int),
-            (Agg::Sum(_), CellType::Int | CellType::Bool) => Some(CellType::Wide),
-            (Agg::Mean(_), CellType::Int) => Some(CellType::Frac),
-            (Agg::Sum(_) | Agg::Mean(_), _) => None,
-            (Agg::First(_) | Agg::Last(_), dtype) => Some(dtype),
-            (Agg::Min(_) | Agg::Max(_) | Agg::NUnique(_), CellType::Frac) => None,
-            (Agg::Min(_) | Agg::Max(_), dtype) => Some(dtype),
-            (Agg::NUnique(_), _) => Some(CellType::Int),
-        }
-    }
 }

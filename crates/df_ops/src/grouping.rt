@@ -3,12 +3,12 @@ ghost use Rattle.std.specs.Prelude.{◌≡◌, IfOk, map};
 ghost use Rattle.df_ops.specs.Tables as tables;
 ghost use Rattle.df_ops.specs.Tables.{group_by_table};
 
+use crate::agg::Agg;
 use crate::aggregates::aggregate;
 use crate::groups::{group_of, keys_of};
-use crate::join_columns::column_indices_in;
-use crate::kinds::Agg;
+use crate::join_columns::column_indices;
 use crate::plain_table::{PlainTable, table_from};
-use df_value::{CellType, Duplicate, List, Row, Text, push_made, type_of};
+use df_value::{CellType, Duplicate, List, Row, Text, column_dtype, push_made};
 use std::alloc::{AllocError, Global};
 
 /// The groups of a table, by the first appearance of their keys.
@@ -33,7 +33,7 @@ fn group_by_rows(
 ) -> Result<List<Row>, AllocError>
     ensures { IfOk result (λ rows. rows ≡ tables.group_by_rows table.now keys.now aggs.now) }
 {
-    let indices = column_indices_in(alloc, table.columns.as_slice(), keys)?;
+    let indices = column_indices(alloc, table.columns.as_slice(), keys)?;
     let found = keys_of(alloc, indices.as_slice(), table.rows.as_slice())?;
     group_rows(alloc, table, indices.as_slice(), found.as_slice(), aggs)
 }
@@ -59,15 +59,15 @@ fn group_by_columns(
 fn dtype_at(columns: &List<(Text, CellType)>, name: &Text) -> CellType
     ensures { result ≡ tables.dtype_at columns.now name.now }
 {
-    type_of(name, columns.as_slice()).unwrap_or(CellType::Int)
+    column_dtype(name, columns.as_slice()).unwrap_or(CellType::Int)
 }
 
 fn aggregate_dtype(columns: &List<(Text, CellType)>, agg: &Agg) -> CellType
     ensures { result ≡ tables.aggregate_dtype columns.now agg.now }
 {
-    match agg.column() {
+    match agg.input_column() {
         Some(name) => agg
-            .type_of(dtype_at(columns, name))
+            .output_dtype(dtype_at(columns, name))
             .unwrap_or(CellType::Int),
         None => CellType::Int,
     }
@@ -82,7 +82,8 @@ fn group_rows(
     aggs: &[(Text, Agg)],
 ) -> Result<List<Row>, AllocError>
     ensures { IfOk result
-        (λ rows. rows ≡ map (tables.group_row table.now.columns indices.now aggs.now table.now.rows) found.now) }
+        (λ rows. rows
+        ≡ map (tables.group_row table.now.columns indices.now aggs.now table.now.rows) found.now) }
 {
     let mut rows = Vec::with_capacity(alloc, found.len())?;
     for key in found {
@@ -100,7 +101,8 @@ fn group_row(
     aggs: &[(Text, Agg)],
 ) -> Result<Row, AllocError>
     ensures { IfOk result
-        (λ row. row ≡ tables.group_row table.now.columns indices.now aggs.now table.now.rows key.now) }
+        (λ row. row
+        ≡ tables.group_row table.now.columns indices.now aggs.now table.now.rows key.now) }
 {
     let group = group_of(alloc, indices, table.rows.as_slice(), key)?;
     let mut row = key.copy(alloc)?.into_vec();

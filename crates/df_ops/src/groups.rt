@@ -8,8 +8,8 @@ ghost use Rattle.df_ops.specs.Groups as groups;
 use df_value::{Cell, Duplicate, List, Row, push_made};
 use std::alloc::{AllocError, Global};
 
-/// The distinct keys of the rows, by first appearance: the cells at `indices`, null where an index is
-/// none. Null is a key like any other.
+/// The distinct keys of the rows, by first appearance: the cells at `indices`, null where an index
+/// is none. Null is a key like any other.
 pub fn keys_of(
     alloc: Global,
     indices: &[Option<usize>],
@@ -17,7 +17,8 @@ pub fn keys_of(
 ) -> Result<Vec<Row>, AllocError>
     ensures value { IfOk result (λ keys. keys.items ≡ groups.keys_of indices.now rows.now) }
     ensures none_twice { IfOk result (λ keys. AllPairs (λ a b. a ≢ b) keys.items) }
-    ensures each_row { IfOk result (λ keys. All (λ r. Contains keys.items (groups.key_of indices.now r)) rows.now) }
+    ensures each_row { IfOk result
+        (λ keys. All (λ r. Contains keys.items (groups.key_of indices.now r)) rows.now) }
 {
     distinct_keys(alloc, indices, rows)
 }
@@ -93,7 +94,8 @@ fn keep_in_group(
     row: &Row,
     key: &Row,
 ) -> Result<(), AllocError>
-    ensures { OnOk result (group.new.items ≡ group.old.items ++ groups.group_of indices.now (row.now ∷ []) key.now) }
+    ensures { OnOk result
+        (group.new.items ≡ group.old.items ++ groups.group_of indices.now (row.now ∷ []) key.now) }
 {
     if is_in_group(indices, row, key) {
         group.push(row.copy(alloc)?)?;
@@ -136,7 +138,8 @@ pub fn group_lengths(
     rows: &[Row],
 ) -> Result<Vec<usize>, AllocError>
     ensures value { IfOk result (λ lengths. lengths.items ≡
-        map (λ k. length (groups.group_of indices.now rows.now k)) (groups.keys_of indices.now rows.now)) }
+        map (λ k. length (groups.group_of indices.now rows.now k))
+        (groups.keys_of indices.now rows.now)) }
     ensures whole { IfOk result (λ lengths. sum lengths.items ≡ length rows.now) }
 {
     lengths_of_groups(alloc, indices, rows)
@@ -148,7 +151,8 @@ fn lengths_of_groups(
     rows: &[Row],
 ) -> Result<Vec<usize>, AllocError>
     ensures { IfOk result (λ lengths. lengths.items ≡
-        map (λ k. length (groups.group_of indices.now rows.now k)) (groups.keys_of indices.now rows.now)) }
+        map (λ k. length (groups.group_of indices.now rows.now k))
+        (groups.keys_of indices.now rows.now)) }
 {
     let keys = distinct_keys(alloc, indices, rows)?;
     let keys = keys.as_slice();

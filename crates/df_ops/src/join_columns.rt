@@ -1,13 +1,14 @@
-//! The columns of a join, and where the keys and the further cells of its sides stand.
+//! The columns of a join, and the column indices of its keys and of its further cells.
 ghost use Rattle.std.specs.Prelude.{◌≡◌, ◌++◌, ◌∷◌, [], IfOk, OnOk, codes, map};
 ghost use Rattle.df_ops.specs.Joins as joins;
 ghost use Rattle.df_ops.specs.Joins.{columns_without_keys};
+ghost use Rattle.df_ops.specs.NamedColumns as named_columns;
 
-use crate::named_columns::has_name;
-use df_value::{CellType, Duplicate, List, Text, column_index};
+use df_value::{CellType, Duplicate, List, Text, column_index, has_name};
 use std::alloc::{AllocError, Global};
 
-/// Where the keys stand on the left and on the right, and where the right columns stand that are no keys.
+/// The column indices of the keys on the left and on the right, and those of the right columns that
+/// are no keys.
 #[derive(Debug, Drop)]
 pub struct JoinIndices {
     pub left: List<Option<usize>>,
@@ -15,7 +16,7 @@ pub struct JoinIndices {
     pub rest: List<Option<usize>>,
 }
 
-/// The sides of a join of tables of these columns.
+/// The column indices that a join of tables of these columns reads.
 pub fn join_indices_of(
     alloc: Global,
     left: &[(Text, CellType)],
@@ -24,19 +25,20 @@ pub fn join_indices_of(
 ) -> Result<JoinIndices, AllocError>
     ensures { IfOk result (λ s. s ≡ joins.join_indices_of left.now right.now keys.now) }
 {
-    let rest = rest_places(alloc, right, keys)?;
-    let left = column_indices_in(alloc, left, keys)?;
-    let right = column_indices_in(alloc, right, keys)?;
+    let rest = rest_indices(alloc, right, keys)?;
+    let left = column_indices(alloc, left, keys)?;
+    let right = column_indices(alloc, right, keys)?;
     Ok(JoinIndices { left, right, rest })
 }
 
-/// Where columns of these names stand.
-pub fn column_indices_in(
+/// The indices of the columns of these names.
+pub fn column_indices(
     alloc: Global,
     columns: &[(Text, CellType)],
     names: &[Text],
 ) -> Result<List<Option<usize>>, AllocError>
-    ensures { IfOk result (λ indices. indices ≡ joins.column_indices_in columns.now names.now) }
+    ensures { IfOk result
+        (λ indices. indices ≡ named_columns.column_indices columns.now names.now) }
 {
     let mut indices = Vec::with_capacity(alloc, names.len())?;
     for name in names {
@@ -45,45 +47,44 @@ pub fn column_indices_in(
     Ok(List::from_vec(indices))
 }
 
-// Where the right columns stand that are no keys.
-fn rest_places(
+// The indices of the right columns that are no keys.
+fn rest_indices(
     alloc: Global,
     right: &[(Text, CellType)],
     keys: &[Text],
 ) -> Result<List<Option<usize>>, AllocError>
-    ensures { IfOk result (λ indices. indices ≡ joins.column_indices_in right.now (map (λ c. c.0) (columns_without_keys keys.now right.now))) }
+    ensures { IfOk result
+        (λ indices. indices
+        ≡ named_columns.column_indices right.now
+        (map (λ c. c.0) (columns_without_keys keys.now right.now))) }
 {
     let mut indices = Vec::new(alloc);
     for column in right {
-        add_place(&mut indices, right, keys, column)?;
+        push_rest_index(&mut indices, right, keys, column)?;
     }
     Ok(List::from_vec(indices))
 }
 
 // Adds the index of a column, if it is no key.
-fn add_place(
+fn push_rest_index(
     indices: &mut Vec<Option<usize>>,
     right: &[(Text, CellType)],
     keys: &[Text],
     column: &(Text, CellType),
 ) -> Result<(), AllocError>
     ensures { OnOk result (indices.new.items
-        ≡ indices.old.items ++ joins.column_indices_in right.now (map (λ c. c.0) (columns_without_keys keys.now (column.now ∷ [])))) }
+        ≡ indices.old.items
+        ++ named_columns.column_indices right.now
+        (map (λ c. c.0) (columns_without_keys keys.now (column.now ∷ [])))) }
 {
-    if !is_key(keys, column) {
+    if !has_name(keys, column.0.as_str()) {
         indices.push(column_index(&column.0, right))?;
     }
     Ok(())
 }
 
-fn is_key(keys: &[Text], column: &(Text, CellType)) -> bool
-    ensures { result ≡ joins.is_key keys.now column.now }
-{
-    keys.iter().any(|key| *key == column.0)
-}
-
-/// The left columns, and after them the right ones that are no keys; of these one whose name stands on
-/// the left gets a suffix.
+/// The left columns, and after them the right ones that are no keys; of these one whose name stands
+/// on the left gets a suffix.
 pub fn columns_of_join(
     alloc: Global,
     left: &List<(Text, CellType)>,
@@ -108,9 +109,11 @@ fn add_column(
     column: &(Text, CellType),
 ) -> Result<(), AllocError>
     ensures { OnOk result (out.new.items
-        ≡ out.old.items ++ map (joins.right_column left.now) (columns_without_keys keys.now (column.now ∷ []))) }
+        ≡ out.old.items
+        ++ map (joins.right_column left.now)
+        (columns_without_keys keys.now (column.now ∷ []))) }
 {
-    if !is_key(keys, column) {
+    if !has_name(keys, column.0.as_str()) {
         out.push(right_column(alloc, left, column)?)?;
     }
     Ok(())
@@ -124,7 +127,7 @@ fn right_column(
 ) -> Result<(Text, CellType), AllocError>
     ensures { IfOk result (λ c. c ≡ joins.right_column left.now column.now) }
 {
-    if !has_name(&column.0, left) {
+    if !has_name(left, column.0.as_str()) {
         return column.copy(alloc);
     }
     Ok((suffixed(alloc, &column.0)?, column.1))

@@ -9,10 +9,18 @@ ghost use Rattle.df_ops.specs.Tables as tables;
 
 use crate::groups::key_of;
 use crate::join_columns::{JoinIndices, columns_of_join, join_indices_of};
-use crate::kinds::How;
 use crate::plain_table::{PlainTable, table_from};
 use df_value::{Cell, Duplicate, List, Row, Text, push_made};
 use std::alloc::{AllocError, Global};
+
+/// Which left rows a join keeps.
+#[derive(Clone, Copy, Debug, PartialEq, Eq, Hash)]
+pub enum How {
+    /// Those that have a match.
+    Inner,
+    /// All; one without a match stands once, beside nulls.
+    Left,
+}
 
 /// The join of two tables.
 #[tactic(auto, unfolding(crate::specs::Tables::join_table))]
@@ -37,7 +45,8 @@ fn rows_of_join(
     keys: &[Text],
 ) -> Result<List<Row>, AllocError>
     ensures { IfOk result (λ rows. rows
-        ≡ joins.join_rows how (joins.join_indices_of left.now.columns right.now.columns keys.now) left.now.rows right.now.rows) }
+        ≡ joins.join_rows how
+        (joins.join_indices_of left.now.columns right.now.columns keys.now) left.now.rows right.now.rows) }
 {
     let join_indices = join_indices_of(
         alloc,
@@ -62,15 +71,18 @@ pub fn join_rows(
     lefts: &[Row],
     rights: &[Row],
 ) -> Result<List<Row>, AllocError>
-    ensures value { IfOk result (λ rows. rows ≡ joins.join_rows how join_indices.now lefts.now rights.now) }
+    ensures value { IfOk result
+        (λ rows. rows ≡ joins.join_rows how join_indices.now lefts.now rights.now) }
 
     // Each left row gives its part.
     ensures count { IfOk result (λ rows. length rows
-        ≡ sum_by (λ left. join_count how (match_count join_indices.now rights.now left)) lefts.now) }
+        ≡ sum_by (λ left. join_count how
+        (match_count join_indices.now rights.now left)) lefts.now) }
 
     // An inner join is the left join of those left rows that have a match.
     ensures inner_is_left { joins.join_rows How.Inner join_indices.now lefts.now rights.now
-        ≡ joins.join_rows How.Left join_indices.now (filter (has_match join_indices.now rights.now) lefts.now) rights.now }
+        ≡ joins.join_rows How.Left join_indices.now
+        (filter (has_match join_indices.now rights.now) lefts.now) rights.now }
 {
     all_joined(alloc, how, join_indices, lefts, rights)
 }
@@ -82,7 +94,8 @@ fn all_joined(
     lefts: &[Row],
     rights: &[Row],
 ) -> Result<List<Row>, AllocError>
-    ensures { IfOk result (λ rows. rows ≡ joins.join_rows how join_indices.now lefts.now rights.now) }
+    ensures { IfOk result
+        (λ rows. rows ≡ joins.join_rows how join_indices.now lefts.now rights.now) }
 {
     let mut rows = Vec::new(alloc);
     for left in lefts {
@@ -100,7 +113,9 @@ fn add_joined(
     left: &Row,
     rights: &[Row],
 ) -> Result<(), AllocError>
-    ensures { OnOk result (rows.new.items ≡ rows.old.items ++ joins.join_row how join_indices.now rights.now left.now) }
+    ensures { OnOk result
+        (rows.new.items
+        ≡ rows.old.items ++ joins.join_row how join_indices.now rights.now left.now) }
 {
     let mut made = join_row(alloc, how, join_indices, left, rights)?;
     rows.append(&mut made)
@@ -114,14 +129,18 @@ pub fn join_row(
     left: &Row,
     rights: &[Row],
 ) -> Result<Vec<Row>, AllocError>
-    ensures value { IfOk result (λ rows. rows.items ≡ joins.join_row how join_indices.now rights.now left.now) }
+    ensures value { IfOk result
+        (λ rows. rows.items ≡ joins.join_row how join_indices.now rights.now left.now) }
 
     // One for each match, and in a left join at least one.
-    ensures count { IfOk result (λ rows. length rows.items ≡ join_count how (match_count join_indices.now rights.now left.now)) }
+    ensures count { IfOk result
+        (λ rows. length rows.items
+        ≡ join_count how (match_count join_indices.now rights.now left.now)) }
     ensures kept { how ≡ How.Left → IfOk result (λ rows. 0 < length rows.items) }
 
     // Each begins with the left row.
-    ensures begins { IfOk result (λ rows. All (λ row. take (length left.now) row ≡ left.now) rows.items) }
+    ensures begins { IfOk result
+        (λ rows. All (λ row. take (length left.now) row ≡ left.now) rows.items) }
 {
     matched_row(alloc, how, join_indices, left, rights)
 }
@@ -134,7 +153,8 @@ fn matched_row(
     left: &Row,
     rights: &[Row],
 ) -> Result<Vec<Row>, AllocError>
-    ensures { IfOk result (λ rows. rows.items ≡ joins.join_row how join_indices.now rights.now left.now) }
+    ensures { IfOk result
+        (λ rows. rows.items ≡ joins.join_row how join_indices.now rights.now left.now) }
 {
     let key = key_of(alloc, join_indices.left.as_slice(), left)?;
     let rests = matched_rests(
@@ -161,7 +181,9 @@ fn matched_rests(
     key: &Row,
     rights: &[Row],
 ) -> Result<Vec<Row>, AllocError>
-    ensures { IfOk result (λ rests. rests.items ≡ map (groups_spec.key_of rest.now) (joins.matches_of indices.now key.now rights.now)) }
+    ensures { IfOk result
+        (λ rests. rests.items
+        ≡ map (groups_spec.key_of rest.now) (joins.matches_of indices.now key.now rights.now)) }
 {
     let mut rests = Vec::new(alloc);
     for right in rights {
@@ -180,7 +202,9 @@ fn add_rest(
     right: &Row,
 ) -> Result<(), AllocError>
     ensures { OnOk result (rests.new.items
-        ≡ rests.old.items ++ map (groups_spec.key_of rest.now) (joins.matches_of indices.now key.now (right.now ∷ []))) }
+        ≡ rests.old.items
+        ++ map (groups_spec.key_of rest.now)
+        (joins.matches_of indices.now key.now (right.now ∷ []))) }
 {
     let own = key_of(alloc, indices, right)?;
     if keys_match(key, &own) {
@@ -210,7 +234,9 @@ fn left_beside(
     indices: &[Option<usize>],
     rests: &[Row],
 ) -> Result<Vec<Row>, AllocError>
-    ensures { IfOk result (λ rows. rows.items ≡ joins.left_beside how left.now (joins.nulls_for indices.now) rests.now) }
+    ensures { IfOk result
+        (λ rows. rows.items
+        ≡ joins.left_beside how left.now (joins.nulls_for indices.now) rests.now) }
 {
     match how {
         How::Left if rests.is_empty() => {

@@ -9,16 +9,16 @@
 //! gives (specs/Tables.antt) and its body; one that puts columns among those of its input puts them by
 //! `with_columns` (named_columns.rt), one that puts a column of further cells, as a window or a rank, by
 //! `with_column_table` (one_column.rt). To add an aggregate: a variant of [`Agg`] with its arms in `copy` (kinds.rt), in
-//! `column` and `type_of` (aggregates.rt, specs/AggregateTypes.antt), in `aggregate` (aggregates.rt) and in
+//! `column` and `dtype_of` (aggregates.rt, specs/AggregateDtypes.antt), in `aggregate` (aggregates.rt) and in
 //! `aggregate_cell` (specs/Tables.antt). Plans of operators, their checks and that rows fit are in `df_plan`.
 #![tactic(auto)]
 
+mod agg;
 mod aggregates;
 mod grouping;
 mod groups;
 mod join_columns;
 mod joins;
-mod kinds;
 mod min_max;
 mod named_columns;
 mod one_column;
@@ -28,18 +28,20 @@ mod row_wise;
 mod totals;
 mod windows;
 
+pub use agg::Agg;
 pub use aggregates::{count_of, mean_of, sum_of};
 pub use grouping::group_by;
 pub use groups::{group_lengths, group_of, keys_of};
 pub use join_columns::{JoinIndices, columns_of_join, join_indices_of};
-pub use joins::{join, join_row, join_rows};
-pub use kinds::{Agg, How, RankKind, RollKind};
+pub use joins::{How, join, join_row, join_rows};
 pub use min_max::{MinMax, min_and_max_of, min_or_max_of};
 pub use named_columns::with_columns;
 pub use plain_table::PlainTable;
-pub use ranks::{dense_rank, rank_table};
+pub use ranks::{RankKind, dense_rank, rank_table};
 pub use row_wise::{
     filter_rows, filter_table, select_row, select_table, with_columns_row, with_columns_table,
 };
 pub use totals::group_sums;
-pub use windows::{cum_sum, cum_sum_table, rolling_dtype, rolling_last, rolling_table, size_of};
+pub use windows::{
+    RollKind, cum_sum, cum_sum_table, rolling_dtype, rolling_last, rolling_table, size_of,
+};

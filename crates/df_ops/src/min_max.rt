@@ -17,18 +17,22 @@ pub enum MinMax {
     Max,
 }
 
-/// Of the cells of the rows at an index that are not null, the one that no other lies beyond; none where
-/// all are null. Cells of one type compare as numbers, by their bytes, or false before true.
+/// Of the cells of the rows at an index that are not null, the one that no other lies beyond; none
+/// where all are null. Cells of one type compare as numbers, by their bytes, or false before true.
 pub fn min_or_max_of<'a>(min_max: MinMax, index: Option<usize>, rows: &'a [Row]) -> Option<&'a Cell>
-    ensures { option_map (λ c. c.now) result ≡ min_or_max_in min_max (non_null (cells_of index rows.now)) }
+    ensures { option_map (λ c. c.now) result
+        ≡ min_or_max_in min_max (non_null (cells_of index rows.now)) }
 {
     min_or_max_so_far(min_max, index, rows)
 }
 
-/// The least and the greatest cell of the rows at an index that are not null; none where all are null.
+/// The least and the greatest cell of the rows at an index that are not null; none where all are
+/// null.
 pub fn min_and_max_of<'a>(index: Option<usize>, rows: &'a [Row]) -> Option<(&'a Cell, &'a Cell)>
-    ensures least { IfSome result (λ p. min_or_max_in MinMax.Min (non_null (cells_of index rows.now)) ≡ Some p.0.now) }
-    ensures greatest { IfSome result (λ p. min_or_max_in MinMax.Max (non_null (cells_of index rows.now)) ≡ Some p.1.now) }
+    ensures least { IfSome result
+        (λ p. min_or_max_in MinMax.Min (non_null (cells_of index rows.now)) ≡ Some p.0.now) }
+    ensures greatest { IfSome result
+        (λ p. min_or_max_in MinMax.Max (non_null (cells_of index rows.now)) ≡ Some p.1.now) }
     ensures in_order { IfSome result (λ p. cell_cmp p.0.now p.1.now ≢ Ordering.Greater) }
     ensures none { IfNone result (non_null (cells_of index rows.now) ≡ []) }
 {
@@ -42,7 +46,8 @@ pub fn min_and_max_of<'a>(index: Option<usize>, rows: &'a [Row]) -> Option<(&'a 
 }
 
 fn min_or_max_so_far<'a>(min_max: MinMax, index: Option<usize>, rows: &'a [Row]) -> Option<&'a Cell>
-    ensures { option_map (λ c. c.now) result ≡ min_or_max_after min_max None (cells_of index rows.now) }
+    ensures { option_map (λ c. c.now) result
+        ≡ min_or_max_after min_max None (cells_of index rows.now) }
 {
     let mut so_far = None;
     for row in rows {
@@ -56,7 +61,9 @@ fn min_or_max_with<'a>(
     so_far: Option<&'a Cell>,
     next: Option<&'a Cell>,
 ) -> Option<&'a Cell>
-    ensures { option_map (λ c. c.now) result ≡ loop_states.min_or_max_with min_max (option_map (λ c. c.now) so_far.entry) (option_map (λ c. c.now) next.entry) }
+    ensures { option_map (λ c. c.now) result
+        ≡ loop_states.min_or_max_with min_max (option_map (λ c. c.now) so_far.entry)
+        (option_map (λ c. c.now) next.entry) }
 {
     match (so_far, next) {
         (so_far, None) => so_far,
@@ -66,7 +73,8 @@ fn min_or_max_with<'a>(
 }
 
 fn further<'a>(min_max: MinMax, so_far: &'a Cell, next: &'a Cell) -> &'a Cell
-    ensures { result.now ≡ cond (aggregates.is_beyond min_max next.now so_far.now) next.now so_far.now }
+    ensures { result.now
+        ≡ cond (aggregates.is_beyond min_max next.now so_far.now) next.now so_far.now }
 {
     if is_beyond(min_max, next, so_far) {
         next

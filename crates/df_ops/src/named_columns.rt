@@ -4,11 +4,11 @@ ghost use Rattle.std.specs.Option.{option_copied};
 ghost use Rattle.df_ops.specs.NamedColumns as named_columns;
 ghost use Rattle.df_ops.specs.NamedColumns.{added_or_own};
 
-use df_value::{Duplicate, List, Text, push_made};
+use df_value::{Duplicate, List, Text, has_name, push_made};
 use std::alloc::{AllocError, Global};
 
-/// Each of one's own, replaced in its place by the added one of its name; then the added ones of new
-/// names, in their order.
+/// Each of one's own, replaced in its place by the added one of its name; then the added ones of
+/// new names, in their order.
 #[tactic(auto, unfolding(crate::specs::NamedColumns::with_columns))]
 pub fn with_columns<T: Duplicate>(
     alloc: Global,
@@ -57,17 +57,13 @@ fn push_new<T: Duplicate>(
     own: &[(Text, T)],
     item: &(Text, T),
 ) -> Result<(), AllocError>
-    ensures { OnOk result (out.new.items ≡ out.old.items ++ filter (λ a. not (named_columns.has_name a.0 own.now)) (item.now ∷ [])) }
+    ensures { OnOk result
+        (out.new.items
+        ≡ out.old.items
+        ++ filter (λ a. not (named_columns.has_column a.0 own.now)) (item.now ∷ [])) }
 {
-    if !has_name(&item.0, own) {
+    if !has_name(own, item.0.as_str()) {
         out.push(item.copy(alloc)?)?;
     }
     Ok(())
-}
-
-/// Whether one of the items has this name.
-pub fn has_name<T>(name: &Text, items: &[(Text, T)]) -> bool
-    ensures { result ≡ named_columns.has_name name.now items.now }
-{
-    items.iter().any(|item| item.0 == *name)
 }

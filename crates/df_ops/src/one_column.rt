@@ -33,7 +33,8 @@ fn columns_with(
     name: &Text,
     dtype: CellType,
 ) -> Result<List<(Text, CellType)>, AllocError>
-    ensures { IfOk result (λ cs. cs ≡ named_columns_spec.with_columns columns.now ((name.now, dtype) ∷ [])) }
+    ensures { IfOk result
+        (λ cs. cs ≡ named_columns_spec.with_columns columns.now ((name.now, dtype) ∷ [])) }
 {
     let added = [(name.copy(alloc)?, dtype)];
     with_columns(alloc, columns, &added)
@@ -46,7 +47,8 @@ fn with_column_rows(
     rows: &[Row],
     cells: &[Cell],
 ) -> Result<List<Row>, AllocError>
-    ensures { IfOk result (λ r. r ≡ row_wise_spec.with_column_rows columns.now name.now rows.now cells.now) }
+    ensures { IfOk result
+        (λ r. r ≡ row_wise_spec.with_column_rows columns.now name.now rows.now cells.now) }
 {
     let mut out = Vec::with_capacity(alloc, rows.len())?;
     for (row, cell) in rows.iter().zip(cells) {
@@ -63,7 +65,8 @@ fn with_column_row(
     row: &Row,
     cell: &Cell,
 ) -> Result<Row, AllocError>
-    ensures { IfOk result (λ r. r ≡ row_wise_spec.with_column_row columns.now name.now row.now cell.now) }
+    ensures { IfOk result
+        (λ r. r ≡ row_wise_spec.with_column_row columns.now name.now row.now cell.now) }
 {
     let own = named_cells(alloc, columns, row.as_slice())?;
     let cells = cells_with(alloc, own.as_slice(), name, cell)?;
@@ -77,7 +80,8 @@ fn cells_with(
     name: &Text,
     cell: &Cell,
 ) -> Result<List<(Text, Cell)>, AllocError>
-    ensures { IfOk result (λ cells. cells ≡ named_columns_spec.with_columns own.now ((name.now, cell.now) ∷ [])) }
+    ensures { IfOk result
+        (λ cells. cells ≡ named_columns_spec.with_columns own.now ((name.now, cell.now) ∷ [])) }
 {
     let added = [both(name.copy(alloc), cell.copy(alloc))?];
     with_columns(alloc, own, &added)

@@ -6,12 +6,18 @@ ghost use Rattle.df_ops.specs.Ranks as ranks_spec;
 ghost use Rattle.df_ops.specs.Ranks.{dense_rank_of, ranks_of, GreatestCounts, RanksAgree, RanksRise, RanksWithin};
 
 use crate::groups::keys_of;
-use crate::kinds::RankKind;
 use crate::min_max::non_null_at;
 use crate::one_column::with_column_table;
 use crate::plain_table::PlainTable;
 use df_value::{Cell, CellType, Row, Text, column_index};
 use std::alloc::{AllocError, Global};
+
+/// How a rank counts cells that are equal.
+#[derive(Clone, Copy, Debug, PartialEq, Eq, Hash)]
+pub enum RankKind {
+    /// Once, so that no rank is left out.
+    Dense,
+}
 
 /// The table with the ranks of a column put among its own.
 #[tactic(auto, unfolding(crate::specs::Tables::rank_table))]

@@ -10,7 +10,7 @@ ghost use Rattle.df_ops.specs.RowWise.{item_column, item_cell, KeepsOthers};
 use crate::named_columns::with_columns;
 use crate::plain_table::{PlainTable, table_from};
 use df_expr::{Expr, value};
-use df_value::{Cell, CellType, Duplicate, List, Row, Text, both, push_made, type_of};
+use df_value::{Cell, CellType, Duplicate, List, Row, Text, both, column_dtype, push_made};
 use std::alloc::{AllocError, Global};
 
 /// The table with the rows whose predicate is true.
@@ -31,7 +31,8 @@ pub fn filter_table(
     table_from(table.columns.copy(alloc), rows)
 }
 
-/// Copies of the rows whose predicate is true, in their order; a predicate that is null drops its row.
+/// Copies of the rows whose predicate is true, in their order; a predicate that is null drops its
+/// row.
 #[tactic(auto, using(crate::proofs::RowWiseLaws::filtered_twice))]
 pub fn filter_rows(
     alloc: Global,
@@ -39,10 +40,13 @@ pub fn filter_rows(
     predicate: &Expr,
     rows: &[Row],
 ) -> Result<List<Row>, AllocError>
-    ensures value { IfOk result (λ kept. kept ≡ row_wise.filter_rows columns.now predicate.now rows.now) }
+    ensures value { IfOk result
+        (λ kept. kept ≡ row_wise.filter_rows columns.now predicate.now rows.now) }
 
     // Filtering again is filtering by both.
-    ensures twice { (again : AnyExpr) → row_wise.filter_rows columns.now again (row_wise.filter_rows columns.now predicate.now rows.now)
+    ensures twice { (again : AnyExpr)
+        → row_wise.filter_rows columns.now again
+        (row_wise.filter_rows columns.now predicate.now rows.now)
         ≡ row_wise.filter_rows columns.now (expr.And predicate.now again) rows.now }
 {
     let mut kept = Vec::new(alloc);
@@ -61,7 +65,9 @@ fn keep(
     predicate: &Expr,
     row: &Row,
 ) -> Result<(), AllocError>
-    ensures { OnOk result (kept.new.items ≡ kept.old.items ++ row_wise.filter_rows columns.now predicate.now (row.now ∷ [])) }
+    ensures { OnOk result
+        (kept.new.items
+        ≡ kept.old.items ++ row_wise.filter_rows columns.now predicate.now (row.now ∷ [])) }
 {
     let cell = value(alloc, predicate, columns, row)?;
     if is_true(&cell) {
@@ -99,7 +105,8 @@ fn selected_rows(
     items: &[(Text, Expr)],
     rows: &[Row],
 ) -> Result<List<Row>, AllocError>
-    ensures { IfOk result (λ selected. selected ≡ map (row_wise.select_row columns.now items.now) rows.now) }
+    ensures { IfOk result
+        (λ selected. selected ≡ map (row_wise.select_row columns.now items.now) rows.now) }
 {
     let mut selected = Vec::with_capacity(alloc, rows.len())?;
     for row in rows {
@@ -157,7 +164,8 @@ fn added_rows(
     items: &[(Text, Expr)],
     rows: &[Row],
 ) -> Result<List<Row>, AllocError>
-    ensures { IfOk result (λ added. added ≡ map (row_wise.with_columns_row columns.now items.now) rows.now) }
+    ensures { IfOk result
+        (λ added. added ≡ map (row_wise.with_columns_row columns.now items.now) rows.now) }
 {
     let mut added = Vec::with_capacity(alloc, rows.len())?;
     for row in rows {
@@ -166,8 +174,8 @@ fn added_rows(
     Ok(List::from_vec(added))
 }
 
-/// The row with the items' values put among its cells: each in the place of the column of its name, and
-/// at the end where no column has it.
+/// The row with the items' values put among its cells: each in the place of the column of its name,
+/// and at the end where no column has it.
 pub fn with_columns_row(
     alloc: Global,
     columns: &[(Text, CellType)],
@@ -177,7 +185,8 @@ pub fn with_columns_row(
     ensures value { IfOk result (λ r. r ≡ row_wise.with_columns_row columns.now items.now row.now) }
 
     // The columns that no item names keep their cells.
-    ensures others { IsTrue (row_fits columns.now row.now) → IfOk result (KeepsOthers columns.now items.now row.now) }
+    ensures others { IsTrue (row_fits columns.now row.now)
+        → IfOk result (KeepsOthers columns.now items.now row.now) }
 {
     put_cells(alloc, columns, items, row)
 }
@@ -259,7 +268,7 @@ fn expr_dtype(expr: &Expr, columns: &[(Text, CellType)]) -> CellType
     ensures { result ≡ row_wise.expr_dtype expr.now columns.now }
 {
     match expr {
-        Expr::Column(name) => type_of(name, columns).unwrap_or(CellType::Int),
+        Expr::Column(name) => column_dtype(name, columns).unwrap_or(CellType::Int),
         Expr::Literal(_, dtype) => *dtype,
         Expr::Arith(_, _, _) => CellType::Int,
         Expr::FillNull(a, _) => expr_dtype(a.get(), columns),

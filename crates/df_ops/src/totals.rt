@@ -9,8 +9,8 @@ use crate::groups::{group_of, keys_of};
 use df_value::Row;
 use std::alloc::{AllocError, Global};
 
-/// The sum of each group's cells at an index, in the order of the keys. Together they are the sum of all
-/// rows.
+/// The sum of each group's cells at an index, in the order of the keys. Together they are the sum
+/// of all rows.
 pub fn group_sums(
     alloc: Global,
     indices: &[Option<usize>],
@@ -18,8 +18,11 @@ pub fn group_sums(
     index: Option<usize>,
 ) -> Result<Vec<i128>, AllocError>
     ensures value { IfOk result (λ sums. sums.items ≡
-        map (λ k. aggregates_spec.sum_of (cells_of index (groups_spec.group_of indices.now rows.now k))) (groups_spec.keys_of indices.now rows.now)) }
-    ensures whole { IfOk result (λ sums. total sums.items ≡ aggregates_spec.sum_of (cells_of index rows.now)) }
+        map (λ k. aggregates_spec.sum_of
+        (cells_of index (groups_spec.group_of indices.now rows.now k)))
+        (groups_spec.keys_of indices.now rows.now)) }
+    ensures whole { IfOk result
+        (λ sums. total sums.items ≡ aggregates_spec.sum_of (cells_of index rows.now)) }
 {
     sums_of_groups(alloc, indices, rows, index)
 }
@@ -31,7 +34,9 @@ fn sums_of_groups(
     index: Option<usize>,
 ) -> Result<Vec<i128>, AllocError>
     ensures { IfOk result (λ sums. sums.items ≡
-        map (λ k. aggregates_spec.sum_of (cells_of index (groups_spec.group_of indices.now rows.now k))) (groups_spec.keys_of indices.now rows.now)) }
+        map (λ k. aggregates_spec.sum_of
+        (cells_of index (groups_spec.group_of indices.now rows.now k)))
+        (groups_spec.keys_of indices.now rows.now)) }
 {
     let keys = keys_of(alloc, indices, rows)?;
     let keys = keys.as_slice();

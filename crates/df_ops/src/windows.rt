@@ -8,15 +8,25 @@ ghost use Rattle.df_ops.specs.Windows as windows;
 ghost use Rattle.df_ops.specs.Windows.{rolling_cell, window_of, IsCumSum, EndsInSum};
 
 use crate::aggregates::{count_of, min_or_max, next_sum, number_at, sum_of};
-use crate::kinds::RollKind;
 use crate::min_max::{MinMax, non_null_at};
 use crate::one_column::with_column_table;
 use crate::plain_table::PlainTable;
 use df_value::{Cell, CellType, Row, Text, column_index};
 use std::alloc::{AllocError, Global};
 
-/// The table with the rolling values of a column put among its own, over w rows, of which m are to be not
-/// null.
+/// What a rolling window takes of its cells.
+#[derive(Clone, Copy, Debug, PartialEq, Eq, Hash)]
+pub enum RollKind {
+    /// The sum of those that are not null, a Wide.
+    Sum,
+    /// The least that is not null.
+    Min,
+    /// The greatest that is not null.
+    Max,
+}
+
+/// The table with the rolling values of a column put among its own, over w rows, of which m are to
+/// be not null.
 #[tactic(auto, unfolding(crate::specs::Tables::rolling_table))]
 pub fn rolling_table(
     alloc: Global,
@@ -43,7 +53,8 @@ fn rolling_cells(
     index: Option<usize>,
     rows: &[Row],
 ) -> Result<Vec<Cell>, AllocError>
-    ensures { IfOk result (λ cells. cells.items ≡ windows.rolling_cells kind w m (cells_of index rows.now)) }
+    ensures { IfOk result
+        (λ cells. cells.items ≡ windows.rolling_cells kind w m (cells_of index rows.now)) }
 {
     let mut cells = Vec::with_capacity(alloc, rows.len())?;
     for i in 0..rows.len() {
@@ -61,7 +72,8 @@ pub fn rolling_last(
     index: Option<usize>,
     rows: &[Row],
 ) -> Result<Cell, AllocError>
-    ensures value { IfOk result (λ c. c ≡ rolling_cell kind m (window_of w (cells_of index rows.now))) }
+    ensures value { IfOk result
+        (λ c. c ≡ rolling_cell kind m (window_of w (cells_of index rows.now))) }
 
     // Over all rows a sum is the cumulative sum.
     ensures whole { IfOk result (λ c. IsCumSum kind w m (cells_of index rows.now) c) }

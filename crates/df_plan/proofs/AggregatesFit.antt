@@ -7,20 +7,21 @@ use Rattle.df_value.specs.declared.cell.Cell.{Cell}
 use Rattle.df_value.specs.declared.cell.Cell.TheVariants as cell
 use Rattle.df_value.specs.declared.cell.CellType.{CellType}
 use Rattle.df_value.specs.declared.cell.CellType.TheVariants as dtype
-use Rattle.df_value.specs.Cells.{fits_type}
+use Rattle.df_value.specs.Cells.{fits_dtype}
 use Rattle.df_value.specs.Rows.{cell_at, row_fits, rows_fit}
 use Rattle.df_value.specs.Schemas.{column_dtype, column_index}
-use Rattle.df_expr.specs.Typing.{column_type}
+use Rattle.df_expr.specs.Typing.{column_dtype_check}
 use Rattle.df_expr.specs.Value.{is_null}
 use Rattle.df_expr.proofs.Sound.{column_fits}
 use Rattle.df_ops.specs.declared.min_max.MinMax.{MinMax}
 use Rattle.df_ops.specs.declared.min_max.MinMax.TheVariants as end
-use Rattle.df_ops.specs.declared.kinds.Agg.{Agg}
-use Rattle.df_ops.specs.declared.kinds.Agg.TheVariants as agg
+use Rattle.df_ops.specs.declared.agg.Agg.{Agg}
+use Rattle.df_ops.specs.declared.agg.Agg.TheVariants as agg
 use Rattle.df_ops.specs.Aggregates.{cells_of, non_null, count_of, sum_of, is_min_or_max, min_or_max_of, first_cell, last_cell, mean_at}
-use Rattle.df_ops.specs.AggregateTypes.{column_taken, dtype_given}
-use Rattle.df_plan.specs.ItemChecks.{Columns, aggregate_type, type_of_column, taken_type, given_type}
-use Rattle.df_ops.specs.Tables.{aggregate_cell, aggregate_dtype, dtype_of_taken}
+use Rattle.df_ops.specs.AggregateDtypes.{input_column, output_dtype}
+use Rattle.df_value.specs.Schemas.{Columns}
+use Rattle.df_plan.specs.ItemChecks.{aggregate_dtype_check, aggregate_dtype_over, column_aggregate_dtype, accepted_dtype}
+use Rattle.df_ops.specs.Tables.{aggregate_cell, aggregate_dtype, output_dtype_over}
 
 abbrev Rows : Type 0
 Rows = List (List Cell)
@@ -40,11 +41,11 @@ both_true false b e h = cc
 -- the cells of a column are null or of its type
 pub cells_fit :
     (columns : Columns) (name : List ℕ) (t : CellType) → column_dtype name columns ≡ Some t → (rows : Rows) →
-    IsTrue (rows_fit columns rows) → IsTrue (list_all (fits_type t) (cells_of (column_index name columns) rows))
+    IsTrue (rows_fit columns rows) → IsTrue (list_all (fits_dtype t) (cells_of (column_index name columns) rows))
 cells_fit columns name t is [] h = refl
 cells_fit columns name t is (r ∷ rs) h =
-    both_true (fits_type t (cell_at (column_index name columns) r)) _
-    (column_fits columns r (first_true (row_fits columns r) (rows_fit columns rs) h) name t (ap (column_type name) is))
+    both_true (fits_dtype t (cell_at (column_index name columns) r)) _
+    (column_fits columns r (first_true (row_fits columns r) (rows_fit columns rs) h) name t (ap (column_dtype_check name) is))
     (cells_fit columns name t is rs (second_true (row_fits columns r) (rows_fit columns rs) h))
 
 kept_fit : (q : Cell → Bool) (c : Cell) (b : Bool) (cs kept : List Cell) → IsTrue (q c && list_all q cs) → IsTrue (list_all q kept) →
@@ -71,82 +72,82 @@ at_fits q [] i null h = null
 at_fits q (c ∷ cs) zero null h = first_true (q c) (list_all q cs) h
 at_fits q (c ∷ cs) (suc i) null h = at_fits q cs i null (second_true (q c) (list_all q cs) h)
 
-null_fits : (t : CellType) → IsTrue (fits_type t cell.Null)
+null_fits : (t : CellType) → IsTrue (fits_dtype t cell.Null)
 null_fits t = refl
 
-pub extreme_fits : (e : MinMax) (t : CellType) (cs : List Cell) → IsTrue (list_all (fits_type t) cs) → IsTrue (fits_type t (min_or_max_of e cs))
+pub extreme_fits : (e : MinMax) (t : CellType) (cs : List Cell) → IsTrue (list_all (fits_dtype t) cs) → IsTrue (fits_dtype t (min_or_max_of e cs))
 extreme_fits e t cs h =
-    find_fits (fits_type t) (is_min_or_max e (non_null cs)) (non_null cs) refl (filter_fits (fits_type t) (λ c. not (is_null c)) cs h)
+    find_fits (fits_dtype t) (is_min_or_max e (non_null cs)) (non_null cs) refl (filter_fits (fits_dtype t) (λ c. not (is_null c)) cs h)
 
-mean_fits : (s : ℤ) (n : ℕ) → IsTrue (fits_type dtype.Frac (mean_at s n))
+mean_fits : (s : ℤ) (n : ℕ) → IsTrue (fits_dtype dtype.Frac (mean_at s n))
 mean_fits s zero = refl
 mean_fits s (suc n) = refl
 
 -- what is known of the type of an aggregate's result
-is_type : (k u : CellType) (c : Cell) → k ≡ u → IsTrue (fits_type k c) → IsTrue (fits_type u c)
-is_type k u c e h = subst (λ z. IsTrue (fits_type z c)) e h
+has_dtype : (k u : CellType) (c : Cell) → k ≡ u → IsTrue (fits_dtype k c) → IsTrue (fits_dtype u c)
+has_dtype k u c e h = subst (λ z. IsTrue (fits_dtype z c)) e h
 
-min_type : (name : List ℕ) (t u : CellType) → dtype_given (agg.Min name) t ≡ Some u → t ≡ u
-min_type name t u h = grind (arith, common_steps)
+min_dtype : (name : List ℕ) (t u : CellType) → output_dtype (agg.Min name) t ≡ Some u → t ≡ u
+min_dtype name t u h = grind (arith, common_steps)
 
-max_type : (name : List ℕ) (t u : CellType) → dtype_given (agg.Max name) t ≡ Some u → t ≡ u
-max_type name t u h = grind (arith, common_steps)
+max_dtype : (name : List ℕ) (t u : CellType) → output_dtype (agg.Max name) t ≡ Some u → t ≡ u
+max_dtype name t u h = grind (arith, common_steps)
 
-sum_type : (name : List ℕ) (t u : CellType) → dtype_given (agg.Sum name) t ≡ Some u → dtype.Wide ≡ u
-sum_type name t u h = grind (arith, common_steps)
+sum_dtype : (name : List ℕ) (t u : CellType) → output_dtype (agg.Sum name) t ≡ Some u → dtype.Wide ≡ u
+sum_dtype name t u h = grind (arith, common_steps)
 
-n_unique_type : (name : List ℕ) (t u : CellType) → dtype_given (agg.NUnique name) t ≡ Some u → dtype.Int ≡ u
-n_unique_type name t u h = grind (arith, common_steps)
+n_unique_dtype : (name : List ℕ) (t u : CellType) → output_dtype (agg.NUnique name) t ≡ Some u → dtype.Int ≡ u
+n_unique_dtype name t u h = grind (arith, common_steps)
 
-mean_type : (name : List ℕ) (t u : CellType) → dtype_given (agg.Mean name) t ≡ Some u → dtype.Frac ≡ u
-mean_type name t u h = grind (arith, common_steps)
+mean_dtype : (name : List ℕ) (t u : CellType) → output_dtype (agg.Mean name) t ≡ Some u → dtype.Frac ≡ u
+mean_dtype name t u h = grind (arith, common_steps)
 
 -- the aggregate of a column of type t, where its type is u
 given_fits :
     (columns : Columns) (rows : Rows) (name : List ℕ) (t : CellType) → column_dtype name columns ≡ Some t →
-    IsTrue (rows_fit columns rows) → (a : Agg) → column_taken a ≡ Some name → (u : CellType) → dtype_given a t ≡ Some u →
-    IsTrue (fits_type u (aggregate_cell columns rows a))
+    IsTrue (rows_fit columns rows) → (a : Agg) → input_column a ≡ Some name → (u : CellType) → output_dtype a t ≡ Some u →
+    IsTrue (fits_dtype u (aggregate_cell columns rows a))
 given_fits columns rows name t is fit agg.Len taken u given = cc
 given_fits columns rows name t is fit (agg.Count c) taken u given =
-    let e : dtype.Int ≡ u = cc in is_type dtype.Int u (aggregate_cell columns rows (agg.Count c)) e refl
-given_fits columns rows name t is fit (agg.Sum c) taken u given = is_type dtype.Wide u (aggregate_cell columns rows (agg.Sum c)) (sum_type c t u given) refl
+    let e : dtype.Int ≡ u = cc in has_dtype dtype.Int u (aggregate_cell columns rows (agg.Count c)) e refl
+given_fits columns rows name t is fit (agg.Sum c) taken u given = has_dtype dtype.Wide u (aggregate_cell columns rows (agg.Sum c)) (sum_dtype c t u given) refl
 given_fits columns rows name t is fit (agg.Min c) taken u given =
     let named : c ≡ name = cc in
-    is_type t u (aggregate_cell columns rows (agg.Min c)) (min_type c t u given) (extreme_fits end.Min t (cells_of (column_index c columns) rows) (cells_fit columns c t (ap (λ n. column_dtype n columns) named ∙ is) rows fit))
+    has_dtype t u (aggregate_cell columns rows (agg.Min c)) (min_dtype c t u given) (extreme_fits end.Min t (cells_of (column_index c columns) rows) (cells_fit columns c t (ap (λ n. column_dtype n columns) named ∙ is) rows fit))
 given_fits columns rows name t is fit (agg.Max c) taken u given =
     let named : c ≡ name = cc in
-    is_type t u (aggregate_cell columns rows (agg.Max c)) (max_type c t u given) (extreme_fits end.Max t (cells_of (column_index c columns) rows) (cells_fit columns c t (ap (λ n. column_dtype n columns) named ∙ is) rows fit))
+    has_dtype t u (aggregate_cell columns rows (agg.Max c)) (max_dtype c t u given) (extreme_fits end.Max t (cells_of (column_index c columns) rows) (cells_fit columns c t (ap (λ n. column_dtype n columns) named ∙ is) rows fit))
 given_fits columns rows name t is fit (agg.First c) taken u given =
     let named : c ≡ name = cc in
     let e : t ≡ u = cc in
-    is_type t u (first_cell (cells_of (column_index c columns) rows)) e (at_fits (fits_type t) (cells_of (column_index c columns) rows) 0 refl (cells_fit columns c t (ap (λ n. column_dtype n columns) named ∙ is) rows fit))
+    has_dtype t u (first_cell (cells_of (column_index c columns) rows)) e (at_fits (fits_dtype t) (cells_of (column_index c columns) rows) 0 refl (cells_fit columns c t (ap (λ n. column_dtype n columns) named ∙ is) rows fit))
 given_fits columns rows name t is fit (agg.Last c) taken u given =
     let named : c ≡ name = cc in
     let e : t ≡ u = cc in
     let cells = cells_of (column_index c columns) rows in
-    is_type t u (last_cell cells) e (at_fits (fits_type t) cells (length cells - 1) refl (cells_fit columns c t (ap (λ n. column_dtype n columns) named ∙ is) rows fit))
-given_fits columns rows name t is fit (agg.NUnique c) taken u given = is_type dtype.Int u (aggregate_cell columns rows (agg.NUnique c)) (n_unique_type c t u given) refl
+    has_dtype t u (last_cell cells) e (at_fits (fits_dtype t) cells (length cells - 1) refl (cells_fit columns c t (ap (λ n. column_dtype n columns) named ∙ is) rows fit))
+given_fits columns rows name t is fit (agg.NUnique c) taken u given = has_dtype dtype.Int u (aggregate_cell columns rows (agg.NUnique c)) (n_unique_dtype c t u given) refl
 given_fits columns rows name t is fit (agg.Mean c) taken u given =
-    is_type dtype.Frac u (aggregate_cell columns rows (agg.Mean c)) (mean_type c t u given) (mean_fits (sum_of (cells_of (column_index c columns) rows)) (count_of (cells_of (column_index c columns) rows)))
+    has_dtype dtype.Frac u (aggregate_cell columns rows (agg.Mean c)) (mean_dtype c t u given) (mean_fits (sum_of (cells_of (column_index c columns) rows)) (count_of (cells_of (column_index c columns) rows)))
 
-given_found : (name : List ℕ) (o : Option CellType) (u : CellType) → given_type name o ≡ Ok u → o ≡ Some u
+given_found : (name : List ℕ) (o : Option CellType) (u : CellType) → accepted_dtype name o ≡ Ok u → o ≡ Some u
 given_found name None u h = cc
 given_found name (Some t) u h = cc
 
 given_is :
-    (columns : Columns) (rows : Rows) → IsTrue (rows_fit columns rows) → (a : Agg) (name : List ℕ) → column_taken a ≡ Some name →
-    (o : Option CellType) → column_dtype name columns ≡ o → (u : CellType) → taken_type name a o ≡ Ok u →
-    (u ≡ unwrap_or (dtype_given a (unwrap_or o dtype.Int)) dtype.Int) × IsTrue (fits_type u (aggregate_cell columns rows a))
+    (columns : Columns) (rows : Rows) → IsTrue (rows_fit columns rows) → (a : Agg) (name : List ℕ) → input_column a ≡ Some name →
+    (o : Option CellType) → column_dtype name columns ≡ o → (u : CellType) → column_aggregate_dtype name a o ≡ Ok u →
+    (u ≡ unwrap_or (output_dtype a (unwrap_or o dtype.Int)) dtype.Int) × IsTrue (fits_dtype u (aggregate_cell columns rows a))
 given_is columns rows fit a name taken None is u h = cc
 given_is columns rows fit a name taken (Some t) is u h =
-    let found = given_found name (dtype_given a t) u h in
+    let found = given_found name (output_dtype a t) u h in
     (rw found refl, given_fits columns rows name t is fit a taken u found)
 
 taken_is :
-    (columns : Columns) (rows : Rows) → IsTrue (rows_fit columns rows) → (a : Agg) (o : Option (List ℕ)) → column_taken a ≡ o →
-    (u : CellType) → type_of_column columns a o ≡ Ok u →
-    (u ≡ dtype_of_taken columns a o) × IsTrue (fits_type u (aggregate_cell columns rows a))
-taken_is columns rows fit agg.Len None is u h = let e : dtype.Int ≡ u = cc in (sym e, is_type dtype.Int u (cell.Int (pos (length rows))) e refl)
+    (columns : Columns) (rows : Rows) → IsTrue (rows_fit columns rows) → (a : Agg) (o : Option (List ℕ)) → input_column a ≡ o →
+    (u : CellType) → aggregate_dtype_over columns a o ≡ Ok u →
+    (u ≡ output_dtype_over columns a o) × IsTrue (fits_dtype u (aggregate_cell columns rows a))
+taken_is columns rows fit agg.Len None is u h = let e : dtype.Int ≡ u = cc in (sym e, has_dtype dtype.Int u (cell.Int (pos (length rows))) e refl)
 taken_is columns rows fit (agg.Count c) None is u h = cc
 taken_is columns rows fit (agg.Sum c) None is u h = cc
 taken_is columns rows fit (agg.Min c) None is u h = cc
@@ -159,6 +160,6 @@ taken_is columns rows fit a (Some name) is u h = given_is columns rows fit a nam
 
 -- where an aggregate checks, its type is the one in the result's columns, and its value fits it
 pub aggregate_fits :
-    (columns : Columns) (rows : Rows) → IsTrue (rows_fit columns rows) → (a : Agg) (u : CellType) → aggregate_type columns a ≡ Ok u →
-    (u ≡ aggregate_dtype columns a) × IsTrue (fits_type u (aggregate_cell columns rows a))
-aggregate_fits columns rows fit a u h = taken_is columns rows fit a (column_taken a) refl u h
+    (columns : Columns) (rows : Rows) → IsTrue (rows_fit columns rows) → (a : Agg) (u : CellType) → aggregate_dtype_check columns a ≡ Ok u →
+    (u ≡ aggregate_dtype columns a) × IsTrue (fits_dtype u (aggregate_cell columns rows a))
+aggregate_fits columns rows fit a u h = taken_is columns rows fit a (input_column a) refl u h

@@ -4,19 +4,21 @@ use Rattle.std.specs.Prelude.{Ok, Err, Option, Some, None, unwrap_or, nat_lt}
 use Rattle.std.specs.List.{AllByRecursion}
 use Rattle.df_value.specs.declared.cell.CellType.{CellType}
 use Rattle.df_value.specs.declared.cell.CellType.TheVariants as dtype
-use Rattle.df_value.specs.Schemas.{column_dtype, doubled_name_after}
+use Rattle.df_value.specs.Schemas.{column_dtype, doubled_column_after}
 use Rattle.df_expr.specs.declared.expr.Expr.{Expr}
 use Rattle.df_ops.specs.Tables.{key_column, aggregate_column, aggregate_dtype, group_by_columns}
 use Rattle.df_ops.specs.NamedColumns.{with_columns}
 use Rattle.df_ops.specs.RowWise.{item_column, with_columns_schema}
-use Rattle.df_plan.specs.ItemChecks.{Columns, CheckResult, DtypeResult, ColumnResult, key_type, aggregate_type, key_column_result, aggregate_column_result, select_column_result, with_columns_column_result, with_column, columns_after}
+use Rattle.df_value.specs.Names.{doubled_name_after}
+use Rattle.df_value.specs.Schemas.{Columns}
+use Rattle.df_plan.specs.ItemChecks.{CheckResult, DtypeResult, ColumnResult, key_dtype, aggregate_dtype_check, key_column_result, aggregate_column_result, select_column_result, with_columns_column_result, with_column, columns_after}
 use Rattle.df_value.specs.Outcomes.{then_next}
 use Rattle.df_plan.specs.Checks.{to_schema, to_schema_unless, added_columns_check, filter_check, select_check, with_columns_check, group_by_check, plan_check, columns_of, plan_levels, plan_scans}
-use Rattle.df_plan.specs.JoinChecks.{join_check, join_schema, fault_first, either_name, keys_fault, doubled_key_after}
+use Rattle.df_plan.specs.JoinChecks.{join_check, join_schema, fault_first, either_name, keys_fault}
 use Rattle.df_ops.specs.Joins.{columns_of_join}
 use Rattle.df_plan.specs.declared.fault.PlanFault.{PlanFault}
 use Rattle.df_plan.specs.declared.fault.PlanFault.TheVariants as fault
-use Rattle.df_ops.specs.declared.kinds.Agg.{Agg}
+use Rattle.df_ops.specs.declared.agg.Agg.{Agg}
 use Rattle.df_plan.specs.declared.plan.Plan.{Plan}
 use Rattle.df_plan.proofs.AggregatesFit.{aggregate_fits}
 use Rattle.df_plan.proofs.ItemKinds.{HasKind, output_found, added_found, named_ok}
@@ -52,7 +54,7 @@ each_found column f P found out (x ∷ xs) o h =
 abbrev pub IsColumn : Columns → List ℕ → Type 0
 IsColumn columns name = (t : CellType) × (column_dtype name columns ≡ Some t)
 
-key_is : (name : List ℕ) (o : Option CellType) (t : CellType) → key_type name o ≡ Ok t → o ≡ Some t
+key_is : (name : List ℕ) (o : Option CellType) (t : CellType) → key_dtype name o ≡ Ok t → o ≡ Some t
 key_is name None t h = cc
 key_is name (Some dtype.Frac) t h = cc
 key_is name (Some dtype.Int) t h = cc
@@ -64,19 +66,19 @@ key_found :
     (columns : Columns) (name : List ℕ) (c : List ℕ × CellType) → key_column_result columns name ≡ Ok c →
     (c ≡ key_column columns name) × IsColumn columns name
 key_found columns name c h =
-    let typed = named_ok name (key_type name (column_dtype name columns)) c h in
+    let typed = named_ok name (key_dtype name (column_dtype name columns)) c h in
     let is : column_dtype name columns ≡ Some typed.0 = key_is name (column_dtype name columns) typed.0 typed.1.0 in
     (typed.1.1 ∙ ap (λ (u : Option CellType). (name, unwrap_or u dtype.Int)) (sym is), (typed.0, is))
 
 -- an aggregate takes its column's type
 abbrev pub IsTaken : Columns → List ℕ × Agg → Type 0
-IsTaken columns a = (t : CellType) × (aggregate_type columns a.1 ≡ Ok t)
+IsTaken columns a = (t : CellType) × (aggregate_dtype_check columns a.1 ≡ Ok t)
 
 aggregate_found :
     (columns : Columns) (a : List ℕ × Agg) (c : List ℕ × CellType) → aggregate_column_result columns a ≡ Ok c →
     (c ≡ aggregate_column columns a) × IsTaken columns a
 aggregate_found columns a c h =
-    let typed = named_ok a.0 (aggregate_type columns a.1) c h in
+    let typed = named_ok a.0 (aggregate_dtype_check columns a.1) c h in
     let is : typed.0 ≡ aggregate_dtype columns a.1 = (aggregate_fits columns [] refl a.1 typed.0 typed.1.0).0 in
     (typed.1.1 ∙ ap (λ (t : CellType). (a.0, t)) is, (typed.0, typed.1.0))
 
@@ -104,7 +106,7 @@ select_found columns [] cs h = cc
 select_found columns (i ∷ items) cs h =
     let first = then_ok (columns_after (select_column_result columns) [] (i ∷ items)) to_schema cs h in
     let each = each_found (select_column_result columns) (item_column columns) (HasKind columns) (output_found columns) [] (i ∷ items) first.0 first.1.0 in
-    let of_all = settled_is_at first.0 (doubled_name_after [] first.0) cs first.1.1 in
+    let of_all = settled_is_at first.0 (doubled_column_after [] first.0) cs first.1.1 in
     (of_all ∙ each.0, each.1)
 
 pub with_found :
@@ -113,7 +115,7 @@ pub with_found :
 with_found columns items cs h =
     let first = then_ok (columns_after (with_columns_column_result columns) [] items) (added_columns_check columns) cs h in
     let each = each_found (with_columns_column_result columns) (item_column columns) (HasKind columns) (added_found columns) [] items first.0 first.1.0 in
-    let of_all = settled_is_at (with_columns columns first.0) (doubled_name_after [] first.0) cs first.1.1 in
+    let of_all = settled_is_at (with_columns columns first.0) (doubled_column_after [] first.0) cs first.1.1 in
     (of_all ∙ ap (λ (added : Columns). with_columns columns added) each.0, each.1)
 
 pub group_found :
@@ -125,7 +127,7 @@ group_found columns (k ∷ ks) aggs cs h =
     let second = then_ok (columns_after (aggregate_column_result columns) first.0 aggs) to_schema cs first.1.1 in
     let of_keys = each_found (key_column_result columns) (key_column columns) (IsColumn columns) (key_found columns) [] (k ∷ ks) first.0 first.1.0 in
     let of_aggregates = each_found (aggregate_column_result columns) (aggregate_column columns) (IsTaken columns) (aggregate_found columns) first.0 aggs second.0 second.1.0 in
-    let of_all = settled_is_at second.0 (doubled_name_after [] second.0) cs second.1.1 in
+    let of_all = settled_is_at second.0 (doubled_column_after [] second.0) cs second.1.1 in
     (of_all ∙ (of_aggregates.0 ∙ ap (λ (o : Columns). o ++ map (aggregate_column columns) aggs) of_keys.0), (of_keys.1, of_aggregates.1))
 
 first_ok : (o : Option PlanFault) (c : CheckResult) (cs : Columns) → fault_first o c ≡ Ok cs → c ≡ Ok cs
@@ -140,11 +142,11 @@ neither_doubled cs None None o h = (settled_is_at cs None o h, refl)
 
 pub join_found :
     (left right : Columns) (keys : List (List ℕ)) (cs : Columns) → join_check left right keys ≡ Ok cs →
-    (cs ≡ columns_of_join left right keys) × (doubled_name_after [] (columns_of_join left right keys) ≡ None)
+    (cs ≡ columns_of_join left right keys) × (doubled_column_after [] (columns_of_join left right keys) ≡ None)
 join_found left right [] cs h = cc
 join_found left right (k ∷ ks) cs h =
     let columns = columns_of_join left right (k ∷ ks) in
-    neither_doubled columns (doubled_key_after [] (k ∷ ks)) (doubled_name_after [] columns) cs
+    neither_doubled columns (doubled_name_after (λ k. k) [] (k ∷ ks)) (doubled_column_after [] columns) cs
     (first_ok (keys_fault left right (k ∷ ks)) (join_schema columns (k ∷ ks)) cs h)
 
 deep : (b : Bool) (c : CheckResult) (cs : Columns) (f : PlanFault) → cond {A = CheckResult} b (Err f) c ≡ Ok cs → c ≡ Ok cs

@@ -9,18 +9,19 @@ use Rattle.df_value.specs.declared.cell.Cell.{Cell}
 use Rattle.df_value.specs.declared.cell.Cell.TheVariants as cell
 use Rattle.df_value.specs.declared.cell.CellType.{CellType}
 use Rattle.df_value.specs.declared.cell.CellType.TheVariants as dtype
-use Rattle.df_value.specs.Cells.{fits_type}
+use Rattle.df_value.specs.Cells.{fits_dtype}
 use Rattle.df_value.specs.Rows.{row_fits, rows_fit, cell_at}
-use Rattle.df_value.specs.Schemas.{doubled_name_after, column_index}
+use Rattle.df_value.specs.Schemas.{doubled_column_after, column_index}
 use Rattle.df_ops.specs.Groups.{key_of}
-use Rattle.df_plan.specs.ItemChecks.{Columns}
-use Rattle.df_ops.specs.Joins.{is_key, columns_without_keys, right_column, columns_of_join, join_row, join_rows, keys_match, matches_of, nulls_for, column_indices_in, left_beside, join_indices_of}
-use Rattle.df_ops.specs.NamedColumns.{has_name, first_of_name}
-use Rattle.df_ops.specs.declared.kinds.How.{How}
-use Rattle.df_ops.specs.declared.kinds.How.TheVariants as how
-use Rattle.df_ops.proofs.Choices.{by_test}
+use Rattle.df_value.specs.Schemas.{Columns}
+use Rattle.df_ops.specs.Joins.{is_key, columns_without_keys, right_column, columns_of_join, join_row, join_rows, keys_match, matches_of, nulls_for, left_beside, join_indices_of}
+use Rattle.df_ops.specs.NamedColumns.{column_indices}
+use Rattle.df_ops.specs.NamedColumns.{has_column, first_of_name}
+use Rattle.df_ops.specs.declared.joins.How.{How}
+use Rattle.df_ops.specs.declared.joins.How.TheVariants as how
 use Rattle.df_plan.proofs.ColumnsFit.{column_fits, fits_both}
-use Rattle.df_ops.proofs.NamedColumnsFacts.{Apart, head_apart, neither}
+use Rattle.df_value.specs.Names.{AreDistinct, distinct-head}
+use Rattle.df_value.specs.Choices.{by_test, neither}
 use Rattle.df_plan.proofs.RowWiseSound.{first_of_two, second_of_two, both_true, map_all, filter_all}
 
 abbrev Rows : Type 0
@@ -36,28 +37,35 @@ suffixed_or false n t u = refl
 -- a suffix is put by the name alone
 beside_name : (left : Columns) (c d : Col) → c.0 ≡ d.0 → (right_column left c).0 ≡ (right_column left d).0
 beside_name left c d e =
-    ap (λ (n : List ℕ). (cond {A = Col} (has_name n left) (n ++ codes "_right", c.1) (n, c.1)).0) e
-    ∙ suffixed_or (has_name d.0 left) d.0 c.1 d.1
+    ap (λ (n : List ℕ). (cond {A = Col} (has_column n left) (n ++ codes "_right", c.1) (n, c.1)).0) e
+    ∙ suffixed_or (has_column d.0 left) d.0 c.1 d.1
 
-type_or : (b : Bool) (n : List ℕ) (c : Col) → (cond {A = Col} b (n, c.1) c).1 ≡ c.1
-type_or true n c = refl
-type_or false n c = refl
+dtype_or : (b : Bool) (n : List ℕ) (c : Col) → (cond {A = Col} b (n, c.1) c).1 ≡ c.1
+dtype_or true n c = refl
+dtype_or false n c = refl
 
-beside_type : (left : Columns) (c : Col) → (right_column left c).1 ≡ c.1
-beside_type left c = type_or (has_name c.0 left) (c.0 ++ codes "_right") c
+beside_dtype : (left : Columns) (c : Col) → (right_column left c).1 ≡ c.1
+beside_dtype left c = dtype_or (has_column c.0 left) (c.0 ++ codes "_right") c
+
+-- no name stands twice, where the columns seen stand before the list
+abbrev Apart : Columns → Columns → Type 0
+Apart seen cs = AreDistinct (λ c. c.0) seen cs
+
+head_apart : (seen : Columns) (c : Col) (cs : Columns) → Apart seen (c ∷ cs) → (has_column c.0 seen ≡ false) × Apart (seen ++ c ∷ []) cs
+head_apart seen c cs h = distinct-head (λ c. c.0) seen c cs h
 
 -- a name that none of those seen has is not this column's
 abbrev Sees : Columns → Col → Type 0
-Sees seen x = (name : List ℕ) → has_name name seen ≡ false → bytes_eq x.0 name ≡ false
+Sees seen x = (name : List ℕ) → has_column name seen ≡ false → bytes_eq x.0 name ≡ false
 
 sees_last : (seen : Columns) (x : Col) → Sees (seen ++ x ∷ []) x
 sees_last seen x name h =
-    let parts = neither (has_name name seen) (bytes_eq x.0 name || false) (sym (list_any-append (λ c. bytes_eq c.0 name) seen (x ∷ [])) ∙ h) in
+    let parts = neither (has_column name seen) (bytes_eq x.0 name || false) (sym (list_any-append (λ c. bytes_eq c.0 name) seen (x ∷ [])) ∙ h) in
     (neither (bytes_eq x.0 name) false parts.1).0
 
 sees_more : (seen : Columns) (x y : Col) → Sees seen x → Sees (seen ++ y ∷ []) x
 sees_more seen x y sees name h =
-    sees name (neither (has_name name seen) (bytes_eq y.0 name || false) (sym (list_any-append (λ c. bytes_eq c.0 name) seen (y ∷ [])) ∙ h)).0
+    sees name (neither (has_column name seen) (bytes_eq y.0 name || false) (sym (list_any-append (λ c. bytes_eq c.0 name) seen (y ∷ [])) ∙ h)).0
 
 -- one that was seen has no name of a later one
 unlike :
@@ -125,24 +133,24 @@ each_found left keys seen (d ∷ ds) h =
 -- the cells of a right row at the indices of these columns fit them, also under their names in the result
 rest_fits :
     (left right : Columns) (row : List Cell) → IsTrue (row_fits right row) → (os : Columns) → AllByRecursion (IsFound right) os →
-    IsTrue (row_fits (map (right_column left) os) (key_of (column_indices_in right (map (λ c. c.0) os)) row))
+    IsTrue (row_fits (map (right_column left) os) (key_of (column_indices right (map (λ c. c.0) os)) row))
 rest_fits left right row fits [] h = refl
 rest_fits left right row fits (o ∷ os) h =
-    both_true (fits_type (right_column left o).1 (cell_at (column_index o.0 right) row)) _
-    (subst (λ (t : CellType). IsTrue (fits_type t (cell_at (column_index o.0 right) row))) (sym (beside_type left o))
+    both_true (fits_dtype (right_column left o).1 (cell_at (column_index o.0 right) row)) _
+    (subst (λ (t : CellType). IsTrue (fits_dtype t (cell_at (column_index o.0 right) row))) (sym (beside_dtype left o))
     (column_fits right row fits o.0 o.1 (ap (option_map (λ (c : Col). c.1)) h.0)))
     (rest_fits left right row fits os h.1)
 
-null_fits : (t : CellType) → IsTrue (fits_type t cell.Null)
+null_fits : (t : CellType) → IsTrue (fits_dtype t cell.Null)
 null_fits dtype.Int = refl
 null_fits dtype.Wide = refl
 null_fits dtype.Text = refl
 null_fits dtype.Bool = refl
 null_fits dtype.Frac = refl
 
-nulls_fit : (left right os : Columns) → IsTrue (row_fits (map (right_column left) os) (nulls_for (column_indices_in right (map (λ c. c.0) os))))
+nulls_fit : (left right os : Columns) → IsTrue (row_fits (map (right_column left) os) (nulls_for (column_indices right (map (λ c. c.0) os))))
 nulls_fit left right [] = refl
-nulls_fit left right (o ∷ os) = both_true (fits_type (right_column left o).1 cell.Null) _ (null_fits (right_column left o).1) (nulls_fit left right os)
+nulls_fit left right (o ∷ os) = both_true (fits_dtype (right_column left o).1 cell.Null) _ (null_fits (right_column left o).1) (nulls_fit left right os)
 
 put_fit :
     (h : How) (ls os : Columns) (l nulls : List Cell) (rs : Rows) → IsTrue (row_fits ls l) → IsTrue (row_fits os nulls) →
@@ -170,7 +178,7 @@ after_apart seen (x ∷ xs) ys h =
     subst (λ (s : Columns). Apart s ys) joined (after_apart (seen ++ x ∷ []) xs ys (head_apart seen x (xs ++ ys) h).1)
 
 pub joined_fits :
-    (h : How) (ls rs : Columns) (keys : List (List ℕ)) (lefts rights : Rows) → doubled_name_after [] (columns_of_join ls rs keys) ≡ None →
+    (h : How) (ls rs : Columns) (keys : List (List ℕ)) (lefts rights : Rows) → doubled_column_after [] (columns_of_join ls rs keys) ≡ None →
     IsTrue (rows_fit ls lefts) → IsTrue (rows_fit rs rights) →
     IsTrue (rows_fit (columns_of_join ls rs keys) (join_rows h (join_indices_of ls rs keys) lefts rights))
 unfolding join_row

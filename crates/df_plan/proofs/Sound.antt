@@ -6,25 +6,27 @@ use Rattle.std.proofs.lemmas.List.Folds.{list_all-append}
 use Rattle.df_value.specs.declared.cell.Cell.{Cell}
 use Rattle.df_value.specs.declared.cell.CellType.{CellType}
 use Rattle.df_value.specs.declared.cell.CellType.TheVariants as dtype
-use Rattle.df_value.specs.Cells.{fits_type}
+use Rattle.df_value.specs.Cells.{fits_dtype}
 use Rattle.df_value.specs.Rows.{row_fits, rows_fit, row_eq, cell_at}
-use Rattle.df_value.specs.Schemas.{column_dtype, column_index, doubled_name_after}
+use Rattle.df_value.specs.Schemas.{column_dtype, column_index, doubled_column_after}
 use Rattle.df_ops.specs.Groups.{key_of, keys_of, group_of, distinct_after}
 use Rattle.df_ops.specs.declared.plain_table.PlainTable.{PlainTable}
-use Rattle.df_ops.specs.Tables.{key_column, aggregate_column, aggregate_cell, column_indices, group_by_columns, group_by_table, group_by_rows, group_row, filter_table, select_table, with_columns_table, join_table, with_column_table, rolling_table, cum_sum_table, rank_table}
+use Rattle.df_ops.specs.Tables.{key_column, aggregate_column, aggregate_cell, group_by_columns, group_by_table, group_by_rows, group_row, filter_table, select_table, with_columns_table, join_table, with_column_table, rolling_table, cum_sum_table, rank_table}
+use Rattle.df_ops.specs.NamedColumns.{column_indices}
 use Rattle.df_plan.specs.Meaning.{frame_table, frames_fit, table_step, table_of}
 use Rattle.df_ops.specs.RowWise.{item_column, keeps, filter_rows, select_row, with_columns_row, with_columns_schema, with_column_rows}
 use Rattle.df_expr.specs.declared.expr.Expr.{Expr}
 use Rattle.df_plan.proofs.ItemKinds.{HasKind}
-use Rattle.df_plan.specs.ItemChecks.{Columns, CheckResult, expr_type}
+use Rattle.df_value.specs.Schemas.{Columns}
+use Rattle.df_plan.specs.ItemChecks.{CheckResult, expr_dtype_check}
 use Rattle.df_value.specs.Outcomes.{then_next}
 use Rattle.df_plan.specs.Checks.{filter_check, select_check, with_columns_check, group_by_check, frame_check, check_step, columns_of, plan_check}
 use Rattle.df_plan.specs.JoinChecks.{join_check}
 use Rattle.df_ops.specs.Joins.{columns_of_join, join_rows, join_indices_of}
-use Rattle.df_ops.specs.declared.kinds.Agg.{Agg}
-use Rattle.df_ops.specs.declared.kinds.How.{How}
-use Rattle.df_ops.specs.declared.kinds.RankKind.{RankKind}
-use Rattle.df_ops.specs.declared.kinds.RollKind.{RollKind}
+use Rattle.df_ops.specs.declared.agg.Agg.{Agg}
+use Rattle.df_ops.specs.declared.joins.How.{How}
+use Rattle.df_ops.specs.declared.ranks.RankKind.{RankKind}
+use Rattle.df_ops.specs.declared.windows.RollKind.{RollKind}
 use Rattle.df_ops.specs.Aggregates.{cells_of}
 use Rattle.df_ops.specs.NamedColumns.{with_columns}
 use Rattle.df_ops.specs.Ranks.{ranks_of}
@@ -36,7 +38,7 @@ use Rattle.df_plan.specs.declared.plan.Plan.{Plan}
 use Rattle.df_plan.specs.declared.plan.Plan.TheOpen.{Plan-F}
 use Rattle.df_plan.specs.declared.plan.Plan.TheFolds.{fold-roll-Plan, ind-Plan, map-Plan}
 use Rattle.df_plan.specs.declared.plan.Plan.TheViews.{roll-Plan}
-use Rattle.df_ops.proofs.Choices.{either}
+use Rattle.df_value.specs.Choices.{either}
 use Rattle.df_plan.proofs.ColumnsFit.{column_fits, fits_both}
 use Rattle.df_plan.proofs.JoinSound.{joined_fits}
 use Rattle.df_plan.proofs.AggregatesFit.{aggregate_fits, cells_fit}
@@ -47,7 +49,7 @@ abbrev Rows : Type 0
 Rows = List (List Cell)
 
 key_fits_at :
-    (o : Option CellType) (t : CellType) (v : Cell) → o ≡ Some t → IsTrue (fits_type t v) → IsTrue (fits_type (unwrap_or o dtype.Int) v)
+    (o : Option CellType) (t : CellType) (v : Cell) → o ≡ Some t → IsTrue (fits_dtype t v) → IsTrue (fits_dtype (unwrap_or o dtype.Int) v)
 key_fits_at o t v e h = rw e h
 
 -- the key of a row that fits
@@ -56,23 +58,23 @@ key_fits :
     IsTrue (row_fits (map (key_column columns) names) (key_of (column_indices columns names) row))
 key_fits columns row fits [] h = refl
 key_fits columns row fits (name ∷ names) h =
-    both_true (fits_type (unwrap_or (column_dtype name columns) dtype.Int) (cell_at (column_index name columns) row)) _
+    both_true (fits_dtype (unwrap_or (column_dtype name columns) dtype.Int) (cell_at (column_index name columns) row)) _
     (key_fits_at (column_dtype name columns) h.0.0 _ h.0.1 (column_fits columns row fits name h.0.0 h.0.1))
     (key_fits columns row fits names h.1)
 
 aggregate_fits_column :
     (columns : Columns) (rows : Rows) → IsTrue (rows_fit columns rows) → (a : List ℕ × Agg) → IsTaken columns a →
-    IsTrue (fits_type (aggregate_column columns a).1 (aggregate_cell columns rows a.1))
+    IsTrue (fits_dtype (aggregate_column columns a).1 (aggregate_cell columns rows a.1))
 aggregate_fits_column columns rows fit a taken =
     let is = aggregate_fits columns rows fit a.1 taken.0 taken.1 in
-    subst (λ (t : CellType). IsTrue (fits_type t (aggregate_cell columns rows a.1))) is.0 is.1
+    subst (λ (t : CellType). IsTrue (fits_dtype t (aggregate_cell columns rows a.1))) is.0 is.1
 
 aggregates_fit :
     (columns : Columns) (rows : Rows) → IsTrue (rows_fit columns rows) → (aggs : List (List ℕ × Agg)) → AllByRecursion (IsTaken columns) aggs →
     IsTrue (row_fits (map (aggregate_column columns) aggs) (map (λ a. aggregate_cell columns rows a.1) aggs))
 aggregates_fit columns rows fit [] h = refl
 aggregates_fit columns rows fit (a ∷ as') h =
-    both_true (fits_type (aggregate_column columns a).1 (aggregate_cell columns rows a.1)) _
+    both_true (fits_dtype (aggregate_column columns a).1 (aggregate_cell columns rows a.1)) _
     (aggregate_fits_column columns rows fit a h.0) (aggregates_fit columns rows fit as' h.1)
 
 -- what holds of all rows holds of the distinct ones
@@ -123,12 +125,12 @@ group_has_rows c t keys aggs of_input cs h =
 
 filter_has_rows :
     (c : CheckResult) (t : PlainTable) (p : Expr) → HasRows c t →
-    HasRows (then_next c (λ columns. filter_check columns (expr_type p columns))) (filter_table t p)
+    HasRows (then_next c (λ columns. filter_check columns (expr_dtype_check p columns))) (filter_table t p)
 unfolding filter_table
 filter_has_rows c t p of_input cs h =
-    let input = then_ok c (λ columns. filter_check columns (expr_type p columns)) cs h in
+    let input = then_ok c (λ columns. filter_check columns (expr_dtype_check p columns)) cs h in
     let has = of_input input.0 input.1.0 in
-    let is : input.0 ≡ cs = sym (filter_found input.0 (expr_type p input.0) cs input.1.1) in
+    let is : input.0 ≡ cs = sym (filter_found input.0 (expr_dtype_check p input.0) cs input.1.1) in
     let fit = filter_all (row_fits input.0) (keeps t.columns p) t.rows has.1 in
     (has.0 ∙ is, subst (λ (columns : Columns). IsTrue (rows_fit columns (filter_rows t.columns p t.rows))) is fit)
 
@@ -175,7 +177,7 @@ join_has_rows c d t u how keys of_left of_right cs h =
     let same : columns_of_join t.columns u.columns keys ≡ columns_of_join first.0 second.0 keys =
     ap (λ (ls : Columns). columns_of_join ls u.columns keys) l.0 ∙ ap (λ (rs : Columns). columns_of_join first.0 rs keys) r.0 in
     let is : columns_of_join t.columns u.columns keys ≡ cs = same ∙ sym found.0 in
-    let apart : doubled_name_after [] (columns_of_join t.columns u.columns keys) ≡ None = ap (λ (o : Columns). doubled_name_after [] o) same ∙ found.1 in
+    let apart : doubled_column_after [] (columns_of_join t.columns u.columns keys) ≡ None = ap (λ (o : Columns). doubled_column_after [] o) same ∙ found.1 in
     let left_fit = subst (λ (columns : Columns). IsTrue (rows_fit columns t.rows)) (sym l.0) l.1 in
     let right_fit = subst (λ (columns : Columns). IsTrue (rows_fit columns u.rows)) (sym r.0) r.1 in
     let rows = joined_fits how t.columns u.columns keys t.rows u.rows apart left_fit right_fit in
@@ -185,7 +187,7 @@ join_has_rows c d t u how keys of_left of_right cs h =
 put_has_rows :
     (c : CheckResult) (t : PlainTable) (name : List ℕ) (k : CellType) (cells : List Cell) (next : Columns → CheckResult) (Found : Columns → Type 0) →
     ((columns cs : Columns) → next columns ≡ Ok cs → IsPut columns name k cs × Found columns) →
-    (Found t.columns → IsTrue (rows_fit t.columns t.rows) → IsTrue (list_all (fits_type k) cells)) →
+    (Found t.columns → IsTrue (rows_fit t.columns t.rows) → IsTrue (list_all (fits_dtype k) cells)) →
     HasRows c t → HasRows (then_next c next) (with_column_table t name k cells)
 unfolding with_column_table
 put_has_rows c t name k cells next Found finds typed of_input cs h =

@@ -6,28 +6,29 @@ use Rattle.df_value.specs.declared.cell.Cell.{Cell}
 use Rattle.df_value.specs.declared.cell.Cell.TheVariants as cell
 use Rattle.df_value.specs.declared.cell.CellType.{CellType}
 use Rattle.df_value.specs.declared.cell.CellType.TheVariants as dtype
-use Rattle.df_value.specs.Cells.{fits_type}
+use Rattle.df_value.specs.Cells.{fits_dtype}
 use Rattle.df_value.specs.Rows.{row_fits, rows_fit, cell_at}
-use Rattle.df_value.specs.Schemas.{doubled_name_after, column_dtype}
+use Rattle.df_value.specs.Schemas.{doubled_column_after, column_dtype}
 use Rattle.df_expr.specs.Value.{is_null}
 use Rattle.df_ops.specs.declared.min_max.MinMax.TheVariants as end
 use Rattle.df_plan.specs.declared.fault.PlanFault.{PlanFault}
 use Rattle.df_plan.specs.declared.fault.PlanFault.TheVariants as fault
-use Rattle.df_ops.specs.declared.kinds.RankKind.{RankKind}
-use Rattle.df_ops.specs.declared.kinds.RankKind.TheVariants as rank
-use Rattle.df_ops.specs.declared.kinds.RollKind.{RollKind}
-use Rattle.df_ops.specs.declared.kinds.RollKind.TheVariants as roll
+use Rattle.df_ops.specs.declared.ranks.RankKind.{RankKind}
+use Rattle.df_ops.specs.declared.ranks.RankKind.TheVariants as rank
+use Rattle.df_ops.specs.declared.windows.RollKind.{RollKind}
+use Rattle.df_ops.specs.declared.windows.RollKind.TheVariants as roll
 use Rattle.df_ops.specs.Aggregates.{count_of, last_cell, sum_of}
-use Rattle.df_plan.specs.ItemChecks.{Columns, CheckResult, DtypeResult, key_type}
+use Rattle.df_value.specs.Schemas.{Columns}
+use Rattle.df_plan.specs.ItemChecks.{CheckResult, DtypeResult, key_dtype}
 use Rattle.df_ops.specs.NamedColumns.{with_columns}
 use Rattle.df_ops.specs.Ranks.{dense_rank_of, distinct_at, ranks_of}
 use Rattle.df_ops.specs.RowWise.{named_cells, with_column_row, with_column_rows}
-use Rattle.df_plan.specs.WindowChecks.{cum_sum_check, is_window, output_column_check, rank_check, rolling_check, whole_type}
+use Rattle.df_plan.specs.WindowChecks.{cum_sum_check, is_window, output_column_check, rank_check, rolling_check, int_column_dtype}
 use Rattle.df_ops.specs.Windows.{rolling_dtype}
 use Rattle.df_ops.specs.Windows.{rolling_cells, rolling_cell, window_value, cum_sum, cum_sum_at, window_of}
 use Rattle.df_plan.proofs.AggregatesFit.{extreme_fits}
-use Rattle.df_ops.proofs.Beside.{placed_beside}
-use Rattle.df_ops.proofs.Choices.{either}
+use Rattle.df_ops.proofs.Beside.{with_columns-beside}
+use Rattle.df_value.specs.Choices.{either}
 use Rattle.df_plan.proofs.Found.{settled_is_at}
 use Rattle.df_plan.proofs.RowWiseSound.{FitsBeside, both_true, first_of_two, second_of_two, fits_row, own_beside}
 
@@ -36,23 +37,23 @@ Rows = List (List Cell)
 
 put_fits :
     (columns : Columns) (row : List Cell) → IsTrue (row_fits columns row) → (name : List ℕ) (t : CellType) (c : Cell) →
-    IsTrue (fits_type t c) → IsTrue (row_fits (with_columns columns ((name, t) ∷ [])) (with_column_row columns name row c))
+    IsTrue (fits_dtype t c) → IsTrue (row_fits (with_columns columns ((name, t) ∷ [])) (with_column_row columns name row c))
 unfolding with_column_row
 put_fits columns row fits name t c h =
     fits_row (with_columns columns ((name, t) ∷ [])) (with_columns (named_cells columns row) ((name, c) ∷ []))
-    (placed_beside FitsBeside (λ c v h. h.0) columns (named_cells columns row) (own_beside columns row fits)
+    (with_columns-beside FitsBeside (λ c v h. h.0) columns (named_cells columns row) (own_beside columns row fits)
     ((name, t) ∷ []) ((name, c) ∷ []) ((refl, h), tt))
 
 pub puts_fit :
     (columns : Columns) (name : List ℕ) (t : CellType) (rows : Rows) (cells : List Cell) → IsTrue (rows_fit columns rows) →
-    IsTrue (list_all (fits_type t) cells) → IsTrue (rows_fit (with_columns columns ((name, t) ∷ [])) (with_column_rows columns name rows cells))
+    IsTrue (list_all (fits_dtype t) cells) → IsTrue (rows_fit (with_columns columns ((name, t) ∷ [])) (with_column_rows columns name rows cells))
 puts_fit columns name t [] [] h k = refl
 puts_fit columns name t [] (c ∷ cells) h k = refl
 puts_fit columns name t (r ∷ rows) [] h k = refl
 puts_fit columns name t (r ∷ rows) (c ∷ cells) h k =
     both_true (row_fits (with_columns columns ((name, t) ∷ [])) (with_column_row columns name r c)) _
-    (put_fits columns r (first_of_two (row_fits columns r) (rows_fit columns rows) h) name t c (first_of_two (fits_type t c) (list_all (fits_type t) cells) k))
-    (puts_fit columns name t rows cells (second_of_two (row_fits columns r) (rows_fit columns rows) h) (second_of_two (fits_type t c) (list_all (fits_type t) cells) k))
+    (put_fits columns r (first_of_two (row_fits columns r) (rows_fit columns rows) h) name t c (first_of_two (fits_dtype t c) (list_all (fits_dtype t) cells) k))
+    (puts_fit columns name t rows cells (second_of_two (row_fits columns r) (rows_fit columns rows) h) (second_of_two (fits_dtype t c) (list_all (fits_dtype t) cells) k))
 
 each_passes : (q : Cell → Bool) (f : ℕ → Cell) → ((i : ℕ) → IsTrue (q (f i))) → (a n : ℕ) → IsTrue (list_all q (map f (range_with_len a n)))
 each_passes q f h a zero = refl
@@ -69,47 +70,47 @@ left_pass q zero cs h = h
 left_pass q (suc n) [] h = refl
 left_pass q (suc n) (c ∷ cs) h = left_pass q n cs (second_of_two (q c) (list_all q cs) h)
 
-value_fits : (k : RollKind) (window : List Cell) → IsTrue (list_all (fits_type dtype.Int) window) → IsTrue (fits_type (rolling_dtype k) (window_value k window))
+value_fits : (k : RollKind) (window : List Cell) → IsTrue (list_all (fits_dtype dtype.Int) window) → IsTrue (fits_dtype (rolling_dtype k) (window_value k window))
 value_fits roll.Sum window h = refl
 value_fits roll.Min window h = extreme_fits end.Min dtype.Int window h
 value_fits roll.Max window h = extreme_fits end.Max dtype.Int window h
 
-null_fits : (t : CellType) → IsTrue (fits_type t cell.Null)
+null_fits : (t : CellType) → IsTrue (fits_dtype t cell.Null)
 null_fits t = refl
 
 window_fits :
-    (k : RollKind) (m : ℕ) (window : List Cell) → IsTrue (list_all (fits_type dtype.Int) window) → IsTrue (fits_type (rolling_dtype k) (rolling_cell k m window))
+    (k : RollKind) (m : ℕ) (window : List Cell) → IsTrue (list_all (fits_dtype dtype.Int) window) → IsTrue (fits_dtype (rolling_dtype k) (rolling_cell k m window))
 window_fits k m window h =
-    either (λ (c : Cell). IsTrue (fits_type (rolling_dtype k) c)) (nat_lt (count_of window) m) cell.Null (window_value k window)
+    either (λ (c : Cell). IsTrue (fits_dtype (rolling_dtype k) c)) (nat_lt (count_of window) m) cell.Null (window_value k window)
     (null_fits (rolling_dtype k)) (value_fits k window h)
 
 -- the rolling values of an Int column fit their type
 pub rolled_fits :
-    (k : RollKind) (w m : ℕ) (cells : List Cell) → IsTrue (list_all (fits_type dtype.Int) cells) → IsTrue (list_all (fits_type (rolling_dtype k)) (rolling_cells k w m cells))
+    (k : RollKind) (w m : ℕ) (cells : List Cell) → IsTrue (list_all (fits_dtype dtype.Int) cells) → IsTrue (list_all (fits_dtype (rolling_dtype k)) (rolling_cells k w m cells))
 rolled_fits k w m cells h =
-    each_passes (fits_type (rolling_dtype k)) (λ i. rolling_cell k m (window_of w (take (i + 1) cells)))
+    each_passes (fits_dtype (rolling_dtype k)) (λ i. rolling_cell k m (window_of w (take (i + 1) cells)))
     (λ i. window_fits k m (window_of w (take (i + 1) cells))
-    (left_pass (fits_type dtype.Int) _ (take (i + 1) cells) (taken_pass (fits_type dtype.Int) (i + 1) cells h)))
+    (left_pass (fits_dtype dtype.Int) _ (take (i + 1) cells) (taken_pass (fits_dtype dtype.Int) (i + 1) cells h)))
     0 (length cells)
 
-running_fits : (cells : List Cell) → IsTrue (fits_type dtype.Wide (cum_sum_at cells))
+running_fits : (cells : List Cell) → IsTrue (fits_dtype dtype.Wide (cum_sum_at cells))
 running_fits cells =
-    either (λ (c : Cell). IsTrue (fits_type dtype.Wide c)) (is_null (last_cell cells)) cell.Null (cell.Wide (sum_of cells)) refl refl
+    either (λ (c : Cell). IsTrue (fits_dtype dtype.Wide c)) (is_null (last_cell cells)) cell.Null (cell.Wide (sum_of cells)) refl refl
 
-pub sums_fit : (cells : List Cell) → IsTrue (list_all (fits_type dtype.Wide) (cum_sum cells))
+pub sums_fit : (cells : List Cell) → IsTrue (list_all (fits_dtype dtype.Wide) (cum_sum cells))
 sums_fit cells =
-    each_passes (fits_type dtype.Wide) (λ i. cum_sum_at (take (i + 1) cells)) (λ i. running_fits (take (i + 1) cells)) 0 (length cells)
+    each_passes (fits_dtype dtype.Wide) (λ i. cum_sum_at (take (i + 1) cells)) (λ i. running_fits (take (i + 1) cells)) 0 (length cells)
 
-dense_fits : (distinct : Rows) (c : Cell) → IsTrue (fits_type dtype.Int (dense_rank_of distinct c))
-dense_fits distinct c = either (λ (c : Cell). IsTrue (fits_type dtype.Int c)) (is_null c) cell.Null _ refl refl
+dense_fits : (distinct : Rows) (c : Cell) → IsTrue (fits_dtype dtype.Int (dense_rank_of distinct c))
+dense_fits distinct c = either (λ (c : Cell). IsTrue (fits_dtype dtype.Int c)) (is_null c) cell.Null _ refl refl
 
 each_dense_fits : (distinct : Rows) (place : Option ℕ) (rows : Rows) →
-    IsTrue (list_all (fits_type dtype.Int) (map (λ r. dense_rank_of distinct (cell_at place r)) rows))
+    IsTrue (list_all (fits_dtype dtype.Int) (map (λ r. dense_rank_of distinct (cell_at place r)) rows))
 each_dense_fits distinct place [] = refl
 each_dense_fits distinct place (r ∷ rows) =
-    both_true (fits_type dtype.Int (dense_rank_of distinct (cell_at place r))) _ (dense_fits distinct (cell_at place r)) (each_dense_fits distinct place rows)
+    both_true (fits_dtype dtype.Int (dense_rank_of distinct (cell_at place r))) _ (dense_fits distinct (cell_at place r)) (each_dense_fits distinct place rows)
 
-pub ranks_fit : (k : RankKind) (place : Option ℕ) (rows : Rows) → IsTrue (list_all (fits_type dtype.Int) (ranks_of k place rows))
+pub ranks_fit : (k : RankKind) (place : Option ℕ) (rows : Rows) → IsTrue (list_all (fits_dtype dtype.Int) (ranks_of k place rows))
 ranks_fit rank.Dense place rows = each_dense_fits (distinct_at place rows) place rows
 
 -- the columns of a result into which this one was put
@@ -119,10 +120,10 @@ IsPut columns name t cs = cs ≡ with_columns columns ((name, t) ∷ [])
 output_found :
     (columns : Columns) (name : List ℕ) (t : CellType) (k : DtypeResult) (cs : Columns) → output_column_check columns name t k ≡ Ok cs →
     IsPut columns name t cs × ((u : CellType) × (k ≡ Ok u))
-output_found columns name t (Ok u) cs h = (settled_is_at (with_columns columns ((name, t) ∷ [])) (doubled_name_after [] ((name, t) ∷ [])) cs h, (u, refl))
+output_found columns name t (Ok u) cs h = (settled_is_at (with_columns columns ((name, t) ∷ [])) (doubled_column_after [] ((name, t) ∷ [])) cs h, (u, refl))
 output_found columns name t (Err f) cs h = cc
 
-whole_is : (name : List ℕ) (o : Option CellType) (u : CellType) → whole_type name o ≡ Ok u → o ≡ Some dtype.Int
+whole_is : (name : List ℕ) (o : Option CellType) (u : CellType) → int_column_dtype name o ≡ Ok u → o ≡ Some dtype.Int
 whole_is name None u h = cc
 whole_is name (Some dtype.Int) u h = refl
 whole_is name (Some dtype.Wide) u h = cc
@@ -137,7 +138,7 @@ IsWhole column columns = column_dtype column columns ≡ Some dtype.Int
 pub cum_sum_found :
     (name column : List ℕ) (columns cs : Columns) → cum_sum_check columns name column ≡ Ok cs → IsPut columns name dtype.Wide cs × IsWhole column columns
 cum_sum_found name column columns cs h =
-    let found = output_found columns name dtype.Wide (whole_type column (column_dtype column columns)) cs h in
+    let found = output_found columns name dtype.Wide (int_column_dtype column (column_dtype column columns)) cs h in
     (found.0, whole_is column (column_dtype column columns) found.1.0 found.1.1)
 
 chosen_ok : (b : Bool) (c : CheckResult) (f : PlanFault) (cs : Columns) → cond {A = CheckResult} b c (Err f) ≡ Ok cs → c ≡ Ok cs
@@ -148,10 +149,10 @@ pub roll_found :
     (name : List ℕ) (k : RollKind) (column : List ℕ) (w m : ℤ) (columns cs : Columns) → rolling_check columns name k column w m ≡ Ok cs →
     IsPut columns name (rolling_dtype k) cs × IsWhole column columns
 roll_found name k column w m columns cs h =
-    let typed = whole_type column (column_dtype column columns) in
+    let typed = int_column_dtype column (column_dtype column columns) in
     let found = output_found columns name (rolling_dtype k) typed cs (chosen_ok (is_window w m) (output_column_check columns name (rolling_dtype k) typed) fault.BadWindow cs h) in
     (found.0, whole_is column (column_dtype column columns) found.1.0 found.1.1)
 
 pub rank_found :
     (name column : List ℕ) (columns cs : Columns) → rank_check columns name column ≡ Ok cs → IsPut columns name dtype.Int cs × Unit {0}
-rank_found name column columns cs h = ((output_found columns name dtype.Int (key_type column (column_dtype column columns)) cs h).0, tt)
+rank_found name column columns cs h = ((output_found columns name dtype.Int (key_dtype column (column_dtype column columns)) cs h).0, tt)

@@ -2,22 +2,25 @@
 use Rattle.std.specs.Prelude.{◌≡◌, ◌≢◌, ◌+◌, ℕ, List, [], Option, Some, None, Result, Ok, Err, MatchResult, max, nat_lt, slice_get, if◌then◌else◌}
 use Rattle.df_value.specs.Outcomes.{then_next}
 use Rattle.df_value.specs.declared.cell.CellType.TheVariants as dtype
-use Rattle.df_value.specs.Schemas.{doubled_name_after}
+use Rattle.df_value.specs.Schemas.{doubled_column_after}
 use Rattle.df_expr.specs.declared.expr.Expr.{Expr}
 use Rattle.df_expr.specs.declared.fault.ExprFault.TheVariants as expr
 use Rattle.df_plan.specs.declared.fault.PlanFault.{PlanFault}
 use Rattle.df_plan.specs.declared.fault.PlanFault.TheVariants as fault
-use Rattle.df_ops.specs.declared.kinds.Agg.{Agg}
+use Rattle.df_ops.specs.declared.agg.Agg.{Agg}
 use Rattle.df_plan.specs.declared.plan.Plan.{Plan, fold-Plan}
 use Rattle.df_plan.specs.declared.plan.Plan.TheOpen.{Plan-F}
-pub use Rattle.df_plan.specs.ItemChecks.{Columns, CheckResult}
+use Rattle.df_value.specs.Schemas.{Columns}
+pub use Rattle.df_plan.specs.ItemChecks.{CheckResult}
 pub use Rattle.df_plan.specs.ResultSchemas.{to_schema_unless, added_columns_check}
+use Rattle.df_plan.specs.Limits.{most_plan_levels, most_scans}
+use Rattle.df_plan.specs.Inputs.{inputs_of, from_inputs}
 use Rattle.df_plan.specs.JoinChecks.{join_check}
 use Rattle.df_plan.specs.WindowChecks.{rolling_check, cum_sum_check, rank_check}
-use Rattle.df_plan.specs.ItemChecks.{DtypeResult, columns_after, expr_type, key_column_result, aggregate_column_result, select_column_result, with_columns_column_result}
+use Rattle.df_plan.specs.ItemChecks.{DtypeResult, columns_after, expr_dtype_check, key_column_result, aggregate_column_result, select_column_result, with_columns_column_result}
 
 abbrev pub to_schema : Columns → CheckResult
-to_schema columns = to_schema_unless columns (doubled_name_after [] columns)
+to_schema columns = to_schema_unless columns (doubled_column_after [] columns)
 
 -- the columns of a filter are its input's, if the predicate's type is Bool
 abbrev pub filter_check : Columns → DtypeResult → CheckResult
@@ -48,7 +51,7 @@ frame_check frame (Some columns) = Ok columns
 -- the check of one node, after that of its input
 abbrev pub check_step : List Columns → Plan-F CheckResult → CheckResult
 check_step frames (Plan-F.Scan frame) = frame_check frame (slice_get frames frame)
-check_step frames (Plan-F.Filter input p) = then_next input (λ columns. filter_check columns (expr_type p columns))
+check_step frames (Plan-F.Filter input p) = then_next input (λ columns. filter_check columns (expr_dtype_check p columns))
 check_step frames (Plan-F.Select input items) = then_next input (λ columns. select_check columns items)
 check_step frames (Plan-F.WithColumns input items) = then_next input (λ columns. with_columns_check columns items)
 check_step frames (Plan-F.GroupBy input keys aggs) = then_next input (λ columns. group_by_check columns keys aggs)
@@ -64,30 +67,14 @@ abbrev pub columns_of : Plan → List Columns → CheckResult
 columns_of p frames = fold-Plan CheckResult (check_step frames) p
 
 abbrev pub plan_levels_step : Plan-F ℕ → ℕ
-plan_levels_step (Plan-F.Scan frame) = 1
-plan_levels_step (Plan-F.Filter input p) = 1 + input
-plan_levels_step (Plan-F.Select input items) = 1 + input
-plan_levels_step (Plan-F.WithColumns input items) = 1 + input
-plan_levels_step (Plan-F.GroupBy input keys aggs) = 1 + input
-plan_levels_step (Plan-F.Join left right h keys) = 1 + max left right
-plan_levels_step (Plan-F.Rolling input output k column w m) = 1 + input
-plan_levels_step (Plan-F.CumSum input output column) = 1 + input
-plan_levels_step (Plan-F.Rank input output k column) = 1 + input
+plan_levels_step p = 1 + from_inputs 0 max (inputs_of p)
 
 -- the nodes on the longest path
 abbrev pub plan_levels : Plan → ℕ
 plan_levels p = fold-Plan ℕ plan_levels_step p
 
 abbrev pub plan_scans_step : Plan-F ℕ → ℕ
-plan_scans_step (Plan-F.Scan frame) = 1
-plan_scans_step (Plan-F.Filter input p) = input
-plan_scans_step (Plan-F.Select input items) = input
-plan_scans_step (Plan-F.WithColumns input items) = input
-plan_scans_step (Plan-F.GroupBy input keys aggs) = input
-plan_scans_step (Plan-F.Join left right h keys) = left + right
-plan_scans_step (Plan-F.Rolling input output k column w m) = input
-plan_scans_step (Plan-F.CumSum input output column) = input
-plan_scans_step (Plan-F.Rank input output k column) = input
+plan_scans_step p = from_inputs 1 (λ left right. left + right) (inputs_of p)
 
 -- the scans, which are the leaves
 abbrev pub plan_scans : Plan → ℕ
@@ -96,6 +83,6 @@ plan_scans p = fold-Plan ℕ plan_scans_step p
 -- the answer of a check: too many levels come before all else, and then too many scans
 abbrev pub plan_check : Plan → List Columns → CheckResult
 plan_check p frames =
-    if nat_lt 12 (plan_levels p) then Err fault.TooDeep
-    else if nat_lt 3 (plan_scans p) then Err fault.TooManyScans
+    if nat_lt most_plan_levels (plan_levels p) then Err fault.TooDeep
+    else if nat_lt most_scans (plan_scans p) then Err fault.TooManyScans
     else columns_of p frames

@@ -4,27 +4,29 @@ use Rattle.std.specs.List.{list_any}
 use Rattle.std.specs.Str.{bytes_eq}
 use Rattle.df_value.specs.declared.cell.CellType.{CellType}
 use Rattle.df_value.specs.declared.cell.CellType.TheVariants as dtype
-use Rattle.df_value.specs.Schemas.{column_dtype, doubled_name_after}
+use Rattle.df_value.specs.Names.{doubled_name_after}
+use Rattle.df_value.specs.Schemas.{column_dtype, doubled_column_after}
 use Rattle.df_expr.specs.declared.fault.ExprFault.TheVariants as expr
 use Rattle.df_plan.specs.declared.fault.PlanFault.{PlanFault}
 use Rattle.df_plan.specs.declared.fault.PlanFault.TheVariants as fault
-use Rattle.df_plan.specs.ItemChecks.{Columns, CheckResult, DtypeResult}
+use Rattle.df_value.specs.Schemas.{Columns}
+use Rattle.df_plan.specs.ItemChecks.{CheckResult, DtypeResult}
 use Rattle.df_plan.specs.ResultSchemas.{to_schema_unless}
 use Rattle.df_ops.specs.Joins.{columns_of_join}
 
 -- the type of a key: its column must be there on the left and on the right, of one type, which may be every one but
 -- Frac
-abbrev pub join_key_type : List ℕ → Option CellType → Option CellType → DtypeResult
-join_key_type name None right = Err (fault.Expr (expr.NoColumn name))
-join_key_type name (Some t) None = Err (fault.Expr (expr.NoColumn name))
-join_key_type name (Some dtype.Int) (Some dtype.Int) = Ok dtype.Int
-join_key_type name (Some dtype.Wide) (Some dtype.Wide) = Ok dtype.Wide
-join_key_type name (Some dtype.Text) (Some dtype.Text) = Ok dtype.Text
-join_key_type name (Some dtype.Bool) (Some dtype.Bool) = Ok dtype.Bool
-join_key_type name (Some t) (Some u) = Err (fault.WrongType name)
+abbrev pub join_key_dtype : List ℕ → Option CellType → Option CellType → DtypeResult
+join_key_dtype name None right = Err (fault.Expr (expr.NoColumn name))
+join_key_dtype name (Some t) None = Err (fault.Expr (expr.NoColumn name))
+join_key_dtype name (Some dtype.Int) (Some dtype.Int) = Ok dtype.Int
+join_key_dtype name (Some dtype.Wide) (Some dtype.Wide) = Ok dtype.Wide
+join_key_dtype name (Some dtype.Text) (Some dtype.Text) = Ok dtype.Text
+join_key_dtype name (Some dtype.Bool) (Some dtype.Bool) = Ok dtype.Bool
+join_key_dtype name (Some t) (Some u) = Err (fault.WrongType name)
 
 abbrev pub join_key : Columns → Columns → List ℕ → DtypeResult
-join_key left right name = join_key_type name (column_dtype name left) (column_dtype name right)
+join_key left right name = join_key_dtype name (column_dtype name left) (column_dtype name right)
 
 abbrev pub fault_or : DtypeResult → Option PlanFault → Option PlanFault
 fault_or (Ok t) later = later
@@ -35,12 +37,6 @@ abbrev pub keys_fault : Columns → Columns → List (List ℕ) → Option PlanF
 keys_fault left right [] = None
 keys_fault left right (k ∷ ks) = fault_or (join_key left right k) (keys_fault left right ks)
 
--- the first key that stands earlier, where these keys were seen
-abbrev pub doubled_key_after : List (List ℕ) → List (List ℕ) → Option (List ℕ)
-doubled_key_after seen [] = None
-doubled_key_after seen (k ∷ ks) =
-    if list_any (λ s. bytes_eq s k) seen then Some k else doubled_key_after (seen ++ k ∷ []) ks
-
 -- of two names that stand twice, the first one
 abbrev pub either_name : Option (List ℕ) → Option (List ℕ) → Option (List ℕ)
 either_name None second = second
@@ -48,7 +44,7 @@ either_name (Some name) second = Some name
 
 -- the columns of a join whose keys are sound
 abbrev pub join_schema : Columns → List (List ℕ) → CheckResult
-join_schema columns keys = to_schema_unless columns (either_name (doubled_key_after [] keys) (doubled_name_after [] columns))
+join_schema columns keys = to_schema_unless columns (either_name (doubled_name_after (λ k. k) [] keys) (doubled_column_after [] columns))
 
 abbrev pub fault_first : Option PlanFault → CheckResult → CheckResult
 fault_first None checked = checked

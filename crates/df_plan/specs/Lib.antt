@@ -1,7 +1,9 @@
+pub mod Limits
+pub mod Inputs
 pub mod ItemChecks
 pub mod ResultSchemas
 pub mod Checks
-pub mod CheckedParts
 pub mod Meaning
+pub mod CheckedParts
 pub mod JoinChecks
 pub mod WindowChecks

@@ -6,20 +6,22 @@ use Rattle.df_value.specs.declared.cell.CellType.TheVariants as dtype
 use Rattle.df_value.specs.Schemas.{column_dtype}
 use Rattle.df_expr.specs.declared.fault.ExprFault.TheVariants as expr
 use Rattle.df_plan.specs.declared.fault.PlanFault.TheVariants as fault
-use Rattle.df_ops.specs.declared.kinds.RollKind.{RollKind}
+use Rattle.df_ops.specs.declared.windows.RollKind.{RollKind}
 use Rattle.df_ops.specs.Windows.{rolling_dtype}
-use Rattle.df_plan.specs.ItemChecks.{Columns, CheckResult, DtypeResult, key_type}
+use Rattle.df_value.specs.Schemas.{Columns}
+use Rattle.df_plan.specs.Limits.{most_rows_of_window}
+use Rattle.df_plan.specs.ItemChecks.{CheckResult, DtypeResult, key_dtype}
 use Rattle.df_plan.specs.ResultSchemas.{added_columns_check}
 
--- a window: 1 <= w <= 65536 and 1 <= m <= w
+-- a window of at least 1 row that wants at least 1 cell and at most as many as it has rows
 abbrev pub is_window : ℤ → ℤ → Bool
-is_window w m = int_le (pos 1) w && (int_le w (pos 65536) && (int_le (pos 1) m && int_le m w))
+is_window w m = int_le (pos 1) w && (int_le w (pos most_rows_of_window) && (int_le (pos 1) m && int_le m w))
 
 -- the type of a column that must be there and be Int
-abbrev pub whole_type : List ℕ → Option CellType → DtypeResult
-whole_type name None = Err (fault.Expr (expr.NoColumn name))
-whole_type name (Some dtype.Int) = Ok dtype.Int
-whole_type name (Some t) = Err (fault.WrongType name)
+abbrev pub int_column_dtype : List ℕ → Option CellType → DtypeResult
+int_column_dtype name None = Err (fault.Expr (expr.NoColumn name))
+int_column_dtype name (Some dtype.Int) = Ok dtype.Int
+int_column_dtype name (Some t) = Err (fault.WrongType name)
 
 -- an output of this type put among the columns, if the column that it is taken from is sound
 abbrev pub output_column_check : Columns → List ℕ → CellType → DtypeResult → CheckResult
@@ -29,13 +31,13 @@ output_column_check columns output t (Err f) = Err f
 -- the window comes before the column
 abbrev pub rolling_check : Columns → List ℕ → RollKind → List ℕ → ℤ → ℤ → CheckResult
 rolling_check columns output k column w m =
-    if is_window w m then output_column_check columns output (rolling_dtype k) (whole_type column (column_dtype column columns))
+    if is_window w m then output_column_check columns output (rolling_dtype k) (int_column_dtype column (column_dtype column columns))
     else Err fault.BadWindow
 
 -- of an Int column
 abbrev pub cum_sum_check : Columns → List ℕ → List ℕ → CheckResult
-cum_sum_check columns output column = output_column_check columns output dtype.Wide (whole_type column (column_dtype column columns))
+cum_sum_check columns output column = output_column_check columns output dtype.Wide (int_column_dtype column (column_dtype column columns))
 
 -- of a column that could be a key
 abbrev pub rank_check : Columns → List ℕ → List ℕ → CheckResult
-rank_check columns output column = output_column_check columns output dtype.Int (key_type column (column_dtype column columns))
+rank_check columns output column = output_column_check columns output dtype.Int (key_dtype column (column_dtype column columns))

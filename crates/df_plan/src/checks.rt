@@ -1,6 +1,6 @@
 //! The check of a plan.
 ghost use Rattle.std.specs.Prelude.{◌≡◌, ◌+◌, ◌<◌, ◌≤◌, ◌↔◌, [], Err, IsTrue, MatchOption, MatchResult, None, slice_get};
-ghost use Rattle.df_value.specs.Schemas.{doubled_name_after};
+ghost use Rattle.df_value.specs.Schemas.{doubled_column_after};
 ghost use Rattle.df_plan.specs.Checks as checks;
 ghost use Rattle.df_value.specs.Outcomes.{Answers};
 ghost use Rattle.df_plan.specs.Checks.{plan_check, columns_of, plan_levels, plan_scans, to_schema_unless, filter_check, select_check, with_columns_check, added_columns_check, group_by_check, frame_check};
@@ -8,7 +8,7 @@ ghost use Rattle.df_plan.specs.JoinChecks.{join_check};
 ghost use Rattle.df_plan.specs.ItemChecks as item_checks;
 
 use crate::fault::PlanFault;
-use crate::items::{Added, Aggregates, Columns, Keys, Outputs, check_each, expr_type};
+use crate::items::{Added, Aggregates, Columns, Keys, Outputs, check_each, expr_dtype_check};
 use crate::join_checks::check_join;
 use crate::plan::Plan;
 use crate::window_checks::{check_cum_sum, check_rank, check_rolling};
@@ -35,7 +35,7 @@ pub fn check(alloc: Global, plan: &Plan, frames: &[Schema]) -> Result<Schema, Pl
     if scans_left(plan, MOST_SCANS).is_none() {
         return Err(PlanFault::TooManyScans);
     }
-    check_node(alloc, plan, frames)
+    schema_of(alloc, plan, frames)
 }
 
 // Whether a plan has at most so many levels.
@@ -62,7 +62,8 @@ fn is_within(plan: &Plan, most: u32) -> bool
 
 // What is left of so many scans after those of a plan; none where it has more.
 fn scans_left(plan: &Plan, most: u32) -> Option<u32>
-    ensures { MatchOption result (most < plan_scans plan.now) (λ left. plan_scans plan.now + left ≡ most) }
+    ensures { MatchOption result (most < plan_scans plan.now)
+        (λ left. plan_scans plan.now + left ≡ most) }
 {
     match plan {
         Plan::Scan(_) => most.checked_sub(1),
@@ -80,48 +81,46 @@ fn scans_left(plan: &Plan, most: u32) -> Option<u32>
     }
 }
 
-fn check_node(alloc: Global, plan: &Plan, frames: &[Schema]) -> Result<Schema, PlanFault>
+/// The schema of the table that a plan, or a part of one, gives over frames of these schemas; or the
+/// first fault. How many levels and scans there are is not asked: of a checked plan's part it is known.
+pub fn schema_of(alloc: Global, plan: &Plan, frames: &[Schema]) -> Result<Schema, PlanFault>
     ensures { Answers PlanFault.Memory (columns_of plan.now frames.now) result }
 {
     match plan {
         Plan::Scan(frame) => copy_schema(alloc, frames, *frame),
         Plan::Filter(input, predicate) => {
-            let columns = check_node(alloc, input.get(), frames)?;
+            let columns = schema_of(alloc, input.get(), frames)?;
             check_filter(alloc, columns, predicate)
         }
         Plan::Select(input, items) => {
-            let columns = check_node(alloc, input.get(), frames)?;
+            let columns = schema_of(alloc, input.get(), frames)?;
             then_drop(check_select(alloc, &columns, items.as_slice()), columns)
         }
         Plan::WithColumns(input, items) => {
-            let columns = check_node(alloc, input.get(), frames)?;
+            let columns = schema_of(alloc, input.get(), frames)?;
             then_drop(check_added(alloc, &columns, items.as_slice()), columns)
         }
         Plan::GroupBy(input, keys, aggs) => {
-            let columns = check_node(alloc, input.get(), frames)?;
-            then_drop(
-                check_groups(alloc, &columns, keys.as_slice(), aggs.as_slice()),
-                columns,
-            )
+            let columns = schema_of(alloc, input.get(), frames)?;
+            let checked = check_groups(alloc, &columns, keys.as_slice(), aggs.as_slice());
+            then_drop(checked, columns)
         }
         Plan::Join(left, right, _, keys) => {
-            let left = check_node(alloc, left.get(), frames)?;
-            let right = check_node(alloc, right.get(), frames);
+            let left = schema_of(alloc, left.get(), frames)?;
+            let right = schema_of(alloc, right.get(), frames);
             check_inputs(alloc, left, right, keys.as_slice())
         }
-        Plan::Rolling(input, output, dtype, column, w, m) => {
-            let columns = check_node(alloc, input.get(), frames)?;
-            then_drop(
-                check_rolling(alloc, &columns, output, *dtype, column, *w, *m),
-                columns,
-            )
+        Plan::Rolling(input, output, kind, column, w, m) => {
+            let columns = schema_of(alloc, input.get(), frames)?;
+            let checked = check_rolling(alloc, &columns, output, *kind, column, *w, *m);
+            then_drop(checked, columns)
         }
         Plan::CumSum(input, output, column) => {
-            let columns = check_node(alloc, input.get(), frames)?;
+            let columns = schema_of(alloc, input.get(), frames)?;
             then_drop(check_cum_sum(alloc, &columns, output, column), columns)
         }
         Plan::Rank(input, output, _, column) => {
-            let columns = check_node(alloc, input.get(), frames)?;
+            let columns = schema_of(alloc, input.get(), frames)?;
             then_drop(check_rank(alloc, &columns, output, column), columns)
         }
     }
@@ -134,7 +133,9 @@ fn check_inputs(
     right: Result<Schema, PlanFault>,
     keys: &[Text],
 ) -> Result<Schema, PlanFault>
-    ensures { MatchResult right (λ columns. Answers PlanFault.Memory (join_check left columns keys.now) result) (λ f. result ≡ Err f) }
+    ensures { MatchResult right
+        (λ columns. Answers PlanFault.Memory (join_check left columns keys.now) result)
+        (λ f. result ≡ Err f) }
 {
     match right {
         Ok(right) => check_join(alloc, &left, &right, keys),
@@ -152,9 +153,10 @@ fn copy_schema(alloc: Global, frames: &[Schema], frame: usize) -> Result<Schema,
 }
 
 fn check_filter(alloc: Global, input: Schema, predicate: &Expr) -> Result<Schema, PlanFault>
-    ensures { Answers PlanFault.Memory (filter_check input (item_checks.expr_type predicate.now input)) result }
+    ensures { Answers PlanFault.Memory
+        (filter_check input (item_checks.expr_dtype_check predicate.now input)) result }
 {
-    match expr_type(alloc, &input, predicate) {
+    match expr_dtype_check(alloc, &input, predicate) {
         Ok(CellType::Bool) => Ok(input),
         Ok(_) => Err(PlanFault::Expr(ExprFault::WrongType)),
         Err(fault) => Err(fault),
@@ -179,7 +181,7 @@ fn check_added(alloc: Global, input: &Schema, items: &[(Text, Expr)]) -> Result<
 {
     let out = List::from_vec(Vec::new(alloc));
     match check_each::<(Text, Expr), Added>(alloc, input, out, items) {
-        Ok(added) => put(alloc, input, &added),
+        Ok(added) => add_columns(alloc, input, &added),
         Err(fault) => Err(fault),
     }
 }
@@ -202,14 +204,14 @@ fn check_groups(
 }
 
 /// The schema of a table with columns put among its own.
-pub fn put(alloc: Global, input: &Schema, added: &Columns) -> Result<Schema, PlanFault>
+pub fn add_columns(alloc: Global, input: &Schema, added: &Columns) -> Result<Schema, PlanFault>
     ensures { Answers PlanFault.Memory (added_columns_check input.now added.now) result }
 {
     if let Some(name) = first_doubled_name(added.as_slice()) {
         return Err(PlanFault::DoubledName(name.copy(alloc)?));
     }
     let columns = with_columns(alloc, input.columns().as_slice(), added.as_slice())?;
-    schema_of(columns)
+    schema_unless_wide(columns)
 }
 
 /// The schema of these columns: no name may stand twice, and then they may not be too many.
@@ -219,11 +221,11 @@ pub fn to_schema(alloc: Global, columns: Columns) -> Result<Schema, PlanFault>
     if let Some(name) = first_doubled_name(columns.as_slice()) {
         return Err(PlanFault::DoubledName(name.copy(alloc)?));
     }
-    schema_of(columns)
+    schema_unless_wide(columns)
 }
 
-fn schema_of(columns: Columns) -> Result<Schema, PlanFault>
-    requires { doubled_name_after [] columns ≡ None }
+fn schema_unless_wide(columns: Columns) -> Result<Schema, PlanFault>
+    requires { doubled_column_after [] columns ≡ None }
     ensures { Answers PlanFault.Memory (to_schema_unless columns None) result }
 {
     match Schema::new(columns) {

@@ -23,13 +23,15 @@ pub fn evaluate(
     plan: &CheckedPlan,
     frames: &[List<Row>],
 ) -> Result<List<Row>, AllocError>
-    ensures value { IfOk result (λ rows. rows ≡ (table_of plan.now.plan plan.now.frames frames.now).rows) }
+    ensures value { IfOk result
+        (λ rows. rows ≡ (table_of plan.now.plan plan.now.frames frames.now).rows) }
 
     // Where there is a table for each frame, and its rows fit, the rows of the result fit too.
     ensures fit { IsTrue (frames_fit plan.now.frames frames.now) →
         IfOk result (λ rows. IsTrue (rows_fit plan.now.schema rows)) }
     ensures columns { IsTrue (frames_fit plan.now.frames frames.now) →
-        IfOk result (λ _. (table_of plan.now.plan plan.now.frames frames.now).columns ≡ plan.now.schema) }
+        IfOk result
+        (λ _. (table_of plan.now.plan plan.now.frames frames.now).columns ≡ plan.now.schema) }
 {
     let table = table_of_plan(alloc, plan.plan(), plan.frames().as_slice(), frames)?;
     Ok(table.rows)
@@ -95,7 +97,9 @@ fn rolled(
     w: i64,
     m: i64,
 ) -> Result<PlainTable, AllocError>
-    ensures { IfOk result (λ t. t ≡ tables.rolling_table input.now output.now kind column.now (windows.size_of w) (windows.size_of m)) }
+    ensures { IfOk result
+        (λ t. t ≡ tables.rolling_table input.now output.now kind column.now (windows.size_of w)
+        (windows.size_of m)) }
 {
     rolling_table(alloc, input, output, kind, column, size_of(w), size_of(m))
 }
@@ -107,7 +111,8 @@ fn copy_frame(
     frames: &[List<Row>],
     frame: usize,
 ) -> Result<PlainTable, AllocError>
-    ensures { IfOk result (λ t. t ≡ frame_table (slice_get schemas.now frame) (slice_get frames.now frame)) }
+    ensures { IfOk result
+        (λ t. t ≡ frame_table (slice_get schemas.now frame) (slice_get frames.now frame)) }
 {
     match (schemas.get(frame), frames.get(frame)) {
         (Some(schema), Some(rows)) => copy_rows(alloc, schema, rows),

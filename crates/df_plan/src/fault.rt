@@ -25,8 +25,8 @@ pub enum PlanFault {
     /// More than 12 levels.
     #[error("more than 12 levels")]
     TooDeep,
-    /// A rolling window that is not of 1 to 65536 rows, or that wants fewer than 1 cell or more cells than
-    /// it has rows.
+    /// A rolling window that is not of 1 to 65536 rows, or that wants fewer than 1 cell or more
+    /// cells than it has rows.
     #[error("no such window")]
     BadWindow,
     /// A select without items, or a group-by without keys.

@@ -1,5 +1,6 @@
 //! The check of the items of a node's list: what column each gives.
 ghost use Rattle.std.specs.Prelude.{◌≡◌};
+ghost use Rattle.df_value.specs.Schemas as schemas;
 ghost use Rattle.df_value.specs.Schemas.{column_dtype};
 ghost use Rattle.df_value.specs.Outcomes.{Answers};
 ghost use Rattle.df_plan.specs.ItemChecks as item_checks;
@@ -17,7 +18,7 @@ pub type Columns = List<(Text, CellType)>;
 /// What a node wants of an item of its list.
 pub trait ColumnOf<T> {
     /// The column that the item gives over an input of these columns.
-    ghost column_of: { item_checks.Columns → T → ColumnResult };
+    ghost column_of: { schemas.Columns → T → ColumnResult };
 
     /// The column that the item gives, or its first fault.
     fn column(alloc: Global, input: &Schema, item: &T) -> Result<(Text, CellType), PlanFault>
@@ -40,7 +41,7 @@ impl ColumnOf<Text> for Keys {
     ghost column_of = { key_column_result };
 
     fn column(alloc: Global, input: &Schema, name: &Text) -> Result<(Text, CellType), PlanFault> {
-        let dtype = key_type(alloc, input, name)?;
+        let dtype = key_dtype(alloc, input, name)?;
         Ok((name.copy(alloc)?, dtype))
     }
 }
@@ -53,7 +54,7 @@ impl ColumnOf<(Text, Agg)> for Aggregates {
         input: &Schema,
         item: &(Text, Agg),
     ) -> Result<(Text, CellType), PlanFault> {
-        let dtype = aggregate_type(alloc, input, &item.1)?;
+        let dtype = aggregate_dtype_check(alloc, input, &item.1)?;
         Ok((item.0.copy(alloc)?, dtype))
     }
 }
@@ -61,13 +62,13 @@ impl ColumnOf<(Text, Agg)> for Aggregates {
 impl ColumnOf<(Text, Expr)> for Outputs {
     ghost column_of = { select_column_result };
 
-    #[tactic(auto, unfolding(crate::specs::ItemChecks::output_type))]
+    #[tactic(auto, unfolding(crate::specs::ItemChecks::select_dtype_check))]
     fn column(
         alloc: Global,
         input: &Schema,
         item: &(Text, Expr),
     ) -> Result<(Text, CellType), PlanFault> {
-        let dtype = expr_type(alloc, input, &item.1)?;
+        let dtype = expr_dtype_check(alloc, input, &item.1)?;
         if !names_column(&item.1) {
             return Err(PlanFault::ConstantColumn(item.0.copy(alloc)?));
         }
@@ -83,7 +84,7 @@ impl ColumnOf<(Text, Expr)> for Added {
         input: &Schema,
         item: &(Text, Expr),
     ) -> Result<(Text, CellType), PlanFault> {
-        let dtype = expr_type(alloc, input, &item.1)?;
+        let dtype = expr_dtype_check(alloc, input, &item.1)?;
         Ok((item.0.copy(alloc)?, dtype))
     }
 }
@@ -95,7 +96,8 @@ pub fn check_each<T, N: ColumnOf<T>>(
     out: Columns,
     items: &[T],
 ) -> Result<Columns, PlanFault>
-    ensures { Answers PlanFault.Memory (columns_after (N.column_of input.now) out items.now) result }
+    ensures { Answers PlanFault.Memory
+        (columns_after (N.column_of input.now) out items.now) result }
 {
     let mut out = out.into_vec();
     for item in items {
@@ -105,30 +107,36 @@ pub fn check_each<T, N: ColumnOf<T>>(
 }
 
 /// The type of a key's column, which must be there and not Frac.
-pub fn key_type(alloc: Global, input: &Schema, name: &Text) -> Result<CellType, PlanFault>
-    ensures { Answers PlanFault.Memory (item_checks.key_type name.now (column_dtype name.now input.now)) result }
+pub fn key_dtype(alloc: Global, input: &Schema, name: &Text) -> Result<CellType, PlanFault>
+    ensures { Answers PlanFault.Memory
+        (item_checks.key_dtype name.now (column_dtype name.now input.now)) result }
 {
-    match input.type_of(name) {
+    match input.dtype_of(name) {
         Some(CellType::Frac) => Err(PlanFault::WrongType(name.copy(alloc)?)),
         Some(dtype) => Ok(dtype),
         None => Err(PlanFault::Expr(ExprFault::NoColumn(name.copy(alloc)?))),
     }
 }
 
-fn aggregate_type(alloc: Global, input: &Schema, agg: &Agg) -> Result<CellType, PlanFault>
-    ensures { Answers PlanFault.Memory (item_checks.aggregate_type input.now agg.now) result }
+fn aggregate_dtype_check(alloc: Global, input: &Schema, agg: &Agg) -> Result<CellType, PlanFault>
+    ensures { Answers PlanFault.Memory
+        (item_checks.aggregate_dtype_check input.now agg.now) result }
 {
-    let Some(name) = agg.column() else {
+    let Some(name) = agg.input_column() else {
         return Ok(CellType::Int);
     };
-    match input.type_of(name) {
-        Some(dtype) => given_type(alloc, name, agg.type_of(dtype)),
+    match input.dtype_of(name) {
+        Some(dtype) => accepted_dtype(alloc, name, agg.output_dtype(dtype)),
         None => Err(PlanFault::Expr(ExprFault::NoColumn(name.copy(alloc)?))),
     }
 }
 
-fn given_type(alloc: Global, name: &Text, given: Option<CellType>) -> Result<CellType, PlanFault>
-    ensures { Answers PlanFault.Memory (item_checks.given_type name.now given) result }
+fn accepted_dtype(
+    alloc: Global,
+    name: &Text,
+    given: Option<CellType>,
+) -> Result<CellType, PlanFault>
+    ensures { Answers PlanFault.Memory (item_checks.accepted_dtype name.now given) result }
 {
     match given {
         Some(dtype) => Ok(dtype),
@@ -137,9 +145,9 @@ fn given_type(alloc: Global, name: &Text, given: Option<CellType>) -> Result<Cel
 }
 
 /// The type of an expression in a plan.
-#[tactic(auto, unfolding(crate::specs::ItemChecks::expr_type))]
-pub fn expr_type(alloc: Global, input: &Schema, expr: &Expr) -> Result<CellType, PlanFault>
-    ensures { Answers PlanFault.Memory (item_checks.expr_type expr.now input.now) result }
+#[tactic(auto, unfolding(crate::specs::ItemChecks::expr_dtype_check))]
+pub fn expr_dtype_check(alloc: Global, input: &Schema, expr: &Expr) -> Result<CellType, PlanFault>
+    ensures { Answers PlanFault.Memory (item_checks.expr_dtype_check expr.now input.now) result }
 {
     match check(alloc, expr, input) {
         Ok(dtype) => Ok(dtype),

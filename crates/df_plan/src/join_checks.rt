@@ -6,14 +6,14 @@ ghost use Rattle.std.specs.Str.{bytes_eq};
 ghost use Rattle.df_value.specs.Schemas.{column_dtype};
 ghost use Rattle.df_value.specs.Outcomes.{Answers};
 ghost use Rattle.df_plan.specs.JoinChecks as join_checks;
-ghost use Rattle.df_plan.specs.JoinChecks.{join_check, join_key_type, keys_fault, doubled_key_after};
+ghost use Rattle.df_plan.specs.JoinChecks.{join_check, join_key_dtype, keys_fault};
 
 use crate::checks::to_schema;
 use crate::fault::PlanFault;
 use crate::items::Columns;
 use df_expr::ExprFault;
 use df_ops::columns_of_join;
-use df_value::{CellType, Duplicate, Schema, Text};
+use df_value::{CellType, Duplicate, Schema, Text, first_doubled_name};
 use std::alloc::Global;
 
 /// The schema of a join of tables of these schemas, or its first fault.
@@ -37,29 +37,10 @@ pub fn check_join(
 fn join_schema(alloc: Global, columns: Columns, keys: &[Text]) -> Result<Schema, PlanFault>
     ensures { Answers PlanFault.Memory (join_checks.join_schema columns keys.now) result }
 {
-    match doubled_key(keys) {
+    match first_doubled_name(keys) {
         Some(name) => Err(PlanFault::DoubledName(name.copy(alloc)?)),
         None => to_schema(alloc, columns),
     }
-}
-
-// The first key that stands earlier.
-fn doubled_key(keys: &[Text]) -> Option<&Text>
-    ensures { option_copied result ≡ doubled_key_after [] keys.now }
-{
-    for i in 0..keys.len() {
-        let name = &keys[i];
-        if has_earlier_key(name, &keys[..i]) {
-            return Some(name);
-        }
-    }
-    None
-}
-
-fn has_earlier_key(name: &Text, keys: &[Text]) -> bool
-    ensures { result ≡ list_any (λ k. bytes_eq k name.now) keys.now }
-{
-    keys.iter().any(|key| *key == *name)
 }
 
 // The first fault of the keys.
@@ -69,18 +50,18 @@ fn check_keys(alloc: Global, left: &Schema, right: &Schema, keys: &[Text]) -> Re
         (λ f. f ≢ PlanFault.Memory → keys_fault left.now right.now keys.now ≡ Some f) }
 {
     for name in keys {
-        key_type(alloc, name, left.type_of(name), right.type_of(name))?;
+        key_dtype(alloc, name, left.dtype_of(name), right.dtype_of(name))?;
     }
     Ok(())
 }
 
-fn key_type(
+fn key_dtype(
     alloc: Global,
     name: &Text,
     left: Option<CellType>,
     right: Option<CellType>,
 ) -> Result<CellType, PlanFault>
-    ensures { Answers PlanFault.Memory (join_key_type name.now left right) result }
+    ensures { Answers PlanFault.Memory (join_key_dtype name.now left right) result }
 {
     match (left, right) {
         (Some(CellType::Frac), Some(_)) => Err(PlanFault::WrongType(name.copy(alloc)?)),

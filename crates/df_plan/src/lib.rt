@@ -20,7 +20,7 @@ mod plan;
 mod window_checks;
 
 pub use checked::CheckedPlan;
-pub use checks::{MOST_PLAN_LEVELS, MOST_SCANS};
+pub use checks::{MOST_PLAN_LEVELS, MOST_SCANS, schema_of};
 pub use df_ops::{Agg, How, RankKind, RollKind};
 pub use evaluation::evaluate;
 pub use fault::PlanFault;

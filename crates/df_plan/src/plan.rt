@@ -13,30 +13,31 @@ pub enum Plan {
     Scan(usize),
     /// The input's rows for which the expression, a Bool, is true. Null drops the row.
     Filter(Boxed<Plan>, Expr),
-    /// A column for each item, of its name and with the values of its expression, which names a column.
+    /// A column for each item, of its name and with the values of its expression, which names a
+    /// column.
     Select(Boxed<Plan>, List<(Text, Expr)>),
-    /// The input's columns, each replaced in its place by the item of its name, and after them the items
-    /// of new names. Every expression sees the input's row, and one that names no column has its value in
-    /// every row.
+    /// The input's columns, each replaced in its place by the item of its name, and after them the
+    /// items of new names. Every expression sees the input's row, and one that names no column has
+    /// its value in every row.
     WithColumns(Boxed<Plan>, List<(Text, Expr)>),
-    /// The input's groups of equal cells in the key columns, by the first appearance of their keys. Each
-    /// gives a row: the key's cells, then the aggregates under their output names. Null equals null in
-    /// keys.
+    /// The input's groups of equal cells in the key columns, by the first appearance of their keys.
+    /// Each gives a row: the key's cells, then the aggregates under their output names. Null equals
+    /// null in keys.
     GroupBy(Boxed<Plan>, List<Text>, List<(Text, Agg)>),
     /// Each row of the first input beside each row of the second that has the same cells in the key
-    /// columns, none of them null: in the first's order, and for one of its rows in the second's. The
-    /// second's columns come last, without its keys; a name that stands in the first gets the suffix
-    /// `_right`.
+    /// columns, none of them null: in the first's order, and for one of its rows in the second's.
+    /// The second's columns come last, without its keys; a name that stands in the first gets the
+    /// suffix `_right`.
     Join(Boxed<Plan>, Boxed<Plan>, How, List<Text>),
-    /// The input, and put among its columns as `WithColumns` puts them one of this name: of the cells of
-    /// an Int column in a row and those before it, at most as many as the first number says, the sum,
-    /// least or greatest; null where fewer than the second number are not null.
+    /// The input, and put among its columns as `WithColumns` puts them one of this name: of the
+    /// cells of an Int column in a row and those before it, at most as many as the first number
+    /// says, the sum, least or greatest; null where fewer than the second number are not null.
     Rolling(Boxed<Plan>, Text, RollKind, Text, i64, i64),
-    /// The input, and put among its columns one of this name: the sum of the cells of an Int column up to
-    /// each row, a Wide; null where the row's own cell is null.
+    /// The input, and put among its columns one of this name: the sum of the cells of an Int column
+    /// up to each row, a Wide; null where the row's own cell is null.
     CumSum(Boxed<Plan>, Text, Text),
-    /// The input, and put among its columns one of this name: the rank of each cell of a column among all
-    /// of them, an Int from 1 on; null where the cell is null. Of every type but Frac.
+    /// The input, and put among its columns one of this name: the rank of each cell of a column
+    /// among all of them, an Int from 1 on; null where the cell is null. Of every type but Frac.
     Rank(Boxed<Plan>, Text, RankKind, Text),
 }
 
@@ -137,61 +138,41 @@ fn same_plan(a: &Plan, b: &Plan) -> bool
     ensures { IsTrue result ↔ (a.now ≡ b.now) }
 {
     match a {
-        Plan::Scan(f) => match b {
-            Plan::Scan(g) => *f == *g,
-            _ => false,
-        },
-        Plan::Filter(x, p) => match b {
-            Plan::Filter(y, q) => same_plan(x.get(), y.get()) && same(p, q),
-            _ => false,
-        },
-        Plan::Select(x, items) => match b {
-            Plan::Select(y, others) => same_plan(x.get(), y.get()) && same(items, others),
-            _ => false,
-        },
-        Plan::WithColumns(x, items) => match b {
-            Plan::WithColumns(y, others) => same_plan(x.get(), y.get()) && same(items, others),
-            _ => false,
-        },
-        Plan::GroupBy(x, keys, aggs) => match b {
-            Plan::GroupBy(y, other_keys, other_aggs) => {
-                same_plan(x.get(), y.get()) && same(keys, other_keys) && same(aggs, other_aggs)
-            }
-            _ => false,
-        },
-        Plan::Join(x, z, how, keys) => match b {
-            Plan::Join(y, w, other_how, other_keys) => {
-                same_plan(x.get(), y.get())
-                    && same_plan(z.get(), w.get())
-                    && *how == *other_how
-                    && same(keys, other_keys)
-            }
-            _ => false,
-        },
-        Plan::Rolling(x, output, kind, column, w, m) => match b {
-            Plan::Rolling(y, other, other_kind, other_column, other_w, other_m) => {
-                same_plan(x.get(), y.get())
-                    && *kind == *other_kind
+        Plan::Scan(f) => matches!(b, Plan::Scan(g) if *f == *g),
+        Plan::Filter(x, p) => {
+            matches!(b, Plan::Filter(y, q) if same_plan(x.get(), y.get()) && same(p, q))
+        }
+        Plan::Select(x, items) => {
+            matches!(b, Plan::Select(y, others) if same_plan(x.get(), y.get()) && same(items, others))
+        }
+        Plan::WithColumns(x, items) => {
+            matches!(b, Plan::WithColumns(y, others)
+                if same_plan(x.get(), y.get()) && same(items, others))
+        }
+        Plan::GroupBy(x, keys, aggs) => {
+            matches!(b, Plan::GroupBy(y, other_keys, other_aggs)
+                if same_plan(x.get(), y.get()) && same(keys, other_keys) && same(aggs, other_aggs))
+        }
+        Plan::Join(x, z, how, keys) => {
+            matches!(b, Plan::Join(y, w, other_how, other_keys)
+                if same_plan(x.get(), y.get()) && same_plan(z.get(), w.get())
+                    && *how == *other_how && same(keys, other_keys))
+        }
+        Plan::Rolling(x, output, kind, column, w, m) => {
+            matches!(b, Plan::Rolling(y, other, other_kind, other_column, other_w, other_m)
+                if same_plan(x.get(), y.get()) && *kind == *other_kind
                     && same_names(output, other, column, other_column)
-                    && *w == *other_w
-                    && *m == *other_m
-            }
-            _ => false,
-        },
-        Plan::CumSum(x, output, column) => match b {
-            Plan::CumSum(y, other, other_column) => {
-                same_plan(x.get(), y.get()) && same_names(output, other, column, other_column)
-            }
-            _ => false,
-        },
-        Plan::Rank(x, output, kind, column) => match b {
-            Plan::Rank(y, other, other_kind, other_column) => {
-                same_plan(x.get(), y.get())
-                    && *kind == *other_kind
-                    && same_names(output, other, column, other_column)
-            }
-            _ => false,
-        },
+                    && *w == *other_w && *m == *other_m)
+        }
+        Plan::CumSum(x, output, column) => {
+            matches!(b, Plan::CumSum(y, other, other_column)
+                if same_plan(x.get(), y.get()) && same_names(output, other, column, other_column))
+        }
+        Plan::Rank(x, output, kind, column) => {
+            matches!(b, Plan::Rank(y, other, other_kind, other_column)
+                if same_plan(x.get(), y.get()) && *kind == *other_kind
+                    && same_names(output, other, column, other_column))
+        }
     }
 }
 

@@ -7,13 +7,16 @@ ghost use Rattle.df_plan.specs.WindowChecks as window_checks;
 ghost use Rattle.df_plan.specs.WindowChecks.{rolling_check, cum_sum_check, rank_check};
 ghost use Rattle.df_ops.specs.Windows as windows;
 
-use crate::checks::put;
+use crate::checks::add_columns;
 use crate::fault::PlanFault;
-use crate::items::key_type;
+use crate::items::key_dtype;
 use df_expr::ExprFault;
 use df_ops::{RollKind, rolling_dtype};
 use df_value::{CellType, Duplicate, List, Schema, Text};
 use std::alloc::Global;
+
+/// The most rows of a rolling window.
+const MOST_ROWS_OF_WINDOW: i64 = 65_536;
 
 /// The schema of a table with a rolling column put among its own, or the first fault.
 pub fn check_rolling(
@@ -25,13 +28,14 @@ pub fn check_rolling(
     w: i64,
     m: i64,
 ) -> Result<Schema, PlanFault>
-    ensures { Answers PlanFault.Memory (rolling_check input.now output.now kind column.now w m) result }
+    ensures { Answers PlanFault.Memory
+        (rolling_check input.now output.now kind column.now w m) result }
 {
     if !is_window(w, m) {
         return Err(PlanFault::BadWindow);
     }
-    whole_type(alloc, input, column)?;
-    put_one(alloc, input, output, rolling_dtype(kind))
+    int_column_dtype(alloc, input, column)?;
+    add_column(alloc, input, output, rolling_dtype(kind))
 }
 
 /// The schema of a table with a cumulative sum put among its columns, or the first fault.
@@ -43,8 +47,8 @@ pub fn check_cum_sum(
 ) -> Result<Schema, PlanFault>
     ensures { Answers PlanFault.Memory (cum_sum_check input.now output.now column.now) result }
 {
-    whole_type(alloc, input, column)?;
-    put_one(alloc, input, output, CellType::Wide)
+    int_column_dtype(alloc, input, column)?;
+    add_column(alloc, input, output, CellType::Wide)
 }
 
 /// The schema of a table with a rank put among its columns, or the first fault.
@@ -56,34 +60,36 @@ pub fn check_rank(
 ) -> Result<Schema, PlanFault>
     ensures { Answers PlanFault.Memory (rank_check input.now output.now column.now) result }
 {
-    key_type(alloc, input, column)?;
-    put_one(alloc, input, output, CellType::Int)
+    key_dtype(alloc, input, column)?;
+    add_column(alloc, input, output, CellType::Int)
 }
 
 fn is_window(w: i64, m: i64) -> bool
     ensures { result ≡ window_checks.is_window w m }
 {
-    1 <= w && w <= 65536 && 1 <= m && m <= w
+    1 <= w && w <= MOST_ROWS_OF_WINDOW && 1 <= m && m <= w
 }
 
-fn whole_type(alloc: Global, input: &Schema, name: &Text) -> Result<CellType, PlanFault>
-    ensures { Answers PlanFault.Memory (window_checks.whole_type name.now (column_dtype name.now input.now)) result }
+fn int_column_dtype(alloc: Global, input: &Schema, name: &Text) -> Result<CellType, PlanFault>
+    ensures { Answers PlanFault.Memory
+        (window_checks.int_column_dtype name.now (column_dtype name.now input.now)) result }
 {
-    match input.type_of(name) {
+    match input.dtype_of(name) {
         Some(CellType::Int) => Ok(CellType::Int),
         Some(_) => Err(PlanFault::WrongType(name.copy(alloc)?)),
         None => Err(PlanFault::Expr(ExprFault::NoColumn(name.copy(alloc)?))),
     }
 }
 
-fn put_one(
+fn add_column(
     alloc: Global,
     input: &Schema,
     output: &Text,
-    kind: CellType,
+    dtype: CellType,
 ) -> Result<Schema, PlanFault>
-    ensures { Answers PlanFault.Memory (added_columns_check input.now ((output.now, kind) ∷ [])) result }
+    ensures { Answers PlanFault.Memory
+        (added_columns_check input.now ((output.now, dtype) ∷ [])) result }
 {
-    let added = vec![in alloc; (output.copy(alloc)?, kind)]?;
-    put(alloc, input, &List::from_vec(added))
+    let added = vec![in alloc; (output.copy(alloc)?, dtype)]?;
+    add_columns(alloc, input, &List::from_vec(added))
 }

@@ -11,8 +11,8 @@ fn hex(digit: u8) -> u8
     if digit < 10 { 48 + digit } else { 87 + digit }
 }
 
-/// A text as it is printed, in tables and in the texts of faults: a byte below 0x20 and 0x7F as `\x`
-/// and two lower-case hexadecimal digits, a backslash as two, all else as it is.
+/// A text as it is printed, in tables and in the texts of faults: a byte below 0x20 and 0x7F as
+/// `\x` and two lower-case hexadecimal digits, a backslash as two, all else as it is.
 pub fn escape(alloc: Global, text: &str) -> Result<String, AllocError>
     ensures { IfOk result (λ s. string_bytes s ≡ escaped_text text.now) }
 {
@@ -38,7 +38,9 @@ fn push_escaped(out: &mut String, c: char) -> Result<(), AllocError>
 
 // Adds the code of a character.
 fn push_code(out: &mut String, code: u8) -> Result<(), AllocError>
-    ensures { OnOk result (string_bytes out.new ≡ string_bytes out.old ++ 92 ∷ 120 ∷ hex_digit (code / 16) ∷ hex_digit (code % 16) ∷ []) }
+    ensures { OnOk result
+        (string_bytes out.new
+        ≡ string_bytes out.old ++ 92 ∷ 120 ∷ hex_digit (code / 16) ∷ hex_digit (code % 16) ∷ []) }
 {
     out.push('\\')?;
     out.push('x')?;

@@ -8,13 +8,13 @@ use df_value::{CellType, Row, Schema, Text};
 use std::alloc::{AllocError, Global};
 use unicode_width::UnicodeWidthStr;
 
-/// A table as it is printed, in UTF-8: the title `name (R x C)` with the numbers of rows and columns, a
-/// line of the columns' names and one line for each row, each line ended by a newline.
+/// A table as it is printed, in UTF-8: the title `name (R x C)` with the numbers of rows and
+/// columns, a line of the columns' names and one line for each row, each line ended by a newline.
 ///
-/// Two spaces stand between two columns. Each name and cell is filled with spaces up to its column's
-/// width ([`column_width`]): at its right in a column of texts, else at its left. Null prints as `null`,
-/// whole numbers in decimal, a mean as its sum, `/` and its count. A row's cells beyond the schema's
-/// columns are passed over, and cells that are missing print as null.
+/// Two spaces stand between two columns. Each name and cell is filled with spaces up to its
+/// column's width ([`column_width`]): at its right in a column of texts, else at its left. Null
+/// prints as `null`, whole numbers in decimal, a mean as its sum, `/` and its count. A row's cells
+/// beyond the schema's columns are passed over, and cells that are missing print as null.
 pub fn print_table(
     alloc: Global,
     name: &Text,

@@ -39,15 +39,16 @@ pub fn print_cell_at(alloc: Global, at: usize, row: &Row) -> Result<String, Allo
 
 // How many columns of a terminal the cell at an index takes, or this width, where it is greater.
 fn widened(alloc: Global, width: usize, at: usize, row: &Row) -> Result<usize, AllocError>
-    ensures greater { IfOk result (λ w. w ≡ max width (width_of (cell_text (cell_or_null at row.now)))) }
+    ensures greater { IfOk result
+        (λ w. w ≡ max width (width_of (cell_text (cell_or_null at row.now)))) }
     ensures utf8 { IfOk result (λ _. IsUtf8 (cell_text (cell_or_null at row.now))) }
 {
     let text = print_cell_at(alloc, at, row)?;
     Ok(width.max(text.as_str().width()))
 }
 
-/// How many columns of a terminal the column at an index takes: the greatest width of its texts, which
-/// are its name and its cells as they are printed.
+/// How many columns of a terminal the column at an index takes: the greatest width of its texts,
+/// which are its name and its cells as they are printed.
 ///
 /// So every text of the column, filled with spaces up to this width, takes exactly this width, at
 /// whichever side the spaces stand.

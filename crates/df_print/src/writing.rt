@@ -12,7 +12,8 @@ pub struct WriteFault;
 
 /// Writes a text whole, or, where a write fails or takes no byte, a front of it.
 pub fn write_text<W: Write>(writer: &mut W, text: &[u8]) -> Result<(), WriteFault>
-    ensures { MatchResult result (λ _. Appends (W.contents writer.old) (W.contents writer.new) text.now)
+    ensures { MatchResult result
+        (λ _. Appends (W.contents writer.old) (W.contents writer.new) text.now)
         (λ _. (n : ℕ) × (n < length text.now)
         × Appends (W.contents writer.old) (W.contents writer.new) (take n text.now)) }
 {

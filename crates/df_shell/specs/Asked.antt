@@ -1,5 +1,6 @@
 -- Changes that are asked for: which change of the catalogue each is, and why it is refused.
-use Rattle.std.specs.Prelude.{◌≡◌, ⊤, ℕ, List, Option, Some, None, Result, Ok, Err, option_map, position, slice_get, bytes_eq, IsOk}
+use Rattle.std.specs.Prelude.{◌≡◌, ⊤, ℕ, List, Option, Some, None, Result, Ok, Err, option_map, slice_get, IsOk}
+use Rattle.df_value.specs.Names.{index_of_name}
 use Rattle.df_value.specs.Chunks.{ChunkParts, IsChunk}
 use Rattle.df_catalogue.specs.declared.change.Change.{Change}
 use Rattle.df_catalogue.specs.declared.change.Change.TheVariants.{Append, Delete, Register, DropView}
@@ -18,7 +19,7 @@ use Rattle.df_text.specs.declared.document.ViewSpec.{ViewSpec}
 
 -- the index of the frame of a name
 abbrev pub frame_index_of : Definitions → List ℕ → Option ℕ
-frame_index_of d name = position (λ (f : FrameSpec). bytes_eq f.name name) d.document.frames
+frame_index_of d name = index_of_name (λ (f : FrameSpec). f.name) name d.document.frames
 
 -- the plan at an index
 abbrev pub plan_at : Definitions → Option ℕ → Option CheckedParts
@@ -27,7 +28,7 @@ plan_at d (Some at) = slice_get d.plans at
 
 -- the plan of the view of a name
 abbrev pub plan_named : Definitions → List ℕ → Option CheckedParts
-plan_named d name = plan_at d (position (λ (v : ViewSpec). bytes_eq v.name name) d.document.views)
+plan_named d name = plan_at d (index_of_name (λ (v : ViewSpec). v.name) name d.document.views)
 
 -- A refusal of a command that makes this change: the catalogue's, or that memory was refused.
 abbrev pub IsRefusalOfChange : State → Change → Refusal → Type 0

@@ -1,5 +1,6 @@
 -- Commands: the words that say each of them.
 use Rattle.std.specs.Prelude.{◌≡◌, ◌<◌, ℕ, List, [], ◌∷◌, codes}
+use Rattle.df_value.specs.Limits.{row_numbers}
 use Rattle.std.specs.List.{AllZip}
 use Rattle.std.specs.Str.Parse.{IsNumeral, digits_value, without_leading_plus}
 use Rattle.df_shell.specs.declared.command.AskedChange.{AskedChange}
@@ -15,7 +16,7 @@ IsNumberBelow bound word n = IsNumeral 10 (without_leading_plus word) × (digits
 
 -- the row number that a word writes
 abbrev pub IsRowNumber : List ℕ → ℕ → Type 0
-IsRowNumber word n = IsNumberBelow 4294967296 word n
+IsRowNumber word n = IsNumberBelow row_numbers word n
 
 -- the number of lines that a word writes
 abbrev pub IsLineCount : List ℕ → ℕ → Type 0

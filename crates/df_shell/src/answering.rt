@@ -102,8 +102,10 @@ fn answer_change<Acc: Ledger, Del: Ledger>(
     asked: AskedChange<'_>,
     lines: Result<Vec<u8>, Refusal>,
 ) -> Result<(), Refusal>
-    ensures made { OnOk result (IsMadeAsAsked definitions.now asked.entry lines store.old.catalogue store.new.catalogue) }
-    ensures refused { IfErr result (IsRefusalOfAsked definitions.now store.old.catalogue asked.entry lines) }
+    ensures made { OnOk result
+        (IsMadeAsAsked definitions.now asked.entry lines store.old.catalogue store.new.catalogue) }
+    ensures refused { IfErr result
+        (IsRefusalOfAsked definitions.now store.old.catalogue asked.entry lines) }
     ensures same { OnErr result (store.new.catalogue ≡ store.old.catalogue) }
 {
     match asked {
@@ -122,7 +124,8 @@ fn answer_question<Acc: Ledger, Del: Ledger>(
     catalogue: &Catalogue<Acc, Del>,
     question: Question<'_>,
 ) -> Result<Vec<u8>, Refusal>
-    ensures { IsTold (text_of_question definitions.now catalogue.now question.entry) (fault_of_question question.entry) result }
+    ensures { IsTold (text_of_question definitions.now catalogue.now question.entry)
+        (fault_of_question question.entry) result }
 {
     match question {
         Question::Show(view) => show(alloc, catalogue, view),

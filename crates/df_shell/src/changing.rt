@@ -17,8 +17,8 @@ use std::sync::ledger::Ledger;
 
 /// Adds the rows of lines of CSV to a frame.
 ///
-/// The first of these is answered: `C11` where no frame has the name; why the lines could not be read; why they
-/// make no chunk (`read_chunk`); the catalogue's refusal.
+/// The first of these is answered: `C11` where no frame has the name; why the lines could not be
+/// read; why they make no chunk (`read_chunk`); the catalogue's refusal.
 pub fn append<Acc: Ledger, Del: Ledger>(
     alloc: Global,
     definitions: &Definitions,
@@ -27,9 +27,14 @@ pub fn append<Acc: Ledger, Del: Ledger>(
     first: u32,
     lines: Result<Vec<u8>, Refusal>,
 ) -> Result<(), Refusal>
-    ensures made { OnOk result ((at : ℕ) × (chunk : ChunkParts) × IsOk lines × (frame_index_of definitions.now frame.now ≡ Some at)
-        × IsChunkOf definitions.now at first chunk × IsMade store.old.catalogue store.new.catalogue (Append at chunk)) }
-    ensures refused { IfErr result (IsRefusalOfAppend definitions.now store.old.catalogue (frame_index_of definitions.now frame.now) first lines) }
+    ensures made { OnOk result
+        ((at : ℕ) × (chunk : ChunkParts) × IsOk lines
+        × (frame_index_of definitions.now frame.now ≡ Some at)
+        × IsChunkOf definitions.now at first chunk
+        × IsMade store.old.catalogue store.new.catalogue (Append at chunk)) }
+    ensures refused { IfErr result
+        (IsRefusalOfAppend definitions.now store.old.catalogue
+        (frame_index_of definitions.now frame.now) first lines) }
     ensures same { OnErr result (store.new.catalogue ≡ store.old.catalogue) }
 {
     let Some(at) = definitions.frame_index(frame) else {
@@ -41,7 +46,8 @@ pub fn append<Acc: Ledger, Del: Ledger>(
     Ok(store.make(alloc, Change::Append(at, chunk))?)
 }
 
-/// Takes the rows of these numbers out of a frame. Where no frame has the name it is refused (`C11`).
+/// Takes the rows of these numbers out of a frame. Where no frame has the name it is refused
+/// (`C11`).
 pub fn delete<Acc: Ledger, Del: Ledger>(
     alloc: Global,
     definitions: &Definitions,
@@ -51,7 +57,9 @@ pub fn delete<Acc: Ledger, Del: Ledger>(
 ) -> Result<(), Refusal>
     ensures made { OnOk result ((at : ℕ) × (frame_index_of definitions.now frame.now ≡ Some at)
         × IsMade store.old.catalogue store.new.catalogue (Delete at numbers)) }
-    ensures refused { IfErr result (IsRefusalAtFrame store.old.catalogue (λ at. Delete at numbers) (frame_index_of definitions.now frame.now)) }
+    ensures refused { IfErr result
+        (IsRefusalAtFrame store.old.catalogue (λ at. Delete at numbers)
+        (frame_index_of definitions.now frame.now)) }
     ensures same { OnErr result (store.new.catalogue ≡ store.old.catalogue) }
 {
     let Some(at) = definitions.frame_index(frame) else {
@@ -67,9 +75,11 @@ pub fn register<Acc: Ledger, Del: Ledger>(
     store: &mut Store<Acc, Del>,
     view: &str,
 ) -> Result<(), Refusal>
-    ensures made { OnOk result ((plan : CheckedParts) × (plan_named definitions.now view.now ≡ Some plan)
+    ensures made { OnOk result
+        ((plan : CheckedParts) × (plan_named definitions.now view.now ≡ Some plan)
         × IsMade store.old.catalogue store.new.catalogue (Register view.now plan)) }
-    ensures refused { IfErr result (IsRefusalOfRegister store.old.catalogue view.now (plan_named definitions.now view.now)) }
+    ensures refused { IfErr result
+        (IsRefusalOfRegister store.old.catalogue view.now (plan_named definitions.now view.now)) }
     ensures same { OnErr result (store.new.catalogue ≡ store.old.catalogue) }
 {
     let Some(plan) = definitions.plan(view) else {
@@ -86,7 +96,8 @@ pub fn drop_view<Acc: Ledger, Del: Ledger>(
     store: &mut Store<Acc, Del>,
     view: &str,
 ) -> Result<(), Refusal>
-    ensures made { OnOk result (IsMade store.old.catalogue store.new.catalogue (DropView view.now)) }
+    ensures made { OnOk result
+        (IsMade store.old.catalogue store.new.catalogue (DropView view.now)) }
     ensures refused { IfErr result (IsRefusalOfChange store.old.catalogue (DropView view.now)) }
     ensures same { OnErr result (store.new.catalogue ≡ store.old.catalogue) }
 {

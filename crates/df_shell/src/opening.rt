@@ -1,4 +1,5 @@
-//! The opening of a store: a catalogue of a document's frames with their first rows and all its views.
+//! The opening of a store: a catalogue of a document's frames with their first rows and all its
+//! views.
 ghost use Rattle.std.specs.Prelude.{◌≡◌, IfOk, OnOk, flat_map, map};
 ghost use Rattle.std.specs.List.{enumerate_from, zip};
 ghost use Rattle.df_shell.specs.Opening.{AreMade, empty_state, frame_appends, opening_changes, piece_appends, registration};
@@ -24,7 +25,9 @@ pub fn open_store<Acc: Ledger, Del: Ledger>(
     requires accepted_parts { (accepted.parts ≡ Acc.parts) × (accepted.parts ≡ 524288) }
     requires deleted_name { deleted.name ≡ Del.name }
     requires deleted_parts { (deleted.parts ≡ Del.parts) × (deleted.parts ≡ 524288) }
-    ensures { IfOk result (λ store. AreMade (empty_state definitions.now) store.catalogue (opening_changes definitions.now pieces)) }
+    ensures { IfOk result
+        (λ store. AreMade (empty_state definitions.now) store.catalogue
+        (opening_changes definitions.now pieces)) }
 {
     let schemas = copy_schemas(alloc, definitions.document.frames.as_slice())?;
     let (catalogue, desks) = Catalogue::new(alloc, accepted, deleted, schemas)?;
@@ -49,7 +52,9 @@ fn enter_frames<Acc: Ledger, Del: Ledger>(
     store: &mut Store<Acc, Del>,
     pieces: List<List<Piece>>,
 ) -> Result<(), ShellFault>
-    ensures { OnOk result (AreMade store.old.catalogue store.new.catalogue (flat_map frame_appends (enumerate_from 0 pieces))) }
+    ensures { OnOk result
+        (AreMade store.old.catalogue store.new.catalogue
+        (flat_map frame_appends (enumerate_from 0 pieces))) }
 {
     for (frame, of_frame) in pieces.into_vec().into_iter().enumerate() {
         enter_pieces(alloc, store, frame, of_frame)?;
@@ -64,7 +69,8 @@ fn enter_pieces<Acc: Ledger, Del: Ledger>(
     frame: usize,
     pieces: List<Piece>,
 ) -> Result<(), ShellFault>
-    ensures { OnOk result (AreMade store.old.catalogue store.new.catalogue (flat_map (piece_appends frame) pieces)) }
+    ensures { OnOk result
+        (AreMade store.old.catalogue store.new.catalogue (flat_map (piece_appends frame) pieces)) }
 {
     for made in pieces.into_vec() {
         enter(alloc, store, frame, made)?;
@@ -78,7 +84,8 @@ fn enter<Acc: Ledger, Del: Ledger>(
     frame: usize,
     made: Piece,
 ) -> Result<(), ShellFault>
-    ensures { OnOk result (AreMade store.old.catalogue store.new.catalogue (piece_appends frame made)) }
+    ensures { OnOk result
+        (AreMade store.old.catalogue store.new.catalogue (piece_appends frame made)) }
 {
     match made {
         Piece::Good(chunk) => Ok(store.make(alloc, Change::Append(frame, chunk))?),

@@ -18,7 +18,8 @@ pub fn show<Acc: Ledger, Del: Ledger>(
     catalogue: &Catalogue<Acc, Del>,
     view: &str,
 ) -> Result<Vec<u8>, Refusal>
-    ensures { IsTold (option_map (view_text view.now) (view_named view.now catalogue.now.views)) CatalogueFault.NoView result }
+    ensures { IsTold (option_map (view_text view.now)
+        (view_named view.now catalogue.now.views)) CatalogueFault.NoView result }
 {
     let Some(schema) = catalogue.view_schema(view) else {
         return Err(Refusal::Store(CatalogueFault::NoView));
@@ -35,7 +36,8 @@ pub fn rows<Acc: Ledger, Del: Ledger>(
     catalogue: &Catalogue<Acc, Del>,
     frame: &str,
 ) -> Result<Vec<u8>, Refusal>
-    ensures { IsTold (frame_text rows_text definitions.now catalogue.now (frame_index_of definitions.now frame.now)) CatalogueFault.NoFrame result }
+    ensures { IsTold (frame_text rows_text definitions.now catalogue.now
+        (frame_index_of definitions.now frame.now)) CatalogueFault.NoFrame result }
 {
     let Some(at) = definitions.frame_index(frame) else {
         return Err(Refusal::Store(CatalogueFault::NoFrame));
@@ -67,7 +69,8 @@ pub fn books<Acc: Ledger, Del: Ledger>(
     catalogue: &Catalogue<Acc, Del>,
     frame: &str,
 ) -> Result<Vec<u8>, Refusal>
-    ensures { IsTold (frame_text (λ spec. books_text) definitions.now catalogue.now (frame_index_of definitions.now frame.now)) CatalogueFault.NoFrame result }
+    ensures { IsTold (frame_text (λ spec. books_text) definitions.now catalogue.now
+        (frame_index_of definitions.now frame.now)) CatalogueFault.NoFrame result }
 {
     let Some(at) = definitions.frame_index(frame) else {
         return Err(Refusal::Store(CatalogueFault::NoFrame));

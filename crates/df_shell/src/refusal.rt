@@ -20,7 +20,8 @@ pub enum Refusal {
     /// The lines of an append are no records.
     #[error("{0}")]
     Csv(CsvFault),
-    /// The first bad cell of an append: the number of its record, from 1, and the name of its column.
+    /// The first bad cell of an append: the number of its record, from 1, and the name of its
+    /// column.
     #[error("record {0}, column {1:?}")]
     Cell(u64, Text),
     /// The rows of an append are no chunk.

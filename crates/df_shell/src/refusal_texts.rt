@@ -10,8 +10,8 @@ use df_text::escape;
 use df_value::{ChunkFault, Text};
 use std::alloc::{AllocError, Global};
 
-/// The text of a refusal, as the shell answers it: the code and what it is about; or `?` and what is
-/// wrong with the line. Names are escaped as in a printed table.
+/// The text of a refusal, as the shell answers it: the code and what it is about; or `?` and what
+/// is wrong with the line. Names are escaped as in a printed table.
 pub fn refusal_text(alloc: Global, refusal: &Refusal) -> Result<String, AllocError>
     ensures { IfOk result (λ text. string_bytes text ≡ text_of refusal.now) }
 {

@@ -5,18 +5,21 @@ ghost use Rattle.df_csv.specs.Records.{IsRecords};
 
 use crate::refusal::Refusal;
 use df_text::{CsvFault, Records, count_pieces, parse_records, type_piece};
-use df_value::{BadCell, CellType, Chunk, ChunkFault, Duplicate, List, Piece, Row, Schema, Text};
+use df_value::{
+    BadCell, CellType, Chunk, ChunkFault, Duplicate, List, MOST_ROWS_OF_CHUNK, Piece, Row, Schema,
+    Text,
+};
 use std::alloc::{AllocError, Global};
 
 /// The most records that are typed at once.
-const RECORDS_OF_PIECE: usize = 65_536;
+const RECORDS_OF_PIECE: usize = MOST_ROWS_OF_CHUNK;
 
 /// The chunk that lines of CSV make, whose cells stand in the schema's order; its first number is
 /// `first`.
 ///
 /// Refused are, in this order: lines that are no text (F3), a record of another length than the
-/// schema's (F4, by its number from 1), the first bad cell, more than 65,536 records (S5), a row number of 2^32 or
-/// more (S6). Memory may be refused at any time.
+/// schema's (F4, by its number from 1), the first bad cell, more than 65,536 records (S5), a row
+/// number of 2^32 or more (S6). Memory may be refused at any time.
 pub fn read_chunk(
     alloc: Global,
     schema: &Schema,

@@ -23,11 +23,12 @@ const RECORDS_OF_CHUNK: usize = 1000;
 /// The parts of each ledger.
 const PARTS: u64 = 524_288;
 
-/// Opens a document and answers the commands of `input`, each before the next one is read, to its end.
+/// Opens a document and answers the commands of `input`, each before the next one is read, to its
+/// end.
 ///
-/// Of the document the frames enter with their first rows, in chunks of 1,000 records, and a line is
-/// written for each chunk that is refused; then all views are registered. Where memory is refused to a
-/// command, its answer is `memory`, the store is as before it, and the shell goes on.
+/// Of the document the frames enter with their first rows, in chunks of 1,000 records, and a line
+/// is written for each chunk that is refused; then all views are registered. Where memory is
+/// refused to a command, its answer is `memory`, the store is as before it, and the shell goes on.
 pub fn run_shell<V: Read, F: Files, I: BufRead, W: Write>(
     alloc: Global,
     document: &mut V,

@@ -15,11 +15,13 @@ use std::sync::ledger::Ledger;
 pub struct Store<Acc: Ledger, Del: Ledger> {
     pub catalogue: Catalogue<Acc, Del>,
     pub desks: Vec<Desk<Acc, Del>>,
-    ghost in_order: { map (λ d. d.frame) desks.items ≡ range_with_len 0 (length catalogue.schemas) },
+    ghost in_order: { map (λ d. d.frame) desks.items
+        ≡ range_with_len 0 (length catalogue.schemas) },
 }
 
 impl<Acc: Ledger, Del: Ledger> Store<Acc, Del> {
-    /// Tells that the state of the catalogue is legal: each view's table is its plan's value over the frames.
+    /// Tells that the state of the catalogue is legal: each view's table is its plan's value over
+    /// the frames.
     pub fn tell_legal(&self)
         ensures { IsLegal self.now.catalogue }
     {

@@ -8,7 +8,8 @@ use crate::refusal::{Mistake, Refusal};
 use csv::{ErrorKind, ReaderBuilder, StringRecord, Terminator};
 use std::alloc::Global;
 
-/// The words of a line without its end: the fields of a CSV record that has blanks in the place of commas.
+/// The words of a line without its end: the fields of a CSV record that has blanks in the place of
+/// commas.
 pub fn read_words(alloc: Global, line: &[u8]) -> Result<StringRecord, Refusal>
     ensures { IfOk result (λ words. fields_of words ≡ words_in line.now) }
 {
@@ -24,15 +25,17 @@ pub fn read_words(alloc: Global, line: &[u8]) -> Result<StringRecord, Refusal>
         Ok(false) => Ok(StringRecord::new(alloc)),
         Err(error) => match error.kind() {
             ErrorKind::Utf8 { .. } => Err(Refusal::Mistake(Mistake::NotText)),
-            // A slice is read without a fault, and records may differ in length: memory was refused.
+            // A slice is read without a fault, and records may differ in length: memory was
+            // refused.
             _ => Err(Refusal::Memory),
         },
     }
 }
 
-/// How many lines of CSV stand behind a line: COUNT, where its first word is `append` and its fourth is a COUNT.
-/// Words that were not read are read once more for this alone, so that where memory was refused the lines can be
-/// passed over. Where they still are not, the bytes behind the last blank are taken for COUNT.
+/// How many lines of CSV stand behind a line: COUNT, where its first word is `append` and its
+/// fourth is a COUNT. Words that were not read are read once more for this alone, so that where
+/// memory was refused the lines can be passed over. Where they still are not, the bytes behind the
+/// last blank are taken for COUNT.
 pub fn count_lines(alloc: Global, words: &Result<StringRecord, Refusal>, line: &[u8]) -> u64 {
     match words {
         Ok(words) => count_in(words),

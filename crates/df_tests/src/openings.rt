@@ -28,7 +28,8 @@ pub fn opened<Acc: Ledger, Del: Ledger>(
     requires accepted_parts { (accepted.parts ≡ Acc.parts) × (accepted.parts ≡ 524288) }
     requires deleted_name { deleted.name ≡ Del.name }
     requires deleted_parts { (deleted.parts ≡ Del.parts) × (deleted.parts ≡ 524288) }
-    ensures { IfOk result (λ made. map (λ d. d.frame) made.1.items ≡ range_with_len 0 (length made.0.schemas)) }
+    ensures { IfOk result
+        (λ made. map (λ d. d.frame) made.1.items ≡ range_with_len 0 (length made.0.schemas)) }
 {
     Catalogue::new(alloc, accepted, deleted, schemas(alloc, kinds)?)
 }

@@ -12,7 +12,8 @@ struct HeldFiles<'a>(&'a [(&'a str, &'a [u8])]);
 impl<'a> Files for HeldFiles<'a> {
     type Reader = &'a [u8];
 
-    ghost bytes_at = { λ s path. option_map (λ f. f.1.now) (find (λ f. bytes_eq f.0.now path) s.0.now) };
+    ghost bytes_at = { λ s path. option_map (λ f. f.1.now)
+        (find (λ f. bytes_eq f.0.now path) s.0.now) };
 
     fn open(&mut self, path: &str) -> Option<&'a [u8]> {
         let file = self.0.iter().find(|file| file.0 == path)?;

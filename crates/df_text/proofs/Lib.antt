@@ -2,6 +2,7 @@ pub mod Depths
 pub mod FormFacts
 pub mod ReadFacts
 pub mod ReadSteps
+pub mod NewNames
 pub mod Sound
 pub mod StepFacts
 pub mod TreeFacts

@@ -10,17 +10,17 @@ use Rattle.std.specs.Cmp.Lexicographic.{slice_cmp}
 use Rattle.std.specs.Ordering.{match_ordering}
 use Rattle.std.specs.Str.{bytes_eq}
 use Rattle.toml.specs.Data.{Data, string, integer, float, boolean, datetime, array, table, Items, no_items, item, Members, no_members, member}
-use Rattle.df_value.specs.Schemas.{is_base, is_base_type}
+use Rattle.df_value.specs.Schemas.{is_base, is_base_dtype}
 use Rattle.df_value.specs.declared.cell.CellType.{CellType}
 use Rattle.df_value.specs.declared.cell.CellType.TheVariants as dtype
 use Rattle.df_value.specs.declared.schema.SchemaFault.{SchemaFault}
 use Rattle.df_value.specs.SchemaFaults.{schema_fault}
-use Rattle.df_ops.specs.declared.kinds.How.{How}
+use Rattle.df_ops.specs.declared.joins.How.{How}
 use Rattle.df_plan.specs.declared.plan.Plan.{Plan, Scan, Filter, Select, WithColumns, GroupBy, Join, Rolling, CumSum, Rank, the_lemmas}
-use Rattle.df_ops.specs.declared.kinds.RankKind.{RankKind}
-use Rattle.df_ops.specs.declared.kinds.RollKind.{RollKind}
+use Rattle.df_ops.specs.declared.ranks.RankKind.{RankKind}
+use Rattle.df_ops.specs.declared.windows.RollKind.{RollKind}
 use Rattle.df_expr.specs.declared.expr.Expr.{Expr}
-use Rattle.df_ops.specs.declared.kinds.Agg.{Agg}
+use Rattle.df_ops.specs.declared.agg.Agg.{Agg}
 use Rattle.df_text.specs.declared.document.FrameSpec.{FrameSpec}
 use Rattle.df_text.specs.declared.document.ViewSpec.{ViewSpec}
 use Rattle.df_text.specs.declared.document.Location.{Location}
@@ -30,8 +30,10 @@ use Rattle.df_text.specs.declared.view_steps.StepWord.TheVariants as step_word
 use Rattle.df_text.specs.declared.fault.ViewsFault.{ViewsFault}
 use Rattle.df_text.specs.declared.fault.ViewsFault.TheVariants as fault
 use Rattle.df_text.specs.Reading.{read_each}
-use Rattle.df_text.specs.Tree.{keys_pass, text_in, array_in, table_value, first_in, only_in, pair_in, list_of, tree_of}
-use Rattle.df_text.specs.Frames.{schema_column_of, type_of_word, entries_of_frame, unless_fault, schema_of, new_name, frame_of, frames_of}
+use Rattle.df_text.proofs.NewNames.{distinct_give, frame_new, view_new}
+use Rattle.df_value.specs.Names.{AreDistinct}
+use Rattle.df_text.specs.Tree.{has_only_keys, text_in, array_in, table_value, first_in, only_in, pair_in, list_of, tree_of}
+use Rattle.df_text.specs.Frames.{schema_column_of, dtype_of_word, entries_of_frame, unless_fault, schema_of, new_name, frame_of, frames_of}
 use Rattle.df_text.specs.Expressions.{expr_of}
 use Rattle.df_text.specs.RowWiseSteps.{item_of}
 use Rattle.df_text.specs.AggregateItems.{aggregate_item_of}
@@ -39,21 +41,21 @@ use Rattle.df_text.specs.WindowSteps.{names_in, rank_parts, rolling_of, window_p
 use Rattle.df_text.specs.Sources.{found_frame, frame_named, only_source_at}
 use Rattle.df_text.specs.Steps.{step_of_word, kind_and_keys, steps_after, step_of, applied_step, side_of, steps_at, all_steps}
 use Rattle.df_text.specs.Scans.{scans_below}
-use Rattle.df_text.specs.Document.{IsDocument, is_top_key, at_most, document_of, entries_of_view, new_view_name, tables_at, top_tables_of, view_of, view_specs_of}
+use Rattle.df_text.specs.Document.{IsDocument, at_most, document_of, entries_of_view, new_view_name, tables_at, top_tables_of, view_of, view_specs_of}
 use Rattle.df_text.proofs.ReadFacts.{then_gives, if_gives, given, all_give, each_give, length_gives}
 
 -- the three words name base types
-word_of : (a b c : Bool) (at : Location) (t : CellType) → cond a (Ok dtype.Int) (cond b (Ok dtype.Text) (cond c (Ok dtype.Bool) (Err (fault.Word at)))) ≡ Ok t → is_base_type t ≡ true
+word_of : (a b c : Bool) (at : Location) (t : CellType) → cond a (Ok dtype.Int) (cond b (Ok dtype.Text) (cond c (Ok dtype.Bool) (Err (fault.Word at)))) ≡ Ok t → is_base_dtype t ≡ true
 word_of true b c at t e = let same : dtype.Int ≡ t = cc in rw (← same) refl
 word_of false true c at t e = let same : dtype.Text ≡ t = cc in rw (← same) refl
 word_of false false true at t e = let same : dtype.Bool ≡ t = cc in rw (← same) refl
 word_of false false false at t e = absurd (cc)
 
-column_base : (at : Location) (d : Data) → IfOk (schema_column_of at d) (λ (c : List ℕ × CellType). is_base_type c.1 ≡ true)
+column_base : (at : Location) (d : Data) → IfOk (schema_column_of at d) (λ (c : List ℕ × CellType). is_base_dtype c.1 ≡ true)
 column_base at d =
     then_gives _ (array_in at d) _ (λ ds _. then_gives _ (pair_in at ds) _ (λ p _.
     then_gives _ (text_in at p.0) _ (λ name _. then_gives _ (text_in at p.1) _ (λ word _.
-    then_gives _ (type_of_word at word) _ (λ t is. word_of _ _ _ at t is)))))
+    then_gives _ (dtype_of_word at word) _ (λ t is. word_of _ _ _ at t is)))))
 
 kept_columns : (index : ℕ) (columns schema : List (List ℕ × CellType)) (o : Option SchemaFault) → unless_fault index columns o ≡ Ok schema → columns ≡ schema
 kept_columns index columns schema (Some f) e = absurd (cc)
@@ -66,7 +68,7 @@ frame_base before d =
     then_gives _ (read_each (schema_column_of at) entries.columns) _ (λ columns are.
     then_gives _ (schema_of (length before) columns) _ (λ schema same.
     then_gives _ (new_name at entries.name before) _ (λ name _.
-    let passes : List ℕ × CellType → Bool = λ c. is_base_type c.1 in
+    let passes : List ℕ × CellType → Bool = λ c. is_base_dtype c.1 in
     let each = each_give (λ (c : List ℕ × CellType). passes c ≡ true) (schema_column_of at) (column_base at) entries.columns in
     let all = given (λ cs. All (λ (c : List ℕ × CellType). passes c ≡ true) cs) (read_each (schema_column_of at) entries.columns) columns each are in
     rw (← kept_columns (length before) columns schema (schema_fault columns) same) (list_all-from_AllPass passes columns all))))))
@@ -214,7 +216,7 @@ few n many ds = few_by_test (nat_lt n (length ds)) n many ds refl
 
 few_tables : (ms : Members) → IfOk (top_tables_of ms) (λ t. (length t.frames ≤ 8) × (length t.views ≤ 32))
 few_tables ms =
-    if_gives _ (keys_pass is_top_key ms) _ (fault.Shape location.Top)
+    if_gives _ (has_only_keys (codes "frame" ∷ codes "view" ∷ []) ms) _ (fault.Shape location.Top)
     (then_gives _ (tables_at (codes "frame") ms) _ (λ frames _. then_gives _ (tables_at (codes "view") ms) _ (λ views _.
     then_gives _ (at_most 8 fault.TooManyFrames frames) _ (λ some is. then_gives _ (at_most 32 fault.TooManyViews views) _ (λ others are. (
       given (λ ds. length ds ≤ 8) (at_most 8 fault.TooManyFrames frames) some (few 8 fault.TooManyFrames frames) is,
@@ -231,6 +233,10 @@ document_sound bytes =
     record {
       few_frames = omega (arith, most.0);
       few_views = omega (arith, most.1);
+      frame_names = given (λ xs. AreDistinct (λ (f : FrameSpec). f.name) [] xs) (frames_of tables.frames) frames
+          (distinct_give (λ (f : FrameSpec). f.name) frame_of frame_new [] tables.frames refl) fs;
+      view_names = given (λ xs. AreDistinct (λ (w : ViewSpec). w.name) [] xs) (view_specs_of frames tables.views) views
+          (distinct_give (λ (w : ViewSpec). w.name) (view_of frames) (view_new frames) [] tables.views refl) vs;
       base = given (λ xs. All (λ (f : FrameSpec). is_base f.schema ≡ true) xs) (frames_of tables.frames) frames
           (all_give (λ (f : FrameSpec). is_base f.schema ≡ true) frame_of frame_base [] tables.frames (All-nil _)) fs;
       scans = given (λ xs. All (λ (w : ViewSpec). scans_below (length frames) w.plan ≡ true) xs) (view_specs_of frames tables.views) views

@@ -3,8 +3,8 @@
 use Rattle.std.specs.Prelude.{ℕ, List, codes, Result, Ok, Err, if◌then◌else◌}
 use Rattle.std.specs.Str.{bytes_eq}
 use Rattle.toml.specs.Data.{Data}
-use Rattle.df_ops.specs.declared.kinds.Agg.{Agg}
-use Rattle.df_ops.specs.declared.kinds.Agg.TheVariants as agg
+use Rattle.df_ops.specs.declared.agg.Agg.{Agg}
+use Rattle.df_ops.specs.declared.agg.Agg.TheVariants as agg
 use Rattle.df_text.specs.declared.aggregates.AggWord.{AggWord}
 use Rattle.df_text.specs.declared.aggregates.AggWord.TheVariants as agg_word
 use Rattle.df_text.specs.declared.aggregates.ColumnWord.{ColumnWord}

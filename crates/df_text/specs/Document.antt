@@ -1,8 +1,9 @@
 -- A view document: TOML (1.1) that names frames and views, or the first fault in the order that is stated here.
-use Rattle.std.specs.Prelude.{◌≡◌, ◌≤◌, ◌||◌, ℕ, Bool, true, false, List, [], length, nat_lt, codes, Result, Ok, Err, if◌then◌else◌}
-use Rattle.std.specs.List.{All, list_any, list_all}
-use Rattle.std.specs.Str.{bytes_eq}
+use Rattle.std.specs.Prelude.{◌≡◌, ◌≤◌, ℕ, Bool, true, false, List, [], ◌∷◌, length, nat_lt, codes, Result, Ok, Err, if◌then◌else◌}
+use Rattle.std.specs.List.{All, list_all}
 use Rattle.toml.specs.Data.{Data, table, Members, get_member}
+use Rattle.df_value.specs.Limits.{most_frames, most_views}
+use Rattle.df_value.specs.Names.{AreDistinct, has_name}
 use Rattle.df_value.specs.Schemas.{is_base}
 use Rattle.df_plan.specs.declared.plan.Plan.TheVariants as plan
 use Rattle.df_text.specs.declared.document.FrameSpec.{FrameSpec}
@@ -14,14 +15,11 @@ use Rattle.df_text.specs.declared.fault.ViewsFault.{ViewsFault}
 use Rattle.df_text.specs.declared.fault.ViewsFault.TheVariants as fault
 use Rattle.df_value.specs.Outcomes.{then_next}
 use Rattle.df_text.specs.Reading.{read_after}
-use Rattle.df_text.specs.Tree.{tree_of, keys_pass, value_at, text_in, table_value}
+use Rattle.df_text.specs.Tree.{tree_of, has_only_keys, value_at, text_in, table_value}
 use Rattle.df_text.specs.Frames.{frames_of}
 use Rattle.df_text.specs.Sources.{array_or_none, source_at, frame_named}
 use Rattle.df_text.specs.Steps.{steps_at}
 use Rattle.df_text.specs.Scans.{scans_below}
-
-abbrev pub is_view_key : List ℕ → Bool
-is_view_key k = bytes_eq k (codes "name") || (bytes_eq k (codes "from") || bytes_eq k (codes "steps"))
 
 -- what stands at the keys of a view
 pub record ViewEntries : Type 0 where
@@ -31,14 +29,14 @@ pub record ViewEntries : Type 0 where
 -- its name, what a table has that begins with a frame, and no other key (a fault in any of these is the same one)
 abbrev pub entries_of_view : Location → Members → Result ViewEntries ViewsFault
 entries_of_view at ms =
-    if keys_pass is_view_key ms then
+    if has_only_keys (codes "name" ∷ codes "from" ∷ codes "steps" ∷ []) ms then
     then_next (value_at at (codes "name") ms) (λ n. then_next (text_in at n) (λ name.
     then_next (source_at at ms) (λ source. Ok (record { name = name; source = source }))))
     else Err (fault.Shape at)
 
 -- a name that none of these views has
 abbrev pub new_view_name : Location → List ℕ → List ViewSpec → Result (List ℕ) ViewsFault
-new_view_name at name views = if list_any (λ (v : ViewSpec). bytes_eq v.name name) views then Err (fault.Doubled at) else Ok name
+new_view_name at name views = if has_name (λ (v : ViewSpec). v.name) name views then Err (fault.Doubled at) else Ok name
 
 -- a view over these frames, after the views that stand before it
 abbrev pub view_of : List FrameSpec → List ViewSpec → Data → Result ViewSpec ViewsFault
@@ -52,9 +50,6 @@ view_of frames before d =
 
 abbrev pub view_specs_of : List FrameSpec → List Data → Result (List ViewSpec) ViewsFault
 view_specs_of frames ds = read_after (view_of frames) [] ds
-
-abbrev pub is_top_key : List ℕ → Bool
-is_top_key k = bytes_eq k (codes "frame") || bytes_eq k (codes "view")
 
 abbrev pub is_table : Data → Bool
 is_table (table ms) = true
@@ -77,9 +72,9 @@ pub record Tables : Type 0 where
 
 abbrev pub top_tables_of : Members → Result Tables ViewsFault
 top_tables_of ms =
-    if keys_pass is_top_key ms then
+    if has_only_keys (codes "frame" ∷ codes "view" ∷ []) ms then
     then_next (tables_at (codes "frame") ms) (λ frames. then_next (tables_at (codes "view") ms) (λ views.
-    then_next (at_most 8 fault.TooManyFrames frames) (λ few. then_next (at_most 32 fault.TooManyViews views) (λ some.
+    then_next (at_most most_frames fault.TooManyFrames frames) (λ few. then_next (at_most most_views fault.TooManyViews views) (λ some.
     Ok (record { frames = few; views = some })))))
     else Err (fault.Shape location.Top)
 
@@ -90,10 +85,12 @@ document_of bytes =
     then_next (frames_of tables.frames) (λ frames. then_next (view_specs_of frames tables.views) (λ views.
     Ok (record { frames = frames; views = views })))))
 
--- among what every document that is read keeps to: few frames and views, columns of base types, and plans that
--- read no frame but the document's
+-- among what every document that is read keeps to: few frames and views, no two frames and no two views of one name,
+-- columns of base types, and plans that read no frame but the document's
 pub record IsDocument (v : Views) : Type 0 where
-  pub few_frames : length v.frames ≤ 8
-  pub few_views : length v.views ≤ 32
+  pub few_frames : length v.frames ≤ most_frames
+  pub few_views : length v.views ≤ most_views
+  pub frame_names : AreDistinct (λ (f : FrameSpec). f.name) [] v.frames
+  pub view_names : AreDistinct (λ (w : ViewSpec). w.name) [] v.views
   pub base : All (λ (f : FrameSpec). is_base f.schema ≡ true) v.frames
   pub scans : All (λ (w : ViewSpec). scans_below (length v.frames) w.plan ≡ true) v.views

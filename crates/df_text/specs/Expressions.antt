@@ -20,7 +20,7 @@ use Rattle.df_text.specs.declared.fault.ViewsFault.{ViewsFault}
 use Rattle.df_text.specs.declared.fault.ViewsFault.TheVariants as fault
 use Rattle.df_value.specs.Outcomes.{then_next}
 use Rattle.df_text.specs.Tree.{text_in}
-use Rattle.df_text.specs.Frames.{type_of_word}
+use Rattle.df_text.specs.Frames.{dtype_of_word}
 
 -- the form that a word names
 abbrev pub form_of_word : Location → List ℕ → Result ExprWord ViewsFault
@@ -74,7 +74,7 @@ column_expr_of at name = then_next (text_in at name) (λ n. Ok (expr.Column n))
 
 -- the null literal of the type that a word names
 abbrev pub null_of : Location → Data → Result Expr ViewsFault
-null_of at word = then_next (text_in at word) (λ w. then_next (type_of_word at w) (λ t. Ok (expr.Literal cell.Null t)))
+null_of at word = then_next (text_in at word) (λ w. then_next (dtype_of_word at w) (λ t. Ok (expr.Literal cell.Null t)))
 
 -- what the first item of an array names
 abbrev pub word_of : Location → Items → Result ExprWord ViewsFault

@@ -1,12 +1,12 @@
 -- The frames of a view document: each has the keys `name`, a text, and `columns`, an array of columns, each an array of
 -- a name and the word of a type, and exactly one of `path` (of a file) and `text` (the CSV itself), both texts.
-use Rattle.std.specs.Prelude.{◌||◌, ℕ, Bool, List, [], length, codes, Option, Some, None, Result, Ok, Err, if◌then◌else◌}
-use Rattle.std.specs.List.{list_any}
+use Rattle.std.specs.Prelude.{ℕ, List, [], ◌∷◌, length, codes, Option, Some, None, Result, Ok, Err, if◌then◌else◌}
 use Rattle.std.specs.Str.{bytes_eq}
 use Rattle.toml.specs.Data.{Data, Members, get_member}
 use Rattle.df_value.specs.declared.cell.CellType.{CellType}
 use Rattle.df_value.specs.declared.cell.CellType.TheVariants as dtype
 use Rattle.df_value.specs.declared.schema.SchemaFault.{SchemaFault}
+use Rattle.df_value.specs.Names.{has_name}
 use Rattle.df_value.specs.SchemaFaults.{schema_fault}
 use Rattle.df_text.specs.declared.document.FrameSpec.{FrameSpec}
 use Rattle.df_text.specs.declared.document.FrameSource.{FrameSource}
@@ -17,11 +17,7 @@ use Rattle.df_text.specs.declared.fault.ViewsFault.{ViewsFault}
 use Rattle.df_text.specs.declared.fault.ViewsFault.TheVariants as fault
 use Rattle.df_value.specs.Outcomes.{then_next}
 use Rattle.df_text.specs.Reading.{read_after, read_each}
-use Rattle.df_text.specs.Tree.{keys_pass, value_at, text_in, array_in, table_value, pair_in}
-
-abbrev pub is_frame_key : List ℕ → Bool
-is_frame_key k =
-    bytes_eq k (codes "name") || (bytes_eq k (codes "columns") || (bytes_eq k (codes "path") || bytes_eq k (codes "text")))
+use Rattle.df_text.specs.Tree.{has_only_keys, value_at, text_in, array_in, table_value, pair_in}
 
 -- where the records come from, by what stands at `path` and at `text`: one of them is there, and is a text
 abbrev pub one_source : Location → Option Data → Option Data → Result FrameSource ViewsFault
@@ -42,15 +38,15 @@ pub record FrameEntries : Type 0 where
 -- the keys of a frame and no other, each with a value of its kind (a fault in any of these is the same one)
 abbrev pub entries_of_frame : Location → Members → Result FrameEntries ViewsFault
 entries_of_frame at ms =
-    if keys_pass is_frame_key ms then
+    if has_only_keys (codes "name" ∷ codes "columns" ∷ codes "path" ∷ codes "text" ∷ []) ms then
     then_next (value_at at (codes "name") ms) (λ n. then_next (text_in at n) (λ name.
     then_next (value_at at (codes "columns") ms) (λ c. then_next (array_in at c) (λ columns.
     then_next (source_of at ms) (λ source. Ok (record { name = name; columns = columns; source = source }))))))
     else Err (fault.Shape at)
 
 -- the type that a word names
-abbrev pub type_of_word : Location → List ℕ → Result CellType ViewsFault
-type_of_word at w =
+abbrev pub dtype_of_word : Location → List ℕ → Result CellType ViewsFault
+dtype_of_word at w =
     if bytes_eq w (codes "Int") then Ok dtype.Int
     else if bytes_eq w (codes "Text") then Ok dtype.Text
     else if bytes_eq w (codes "Bool") then Ok dtype.Bool
@@ -61,7 +57,7 @@ abbrev pub schema_column_of : Location → Data → Result (List ℕ × CellType
 schema_column_of at d =
     then_next (array_in at d) (λ ds. then_next (pair_in at ds) (λ p.
     then_next (text_in at p.0) (λ name. then_next (text_in at p.1) (λ word.
-    then_next (type_of_word at word) (λ t. Ok (name, t))))))
+    then_next (dtype_of_word at word) (λ t. Ok (name, t))))))
 
 abbrev pub unless_fault : ℕ → List (List ℕ × CellType) → Option SchemaFault → Result (List (List ℕ × CellType)) ViewsFault
 unless_fault index columns (Some f) = Err (fault.Schema index f)
@@ -73,7 +69,7 @@ schema_of index columns = unless_fault index columns (schema_fault columns)
 
 -- a name that none of these frames has
 abbrev pub new_name : Location → List ℕ → List FrameSpec → Result (List ℕ) ViewsFault
-new_name at name frames = if list_any (λ (f : FrameSpec). bytes_eq f.name name) frames then Err (fault.Doubled at) else Ok name
+new_name at name frames = if has_name (λ (f : FrameSpec). f.name) name frames then Err (fault.Doubled at) else Ok name
 
 -- a frame after those that stand before it
 abbrev pub frame_of : List FrameSpec → Data → Result FrameSpec ViewsFault

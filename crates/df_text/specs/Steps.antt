@@ -5,11 +5,11 @@ use Rattle.std.specs.Ordering.{nat_cmp, match_ordering}
 use Rattle.std.specs.Cmp.Lexicographic.{slice_cmp}
 use Rattle.std.specs.Str.{bytes_eq}
 use Rattle.toml.specs.Data.{Data, string, array, table, Items, no_items, item, Members, no_members, member}
-use Rattle.df_ops.specs.declared.kinds.How.{How}
-use Rattle.df_ops.specs.declared.kinds.How.TheVariants as how
+use Rattle.df_ops.specs.declared.joins.How.{How}
+use Rattle.df_ops.specs.declared.joins.How.TheVariants as how
 use Rattle.df_plan.specs.declared.plan.Plan.{Plan}
 use Rattle.df_plan.specs.declared.plan.Plan.TheVariants as plan
-use Rattle.df_ops.specs.declared.kinds.RollKind.TheVariants as roll
+use Rattle.df_ops.specs.declared.windows.RollKind.TheVariants as roll
 use Rattle.df_text.specs.declared.view_steps.StepWord.{StepWord}
 use Rattle.df_text.specs.declared.view_steps.StepWord.TheVariants as step_word
 use Rattle.df_text.specs.declared.document.FrameSpec.{FrameSpec}

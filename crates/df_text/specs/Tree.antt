@@ -1,6 +1,7 @@
 -- The tree of a TOML document, as the TOML standard (1.1) has it, and what its values are asked for.
 use Rattle.std.specs.Prelude.{◌≡◌, ◌≢◌, ◌&&◌, ℕ, Bool, true, List, [], ◌∷◌, Option, Some, None, Result, Ok, Err, MatchResult, String, if◌then◌else◌}
-use Rattle.std.specs.Str.{is_utf8}
+use Rattle.std.specs.List.{list_any}
+use Rattle.std.specs.Str.{bytes_eq, is_utf8}
 use Rattle.std.specs.BTreeMap.{BTreeMap}
 use Rattle.std.specs.declared.alloc.Global.{Global}
 use Rattle.toml.specs.Parse.{parse_document}
@@ -27,6 +28,10 @@ GivesTable want result = MatchResult result (λ t. want ≡ Ok (table_view t)) (
 unfoldable pub keys_pass : (List ℕ → Bool) → Members → Bool
 keys_pass p no_members = true
 keys_pass p (member k d ms) = p k && keys_pass p ms
+
+-- whether a table has no key but these
+abbrev pub has_only_keys : List (List ℕ) → Members → Bool
+has_only_keys keys ms = keys_pass (λ k. list_any (bytes_eq k) keys) ms
 
 -- what must be there
 abbrev pub required : {A : Type 0} → Location → Option A → Result A ViewsFault

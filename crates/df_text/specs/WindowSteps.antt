@@ -5,9 +5,9 @@ use Rattle.std.specs.Str.{bytes_eq}
 use Rattle.toml.specs.Data.{Data, integer}
 use Rattle.df_plan.specs.declared.plan.Plan.{Plan}
 use Rattle.df_plan.specs.declared.plan.Plan.TheVariants as plan
-use Rattle.df_ops.specs.declared.kinds.RankKind.{RankKind}
-use Rattle.df_ops.specs.declared.kinds.RankKind.TheVariants as rank
-use Rattle.df_ops.specs.declared.kinds.RollKind.{RollKind}
+use Rattle.df_ops.specs.declared.ranks.RankKind.{RankKind}
+use Rattle.df_ops.specs.declared.ranks.RankKind.TheVariants as rank
+use Rattle.df_ops.specs.declared.windows.RollKind.{RollKind}
 use Rattle.df_text.specs.declared.document.Location.{Location}
 use Rattle.df_text.specs.declared.fault.ViewsFault.{ViewsFault}
 use Rattle.df_text.specs.declared.fault.ViewsFault.TheVariants as fault

@@ -40,7 +40,8 @@ pub fn read_aggregates(
     location: Location,
     values: &[Value],
 ) -> Result<List<(Text, Agg)>, ViewsFault>
-    ensures { Answers ViewsFault.Memory (read_each (aggregate_item_of location) (map view values.now)) result }
+    ensures { Answers ViewsFault.Memory
+        (read_each (aggregate_item_of location) (map view values.now)) result }
 {
     let mut aggregates = Vec::new(alloc);
     for value in values {
@@ -90,7 +91,8 @@ fn read_output(
     output: &Value,
     rest: &[Value],
 ) -> Result<(Text, Agg), ViewsFault>
-    ensures { Answers ViewsFault.Memory (output_and_aggregate_of location word (view output.now) (map view rest.now)) result }
+    ensures { Answers ViewsFault.Memory
+        (output_and_aggregate_of location word (view output.now) (map view rest.now)) result }
 {
     match word {
         AggWord::Len => {

@@ -1,6 +1,6 @@
 //! What a view document says.
 use df_plan::Plan;
-use df_value::{List, Schema, Text};
+use df_value::{List, Named, Schema, Text};
 
 /// The frames and views that a document names, each in the document's order.
 #[derive(Debug, Drop)]
@@ -17,6 +17,14 @@ pub struct FrameSpec {
     pub source: FrameSource,
 }
 
+impl Named for FrameSpec {
+    ghost name_of = { λ f. f.name };
+
+    fn name(&self) -> &Text {
+        &self.name
+    }
+}
+
 /// Where the records of a frame come from.
 #[derive(Debug, Drop)]
 pub enum FrameSource {
@@ -31,6 +39,14 @@ pub enum FrameSource {
 pub struct ViewSpec {
     pub name: Text,
     pub plan: Plan,
+}
+
+impl Named for ViewSpec {
+    ghost name_of = { λ v. v.name };
+
+    fn name(&self) -> &Text {
+        &self.name
+    }
 }
 
 /// The part of a document that a fault is in.

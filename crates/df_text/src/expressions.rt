@@ -6,7 +6,7 @@ ghost use Rattle.df_text.specs.Expressions.{form_of_word, unary_expr_of, binary_
 
 use crate::document::Location;
 use crate::fault::ViewsFault;
-use crate::frames::type_named;
+use crate::frames::dtype_of_word;
 use crate::tree::text_in;
 use df_expr::{ArithOp, CompareOp, Expr};
 use df_value::{Boxed, Cell, CellType, Text};
@@ -69,7 +69,8 @@ fn read_form(
     word: ExprWord,
     items: &[Value],
 ) -> Result<Expr, ViewsFault>
-    ensures { Answers ViewsFault.Memory (form_of location word (items_of (map view items.now))) result }
+    ensures { Answers ViewsFault.Memory
+        (form_of location word (items_of (map view items.now))) result }
 {
     match (word, items) {
         (ExprWord::Column, [_word, name]) => read_column(alloc, location, name),
@@ -96,8 +97,8 @@ fn read_unary(
     Ok(unary(op, read_boxed(alloc, location, a)?))
 }
 
-/// A word and its operands, the left one of which is read. The right one stands before it, since by its
-/// depth the recursion ends.
+/// A word and its operands, the left one of which is read. The right one stands before it, since by
+/// its depth the recursion ends.
 #[cycle(expressions)]
 fn read_binary(
     alloc: Global,
@@ -106,7 +107,8 @@ fn read_binary(
     op: BinaryWord,
     a: Boxed<Expr>,
 ) -> Result<Expr, ViewsFault>
-    ensures { Answers ViewsFault.Memory (with_operands op (Ok a) (expr_of location (view b.now))) result }
+    ensures { Answers ViewsFault.Memory
+        (with_operands op (Ok a) (expr_of location (view b.now))) result }
 {
     match read_boxed(alloc, location, b) {
         Ok(b) => Ok(binary(op, a, b)),
@@ -171,7 +173,7 @@ fn read_column(alloc: Global, location: Location, name: &Value) -> Result<Expr, 
 fn read_null(location: Location, word: &Value) -> Result<Expr, ViewsFault>
     ensures { Answers ViewsFault.Memory (null_of location (view word.now)) result }
 {
-    let kind = type_named(location, text_in(location, word)?)?;
+    let kind = dtype_of_word(location, text_in(location, word)?)?;
     Ok(Expr::Literal(Cell::Null, kind))
 }
 

@@ -1,21 +1,17 @@
 //! The frames of a view document.
-ghost use Rattle.std.specs.Prelude.{◌≡◌, ◌≢◌, [], MatchResult, Ok, Err, map, length, string_bytes, codes};
-ghost use Rattle.std.specs.List.{list_any, list_all};
-ghost use Rattle.std.specs.Map.{keys_of};
-ghost use Rattle.std.specs.Str.{bytes_eq};
+ghost use Rattle.std.specs.Prelude.{◌≡◌, ◌≢◌, [], MatchResult, Ok, Err, map, length, codes};
 ghost use Rattle.toml.specs.View.{table_view, view};
 ghost use Rattle.df_value.specs.Outcomes.{Answers};
 ghost use Rattle.df_text.specs.Reading.{read_each};
 ghost use Rattle.df_text.specs.declared.fault.ViewsFault.TheVariants.{Memory};
 ghost use Rattle.df_text.specs.Tree as tree_spec;
-ghost use Rattle.df_text.specs.Tree.{keys_pass};
 ghost use Rattle.df_text.specs.Frames as frames_spec;
-ghost use Rattle.df_text.specs.Frames.{source_of, entries_of_frame, type_of_word, schema_column_of, schema_of, frame_of, frames_of};
+ghost use Rattle.df_text.specs.Frames.{source_of, entries_of_frame, schema_column_of, schema_of, frame_of, frames_of};
 
 use crate::document::{FrameSource, FrameSpec, Location};
 use crate::fault::ViewsFault;
-use crate::tree::{array_in, find, pair_in, table_value, text_in, value_at};
-use df_value::{CellType, List, Schema, Text};
+use crate::tree::{array_in, find, has_only_keys, pair_in, table_value, text_in, value_at};
+use df_value::{CellType, List, Schema, Text, has_name};
 use std::alloc::Global;
 use toml::{Table, Value};
 
@@ -47,7 +43,7 @@ fn read_frame(alloc: Global, before: &[FrameSpec], value: &Value) -> Result<Fram
     let entries = frame_entries(alloc, location, table_value(location, value)?)?;
     let columns = read_columns(alloc, location, entries.columns)?;
     let schema = read_schema(before.len(), columns)?;
-    if has_frame(before, entries.name) {
+    if has_name(before, entries.name) {
         return Err(ViewsFault::Doubled(location));
     }
     let name = Text::from_str(alloc, entries.name)?;
@@ -69,7 +65,7 @@ fn frame_entries(
         ≡ Ok (record { name = e.name.now; columns = map view e.columns.now; source = e.source }))
         (λ f. f ≢ Memory → entries_of_frame location (table_view table.now) ≡ Err f) }
 {
-    if !has_frame_keys(table) {
+    if !has_only_keys(table, &["name", "columns", "path", "text"]) {
         return Err(ViewsFault::Shape(location));
     }
     let name = text_in(location, value_at(location, table, "name")?)?;
@@ -100,32 +96,14 @@ fn copied_text(alloc: Global, location: Location, value: &Value) -> Result<Text,
     Ok(Text::from_str(alloc, text_in(location, value)?)?)
 }
 
-/// Whether a table has no key but those of a frame.
-fn has_frame_keys(table: &Table) -> bool
-    ensures { result ≡ keys_pass frames_spec.is_frame_key (table_view table.now) }
-{
-    all_frame_keys(table)
-}
-
-fn all_frame_keys(table: &Table) -> bool
-    ensures { result ≡ list_all (λ k. frames_spec.is_frame_key (string_bytes k)) (keys_of table.now.entries) }
-{
-    table.keys().all(|k| is_frame_key(k.as_str()))
-}
-
-fn is_frame_key(key: &str) -> bool
-    ensures { result ≡ frames_spec.is_frame_key key.now }
-{
-    key == "name" || key == "columns" || key == "path" || key == "text"
-}
-
 /// The columns of a frame, from left to right.
 fn read_columns(
     alloc: Global,
     location: Location,
     values: &[Value],
 ) -> Result<List<(Text, CellType)>, ViewsFault>
-    ensures { Answers ViewsFault.Memory (read_each (schema_column_of location) (map view values.now)) result }
+    ensures { Answers ViewsFault.Memory
+        (read_each (schema_column_of location) (map view values.now)) result }
 {
     let mut columns = Vec::new(alloc);
     for value in values {
@@ -144,13 +122,13 @@ fn read_column(
 {
     let pair = pair_in(location, array_in(location, value)?)?;
     let name = text_in(location, pair.0)?;
-    let dtype = type_named(location, text_in(location, pair.1)?)?;
+    let dtype = dtype_of_word(location, text_in(location, pair.1)?)?;
     Ok((Text::from_str(alloc, name)?, dtype))
 }
 
 /// The type that a word names.
-pub fn type_named(location: Location, word: &str) -> Result<CellType, ViewsFault>
-    ensures { result ≡ type_of_word location word.now }
+pub fn dtype_of_word(location: Location, word: &str) -> Result<CellType, ViewsFault>
+    ensures { result ≡ frames_spec.dtype_of_word location word.now }
 {
     match word {
         "Int" => Ok(CellType::Int),
@@ -162,17 +140,11 @@ pub fn type_named(location: Location, word: &str) -> Result<CellType, ViewsFault
 
 /// The schema of these columns.
 fn read_schema(index: usize, columns: List<(Text, CellType)>) -> Result<Schema, ViewsFault>
-    ensures { MatchResult result (λ s. schema_of index columns ≡ Ok s) (λ f. schema_of index columns ≡ Err f) }
+    ensures { MatchResult result (λ s. schema_of index columns ≡ Ok s)
+        (λ f. schema_of index columns ≡ Err f) }
 {
     match Schema::new(columns) {
         Ok(schema) => Ok(schema),
         Err(fault) => Err(ViewsFault::Schema(index, fault)),
     }
-}
-
-/// Whether a frame has this name.
-fn has_frame(frames: &[FrameSpec], name: &str) -> bool
-    ensures { result ≡ list_any (λ f. bytes_eq f.name name.now) frames.now }
-{
-    frames.iter().any(|f| f.name.as_str() == name)
 }

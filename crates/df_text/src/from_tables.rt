@@ -1,17 +1,14 @@
 //! Tables that begin with a frame: views, and the right sides of joins.
-ghost use Rattle.std.specs.Prelude.{◌≡◌, [], MatchResult, Ok, Err, map, length, string_bytes, codes, nat_lt, position};
-ghost use Rattle.std.specs.List.{list_all};
-ghost use Rattle.std.specs.Map.{keys_of};
-ghost use Rattle.std.specs.Str.{bytes_eq};
+ghost use Rattle.std.specs.Prelude.{◌≡◌, [], MatchResult, Ok, Err, map, length, string_bytes, codes, nat_lt};
 ghost use Rattle.toml.specs.Data.{get_member};
 ghost use Rattle.toml.specs.View.{table_view, view};
-ghost use Rattle.df_text.specs.Tree.{keys_pass};
 ghost use Rattle.df_text.specs.Sources as sources;
 ghost use Rattle.df_text.specs.Sources.{source_at, only_source_at, frame_named};
 
 use crate::document::{FrameSpec, Location};
 use crate::fault::ViewsFault;
-use crate::tree::{array_in, find, text_in, value_at};
+use crate::tree::{array_in, find, has_only_keys, text_in, value_at};
+use df_value::index_of_name;
 use toml::{Table, Value};
 
 /// The most steps of a table.
@@ -37,29 +34,10 @@ pub fn only_source_in(location: Location, table: &Table) -> Result<&str, ViewsFa
         (λ s. only_source_at location (table_view table.now) ≡ Ok s.now)
         (λ f. only_source_at location (table_view table.now) ≡ Err f) }
 {
-    if !has_source_keys(table) {
+    if !has_only_keys(table, &["from", "steps"]) {
         return Err(ViewsFault::Shape(location));
     }
     source_in(location, table)
-}
-
-/// Whether a table has no key but those of a right side.
-fn has_source_keys(table: &Table) -> bool
-    ensures { result ≡ keys_pass sources.is_source_key (table_view table.now) }
-{
-    all_source_keys(table)
-}
-
-fn all_source_keys(table: &Table) -> bool
-    ensures { result ≡ list_all (λ k. sources.is_source_key (string_bytes k)) (keys_of table.now.entries) }
-{
-    table.keys().all(|k| is_source_key(k.as_str()))
-}
-
-fn is_source_key(key: &str) -> bool
-    ensures { result ≡ sources.is_source_key key.now }
-{
-    key == "from" || key == "steps"
 }
 
 /// The items of the array at a key; a missing one is empty.
@@ -69,7 +47,8 @@ pub fn array_or_none<'a>(
     key: &str,
 ) -> Result<&'a [Value], ViewsFault>
     ensures { MatchResult result
-        (λ vs. sources.array_or_none location (get_member key.now (table_view table.now)) ≡ Ok (map view vs.now))
+        (λ vs. sources.array_or_none location (get_member key.now (table_view table.now))
+        ≡ Ok (map view vs.now))
         (λ f. sources.array_or_none location (get_member key.now (table_view table.now)) ≡ Err f) }
 {
     match find(table, key) {
@@ -86,14 +65,8 @@ pub fn frame_of_name(
 ) -> Result<usize, ViewsFault>
     ensures { result ≡ frame_named location name.now frames.now }
 {
-    match index_of_name(name, frames) {
+    match index_of_name(frames, name) {
         Some(index) => Ok(index),
         None => Err(ViewsFault::NoFrame(location)),
     }
-}
-
-fn index_of_name(name: &str, frames: &[FrameSpec]) -> Option<usize>
-    ensures { result ≡ position (λ f. bytes_eq f.name name.now) frames.now }
-{
-    frames.iter().position(|f| f.name.as_str() == name)
 }

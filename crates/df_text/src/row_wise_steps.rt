@@ -52,7 +52,8 @@ pub fn with_columns(
     input: Plan,
     items: &[Value],
 ) -> Result<Plan, ViewsFault>
-    ensures { Answers ViewsFault.Memory (with_columns_of location input (map view items.now)) result }
+    ensures { Answers ViewsFault.Memory
+        (with_columns_of location input (map view items.now)) result }
 {
     let input = Boxed::new(alloc, input)?;
     Ok(Plan::WithColumns(input, read_items(alloc, location, items)?))
@@ -64,7 +65,8 @@ fn read_items(
     location: Location,
     values: &[Value],
 ) -> Result<List<(Text, Expr)>, ViewsFault>
-    ensures { Answers ViewsFault.Memory (read_each (item_of location) (map view values.now)) result }
+    ensures { Answers ViewsFault.Memory
+        (read_each (item_of location) (map view values.now)) result }
 {
     let mut items = Vec::new(alloc);
     for value in values {

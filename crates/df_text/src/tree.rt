@@ -1,7 +1,8 @@
 //! The values of a TOML document, each asked for its kind.
 ghost use Rattle.std.specs.Prelude.{◌≡◌, map, MatchResult, Ok, Err, string_bytes, option_map};
-ghost use Rattle.std.specs.List.{list_all};
+ghost use Rattle.std.specs.List.{list_all, list_any};
 ghost use Rattle.std.specs.Map.{keys_of};
+ghost use Rattle.std.specs.Str.{bytes_eq};
 ghost use Rattle.toml.specs.Data.{get_member};
 ghost use Rattle.toml.specs.View.{table_view, view};
 ghost use Rattle.df_text.specs.Tree as tree;
@@ -24,6 +25,27 @@ pub fn parse(alloc: Global, bytes: &[u8]) -> Result<Table, ViewsFault>
         },
         Err(_) => Err(ViewsFault::NotToml),
     }
+}
+
+/// Whether a table has no key but these.
+pub fn has_only_keys(table: &Table, keys: &[&str]) -> bool
+    ensures { result ≡ tree.has_only_keys (map (λ k. k.now) keys.now) (table_view table.now) }
+{
+    keys_are_among(table, keys)
+}
+
+fn keys_are_among(table: &Table, keys: &[&str]) -> bool
+    ensures { result ≡ list_all
+        (λ k. list_any (bytes_eq (string_bytes k)) (map (λ k. k.now) keys.now))
+        (keys_of table.now.entries) }
+{
+    table.keys().all(|key| is_among(key.as_str(), keys))
+}
+
+fn is_among(key: &str, keys: &[&str]) -> bool
+    ensures { result ≡ list_any (bytes_eq key.now) (map (λ k. k.now) keys.now) }
+{
+    keys.iter().any(|k| key == *k)
 }
 
 /// The value at a key that must be there.
@@ -114,7 +136,8 @@ pub fn triple_in(
     items: &[Value],
 ) -> Result<(&Value, &Value, &Value), ViewsFault>
     ensures { MatchResult result
-        (λ t. tree.triple_in location (map view items.now) ≡ Ok (view t.0.now, view t.1.now, view t.2.now))
+        (λ t. tree.triple_in location (map view items.now)
+        ≡ Ok (view t.0.now, view t.1.now, view t.2.now))
         (λ f. tree.triple_in location (map view items.now) ≡ Err f) }
 {
     let (first, rest) = first_in(location, items)?;

@@ -42,7 +42,8 @@ pub fn apply_table(
     input: Plan,
     table: &Table,
 ) -> Result<Plan, ViewsFault>
-    ensures { Answers ViewsFault.Memory (steps_at location frames.now input (table_view table.now)) result }
+    ensures { Answers ViewsFault.Memory
+        (steps_at location frames.now input (table_view table.now)) result }
 {
     match array_or_none(location, table, "steps") {
         Ok(steps) => apply_steps(alloc, location, frames, input, steps),
@@ -62,7 +63,8 @@ fn apply_steps(
     input: Plan,
     steps: &[Value],
 ) -> Result<Plan, ViewsFault>
-    ensures { Answers ViewsFault.Memory (steps_after location frames.now input (items_of (map view steps.now))) result }
+    ensures { Answers ViewsFault.Memory
+        (steps_after location frames.now input (items_of (map view steps.now))) result }
 {
     let mut plan = input;
     for step in steps {
@@ -112,7 +114,8 @@ fn apply(
     input: Plan,
     items: &[Value],
 ) -> Result<Plan, ViewsFault>
-    ensures { Answers ViewsFault.Memory (applied_step location frames.now word input (items_of (map view items.now))) result }
+    ensures { Answers ViewsFault.Memory
+        (applied_step location frames.now word input (items_of (map view items.now))) result }
 {
     match word {
         StepWord::Filter => filter(alloc, location, input, items),
@@ -135,7 +138,8 @@ fn join(
     input: Plan,
     items: &[Value],
 ) -> Result<Plan, ViewsFault>
-    ensures { Answers ViewsFault.Memory (applied_step location frames.now Join input (items_of (map view items.now))) result }
+    ensures { Answers ViewsFault.Memory
+        (applied_step location frames.now Join input (items_of (map view items.now))) result }
 {
     let input = Boxed::new(alloc, input)?;
     let (kind, keys, right) = triple_in(location, items)?;
@@ -176,7 +180,8 @@ fn kind_and_keys(
     kind: &Value,
     keys: &Value,
 ) -> Result<(How, List<Text>), ViewsFault>
-    ensures { Answers ViewsFault.Memory (steps_spec.kind_and_keys location (view kind.now) (view keys.now)) result }
+    ensures { Answers ViewsFault.Memory
+        (steps_spec.kind_and_keys location (view kind.now) (view keys.now)) result }
 {
     let how = kind_named(location, text_in(location, kind)?)?;
     let keys = read_names(alloc, location, array_in(location, keys)?)?;
@@ -231,7 +236,8 @@ fn group_by(
 
 /// A list of names.
 fn read_names(alloc: Global, location: Location, values: &[Value]) -> Result<List<Text>, ViewsFault>
-    ensures { Answers ViewsFault.Memory (read_each (tree_spec.text_in location) (map view values.now)) result }
+    ensures { Answers ViewsFault.Memory
+        (read_each (tree_spec.text_in location) (map view values.now)) result }
 {
     let mut names = Vec::new(alloc);
     for value in values {

@@ -1,13 +1,10 @@
 //! View documents.
 ghost use Rattle.std.specs.Prelude.{◌≡◌, [], MatchResult, Ok, Err, IfOk, map, length, string_bytes, codes, nat_lt};
-ghost use Rattle.std.specs.List.{list_any, list_all};
-ghost use Rattle.std.specs.Map.{keys_of};
+ghost use Rattle.std.specs.List.{list_all};
 ghost use Rattle.std.specs.Option.{option_copied};
-ghost use Rattle.std.specs.Str.{bytes_eq};
 ghost use Rattle.toml.specs.Data.{get_member};
 ghost use Rattle.toml.specs.View.{table_view, view};
 ghost use Rattle.df_value.specs.Outcomes.{Answers};
-ghost use Rattle.df_text.specs.Tree.{keys_pass};
 ghost use Rattle.df_text.specs.Document as document_spec;
 ghost use Rattle.df_text.specs.Document.{IsDocument, entries_of_view, view_of, view_specs_of, top_tables_of, document_of};
 
@@ -15,18 +12,12 @@ use crate::document::{FrameSpec, Location, ViewSpec, Views};
 use crate::fault::ViewsFault;
 use crate::frames::read_frames;
 use crate::from_tables::{array_or_none, frame_of_name, source_in};
-use crate::tree::{parse, table_value, text_in, value_at};
+use crate::tree::{has_only_keys, parse, table_value, text_in, value_at};
 use crate::view_steps::apply_table;
 use df_plan::Plan;
-use df_value::{List, Text};
+use df_value::{List, MOST_FRAMES, MOST_VIEWS, Text, has_name};
 use std::alloc::Global;
 use toml::{Table, Value};
-
-/// The most frames of a document.
-const MOST_FRAMES: usize = 8;
-
-/// The most views of a document.
-const MOST_VIEWS: usize = 32;
 
 /// The tables of the frames, and those of the views.
 #[derive(Clone, Copy)]
@@ -44,32 +35,33 @@ struct ViewEntries<'a> {
 
 /// The frames and views that a document names, in its order.
 ///
-/// A document is TOML 1.1. Its top has at most the keys `frame` and `view`, each an array of tables; a
-/// missing one is empty. A frame has the keys `name`, `columns`, an array of arrays of a name and one of
-/// the words `Int`, `Text`, `Bool`, and exactly one of `path` (a file's, which is not opened here) and
-/// `text` (the CSV itself). A view has the keys `name`, `from` (a frame's name) and perhaps `steps`, an
-/// array of at most 64 steps, which are applied in order; without one the view is the frame. Whether a
-/// frame has the columns that a plan names is not asked here.
+/// A document is TOML 1.1. Its top has at most the keys `frame` and `view`, each an array of
+/// tables; a missing one is empty. A frame has the keys `name`, `columns`, an array of arrays of a
+/// name and one of the words `Int`, `Text`, `Bool`, and exactly one of `path` (a file's, which is
+/// not opened here) and `text` (the CSV itself). A view has the keys `name`, `from` (a frame's
+/// name) and perhaps `steps`, an array of at most 64 steps, which are applied in order; without one
+/// the view is the frame. Whether a frame has the columns that a plan names is not asked here.
 ///
-/// The steps are `["filter", expression]`, `["select", [output, expression], ..]`, `["with_columns",
-/// [output, expression], ..]`, `["group_by", [key, ..], [output, "len"], [output, "sum", column], ..]`,
-/// `["rolling_sum", output, column, rows, least]` (also `rolling_min`, `rolling_max`; a missing `least` is
-/// `rows`), `["cum_sum", output, column]`, `["rank", output, "dense", column]` and
-/// `["join", kind, [key, ..], right]`, where the kind is `inner` or `left`, and the right side a frame's
-/// name or a table with the keys `from` and perhaps `steps`, as a view has them: its steps, too, may join.
-/// An expression is an integer, a Boolean or a text, which stands for itself; `["col", name]`; `["null",
-/// type]`; one of `~`, `is_null`, `is_not_null` before an expression; or one of `+`, `-`, `*`, `==`, `!=`,
-/// `<`, `<=`, `>`, `>=`, `&`, `|`, `eq_missing`, `fill_null` before two.
+/// The steps are `["filter", expression]`, `["select", [output, expression], ..]`,
+/// `["with_columns", [output, expression], ..]`, `["group_by", [key, ..], [output, "len"], [output,
+/// "sum", column], ..]`, `["rolling_sum", output, column, rows, least]` (also `rolling_min`,
+/// `rolling_max`; a missing `least` is `rows`), `["cum_sum", output, column]`, `["rank", output,
+/// "dense", column]` and `["join", kind, [key, ..], right]`, where the kind is `inner` or `left`,
+/// and the right side a frame's name or a table with the keys `from` and perhaps `steps`, as a view
+/// has them: its steps, too, may join. An expression is an integer, a Boolean or a text, which
+/// stands for itself; `["col", name]`; `["null", type]`; one of `~`, `is_null`, `is_not_null`
+/// before an expression; or one of `+`, `-`, `*`, `==`, `!=`, `<`, `<=`, `>`, `>=`, `&`, `|`,
+/// `eq_missing`, `fill_null` before two.
 ///
-/// Answered is the first fault in this order: `NotToml`; of the top `Shape`, `TooManyFrames` above 8,
-/// `TooManyViews` above 32; frame by frame `Shape` of its keys (also of both or none of `path` and
-/// `text`), column by column `Shape` before `Word`,
-/// then `Schema`, then `Doubled`; view by view `Shape` of its keys (also of more than 64 steps),
-/// `Doubled`, `NoFrame`, then step by step. Of a step and of an expression comes the word (`Shape`, then
-/// `Word`), then the number of items, then the items from left to right, each with its inside. Of an
-/// aggregate comes its word, then the number of its entries, its output and its column. The right side of
-/// a join is checked as a view that has no name. `Memory` says that a growth was refused, and can stand in
-/// the place of any other answer.
+/// Answered is the first fault in this order: `NotToml`; of the top `Shape`, `TooManyFrames` above
+/// 8, `TooManyViews` above 32; frame by frame `Shape` of its keys (also of both or none of `path`
+/// and `text`), column by column `Shape` before `Word`, then `Schema`, then `Doubled`; view by view
+/// `Shape` of its keys (also of more than 64 steps), `Doubled`, `NoFrame`, then step by step. Of a
+/// step and of an expression comes the word (`Shape`, then `Word`), then the number of items, then
+/// the items from left to right, each with its inside. Of an aggregate comes its word, then the
+/// number of its entries, its output and its column. The right side of a join is checked as a view
+/// that has no name. `Memory` says that a growth was refused, and can stand in the place of any
+/// other answer.
 pub fn read_views(alloc: Global, bytes: &[u8]) -> Result<Views, ViewsFault>
     ensures answer { Answers ViewsFault.Memory (document_of bytes.now) result }
     ensures sound { IfOk result (λ v. IsDocument v) }
@@ -86,10 +78,11 @@ pub fn read_views(alloc: Global, bytes: &[u8]) -> Result<Views, ViewsFault>
 /// The tables of a document, if it has no key but `frame` and `view`.
 fn top_tables(table: &Table) -> Result<Tables<'_>, ViewsFault>
     ensures { MatchResult result
-        (λ t. top_tables_of (table_view table.now) ≡ Ok (record { frames = map view t.frames.now; views = map view t.views.now }))
+        (λ t. top_tables_of (table_view table.now)
+        ≡ Ok (record { frames = map view t.frames.now; views = map view t.views.now }))
         (λ f. top_tables_of (table_view table.now) ≡ Err f) }
 {
-    if !has_top_keys(table) {
+    if !has_only_keys(table, &["frame", "view"]) {
         return Err(ViewsFault::Shape(Location::Top));
     }
     let frames = tables_at(table, "frame")?;
@@ -101,25 +94,6 @@ fn top_tables(table: &Table) -> Result<Tables<'_>, ViewsFault>
         return Err(ViewsFault::TooManyViews);
     }
     Ok(Tables { frames, views })
-}
-
-/// Whether a table has no key but those of the top.
-fn has_top_keys(table: &Table) -> bool
-    ensures { result ≡ keys_pass document_spec.is_top_key (table_view table.now) }
-{
-    all_top_keys(table)
-}
-
-fn all_top_keys(table: &Table) -> bool
-    ensures { result ≡ list_all (λ k. document_spec.is_top_key (string_bytes k)) (keys_of table.now.entries) }
-{
-    table.keys().all(|k| is_top_key(k.as_str()))
-}
-
-fn is_top_key(key: &str) -> bool
-    ensures { result ≡ document_spec.is_top_key key.now }
-{
-    key == "frame" || key == "view"
 }
 
 /// The array of tables at a key of the top; a missing one is empty.
@@ -182,7 +156,7 @@ fn read_view(
     let location = Location::View(before.len());
     let table = table_value(location, value)?;
     let entries = view_entries(location, table)?;
-    if has_view(before, entries.name) {
+    if has_name(before, entries.name) {
         return Err(ViewsFault::Doubled(location));
     }
     let index = frame_of_name(location, entries.source, frames)?;
@@ -200,36 +174,10 @@ fn view_entries(location: Location, table: &Table) -> Result<ViewEntries<'_>, Vi
         ≡ Ok (record { name = e.name.now; source = e.source.now }))
         (λ f. entries_of_view location (table_view table.now) ≡ Err f) }
 {
-    if !has_view_keys(table) {
+    if !has_only_keys(table, &["name", "from", "steps"]) {
         return Err(ViewsFault::Shape(location));
     }
     let name = text_in(location, value_at(location, table, "name")?)?;
     let source = source_in(location, table)?;
     Ok(ViewEntries { name, source })
-}
-
-/// Whether a table has no key but those of a view.
-fn has_view_keys(table: &Table) -> bool
-    ensures { result ≡ keys_pass document_spec.is_view_key (table_view table.now) }
-{
-    all_view_keys(table)
-}
-
-fn all_view_keys(table: &Table) -> bool
-    ensures { result ≡ list_all (λ k. document_spec.is_view_key (string_bytes k)) (keys_of table.now.entries) }
-{
-    table.keys().all(|k| is_view_key(k.as_str()))
-}
-
-fn is_view_key(key: &str) -> bool
-    ensures { result ≡ document_spec.is_view_key key.now }
-{
-    key == "name" || key == "from" || key == "steps"
-}
-
-/// Whether a view has this name.
-fn has_view(views: &[ViewSpec], name: &str) -> bool
-    ensures { result ≡ list_any (λ v. bytes_eq v.name name.now) views.now }
-{
-    views.iter().any(|v| v.name.as_str() == name)
 }

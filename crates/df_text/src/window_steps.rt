@@ -21,7 +21,8 @@ pub fn rolling(
     input: Plan,
     items: &[Value],
 ) -> Result<Plan, ViewsFault>
-    ensures { Answers ViewsFault.Memory (rolling_of location kind input (map view items.now)) result }
+    ensures { Answers ViewsFault.Memory
+        (rolling_of location kind input (map view items.now)) result }
 {
     let input = Boxed::new(alloc, input)?;
     match read_window(alloc, location, items) {
@@ -78,8 +79,10 @@ fn window_numbers(
     least: Option<&Value>,
 ) -> Result<(i64, i64), ViewsFault>
     ensures { MatchResult result
-        (λ r. window_steps.window_numbers location (view rows.now) (option_map (λ v. view v.now) least.entry) ≡ Ok r)
-        (λ f. window_steps.window_numbers location (view rows.now) (option_map (λ v. view v.now) least.entry) ≡ Err f) }
+        (λ r. window_steps.window_numbers location (view rows.now)
+        (option_map (λ v. view v.now) least.entry) ≡ Ok r)
+        (λ f. window_steps.window_numbers location (view rows.now)
+        (option_map (λ v. view v.now) least.entry) ≡ Err f) }
 {
     let rows = int_in(location, rows)?;
     match least {
@@ -161,7 +164,8 @@ fn names_in(
     output: &Value,
     column: &Value,
 ) -> Result<(Text, Text), ViewsFault>
-    ensures { Answers ViewsFault.Memory (window_steps.names_in location (view output.now) (view column.now)) result }
+    ensures { Answers ViewsFault.Memory
+        (window_steps.names_in location (view output.now) (view column.now)) result }
 {
     let output = text_in(location, output)?;
     let column = text_in(location, column)?;

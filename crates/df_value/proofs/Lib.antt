@@ -1,3 +1,1 @@
-pub mod RowEq
 pub mod Fitting
-pub mod CellOrders

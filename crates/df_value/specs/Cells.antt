@@ -7,14 +7,14 @@ use Rattle.df_value.specs.declared.cell.CellType.{CellType}
 use Rattle.df_value.specs.declared.cell.CellType.TheVariants as dtype
 
 -- whether a cell is null or of this type
-abbrev pub fits_type : CellType → Cell → Bool
-fits_type t cell.Null = true
-fits_type dtype.Int (cell.Int n) = true
-fits_type dtype.Wide (cell.Wide n) = true
-fits_type dtype.Text (cell.Text t) = true
-fits_type dtype.Bool (cell.Bool b) = true
-fits_type dtype.Frac (cell.Frac f) = true
-fits_type t _ = false
+abbrev pub fits_dtype : CellType → Cell → Bool
+fits_dtype t cell.Null = true
+fits_dtype dtype.Int (cell.Int n) = true
+fits_dtype dtype.Wide (cell.Wide n) = true
+fits_dtype dtype.Text (cell.Text t) = true
+fits_dtype dtype.Bool (cell.Bool b) = true
+fits_dtype dtype.Frac (cell.Frac f) = true
+fits_dtype t _ = false
 
 -- whether a cell is a text, so that a copy of it takes memory
 abbrev pub is_text : Cell → Bool

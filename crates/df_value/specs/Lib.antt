@@ -4,9 +4,14 @@ pub mod CellEq
 pub mod Order
 pub mod CellOrder
 pub mod Rows
+pub mod Names
+pub mod Limits
 pub mod Schemas
 pub mod SchemaFaults
 pub mod Chunks
 pub mod ChunkFaults
 pub mod Same
 pub mod Outcomes
+pub mod RowEq
+pub mod CellOrders
+pub mod Choices

@@ -2,7 +2,7 @@
 use Rattle.std.specs.Prelude.{ℕ, Bool, List, Option, Some, None, slice_get, unwrap_or}
 use Rattle.std.specs.Cmp.Lexicographic.{pointwise}
 use Rattle.std.specs.List.{list_all}
-use Rattle.df_value.specs.Cells.{fits_type}
+use Rattle.df_value.specs.Cells.{fits_dtype}
 use Rattle.df_value.specs.CellEq.{cell_eq}
 use Rattle.df_value.specs.declared.cell.Cell.{Cell}
 use Rattle.df_value.specs.declared.cell.Cell.TheVariants as cell
@@ -10,7 +10,7 @@ use Rattle.df_value.specs.declared.cell.CellType.{CellType}
 
 -- whether a row has one cell for each column, and each is null or of its column's type
 abbrev pub row_fits : List (List ℕ × CellType) → List Cell → Bool
-row_fits columns row = pointwise (λ c v. fits_type c.1 v) columns row
+row_fits columns row = pointwise (λ c v. fits_dtype c.1 v) columns row
 
 -- whether all rows fit
 abbrev pub rows_fit : List (List ℕ × CellType) → List (List Cell) → Bool

@@ -1,6 +1,6 @@
 //! Cells and rows.
 ghost use Rattle.std.specs.Prelude.{◌≡◌, IfOk, IsOk, IsTrue, not};
-ghost use Rattle.df_value.specs.Cells.{fits_type, is_text};
+ghost use Rattle.df_value.specs.Cells.{fits_dtype, is_text};
 
 use crate::frac::Frac;
 use crate::list::List;
@@ -10,8 +10,8 @@ use std::alloc::{AllocError, Global};
 
 /// What the cells of a column are.
 ///
-/// Base frames have `Int` (i64), `Text` and `Bool` columns. `Wide` (i128) comes from sums and `Frac`
-/// from means. Null belongs to every type.
+/// Base frames have `Int` (i64), `Text` and `Bool` columns. `Wide` (i128) comes from sums and
+/// `Frac` from means. Null belongs to every type.
 #[derive(Clone, Copy, Debug, PartialEq, Eq, Hash)]
 pub enum CellType {
     Int,
@@ -38,7 +38,7 @@ pub type Row = List<Cell>;
 impl Cell {
     /// Whether this cell may stand in a column of this type: it is null or of the type.
     pub fn fits(&self, dtype: CellType) -> bool
-        ensures { result ≡ fits_type dtype self.now }
+        ensures { result ≡ fits_dtype dtype self.now }
     {
         match (dtype, self) {
             (_, Cell::Null) => true,

@@ -4,18 +4,13 @@ ghost use Rattle.df_value.specs.Rows.{row_fits, rows_fit};
 ghost use Rattle.df_value.specs.ChunkFaults.{chunk_fault};
 
 use crate::cell::Row;
+use crate::limits::{MOST_ROWS_OF_CHUNK, ROW_NUMBERS};
 use crate::list::List;
 use crate::schema::Schema;
 use crate::traits::Duplicate;
 use std::alloc::Global;
 use std::marker::Model;
 use thiserror::Error;
-
-/// The most rows of a chunk.
-pub const MOST_ROWS_OF_CHUNK: usize = 65_536;
-
-/// Row numbers lie below this.
-const ROW_NUMBERS: u64 = 4_294_967_296;
 
 /// Rows of a frame, of one schema. The first one has the number [`first`](Chunk::first), and each
 /// further one the number after it. There are at most 65,536 of them, perhaps none; each fits the
@@ -76,12 +71,13 @@ pub enum Piece {
 impl Chunk {
     ghost use Rattle.df_value.specs.Chunks.{IsChunk, MakesChunk};
 
-    /// The chunk of these rows, the first of which has the number `first`. It keeps a copy of the schema.
+    /// The chunk of these rows, the first of which has the number `first`. It keeps a copy of the
+    /// schema.
     ///
     /// Refused are, in this order: more than 65,536 rows; rows of which one would have a number of
     /// 2^32 or more; a row that has another number of cells than the schema has columns, or a cell
-    /// that is neither null nor of its column's type (the least such index is named); the refusal of
-    /// memory. The rows come back with the fault.
+    /// that is neither null nor of its column's type (the least such index is named); the refusal
+    /// of memory. The rows come back with the fault.
     pub fn new(
         alloc: Global,
         schema: &Schema,

@@ -8,7 +8,9 @@
 mod cell;
 mod chunk;
 mod frac;
+mod limits;
 mod list;
+mod names;
 mod ordering;
 mod results;
 mod schema;
@@ -17,12 +19,16 @@ mod text;
 mod traits;
 
 pub use cell::{Cell, CellType, Row};
-pub use chunk::{BadCell, Chunk, ChunkFault, MOST_ROWS_OF_CHUNK, Piece, RefusedRows};
+pub use chunk::{BadCell, Chunk, ChunkFault, Piece, RefusedRows};
 pub use frac::Frac;
+pub use limits::{
+    MOST_COLUMNS, MOST_FRAMES, MOST_ROWS_OF_CHUNK, MOST_ROWS_OF_FRAME, MOST_VIEWS, ROW_NUMBERS,
+};
 pub use list::List;
+pub use names::{Named, first_doubled_name, has_name, index_of_name};
 pub use ordering::{compare, order};
 pub use results::{both, push_made, then_drop};
-pub use schema::{MOST_COLUMNS, Schema, SchemaFault, column_index, first_doubled_name, type_of};
+pub use schema::{Schema, SchemaFault, column_dtype, column_index};
 pub use source::Source;
 pub use sqlite_items::Boxed;
 pub use text::Text;

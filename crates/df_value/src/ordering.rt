@@ -6,8 +6,8 @@ ghost use Rattle.df_value.specs.Order.{order_of};
 use crate::cell::Cell;
 use std::cmp::Ordering;
 
-/// How two cells compare that have one type, are not null and not of type Frac: numbers by size, texts
-/// by their UTF-8 bytes, false before true.
+/// How two cells compare that have one type, are not null and not of type Frac: numbers by size,
+/// texts by their UTF-8 bytes, false before true.
 pub fn order(a: &Cell, b: &Cell) -> Ordering
     requires { IsTrue (is_some (order_of a.now b.now)) }
     ensures value { Some result ≡ order_of a.now b.now }

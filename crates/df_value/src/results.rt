@@ -1,5 +1,5 @@
-//! Calls over values that may have been refused, and one that drops. Each stands for exits of its caller, whose proof
-//! grows with every value that lives at every exit.
+//! Calls over values that may have been refused, and one that drops. Each stands for exits of its
+//! caller, whose proof grows with every value that lives at every exit.
 ghost use Rattle.std.specs.Prelude.{◌≡◌, ◌++◌, ◌∷◌, [], IfOk, Ok, OnOk};
 
 use std::alloc::AllocError;
@@ -20,7 +20,8 @@ pub fn both<A: Drop, B: Drop>(
 
 /// Adds a value, where it was made.
 pub fn push_made<T: Drop>(items: &mut Vec<T>, made: Result<T, AllocError>) -> Result<(), AllocError>
-    ensures { OnOk result ((x : T) × (made ≡ Ok x) × (items.new.items ≡ items.old.items ++ x ∷ [])) }
+    ensures { OnOk result
+        ((x : T) × (made ≡ Ok x) × (items.new.items ≡ items.old.items ++ x ∷ [])) }
 {
     Ok(items.push(made?)?)
 }

@@ -4,22 +4,22 @@ ghost use Rattle.std.specs.List.{list_any};
 ghost use Rattle.std.specs.Option.{option_copied};
 ghost use Rattle.std.specs.Str.{bytes_eq};
 ghost use Rattle.df_value.specs.Schemas as schemas;
-ghost use Rattle.df_value.specs.Schemas.{IsSchema, column_dtype, doubled_name_after, is_base_type};
+ghost use Rattle.df_value.specs.Schemas.{IsSchema, is_base_dtype};
 ghost use Rattle.df_value.specs.SchemaFaults.{schema_fault};
 ghost use Rattle.df_value.specs.Rows.{row_fits};
 
 use crate::cell::{Cell, CellType, Row};
+use crate::limits::MOST_COLUMNS;
 use crate::list::List;
+use crate::names::{first_doubled_name, index_of_name};
 use crate::text::Text;
 use crate::traits::{Duplicate, Exact};
 use std::alloc::{AllocError, Global};
 use std::marker::Model;
 use thiserror::Error;
 
-/// The most columns of a table.
-pub const MOST_COLUMNS: usize = 32;
-
-/// The columns of a table by name and type: 1 to 32 of them, no two of one name. Any text is a name.
+/// The columns of a table by name and type: 1 to 32 of them, no two of one name. Any text is a
+/// name.
 #[derive(PartialEq, Eq, Hash, Debug, Drop)]
 pub struct Schema {
     columns: List<(Text, CellType)>,
@@ -55,7 +55,8 @@ impl Schema {
     ///
     /// Refused are, in this order: no columns, more than 32 columns, a name that stands twice.
     pub fn new(columns: List<(Text, CellType)>) -> Result<Schema, SchemaFault>
-        ensures { MatchResult result (λ s. (s ≡ columns) × IsSchema columns) (λ e. schema_fault columns ≡ Some e) }
+        ensures { MatchResult result (λ s. (s ≡ columns) × IsSchema columns)
+            (λ e. schema_fault columns ≡ Some e) }
     {
         if columns.is_empty() {
             return Err(SchemaFault::NoColumns);
@@ -86,10 +87,10 @@ impl Schema {
     }
 
     /// The type of the column of this name.
-    pub fn type_of(&self, name: &Text) -> Option<CellType>
-        ensures { result ≡ column_dtype name.now self.now }
+    pub fn dtype_of(&self, name: &Text) -> Option<CellType>
+        ensures { result ≡ schemas.column_dtype name.now self.now }
     {
-        type_of(name, self.columns.as_slice())
+        column_dtype(name, self.columns.as_slice())
     }
 
     /// Whether a base frame may have this schema: all types are Int, Text or Bool.
@@ -124,7 +125,7 @@ impl Exact for Schema {
 }
 
 fn is_base(dtype: CellType) -> bool
-    ensures { result ≡ is_base_type dtype }
+    ensures { result ≡ is_base_dtype dtype }
 {
     matches!(dtype, CellType::Int | CellType::Text | CellType::Bool)
 }
@@ -143,37 +144,17 @@ fn fits_columns(columns: &[(Text, CellType)], cells: &[Cell]) -> bool
     true
 }
 
-/// The first name that stands earlier in the list.
-pub fn first_doubled_name(columns: &[(Text, CellType)]) -> Option<&Text>
-    ensures { option_copied result ≡ doubled_name_after [] columns.now }
-{
-    for i in 0..columns.len() {
-        let name = &columns[i].0;
-        if stands_in(name, &columns[..i]) {
-            return Some(name);
-        }
-    }
-    None
-}
-
-// Whether a column has this name.
-fn stands_in(name: &Text, columns: &[(Text, CellType)]) -> bool
-    ensures { result ≡ list_any (λ c. bytes_eq c.0 name.now) columns.now }
-{
-    columns.iter().any(|c| c.0 == *name)
-}
-
 /// The index of the column of this name, from 0.
 pub fn column_index(name: &Text, columns: &[(Text, CellType)]) -> Option<usize>
     ensures value { result ≡ schemas.column_index name.now columns.now }
     ensures within { IfSome result (λ i. i < length columns.now) }
 {
-    columns.iter().position(|c| c.0 == *name)
+    index_of_name(columns, name.as_str())
 }
 
 /// The type of the column of this name.
-pub fn type_of(name: &Text, columns: &[(Text, CellType)]) -> Option<CellType>
-    ensures { result ≡ column_dtype name.now columns.now }
+pub fn column_dtype(name: &Text, columns: &[(Text, CellType)]) -> Option<CellType>
+    ensures { result ≡ schemas.column_dtype name.now columns.now }
 {
     columns.iter().find(|c| c.0 == *name).map(|c| c.1)
 }

@@ -30,5 +30,6 @@ pub trait Source {
         ensures { result ≡ start_of self.now n };
 
     // A good chunk begins with the row that `start_of` has for its index.
-    ghost starts: { (source : Self) (n : ℕ) (chunk : ChunkParts) → slice_get (made source) n ≡ Some (made_as.Good chunk) → chunk.first ≡ start_of source n };
+    ghost starts: { (source : Self) (n : ℕ) (chunk : ChunkParts)
+        → slice_get (made source) n ≡ Some (made_as.Good chunk) → chunk.first ≡ start_of source n };
 }

@@ -1,4 +1,5 @@
-//! What the small types have in common: equality that is identity, and a copy that takes the allocator.
+//! What the small types have in common: equality that is identity, and a copy that takes the
+//! allocator.
 ghost use Rattle.std.specs.Prelude.{◌≡◌, ◌↔◌, IsTrue, IfOk};
 
 use std::alloc::{AllocError, Global};

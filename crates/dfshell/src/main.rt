@@ -1,5 +1,5 @@
-//! `dfshell`: reads a view document and the files that it names, and answers commands over its frames and
-//! views from standard input on standard output.
+//! `dfshell`: reads a view document and the files that it names, and answers commands over its
+//! frames and views from standard input on standard output.
 #![tactic(auto)]
 
 mod system_files;
@@ -20,7 +20,8 @@ fn main(rt: HostRuntime) -> ExitCode {
     }
 }
 
-// The first argument is the program's name, the second one the document's path, and there is no third.
+// The first argument is the program's name, the second one the document's path, and there is no
+// third.
 fn run_arguments(rt: &HostRuntime, arguments: env::Args) -> ExitCode {
     let mut words = arguments.skip(1);
     let Some(word) = words.next() else {

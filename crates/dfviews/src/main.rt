@@ -1,10 +1,11 @@
-//! `dfviews`: reads a view document and the files that it names, and writes the printed views to standard
-//! output.
+//! `dfviews`: reads a view document and the files that it names, and writes the printed views to
+//! standard output.
 #![tactic(auto)]
 
 mod system_files;
 
 ghost use Rattle.std.specs.Prelude.{◌≤◌};
+ghost use Rattle.df_value.specs.Limits.{most_rows_of_chunk};
 
 use clap::error::ErrorKind;
 use df_app::{Outcome, RunFault, Words, fault_text, run, words};
@@ -50,7 +51,7 @@ fn run_words(rt: &HostRuntime, words: Words<'_>) -> Result<Outcome, RunFault>
     requires some_workers { 1 ≤ words.workers }
     requires few_workers { words.workers ≤ 16 }
     requires some { 1 ≤ words.chunk }
-    requires few { words.chunk ≤ 65536 }
+    requires few { words.chunk ≤ most_rows_of_chunk }
 {
     match words.views {
         Some(path) => match open(rt, path) {
@@ -69,7 +70,7 @@ fn run_reader<V: Read>(
     requires some_workers { 1 ≤ words.workers }
     requires few_workers { words.workers ≤ 16 }
     requires some { 1 ≤ words.chunk }
-    requires few { words.chunk ≤ 65536 }
+    requires few { words.chunk ≤ most_rows_of_chunk }
 {
     let mut files = SystemFiles { rt };
     let mut output = rt.stdout();
@@ -83,8 +84,8 @@ fn run_reader<V: Read>(
     )
 }
 
-// What clap answers in the place of words: help on standard output, or why it refuses them on standard
-// error.
+// What clap answers in the place of words: help on standard output, or why it refuses them on
+// standard error.
 fn answer(rt: &HostRuntime, error: &clap::Error) -> ExitCode {
     if error.kind() == ErrorKind::OutOfMemory {
         return report(rt, &RunFault::Memory);

@@ -1,5 +1,5 @@
 use Rattle.std.proofs.Common.{◌∙◌, sym}
-use Rattle.df_value.proofs.CellOrders.{equal_where_same}
+use Rattle.df_value.specs.CellOrders.{equal_where_same}
 use Rattle.df_value.specs.CellOrder.{cell_cmp-order_of}
 use Rattle.df_value.proofs.ordering.order.Goals as goal
 

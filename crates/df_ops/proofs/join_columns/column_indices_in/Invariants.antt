@@ -1,6 +1,0 @@
-use Rattle.std.proofs.Common.{◌≡◌, take}
-use Rattle.df_ops.specs.Joins.{column_indices_in}
-use Rattle.df_ops.proofs.join_columns.column_indices_in.Given as goal
-
-abbrev pub invariant-loop-name : goal.invariant-loop-name
-invariant-loop-name l = l.indices.items ≡ column_indices_in l.columns (take l.name-index l.names)
