@@ -1,5 +1,6 @@
 //! The shell: from a document and the lines of input to the answers.
 ghost use Rattle.std.specs.Prelude.{◌≡◌, length};
+ghost use Rattle.df_catalogue.specs.Limits as limits;
 
 use crate::answering::answer_line;
 use crate::definitions::Definitions;
@@ -56,9 +57,11 @@ fn serve<Acc: Ledger, Del: Ledger, I: BufRead, W: Write>(
     output: &mut W,
 ) -> Result<(), ShellFault>
     requires accepted_name { accepted.name ≡ Acc.name }
-    requires accepted_parts { (accepted.parts ≡ Acc.parts) × (accepted.parts ≡ 524288) }
+    requires accepted_parts { (accepted.parts ≡ Acc.parts)
+        × (accepted.parts ≡ limits.parts_of_ledger) }
     requires deleted_name { deleted.name ≡ Del.name }
-    requires deleted_parts { (deleted.parts ≡ Del.parts) × (deleted.parts ≡ 524288) }
+    requires deleted_parts { (deleted.parts ≡ Del.parts)
+        × (deleted.parts ≡ limits.parts_of_ledger) }
     requires pieces { length opened.pieces ≡ length opened.document.frames }
 {
     let frames = opened.document.frames.as_slice();
@@ -84,9 +87,11 @@ fn open_session<Acc: Ledger, Del: Ledger>(
     opened: OpenedDocument,
 ) -> Result<Session<Acc, Del>, ShellFault>
     requires accepted_name { accepted.name ≡ Acc.name }
-    requires accepted_parts { (accepted.parts ≡ Acc.parts) × (accepted.parts ≡ 524288) }
+    requires accepted_parts { (accepted.parts ≡ Acc.parts)
+        × (accepted.parts ≡ limits.parts_of_ledger) }
     requires deleted_name { deleted.name ≡ Del.name }
-    requires deleted_parts { (deleted.parts ≡ Del.parts) × (deleted.parts ≡ 524288) }
+    requires deleted_parts { (deleted.parts ≡ Del.parts)
+        × (deleted.parts ≡ limits.parts_of_ledger) }
 {
     let OpenedDocument {
         document,
