@@ -10,5 +10,7 @@ pub mod RangeFacts
 pub mod StateFacts
 pub mod RunFacts
 pub mod PartFacts
-pub mod ChangeFacts
+pub mod ViewChangeFacts
+pub mod FrameChangeFacts
+pub mod TransitionFacts
 pub mod DeskFacts

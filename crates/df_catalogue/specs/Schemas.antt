@@ -1,5 +1,5 @@
--- Whether two schemas are the same: their columns have the same names and types in the same order. The test is the one that
--- `==` makes of schemas, and decides it by the lemma below.
+-- Whether two schemas are the same: their columns have the same names and types in the same order. The test is the one
+-- that `==` makes of schemas, and decides it by the lemma below.
 use Rattle.std.specs.Prelude.{◌≡◌, ◌↔◌, ℕ, Bool, IsTrue, List}
 use Rattle.std.specs.Cmp.Lexicographic.{pointwise}
 use Rattle.df_value.specs.declared.cell.CellType.{CellType}

@@ -1,27 +1,22 @@
 //! The catalogue: frames, views and books.
-ghost use Rattle.std.specs.Prelude.{◌≡◌, ◌≢◌, ◌≤◌, None, Some, IfErr, IfOk, OnOk, MatchResult, length, map, replicate};
-ghost use Rattle.std.specs.List.{range_with_len};
+ghost use Rattle.std.specs.Prelude.{◌≡◌, ◌≢◌, ◌≤◌, ◌*◌, None, Some, IfErr, IfOk, OnOk, MatchResult, length, replicate};
 ghost use Rattle.df_catalogue.specs.New as new_spec;
+ghost use Rattle.df_catalogue.specs.Desks as desks_spec;
+ghost use Rattle.df_catalogue.specs.Ledgers as ledgers;
+ghost use Rattle.df_value.specs.Limits as limits;
 ghost use Rattle.df_catalogue.specs.States.{empty_frame, opening_of, IsLegal};
-ghost use Rattle.df_catalogue.specs.Desks.{accepted_in, deleted_in, first_desks, spare_parts};
 
 use crate::desk::Desk;
 use crate::fault::NewFault;
 use crate::frame::Frame;
 use crate::views::View;
-use df_value::{List, Row, Schema};
+use df_value::{List, MOST_FRAMES, Row, Schema};
 use std::alloc::{AllocError, Global};
 use std::marker::Model;
 use std::sync::ledger::{Blank, Book, Ledger, Share};
 
-/// The most frames of a catalogue.
-pub const MOST_FRAMES: usize = 8;
-
-/// The most views of a catalogue.
-pub const MOST_VIEWS: usize = 32;
-
-/// Frames of rows and registered views, each of which has at every moment the table that its plan gives
-/// over the frames. Contracts see the [`State`](crate::State).
+/// Frames of rows and registered views, each of which has at every moment the table that its plan
+/// gives over the frames. Contracts see the [`State`](crate::State).
 ///
 /// `Acc` and `Del` are the ledgers of all rows that were accepted and deleted: a desk of another
 /// catalogue has another type.
@@ -33,8 +28,8 @@ pub struct Catalogue<Acc: Ledger, Del: Ledger> {
     pub(crate) tables: Vec<List<Row>>,
     pub(crate) accepted: Book<Acc>,
     pub(crate) deleted: Book<Del>,
-    pub(crate) spare_accepted: Share<Acc>,
-    pub(crate) spare_deleted: Share<Del>,
+    pub(crate) accepted_of_no_desk: Share<Acc>,
+    pub(crate) deleted_of_no_desk: Share<Del>,
 }
 
 impl<Acc: Ledger, Del: Ledger> Model for Catalogue<Acc, Del> {
@@ -50,17 +45,19 @@ impl<Acc: Ledger, Del: Ledger> Model for Catalogue<Acc, Del> {
 
     ghost view = { λ c. state_of c.schemas c.frames.items c.views.items c.tables.items };
 
-    ghost invariant = { λ c. IsCatalogue (state_of c.schemas c.frames.items c.views.items c.tables.items)
+    ghost invariant = { λ c.
+        IsCatalogue (state_of c.schemas c.frames.items c.views.items c.tables.items)
         (length c.views.items) (length c.tables.items) c.accepted.total c.deleted.total
-        (c.spare_accepted.parts, c.spare_accepted.amount) (c.spare_deleted.parts, c.spare_deleted.amount) };
+        (c.accepted_of_no_desk.parts, c.accepted_of_no_desk.amount)
+        (c.deleted_of_no_desk.parts, c.deleted_of_no_desk.amount) };
 }
 
 impl<Acc: Ledger, Del: Ledger> Catalogue<Acc, Del> {
-    /// A catalogue of empty frames with these schemas, and the first desk of each frame, in order. Each
-    /// desk has 65,536 parts of both ledgers; the parts of no desk stay here.
+    /// A catalogue of empty frames with these schemas, and the first desk of each frame, in order.
+    /// Each desk has 65,536 parts of both ledgers; the parts of no desk stay here.
     ///
-    /// Refused are, in this order: more than 8 frames; a frame with a column of another type than Int,
-    /// Text and Bool (the least such index is named); the refusal of memory.
+    /// Refused are, in this order: more than 8 frames; a frame with a column of another type than
+    /// Int, Text and Bool (the least such index is named); the refusal of memory.
     pub fn new(
         alloc: Global,
         accepted: Blank,
@@ -68,25 +65,29 @@ impl<Acc: Ledger, Del: Ledger> Catalogue<Acc, Del> {
         schemas: List<Schema>,
     ) -> Result<(Catalogue<Acc, Del>, Vec<Desk<Acc, Del>>), NewFault>
         requires accepted_name { accepted.name ≡ Acc.name }
-        requires accepted_parts { (accepted.parts ≡ Acc.parts) × (accepted.parts ≡ 524288) }
+        requires accepted_parts { (accepted.parts ≡ Acc.parts)
+            × (accepted.parts ≡ ledgers.parts_of_ledger) }
         requires deleted_name { deleted.name ≡ Del.name }
-        requires deleted_parts { (deleted.parts ≡ Del.parts) × (deleted.parts ≡ 524288) }
+        requires deleted_parts { (deleted.parts ≡ Del.parts)
+            × (deleted.parts ≡ ledgers.parts_of_ledger) }
         ensures sound { OnOk result (new_spec.new_fault schemas ≡ None) }
         ensures opening { IfOk result (λ made. made.0 ≡ opening_of schemas) }
         ensures legal { IfOk result (λ made. IsLegal made.0) }
-        ensures desks { IfOk result (λ made. made.1.items ≡ first_desks (length schemas)) }
-        ensures in_order { IfOk result (λ made. map (λ d. d.frame) made.1.items ≡ range_with_len 0 (length made.0.schemas)) }
-        ensures refused { IfErr result (λ fault. fault ≢ NewFault.Memory → new_spec.new_fault schemas ≡ Some fault) }
+        ensures desks { IfOk result (λ made.
+            made.1.items ≡ desks_spec.first_desks (length schemas)) }
+        ensures in_order { IfOk result (λ made. desks_spec.AreInOrder made.1.items made.0) }
+        ensures refused { IfErr result (λ fault. fault ≢ NewFault.Memory →
+            new_spec.new_fault schemas ≡ Some fault) }
     {
         check_schemas(schemas.as_slice())?;
         let frames = empty_frames(alloc, schemas.len())?;
-        let (accepted, mut spare_accepted) = accepted.open::<Acc>();
-        let (deleted, mut spare_deleted) = deleted.open::<Del>();
+        let (accepted, mut accepted_of_no_desk) = accepted.open::<Acc>();
+        let (deleted, mut deleted_of_no_desk) = deleted.open::<Del>();
         let desks = open_desks(
             alloc,
             schemas.len(),
-            &mut spare_accepted,
-            &mut spare_deleted,
+            &mut accepted_of_no_desk,
+            &mut deleted_of_no_desk,
         )?;
         let catalogue = Catalogue {
             schemas,
@@ -95,15 +96,15 @@ impl<Acc: Ledger, Del: Ledger> Catalogue<Acc, Del> {
             tables: Vec::new(alloc),
             accepted,
             deleted,
-            spare_accepted,
-            spare_deleted,
+            accepted_of_no_desk,
+            deleted_of_no_desk,
         };
         Ok((catalogue, desks))
     }
 
     /// The book of all rows that were accepted, over all frames.
     pub fn accepted_book(&self) -> &Book<Acc>
-        ensures total { result.now.total ≡ accepted_in self.now }
+        ensures total { result.now.total ≡ desks_spec.accepted_in self.now }
         ensures legal { IsLegal self.now }
     {
         &self.accepted
@@ -111,27 +112,31 @@ impl<Acc: Ledger, Del: Ledger> Catalogue<Acc, Del> {
 
     /// The book of all rows that were deleted, over all frames.
     pub fn deleted_book(&self) -> &Book<Del>
-        ensures total { result.now.total ≡ deleted_in self.now }
+        ensures total { result.now.total ≡ desks_spec.deleted_in self.now }
         ensures legal { IsLegal self.now }
     {
         &self.deleted
     }
 
-    /// Tells that no more was accepted and deleted through a desk than over all frames, of which each
-    /// accepts at most 1,048,576 rows.
+    /// Tells that no more was accepted and deleted through a desk than over all frames, of which
+    /// each accepts at most 1,048,576 rows.
     pub fn audit(&mut self, desk: &mut Desk<Acc, Del>)
         ensures same { self.new ≡ self.old }
         ensures desk { desk.new ≡ desk.old }
-        ensures accepted { desk.new.accepted ≤ accepted_in self.new }
-        ensures deleted { desk.new.deleted ≤ deleted_in self.new }
-        ensures few { (accepted_in self.new ≤ 8388608) × (deleted_in self.new ≤ 8388608) }
+        ensures accepted { desk.new.accepted ≤ desks_spec.accepted_in self.new }
+        ensures deleted { desk.new.deleted ≤ desks_spec.deleted_in self.new }
+        ensures few_accepted { desks_spec.accepted_in self.new
+            ≤ limits.most_frames * limits.most_rows_of_frame }
+        ensures few_deleted { desks_spec.deleted_in self.new
+            ≤ limits.most_frames * limits.most_rows_of_frame }
     {
         desk.audit(&mut self.accepted, &mut self.deleted);
     }
 }
 
 fn check_schemas(schemas: &[Schema]) -> Result<(), NewFault>
-    ensures { MatchResult result (λ _. new_spec.new_fault schemas.now ≡ None) (λ f. new_spec.new_fault schemas.now ≡ Some f) }
+    ensures { MatchResult result (λ _. new_spec.new_fault schemas.now ≡ None)
+        (λ f. new_spec.new_fault schemas.now ≡ Some f) }
 {
     if schemas.len() > MOST_FRAMES {
         return Err(NewFault::TooManyFrames);
@@ -158,13 +163,16 @@ fn open_desks<Acc: Ledger, Del: Ledger>(
     accepted: &mut Share<Acc>,
     deleted: &mut Share<Del>,
 ) -> Result<Vec<Desk<Acc, Del>>, AllocError>
-    requires few { count ≤ 8 }
-    requires ledgers { (Acc.parts ≡ 524288) × (Del.parts ≡ 524288) }
-    requires accepted { (accepted.old.parts ≡ 524288) × (accepted.old.amount ≡ 0) }
-    requires deleted { (deleted.old.parts ≡ 524288) × (deleted.old.amount ≡ 0) }
-    ensures desks { IfOk result (λ desks. desks.items ≡ first_desks count) }
-    ensures accepted { OnOk result ((accepted.new.parts ≡ spare_parts count) × (accepted.new.amount ≡ 0)) }
-    ensures deleted { OnOk result ((deleted.new.parts ≡ spare_parts count) × (deleted.new.amount ≡ 0)) }
+    requires few { count ≤ limits.most_frames }
+    requires accepted_ledger { Acc.parts ≡ ledgers.parts_of_ledger }
+    requires deleted_ledger { Del.parts ≡ ledgers.parts_of_ledger }
+    requires accepted { (accepted.old.parts ≡ ledgers.parts_of_ledger) × (accepted.old.amount ≡ 0) }
+    requires deleted { (deleted.old.parts ≡ ledgers.parts_of_ledger) × (deleted.old.amount ≡ 0) }
+    ensures desks { IfOk result (λ desks. desks.items ≡ desks_spec.first_desks count) }
+    ensures accepted_parts { OnOk result (accepted.new.parts ≡ desks_spec.parts_of_no_desk count) }
+    ensures accepted_amount { OnOk result (accepted.new.amount ≡ 0) }
+    ensures deleted_parts { OnOk result (deleted.new.parts ≡ desks_spec.parts_of_no_desk count) }
+    ensures deleted_amount { OnOk result (deleted.new.amount ≡ 0) }
 {
     let mut desks = Vec::with_capacity(alloc, count)?;
     for frame in 0..count {

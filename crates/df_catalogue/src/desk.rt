@@ -1,7 +1,9 @@
 //! Desks: what was accepted and deleted through them, as shares of the ledgers over all frames.
-ghost use Rattle.std.specs.Prelude.{◌≡◌, ◌≢◌, ◌+◌, ◌<◌, ◌≤◌, ◌^◌, ◌↔◌, false, true, IfErr, IfNone, IfSome, IsNone, OnOk, OnSome};
+ghost use Rattle.std.specs.Prelude.{◌≡◌, ◌+◌, ◌<◌, ◌≤◌, ◌^◌, ◌↔◌, false, true};
+ghost use Rattle.std.specs.Prelude.{IfErr, IfNone, IfSome, IsNone, OnOk};
 ghost use Rattle.df_catalogue.specs.Desks as desks;
-ghost use Rattle.df_catalogue.specs.Desks.{first_desk, given_half, having_accepted, having_deleted, joined_desk, kept_half};
+ghost use Rattle.df_catalogue.specs.Ledgers as ledgers;
+ghost use Rattle.df_value.specs.Limits as limits;
 
 use std::marker::Model;
 use std::sync::ledger::{Book, Ledger, Share};
@@ -9,10 +11,11 @@ use std::sync::ledger::{Book, Ledger, Share};
 /// The parts of each ledger that the first desk of a frame has.
 pub const PARTS_OF_FIRST_DESK: u64 = 65_536;
 
-/// The right to change one frame, with the numbers of rows that were accepted and deleted through it.
+/// The right to change one frame, with the numbers of rows that were accepted and deleted through
+/// it.
 ///
-/// The numbers are shares of two ledgers, whose books the catalogue keeps. A desk has as many parts of
-/// the one as of the other, at least one.
+/// The numbers are shares of two ledgers, whose books the catalogue keeps. A desk has as many parts
+/// of the one as of the other, at least one.
 #[derive(Drop)]
 pub struct Desk<Acc: Ledger, Del: Ledger> {
     frame: usize,
@@ -29,10 +32,12 @@ impl<Acc: Ledger, Del: Ledger> Model for Desk<Acc, Del> {
 
     ghost Value = { DeskParts };
 
-    ghost view = { λ d. record { frame = d.frame; accepted = d.accepted; deleted = d.deleted; parts = d.parts } };
+    ghost view = { λ d.
+        record { frame = d.frame; accepted = d.accepted; deleted = d.deleted; parts = d.parts } };
 
     ghost invariant = { λ d. IsDesk d.frame d.accepted d.deleted d.parts (Acc.parts, Del.parts)
-        (d.accepted_share.parts, d.accepted_share.amount) (d.deleted_share.parts, d.deleted_share.amount) };
+        (d.accepted_share.parts, d.accepted_share.amount)
+        (d.deleted_share.parts, d.deleted_share.amount) };
 }
 
 impl<Acc: Ledger, Del: Ledger> Desk<Acc, Del> {
@@ -42,14 +47,19 @@ impl<Acc: Ledger, Del: Ledger> Desk<Acc, Del> {
         accepted: &mut Share<Acc>,
         deleted: &mut Share<Del>,
     ) -> Desk<Acc, Del>
-        requires within { frame < 8 }
-        requires ledgers { (Acc.parts ≡ 524288) × (Del.parts ≡ 524288) }
-        requires accepted { (65536 ≤ accepted.old.parts) × (accepted.old.amount ≡ 0) }
-        requires deleted { (65536 ≤ deleted.old.parts) × (deleted.old.amount ≡ 0) }
-        ensures desk { result ≡ first_desk frame }
-        ensures accepted_parts { accepted.new.parts + 65536 ≡ accepted.old.parts }
+        requires within { frame < limits.most_frames }
+        requires accepted_ledger { Acc.parts ≡ ledgers.parts_of_ledger }
+        requires deleted_ledger { Del.parts ≡ ledgers.parts_of_ledger }
+        requires accepted_parts { ledgers.parts_of_first_desk ≤ accepted.old.parts }
+        requires accepted_amount { accepted.old.amount ≡ 0 }
+        requires deleted_parts { ledgers.parts_of_first_desk ≤ deleted.old.parts }
+        requires deleted_amount { deleted.old.amount ≡ 0 }
+        ensures desk { result ≡ desks.first_desk frame }
+        ensures accepted_parts { accepted.new.parts + ledgers.parts_of_first_desk
+            ≡ accepted.old.parts }
         ensures accepted_amount { accepted.new.amount ≡ 0 }
-        ensures deleted_parts { deleted.new.parts + 65536 ≡ deleted.old.parts }
+        ensures deleted_parts { deleted.new.parts + ledgers.parts_of_first_desk
+            ≡ deleted.old.parts }
         ensures deleted_amount { deleted.new.amount ≡ 0 }
     {
         Desk {
@@ -65,7 +75,7 @@ impl<Acc: Ledger, Del: Ledger> Desk<Acc, Del> {
     /// The index of the frame.
     pub fn frame(&self) -> usize
         ensures value { result ≡ self.now.frame }
-        ensures within { result < 8 }
+        ensures within { result < limits.most_frames }
     {
         self.frame
     }
@@ -88,18 +98,17 @@ impl<Acc: Ledger, Del: Ledger> Desk<Acc, Del> {
     pub fn parts(&self) -> u64
         ensures value { result ≡ self.now.parts }
         ensures some { 0 < result }
-        ensures most { result ≤ 524288 }
+        ensures most { result ≤ ledgers.parts_of_ledger }
     {
         self.parts
     }
 
-    /// A second desk of the frame, with nothing accepted or deleted yet and half of the parts, rounded
-    /// down. None, and no change, exactly where the desk has one part.
+    /// A second desk of the frame, with nothing accepted or deleted yet and half of the parts,
+    /// rounded down. None, and no change, exactly where the desk has one part.
     pub fn split(&mut self) -> Option<Desk<Acc, Del>>
         ensures one_part { IsNone result ↔ (self.old.parts ≡ 1) }
         ensures same { IfNone result (self.new ≡ self.old) }
-        ensures given { IfSome result (λ desk. desk ≡ given_half self.old) }
-        ensures kept { OnSome result (self.new ≡ kept_half self.old) }
+        ensures halves { IfSome result (desks.IsSplit self.old self.new) }
     {
         let half = self.parts / 2;
         if half == 0 {
@@ -120,7 +129,7 @@ impl<Acc: Ledger, Del: Ledger> Desk<Acc, Del> {
     /// one with which an amount passed 64 bits: no desk of this catalogue is refused so, as
     /// [`audit`](crate::Catalogue::audit) tells.
     pub fn join(&mut self, other: Desk<Acc, Del>) -> Result<(), Desk<Acc, Del>>
-        ensures joined_desk { OnOk result (self.new ≡ joined_desk self.old other) }
+        ensures joined { OnOk result (self.new ≡ desks.joined_desk self.old other) }
         ensures back { IfErr result (λ desk. desk ≡ other) }
         ensures same { IfErr result (λ _. self.new ≡ self.old) }
         ensures refused { IfErr result (λ _. desks.may_join self.old other ≡ false) }
@@ -156,7 +165,7 @@ impl<Acc: Ledger, Del: Ledger> Desk<Acc, Del> {
     /// Books so many accepted rows.
     pub(crate) fn count_accepted(&mut self, book: &mut Book<Acc>, rows: u64)
         requires { book.old.total + rows < 2 ^ 64 }
-        ensures desk { self.new ≡ having_accepted rows self.old }
+        ensures desk { self.new ≡ record self.old { accepted = self.old.accepted + rows } }
         ensures book { book.new.total ≡ book.old.total + rows }
     {
         book.audit(&mut self.accepted_share);
@@ -167,7 +176,7 @@ impl<Acc: Ledger, Del: Ledger> Desk<Acc, Del> {
     /// Books so many deleted rows.
     pub(crate) fn count_deleted(&mut self, book: &mut Book<Del>, rows: u64)
         requires { book.old.total + rows < 2 ^ 64 }
-        ensures desk { self.new ≡ having_deleted rows self.old }
+        ensures desk { self.new ≡ record self.old { deleted = self.old.deleted + rows } }
         ensures book { book.new.total ≡ book.old.total + rows }
     {
         book.audit(&mut self.deleted_share);

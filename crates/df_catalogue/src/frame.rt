@@ -2,6 +2,8 @@
 ghost use Rattle.std.specs.Prelude.{◌≡◌, ◌≤◌, [], None, IfOk, false, length};
 ghost use Rattle.df_catalogue.specs.Frames as frames;
 ghost use Rattle.df_catalogue.specs.Frames.{IsNumbered, numbers_of, rows_of};
+ghost use Rattle.df_catalogue.specs.FrameChanges as frame_changes;
+ghost use Rattle.df_value.specs.Limits as limits;
 ghost use Rattle.df_catalogue.specs.States.{empty_frame};
 ghost use Rattle.df_catalogue.specs.Refusals as refusals;
 ghost use Rattle.df_catalogue.specs.Refusals.{doubled_number_after};
@@ -9,13 +11,11 @@ ghost use Rattle.df_catalogue.specs.Refusals.{doubled_number_after};
 use crate::copies::{
     Numbered, copy_below, copy_from, copy_numbered, copy_numbers, copy_others, copy_rows,
 };
+use crate::frame_change::FrameChange;
 use crate::ranges::Ranges;
-use df_value::{Chunk, Duplicate, List, Row};
+use df_value::{Chunk, Duplicate, List, MOST_ROWS_OF_FRAME, Row};
 use std::alloc::{AllocError, Global};
 use std::marker::Model;
-
-/// The most numbers that a frame accepts.
-pub const MOST_ROWS: u64 = 1_048_576;
 
 /// Rows by rising number, the numbers that were accepted, and how many were accepted and deleted.
 #[derive(Drop)]
@@ -95,11 +95,11 @@ impl Frame {
 
     /// Whether more than 1,048,576 numbers would have been accepted with the chunk.
     pub fn would_be_full(&self, chunk: &Chunk) -> bool
-        requires { length self.now.accepted ≤ 1048576 }
+        requires { length self.now.accepted ≤ limits.most_rows_of_frame }
         ensures { result ≡ refusals.would_be_full self.now chunk.now }
     {
         let rows = chunk.rows();
-        self.accepted() + rows.len() as u64 > MOST_ROWS
+        self.accepted() + rows.len() as u64 > MOST_ROWS_OF_FRAME as u64
     }
 
     /// Whether there is a row of this number.
@@ -116,8 +116,20 @@ impl Frame {
         numbers.iter().copied().find(|n| !self.has_row(*n))
     }
 
-    /// The frame once it has accepted the chunk, none of whose numbers it has accepted yet.
-    pub fn with_chunk(&self, alloc: Global, chunk: &Chunk) -> Result<Frame, AllocError>
+    /// The frame after a change that nothing in it refuses.
+    pub fn changed(&self, alloc: Global, change: FrameChange) -> Result<Frame, AllocError>
+        requires sound { IsNumbered self.now }
+        requires free { frame_changes.FrameTakes self.now change }
+        ensures { IfOk result (λ frame. frame ≡ frame_changes.frame_after self.now change.entry) }
+    {
+        match change {
+            FrameChange::Append(chunk) => self.with_chunk(alloc, chunk),
+            FrameChange::Delete(numbers) => self.without_rows(alloc, numbers),
+        }
+    }
+
+    // The frame once it has accepted the chunk, none of whose numbers it has accepted yet.
+    fn with_chunk(&self, alloc: Global, chunk: &Chunk) -> Result<Frame, AllocError>
         requires sound { IsNumbered self.now }
         requires room { refusals.would_be_full self.now chunk.now ≡ false }
         requires free { refusals.first_taken self.now chunk.now ≡ None }
@@ -138,8 +150,9 @@ impl Frame {
         })
     }
 
-    /// The frame without the rows of these numbers, each of which stands once in the list and has a row.
-    pub fn without_rows(&self, alloc: Global, numbers: &[u32]) -> Result<Frame, AllocError>
+    // The frame without the rows of these numbers, each of which stands once in the list and has a
+    // row.
+    fn without_rows(&self, alloc: Global, numbers: &[u32]) -> Result<Frame, AllocError>
         requires sound { IsNumbered self.now }
         requires once { doubled_number_after [] numbers.now ≡ None }
         requires live { refusals.first_not_live self.now numbers.now ≡ None }

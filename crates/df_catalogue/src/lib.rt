@@ -6,8 +6,9 @@
 //! a frame is made through a [`Desk`] of it, which counts what was accepted and deleted through it.
 //!
 //! To add a change: a variant of [`Change`], its reasons in specs/Refusals.antt, what it makes of frames and
-//! views in specs/Changes.antt, and how it moves a desk in specs/Desks.antt; its check in checks.rt, its call in
-//! changing.rt, its arm in replay.rt; that it keeps a state legal in proofs/Legal.antt.
+//! views and how many rows come and go in specs/Changes.antt; where it changes a frame's rows, its variant in
+//! frame_change.rt; its check in checks.rt, its call in changing.rt, its arm in replay.rt; that it keeps a state
+//! legal in proofs/Legal.antt.
 #![tactic(auto)]
 
 mod catalogue;
@@ -18,6 +19,7 @@ mod copies;
 mod desk;
 mod fault;
 mod frame;
+mod frame_change;
 mod ranges;
 mod reading;
 mod replay;
@@ -25,9 +27,8 @@ mod schemas;
 mod state;
 mod views;
 
-pub use catalogue::{Catalogue, MOST_FRAMES, MOST_VIEWS};
+pub use catalogue::Catalogue;
 pub use change::Change;
 pub use desk::Desk;
 pub use fault::{CatalogueFault, NewFault};
-pub use frame::MOST_ROWS;
 pub use state::{FrameState, State, ViewState};

@@ -3,6 +3,7 @@
 ghost use Rattle.std.specs.Prelude.{◌≡◌, IfOk, OnOk, flat_map, map};
 ghost use Rattle.std.specs.List.{enumerate_from, zip};
 ghost use Rattle.df_shell.specs.Opening.{AreMade, empty_state, frame_appends, opening_changes, piece_appends, registration};
+ghost use Rattle.df_catalogue.specs.Ledgers as ledgers;
 
 use crate::definitions::Definitions;
 use crate::fault::ShellFault;
@@ -22,9 +23,11 @@ pub fn open_store<Acc: Ledger, Del: Ledger>(
     pieces: List<List<Piece>>,
 ) -> Result<Store<Acc, Del>, ShellFault>
     requires accepted_name { accepted.name ≡ Acc.name }
-    requires accepted_parts { (accepted.parts ≡ Acc.parts) × (accepted.parts ≡ 524288) }
+    requires accepted_parts { (accepted.parts ≡ Acc.parts)
+        × (accepted.parts ≡ ledgers.parts_of_ledger) }
     requires deleted_name { deleted.name ≡ Del.name }
-    requires deleted_parts { (deleted.parts ≡ Del.parts) × (deleted.parts ≡ 524288) }
+    requires deleted_parts { (deleted.parts ≡ Del.parts)
+        × (deleted.parts ≡ ledgers.parts_of_ledger) }
     ensures { IfOk result
         (λ store. AreMade (empty_state definitions.now) store.catalogue
         (opening_changes definitions.now pieces)) }

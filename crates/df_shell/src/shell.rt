@@ -1,5 +1,6 @@
 //! The shell: from a document and the lines of input to the answers.
 ghost use Rattle.std.specs.Prelude.{◌≡◌, length};
+ghost use Rattle.df_catalogue.specs.Ledgers as ledgers;
 
 use crate::answering::answer_line;
 use crate::definitions::Definitions;
@@ -57,9 +58,11 @@ fn serve<Acc: Ledger, Del: Ledger, I: BufRead, W: Write>(
     output: &mut W,
 ) -> Result<(), ShellFault>
     requires accepted_name { accepted.name ≡ Acc.name }
-    requires accepted_parts { (accepted.parts ≡ Acc.parts) × (accepted.parts ≡ 524288) }
+    requires accepted_parts { (accepted.parts ≡ Acc.parts)
+        × (accepted.parts ≡ ledgers.parts_of_ledger) }
     requires deleted_name { deleted.name ≡ Del.name }
-    requires deleted_parts { (deleted.parts ≡ Del.parts) × (deleted.parts ≡ 524288) }
+    requires deleted_parts { (deleted.parts ≡ Del.parts)
+        × (deleted.parts ≡ ledgers.parts_of_ledger) }
     requires pieces { length opened.pieces ≡ length opened.document.frames }
 {
     let frames = opened.document.frames.as_slice();
@@ -85,9 +88,11 @@ fn open_session<Acc: Ledger, Del: Ledger>(
     opened: OpenedDocument,
 ) -> Result<Session<Acc, Del>, ShellFault>
     requires accepted_name { accepted.name ≡ Acc.name }
-    requires accepted_parts { (accepted.parts ≡ Acc.parts) × (accepted.parts ≡ 524288) }
+    requires accepted_parts { (accepted.parts ≡ Acc.parts)
+        × (accepted.parts ≡ ledgers.parts_of_ledger) }
     requires deleted_name { deleted.name ≡ Del.name }
-    requires deleted_parts { (deleted.parts ≡ Del.parts) × (deleted.parts ≡ 524288) }
+    requires deleted_parts { (deleted.parts ≡ Del.parts)
+        × (deleted.parts ≡ ledgers.parts_of_ledger) }
 {
     let OpenedDocument {
         document,

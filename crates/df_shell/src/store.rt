@@ -1,6 +1,6 @@
 //! The catalogue behind a shell.
-ghost use Rattle.std.specs.Prelude.{◌≡◌, IfErr, OnErr, OnOk, length, map};
-ghost use Rattle.std.specs.List.{range_with_len};
+ghost use Rattle.std.specs.Prelude.{◌≡◌, IfErr, OnErr, OnOk};
+ghost use Rattle.df_catalogue.specs.Desks.{AreInOrder};
 ghost use Rattle.df_catalogue.specs.States.{IsLegal};
 ghost use Rattle.df_shell.specs.Changes as changes_spec;
 ghost use Rattle.df_shell.specs.Changes.{IsMade, IsRefusal};
@@ -15,8 +15,7 @@ use std::sync::ledger::Ledger;
 pub struct Store<Acc: Ledger, Del: Ledger> {
     pub catalogue: Catalogue<Acc, Del>,
     pub desks: Vec<Desk<Acc, Del>>,
-    ghost in_order: { map (λ d. d.frame) desks.items
-        ≡ range_with_len 0 (length catalogue.schemas) },
+    ghost in_order: { AreInOrder desks.items catalogue },
 }
 
 impl<Acc: Ledger, Del: Ledger> Store<Acc, Del> {

@@ -1,5 +1,6 @@
 //! Desks: shares and parts.
 ghost use Rattle.std.specs.Prelude.{◌≡◌};
+ghost use Rattle.df_catalogue.specs.Ledgers as ledgers;
 
 use crate::given::chunk;
 use crate::openings::{PARTS, books, opened};
@@ -52,9 +53,11 @@ fn shared<Acc: Ledger, Del: Ledger, R: Abort>(
     deleted: Blank,
 ) -> Result<(), Fail>
     requires accepted_name { accepted.name ≡ Acc.name }
-    requires accepted_parts { (accepted.parts ≡ Acc.parts) × (accepted.parts ≡ 524288) }
+    requires accepted_parts { (accepted.parts ≡ Acc.parts)
+        × (accepted.parts ≡ ledgers.parts_of_ledger) }
     requires deleted_name { deleted.name ≡ Del.name }
-    requires deleted_parts { (deleted.parts ≡ Del.parts) × (deleted.parts ≡ 524288) }
+    requires deleted_parts { (deleted.parts ≡ Del.parts)
+        × (deleted.parts ≡ ledgers.parts_of_ledger) }
 {
     let (mut catalogue, mut desks) = opened::<Acc, Del>(alloc, accepted, deleted, &[Int, Int])?;
     let foreign = desks.pop().ok_or("a desk of the second frame")?;

@@ -1,6 +1,7 @@
 //! What a catalogue is opened with: its frames, and a desk for each.
-ghost use Rattle.std.specs.Prelude.{◌≡◌, IfOk, length, map};
-ghost use Rattle.std.specs.List.{range_with_len};
+ghost use Rattle.std.specs.Prelude.{◌≡◌, IfOk};
+ghost use Rattle.df_catalogue.specs.Desks.{AreInOrder};
+ghost use Rattle.df_catalogue.specs.Ledgers as ledgers;
 
 use crate::given::schemas;
 use df_catalogue::{Catalogue, Desk, NewFault};
@@ -25,11 +26,12 @@ pub fn opened<Acc: Ledger, Del: Ledger>(
     kinds: &[CellType],
 ) -> Result<Opened<Acc, Del>, NewFault>
     requires accepted_name { accepted.name ≡ Acc.name }
-    requires accepted_parts { (accepted.parts ≡ Acc.parts) × (accepted.parts ≡ 524288) }
+    requires accepted_parts { (accepted.parts ≡ Acc.parts)
+        × (accepted.parts ≡ ledgers.parts_of_ledger) }
     requires deleted_name { deleted.name ≡ Del.name }
-    requires deleted_parts { (deleted.parts ≡ Del.parts) × (deleted.parts ≡ 524288) }
-    ensures { IfOk result
-        (λ made. map (λ d. d.frame) made.1.items ≡ range_with_len 0 (length made.0.schemas)) }
+    requires deleted_parts { (deleted.parts ≡ Del.parts)
+        × (deleted.parts ≡ ledgers.parts_of_ledger) }
+    ensures { IfOk result (λ made. AreInOrder made.1.items made.0) }
 {
     Catalogue::new(alloc, accepted, deleted, schemas(alloc, kinds)?)
 }
@@ -53,9 +55,11 @@ fn fault_of_new<Acc: Ledger, Del: Ledger>(
     kinds: &[CellType],
 ) -> Option<NewFault>
     requires accepted_name { accepted.name ≡ Acc.name }
-    requires accepted_parts { (accepted.parts ≡ Acc.parts) × (accepted.parts ≡ 524288) }
+    requires accepted_parts { (accepted.parts ≡ Acc.parts)
+        × (accepted.parts ≡ ledgers.parts_of_ledger) }
     requires deleted_name { deleted.name ≡ Del.name }
-    requires deleted_parts { (deleted.parts ≡ Del.parts) × (deleted.parts ≡ 524288) }
+    requires deleted_parts { (deleted.parts ≡ Del.parts)
+        × (deleted.parts ≡ ledgers.parts_of_ledger) }
 {
     opened::<Acc, Del>(alloc, accepted, deleted, kinds).err()
 }
@@ -93,9 +97,11 @@ fn opening<Acc: Ledger, Del: Ledger, R: Abort>(
     deleted: Blank,
 ) -> Result<(), Fail>
     requires accepted_name { accepted.name ≡ Acc.name }
-    requires accepted_parts { (accepted.parts ≡ Acc.parts) × (accepted.parts ≡ 524288) }
+    requires accepted_parts { (accepted.parts ≡ Acc.parts)
+        × (accepted.parts ≡ ledgers.parts_of_ledger) }
     requires deleted_name { deleted.name ≡ Del.name }
-    requires deleted_parts { (deleted.parts ≡ Del.parts) × (deleted.parts ≡ 524288) }
+    requires deleted_parts { (deleted.parts ≡ Del.parts)
+        × (deleted.parts ≡ ledgers.parts_of_ledger) }
 {
     let (catalogue, desks) = opened::<Acc, Del>(alloc, accepted, deleted, &[Int; 8])?;
     assert!(rt; desks.len() == 8);

@@ -1,5 +1,6 @@
 //! The most views, and the order in which one more is refused.
 ghost use Rattle.std.specs.Prelude.{◌≡◌};
+ghost use Rattle.df_catalogue.specs.Ledgers as ledgers;
 
 use crate::given::scan;
 use crate::openings::{PARTS, opened};
@@ -41,9 +42,11 @@ fn crowded<Acc: Ledger, Del: Ledger, R: Abort>(
     deleted: Blank,
 ) -> Result<(), Fail>
     requires accepted_name { accepted.name ≡ Acc.name }
-    requires accepted_parts { (accepted.parts ≡ Acc.parts) × (accepted.parts ≡ 524288) }
+    requires accepted_parts { (accepted.parts ≡ Acc.parts)
+        × (accepted.parts ≡ ledgers.parts_of_ledger) }
     requires deleted_name { deleted.name ≡ Del.name }
-    requires deleted_parts { (deleted.parts ≡ Del.parts) × (deleted.parts ≡ 524288) }
+    requires deleted_parts { (deleted.parts ≡ Del.parts)
+        × (deleted.parts ≡ ledgers.parts_of_ledger) }
 {
     let (mut catalogue, _desks) = opened::<Acc, Del>(alloc, accepted, deleted, ONE_FRAME)?;
     for name in NAMES {

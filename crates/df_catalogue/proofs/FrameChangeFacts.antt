@@ -1,0 +1,203 @@
+-- What a catalogue's parts are after a change of one frame that is not refused: the parts of the state after it, and sound.
+use Rattle.std.proofs.Common.{◌≡◌, ℕ, ◌+◌, ◌<◌, ◌∙◌, List, [], ◌∷◌, map, length, refl, ap, sym, subst, arith, get_or}
+use Rattle.std.specs.Prelude.{IsTrue, Option, Some, None, Result, option_map, slice_get, slice_index_or, slice_set}
+use Rattle.std.proofs.lemmas.Result.{on_err_weaker, on_ok_weaker}
+use Rattle.std.proofs.lemmas.List.{set-get_or}
+use Rattle.std.proofs.lemmas.Option.{slice_get_read, slice_get_within}
+use Rattle.std.proofs.lemmas.List.{length-map}
+use Rattle.df_value.specs.declared.cell.Cell.{Cell}
+use Rattle.df_value.specs.declared.cell.CellType.{CellType}
+use Rattle.df_value.specs.Chunks.{ChunkParts}
+use Rattle.df_catalogue.specs.declared.state.State.{State}
+use Rattle.df_catalogue.specs.declared.state.FrameState.{FrameState}
+use Rattle.df_catalogue.specs.declared.views.View.{View}
+use Rattle.df_catalogue.specs.declared.frame_change.FrameChange.{FrameChange}
+use Rattle.df_catalogue.specs.declared.frame_change.FrameChange.TheVariants.{Append, Delete}
+use Rattle.df_catalogue.specs.declared.fault.CatalogueFault.{CatalogueFault}
+use Rattle.df_catalogue.specs.declared.fault.CatalogueFault.TheVariants as fault
+use Rattle.df_catalogue.specs.Answers.{takes_memory}
+use Rattle.df_catalogue.specs.Changes.{accepted_rows, after, change_at, deleted_rows, refreshed_views, IsSound}
+use Rattle.df_catalogue.specs.Desks.{DeskParts, accepted_in, deleted_in, desk_after, desks_after}
+use Rattle.df_catalogue.specs.FrameChanges.{change_of, frame_after, FrameTakes}
+use Rattle.df_catalogue.specs.Frames.{IsNumbered}
+use Rattle.df_catalogue.specs.Parts.{state_of, IsCatalogue}
+use Rattle.df_catalogue.specs.Refusals.{refusal_of, append_refusal, delete_refusal, first_reason, doubled_number_after, first_not_live}
+use Rattle.df_catalogue.specs.States.{value_over, IsLegal}
+use Rattle.df_catalogue.specs.Transitions.{IsTransitionOfDesk, IsTransitionOfDesks}
+use Rattle.df_catalogue.proofs.Counting.{accepted-few, deleted-few, deleted-more, sum-change}
+use Rattle.df_catalogue.proofs.FrameFacts.{accepted-more, numbered-at}
+use Rattle.df_catalogue.proofs.Legal.{append-accepted, legal-after}
+use Rattle.df_catalogue.proofs.StateFacts.{change-set, state-frames}
+
+abbrev Columns : Type 0
+Columns = List (List ℕ × CellType)
+
+abbrev Rows : Type 0
+Rows = List (List Cell)
+
+append-there :
+    (c : ChunkParts) (o : Option Columns) (p : Option FrameState) → append_refusal c o p ≡ None →
+    (schema : Columns) × (frame : FrameState) × (o ≡ Some schema) × (p ≡ Some frame)
+append-there c None p h = cc
+append-there c (Some schema) None h = cc
+append-there c (Some schema) (Some frame) h = (schema, frame, refl, refl)
+
+delete-there : (ns : List ℕ) (p : Option FrameState) → delete_refusal ns p ≡ None → (frame : FrameState) × (p ≡ Some frame)
+delete-there ns None h = cc
+delete-there ns (Some frame) h = (frame, refl)
+
+no-reason :
+    (o p : Option ℕ) → first_reason (option_map fault.Doubled o ∷ option_map fault.NotLive p ∷ []) ≡ None → (o ≡ None) × (p ≡ None)
+no-reason (Some n) p h = cc
+no-reason None (Some n) h = cc
+no-reason None None h = (refl, refl)
+
+-- what is known of the frame of a change that is not refused
+pub record IsChangeable (s : State) (f : ℕ) (c : FrameChange) (x : FrameState) : Type 0 where
+  pub within : f < length s.frames
+  pub at : slice_get s.frames f ≡ Some x
+  pub numbered : IsNumbered x
+  pub takes : FrameTakes x c
+
+changeable-at :
+    (s : State) (f : ℕ) (c : FrameChange) (x : FrameState) → IsLegal s → x ≡ get_or s.frames f x → f < length s.frames →
+    (slice_get s.frames f ≡ Some x → FrameTakes x c) → IsChangeable s f c x
+changeable-at s f c x h lent within takes =
+    let at : slice_get s.frames f ≡ Some x = slice_get_read s.frames (length s.frames) f x refl within lent in
+    record { within = within; at = at; numbered = numbered-at s.schemas s.frames f x h.frames at; takes = takes at }
+
+changeable :
+    (s : State) (f : ℕ) (c : FrameChange) (x : FrameState) → IsLegal s → refusal_of s (change_of f c) ≡ None →
+    x ≡ get_or s.frames f x → IsChangeable s f c x
+changeable s f (Append chunk) x h free lent =
+    let there = append-there chunk.now (slice_get s.schemas f) (slice_get s.frames f) free in
+    changeable-at s f (Append chunk) x h lent (slice_get_within s.frames f there.1 there.3) (λ at.
+    let known = append-accepted chunk.now there.0 x
+    (ap (λ o. append_refusal chunk.now o (Some x)) (sym there.2) ∙ (ap (append_refusal chunk.now (slice_get s.schemas f)) (sym at) ∙ free)) in
+    (known.1, known.2))
+changeable s f (Delete ns) x h free lent =
+    let there = delete-there ns.now (slice_get s.frames f) free in
+    changeable-at s f (Delete ns) x h lent (slice_get_within s.frames f there.0 there.1) (λ at.
+    no-reason (doubled_number_after [] ns.now) (first_not_live x ns.now) (ap (delete_refusal ns.now) (sym at) ∙ free))
+
+-- the same where the state and the frame have other names
+pub free-of :
+    (s t : State) (f g : ℕ) (c : FrameChange) → s ≡ t → f ≡ g → refusal_of t (change_of g c) ≡ None → refusal_of s (change_of f c) ≡ None
+free-of s t f g c same place free =
+    subst (λ u. refusal_of u (change_of f c) ≡ None) (sym same) (subst (λ i. refusal_of t (change_of i c) ≡ None) (sym place) free)
+
+pub changeable-of :
+    (s t : State) (f g : ℕ) (c : FrameChange) (x : FrameState) → s ≡ t → f ≡ g → IsLegal s → refusal_of t (change_of g c) ≡ None →
+    x ≡ get_or s.frames f x → IsChangeable s f c x
+changeable-of s t f g c x same place h free lent =
+    changeable s f c x h (free-of s t f g c same place free) lent
+
+-- such a change takes memory
+pub rows-take-memory : (f : ℕ) (c : FrameChange) → IsTrue (takes_memory (change_of f c))
+rows-take-memory f (Append chunk) = refl
+rows-take-memory f (Delete ns) = refl
+
+-- what it makes of a state
+after-frame :
+    (s : State) (f : ℕ) (c : FrameChange) →
+    let frames = change_at f (λ x. frame_after x c) s.frames in
+    after s (change_of f c) ≡ record { schemas = s.schemas; frames = frames; views = refreshed_views frames s.views }
+after-frame s f (Append chunk) = refl
+after-frame s f (Delete ns) = refl
+
+frame-accepted :
+    (f : ℕ) (c : FrameChange) (x : FrameState) → length (frame_after x c).accepted ≡ length x.accepted + accepted_rows (change_of f c)
+frame-accepted f (Append chunk) x = accepted-more chunk.now x
+frame-accepted f (Delete ns) x = omega arith
+
+frame-deleted :
+    (f : ℕ) (c : FrameChange) (x : FrameState) → IsNumbered x → FrameTakes x c →
+    length (frame_after x c).deleted ≡ length x.deleted + deleted_rows (change_of f c)
+frame-deleted f (Append chunk) x sound takes = omega arith
+frame-deleted f (Delete ns) x sound takes = deleted-more x ns.now sound takes.0 takes.1
+
+-- the desks of all frames, of which that at the frame's index counts the rows
+desks-counted :
+    (desks : List DeskParts) (f : ℕ) (c : FrameChange) → desks_after desks (change_of f c) ≡ change_at f (λ d. desk_after d (change_of f c)) desks
+desks-counted desks f (Append chunk) = refl
+desks-counted desks f (Delete ns) = refl
+
+pub desks-transition :
+    {T : Type 0} (desks : List DeskParts) (f : ℕ) (none : DeskParts) (c : FrameChange) (r : Result T CatalogueFault) (new : DeskParts) →
+    slice_get desks f ≡ Some (slice_index_or desks f none) → (slice_index_or desks f none).frame ≡ f →
+    IsTransitionOfDesk (slice_index_or desks f none) (change_of (slice_index_or desks f none).frame c) r new →
+    IsTransitionOfDesks desks (change_of f c) r (slice_set desks f new)
+desks-transition desks f none c r new at is h =
+    let d : DeskParts = slice_index_or desks f none in
+    let here : IsTransitionOfDesk d (change_of f c) r new = subst (λ i. IsTransitionOfDesk d (change_of i c) r new) is h in record {
+      counted =
+          on_ok_weaker r
+          (λ e. ap (slice_set desks f) e ∙ sym (desks-counted desks f c ∙ change-set (λ d. desk_after d (change_of f c)) desks f d at))
+          here.counted;
+      same = on_err_weaker r (λ e. ap (slice_set desks f) e ∙ set-get_or desks f none) here.same;
+    }
+
+-- how the books grow
+pub record IsBooked (s : State) (f : ℕ) (c : FrameChange) : Type 0 where
+  pub accepted : accepted_in (after s (change_of f c)) ≡ accepted_in s + accepted_rows (change_of f c)
+  pub deleted : deleted_in (after s (change_of f c)) ≡ deleted_in s + deleted_rows (change_of f c)
+
+booked : (s : State) (f : ℕ) (c : FrameChange) (x : FrameState) → IsChangeable s f c x → IsBooked s f c
+booked s f c x h =
+    let change : FrameState → FrameState = λ x. frame_after x c in record {
+      accepted =
+          ap accepted_in (after-frame s f c)
+          ∙ sum-change (λ y. length y.accepted) (accepted_rows (change_of f c)) f change s.frames x h.at (frame-accepted f c x);
+      deleted =
+          ap deleted_in (after-frame s f c)
+          ∙ sum-change (λ y. length y.deleted) (deleted_rows (change_of f c)) f change s.frames x h.at (frame-deleted f c x h.numbered h.takes);
+    }
+
+-- they have room for the rows
+pub record HasRoom (s : State) (f : ℕ) (c : FrameChange) : Type 0 where
+  pub accepted : accepted_in s + accepted_rows (change_of f c) < 18446744073709551616
+  pub deleted : deleted_in s + deleted_rows (change_of f c) < 18446744073709551616
+
+pub room :
+    (s : State) (f : ℕ) (c : FrameChange) (x : FrameState) → IsLegal s → IsSound (change_of f c) → refusal_of s (change_of f c) ≡ None →
+    IsChangeable s f c x → HasRoom s f c
+room s f c x h sound free known =
+    let new : State = after s (change_of f c) in
+    let legal : IsLegal new = legal-after s (change_of f c) h sound free in
+    let few = accepted-few new.schemas new.frames legal.frames in
+    let fewer = deleted-few new.schemas new.frames legal.frames in
+    let frames = legal.few_frames in
+    let books = booked s f c x known in
+    let accepted = books.accepted in
+    let deleted = books.deleted in
+    record { accepted = omega (arith, few, frames, accepted); deleted = omega (arith, few, fewer, frames, deleted) }
+
+-- the parts with the changed frame and the tables over it
+pub frame-changed :
+    (schemas : List Columns) (frames : List FrameState) (views : List View) (tables now : List Rows) (f : ℕ) (c : FrameChange) (x changed : FrameState)
+    (accepted deleted more_accepted more_deleted : ℕ) (of_accepted of_deleted : ℕ × ℕ) →
+    IsCatalogue (state_of schemas frames views tables) (length views) (length tables) accepted deleted of_accepted of_deleted →
+    IsSound (change_of f c) → refusal_of (state_of schemas frames views tables) (change_of f c) ≡ None →
+    IsChangeable (state_of schemas frames views tables) f c x → changed ≡ frame_after x c →
+    now ≡ map (λ v. value_over (slice_set frames f changed) v.plan) views →
+    more_accepted ≡ accepted + accepted_rows (change_of f c) → more_deleted ≡ deleted + deleted_rows (change_of f c) →
+    (state_of schemas (slice_set frames f changed) views now ≡ after (state_of schemas frames views tables) (change_of f c))
+    × IsCatalogue (state_of schemas (slice_set frames f changed) views now) (length views) (length now) more_accepted more_deleted of_accepted of_deleted
+frame-changed schemas frames views tables now f c x changed accepted deleted more_accepted more_deleted of_accepted of_deleted h sound free known is new counted gone =
+    let s : State = state_of schemas frames views tables in
+    let change : FrameState → FrameState = λ x. frame_after x c in
+    let new' : now ≡ map (λ v. value_over (slice_set frames f (change x)) v.plan) views = rw (← is) new in
+    let same : state_of schemas (slice_set frames f changed) views now ≡ after s (change_of f c) =
+    ap (λ y. state_of schemas (slice_set frames f y) views now) is
+    ∙ (state-frames schemas frames views tables now f change x known.at h.in_step new' ∙ sym (after-frame s f c)) in
+    let books = booked s f c x known in (
+      same,
+      record {
+        legal = subst IsLegal (sym same) (legal-after s (change_of f c) h.legal sound free);
+        in_step = sym (ap length new ∙ length-map views (λ v. value_over (slice_set frames f changed) v.plan));
+        books_accepted = counted ∙ (ap (λ n. n + accepted_rows (change_of f c)) h.books_accepted ∙ (sym books.accepted ∙ ap accepted_in (sym same)));
+        books_deleted = gone ∙ (ap (λ n. n + deleted_rows (change_of f c)) h.books_deleted ∙ (sym books.deleted ∙ ap deleted_in (sym same)));
+        accepted_of_no_desk = h.accepted_of_no_desk;
+        deleted_of_no_desk = h.deleted_of_no_desk;
+      },
+    )

@@ -1,0 +1,25 @@
+-- Changes of one frame's rows: which change of a catalogue each is, what it makes of the frame, and when the frame
+-- takes it.
+use Rattle.std.specs.Prelude.{◌≡◌, ℕ, [], None, false}
+use Rattle.df_catalogue.specs.declared.change.Change.{Change}
+use Rattle.df_catalogue.specs.declared.change.Change.TheVariants as change
+use Rattle.df_catalogue.specs.declared.frame_change.FrameChange.{FrameChange}
+use Rattle.df_catalogue.specs.declared.frame_change.FrameChange.TheVariants.{Append, Delete}
+use Rattle.df_catalogue.specs.declared.state.FrameState.{FrameState}
+use Rattle.df_catalogue.specs.Frames.{with_chunk, without_rows}
+use Rattle.df_catalogue.specs.Refusals.{doubled_number_after, first_not_live, first_taken, would_be_full}
+
+-- the change of the frame at an index
+abbrev pub change_of : ℕ → FrameChange → Change
+change_of f (Append chunk) = change.Append f chunk.now
+change_of f (Delete numbers) = change.Delete f numbers.now
+
+-- the frame after the change
+abbrev pub frame_after : FrameState → FrameChange → FrameState
+frame_after x (Append chunk) = with_chunk chunk.now x
+frame_after x (Delete numbers) = without_rows numbers.now x
+
+-- nothing in the frame refuses the change
+abbrev pub FrameTakes : FrameState → FrameChange → Type 0
+FrameTakes x (Append chunk) = (first_taken x chunk.now ≡ None) × (would_be_full x chunk.now ≡ false)
+FrameTakes x (Delete numbers) = (doubled_number_after [] numbers.now ≡ None) × (first_not_live x numbers.now ≡ None)
