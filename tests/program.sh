@@ -152,17 +152,23 @@ with listed.toml $'\xff'
 ended "an argument that is not UTF-8" 2 "" "error: an argument is not UTF-8
 "
 
-# Help names each word.
+# Help names each word and each status, and ends with a document that runs.
 for words in --help -h; do
   with /dev/null "$words"
   cases=$((cases + 1))
   if [ "$status" -ne 0 ] || [ -s err ] || ! grep -q '\[VIEWS\]' out || ! grep -q -e '--workers' out ||
-    ! grep -q -e '--chunk' out; then
+    ! grep -q -e '--chunk' out || [ "$(grep -c '^  [012]  ' out)" -ne 3 ]; then
     echo "differs at $words: status $status"
     cat out err
     wrong=$((wrong + 1))
   fi
 done
+sed '1,/^A document:$/d' out > of_help.toml
+with of_help.toml
+ended "the document of the help" 0 "sums (1 x 2)
+k  total
+a      3
+" ""
 
 echo "words and files: $cases runs, $wrong differ"
 [ "$wrong" -eq 0 ]

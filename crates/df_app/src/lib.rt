@@ -1,4 +1,8 @@
 //! A run of `dfviews`: the bytes of a view document in, the bytes of its printed views out.
+//!
+//! [`words`] reads the command line, [`open_document`] opens a document with its files, [`run`] writes its
+//! output, and [`fault_text`] gives the text of a fault. docs/ARCHITECTURE.md follows a row through these
+//! calls, and says where to add a word of the command line or a fault.
 #![tactic(auto)]
 
 mod command_line;

@@ -10,6 +10,17 @@ use crate::command_line::{DEFAULT_CHUNK, DEFAULT_WORKERS, Words};
 use clap::{Arg, ArgMatches, Command, Error, value_parser};
 use std::alloc::{AllocError, Global};
 
+// The end of the help.
+const AFTER_HELP: &str = r#"Exit status:
+  0  all views are printed
+  1  the views are printed without the chunks that have a bad cell, which the last lines name
+  2  a fault, or a refused word: standard error says which
+
+A document:
+  frame = [{ name = "t", columns = [["k", "Text"], ["n", "Int"]], text = "k,n\na,1\na,2\nb,\n" }]
+  view = [{ name = "sums", from = "t", steps = [
+    ["filter", ["is_not_null", ["col", "n"]]], ["group_by", ["k"], ["total", "sum", "n"]]] }]"#;
+
 /// Reads the words behind the program's name: `[VIEWS] [--workers 1..16] [--chunk 1..65536]`.
 ///
 /// Refused are other words, a second VIEWS, an option twice or without its number, and a number
@@ -41,6 +52,7 @@ fn nameless<'a>(alloc: Global) -> Command<'a>
 {
     Command::new(alloc, "dfviews")
         .about("Prints the views of a document over dataframes")
+        .after_help(AFTER_HELP)
         .no_binary_name(true)
 }
 

@@ -1,9 +1,8 @@
 //! CSV files: their records, and the chunks that are made of them.
 //!
-//! [`parse_records`] and [`read_records`] read the records of a CSV file, as texts in a schema's
-//! columns; [`type_chunk`] makes a chunk of some of them, [`type_piece`] of one piece of a file.
-//! [`CsvSource`] is a source of the chunks of all pieces.
-//! [`read_limited`] reads bytes up to a limit.
+//! [`parse_records`] and [`read_records`] read records, as texts in the columns of a schema. [`type_chunk`]
+//! makes a chunk of some of them, [`type_piece`] of one piece of a file, and [`CsvSource`] is the source of all
+//! pieces. [`read_limited`] reads bytes up to a limit.
 #![tactic(auto)]
 
 mod fault;

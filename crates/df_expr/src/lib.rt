@@ -1,11 +1,7 @@
-//! Expressions over the cells of a row: their check against a schema and their value.
+//! Expressions over the cells of a row: their check against a schema, and their value.
 //!
-//! [`check`] gives the type of an [`Expr`] or its first fault, [`eval`] its value in a row, which is null or
-//! of that type. To add a form: a variant of [`Expr`] with its arms in `copy` and `same_expr` (expr.rt); its
-//! type, levels and leaves in specs/Typing.antt with the arms of `dtype_of`, `is_within` and `names_column`
-//! (typing.rt); its value in `value_step` (specs/Value.antt) and `value` (evaluation.rt), and, where all its
-//! operands are evaluated, in specs/Operators.antt and `apply` (operators.rt); and that its value has its type
-//! in `step` (proofs/Sound.antt).
+//! [`check`] gives the type of an [`Expr`] or its first fault, and [`eval`] its value in a row, which is null
+//! or of that type. docs/ARCHITECTURE.md says where to add a form of expression.
 #![tactic(auto)]
 
 mod arithmetic;

@@ -1,16 +1,9 @@
-//! The operators of dataframes over plain tables, each taken from the whole table of its input.
+//! The operators of dataframes over plain tables, each computed from the whole table of its input.
 //!
-//! Every operator is the plain body of a definition in specs/Tables.antt: [`filter_table`],
-//! [`select_table`], [`with_columns_table`], [`group_by`], [`join`], [`rolling_table`], [`cum_sum_table`] and
-//! [`rank_table`]. The calls below them say, in laws, what their parts have in common with the operators'
-//! descriptions: that groups partition the rows, that a left join keeps each left row, and the like.
-//!
-//! To add an operator: its definition over lists of rows (a file of its own in specs/), the table that it
-//! gives (specs/Tables.antt) and its body; one that puts columns among those of its input puts them by
-//! `with_columns` (named_columns.rt), one that puts a column of further cells, as a window or a rank, by
-//! `with_column_table` (one_column.rt). To add an aggregate: a variant of [`Agg`] with its arms in `copy` (kinds.rt), in
-//! `column` and `dtype_of` (aggregates.rt, specs/AggregateDtypes.antt), in `aggregate` (aggregates.rt) and in
-//! `aggregate_cell` (specs/Tables.antt). Plans of operators, their checks and that rows fit are in `df_plan`.
+//! The operators are [`filter_table`], [`select_table`], [`with_columns_table`], [`group_by`], [`join`],
+//! [`rolling_table`], [`cum_sum_table`] and [`rank_table`]; specs/Tables.antt defines them. The other calls are
+//! their parts, with the laws of the definitions. docs/ARCHITECTURE.md says where to add an operator or an
+//! aggregate.
 #![tactic(auto)]
 
 mod agg;

@@ -1,13 +1,7 @@
 //! Plans: how a table is made of frames, with their check and their plain evaluation.
 //!
-//! To add an operator: its body and meaning in `df_ops`; here a variant of [`Plan`] with its arms in
-//! `copy` and `same_plan` (plan.rt); its checks and levels in specs/Checks.antt, `check_node` and
-//! `is_within` (checks.rt), and where it has a list of items what each gives (specs/ItemChecks.antt,
-//! items.rt); its arms in `table_step` (specs/Meaning.antt) and `table_of_plan` (evaluation.rt); that its
-//! rows fit in `step` (proofs/Sound.antt). One with two inputs, as a join, counts the levels and the scans
-//! of both; one that puts a column of further cells, as a window or a rank, is checked by `put_one`
-//! (window_checks.rt) and fits by `put_has_rows` (proofs/Sound.antt). To add an aggregate: its type in
-//! proofs/AggregatesFit.antt.
+//! A [`Plan`] is a tree of operators over frames, a [`CheckedPlan`] one that checks over their schemas, and
+//! [`evaluate`] gives its rows. docs/ARCHITECTURE.md says where to add an operator.
 #![tactic(auto)]
 
 mod checked;

@@ -1,6 +1,6 @@
-//! Printed tables: [`print_table`] gives a table's bytes, and [`write_text`] writes them.
+//! Printed tables: [`print_table`] gives the bytes of a table, and [`write_text`] writes them.
 //!
-//! Columns are as wide as [`column_width`] says, and texts are printed as [`escape`] gives them.
+//! [`column_width`] is the width of a column, and [`escape`] a text as it is printed.
 #![tactic(auto)]
 
 mod escapes;

@@ -1,14 +1,8 @@
 //! The shell of the store: commands in, a line each, and the answer to each out, before the next one is read.
 //!
-//! [`run_shell`] opens a view document as `df_app` does, enters the first rows of its frames into a
-//! catalogue, registers its views, and answers commands to the end of input. A [`Command`] is read of the
-//! words of a line; what a [`Store`] makes of it is a change of the catalogue, or a table, or a
-//! [`Refusal`].
-//!
-//! To add a command: a variant of [`Command`] with its words (command.rt, specs/Commands.antt), its arm in
-//! `answer_change` or `answer_question` (answering.rt, specs/Asked.antt or specs/Questions.antt), a line of the help
-//! (answering.rt, specs/Texts.antt). To add a refusal: a variant of [`Refusal`] or of [`Mistake`] with its text
-//! (refusal_texts.rt, specs/Texts.antt).
+//! [`run_shell`] opens a view document and answers commands to the end of input. [`read_command`] reads a
+//! [`Command`] from the words of a line, and [`answer_line`] answers it from a [`Store`], or with a
+//! [`Refusal`]. docs/ARCHITECTURE.md says where to add a command.
 #![tactic(auto)]
 
 mod answering;

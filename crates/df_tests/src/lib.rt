@@ -1,6 +1,7 @@
 //! Tests of what neither a view document nor a session of the shell can show: parts of values, laws and readers
-//! that no program calls, generic code over memory, and the catalogue's desks. Worked documents stand in
-//! tests/cases, sessions in tests/sessions.
+//! that no program calls, generic code over memory, and the desks of the catalogue.
+//!
+//! Worked documents are in tests/cases, sessions in tests/sessions.
 #![tactic(auto)]
 
 #[cfg(test)]

@@ -1,8 +1,8 @@
 //! Cells, rows, schemas and chunks: what a table is made of.
 //!
-//! A [`Cell`] is null or a value of one of five types, a [`Row`] a list of cells, a [`Schema`] the
-//! names and types of a table's columns, and a [`Chunk`] some rows of a frame with the number of the
-//! first. Contracts see a [`Text`] as the list of its bytes and a [`List`] as the list of its items.
+//! A [`Cell`] is null or a value of one of five types, a [`Row`] a list of cells, a [`Schema`] the names and
+//! types of a table's columns, and a [`Chunk`] some rows of a frame with the number of the first. Contracts see
+//! a [`Text`] as the list of its bytes, and a [`List`] as the list of its items.
 #![tactic(auto)]
 
 mod cell;

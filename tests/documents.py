@@ -1,0 +1,127 @@
+#!/usr/bin/env python3
+"""check_docs.py: what the documents cite is there. Run it at the top of the repository.
+
+1. Each name in backticks is a word of the crates, of tests, bench or examples, or a file of the repository (GUIDE's
+   Polars names excepted).
+2. Each path is a file or a folder.
+3. Each name in the first column of docs/DEFINITIONS.md is defined in the file of specs/ that its row names.
+4. Each call of docs/PROMISES.md is a function, and has the clauses that its row names.
+
+Prints what is not so, and ends with status 1 then."""
+
+import pathlib
+import re
+import subprocess
+import sys
+
+FILES = [f for f in subprocess.run(["git", "ls-files"], capture_output=True, text=True, check=True).stdout.split("\n") if f]
+DOCS = ["README.md", *sorted(f for f in FILES if re.fullmatch(r"docs/\w+\.md", f)), "tests/README.md", "bench/README.md"]
+# Words of the field, of the toolchain and of examples that stand for any name.
+KNOWN = set("rt ci sqlite3 mlr clang cc Box sort NAME document toml stdout session sh py c md txt out main".split())
+found = 0
+
+
+def tell(where, text):
+    global found
+    found += 1
+    print(f"{where}: {text}")
+
+
+def known_words():
+    words = set(KNOWN)
+    for f in FILES:
+        words.update(re.findall(r"\w+", f))
+        if f.endswith((".rt", ".antt", ".sh", ".toml", ".py", ".c", ".session", ".txt")) or f == "test":
+            words.update(re.findall(r"[A-Za-z_]\w*", pathlib.Path(f).read_text(errors="replace")))
+    return words
+
+
+def prose(path):
+    fenced = False
+    for number, line in enumerate(pathlib.Path(path).read_text().split("\n"), 1):
+        if line.startswith("```"):
+            fenced = not fenced
+        elif not fenced:
+            yield number, line
+
+
+def check_names(path, words):
+    for number, line in prose(path):
+        for span in re.findall(r"`([^`]+)`", line):
+            if re.fullmatch(r"[A-Za-z_][\w:.]*( [a-z]+)*(\(.*\))?", span):
+                for name in re.findall(r"[A-Za-z_]\w*", span):
+                    if name not in words:
+                        tell(f"{path}:{number}", f"`{span}`: no {name}")
+
+
+def check_paths(path):
+    for number, line in prose(path):
+        for cited in re.findall(r"(?<![\w/+.])[\w+./-]+\.(?:rt|antt|toml|sh|py|md|session|edit)\b", line):
+            cited = re.sub(r"^(\.\./|\./)+", "", cited)
+            if not any(f == cited or f.endswith("/" + cited) for f in FILES) and not re.search(r"NAME|document\.toml|^data/", cited):
+                tell(f"{path}:{number}", f"no file {cited}")
+        for cited in re.findall(r"(?:\w+/)?(?:proofs|specs|src|tests|examples|crates)/[\w+./-]*[\w+]", line):
+            folder = cited.rstrip("/")
+            if not re.search(r"\.\w+$|/out/|[A-Z]{4}", folder) and not any(f"/{folder}/" in f"/{f}" for f in FILES):
+                tell(f"{path}:{number}", f"no folder {folder}")
+
+
+def rows(path):
+    """The rows of all tables: (line, heading above, cells)."""
+    heading = ""
+    for number, line in prose(path):
+        if line.startswith("## "):
+            heading = line[3:].strip()
+        elif line.startswith("| ") and not line.startswith(("| Name", "| Promise", "| Law", "| Call", "|---")):
+            yield number, heading, [c.strip() for c in line.strip().strip("|").split(" | ")]
+
+
+def check_definitions():
+    for number, crate, cells in rows("docs/DEFINITIONS.md"):
+        source = re.search(r"src/\w+\.rt", cells[1])
+        places = [source.group(0)] if source else [f"specs/{f}.antt" for f in re.findall(r"[A-Z]\w+", cells[1])]
+        text = "\n".join(pathlib.Path("crates", crate, p).read_text() for p in places)
+        for name in re.findall(r"`(\w+)`", cells[0]):
+            if not re.search(rf"^ *(?:unfoldable |abbrev )*(?:pub )?(?:record |struct )?{name}\b", text, re.M):
+                tell(f"docs/DEFINITIONS.md:{number}", f"{name} is not defined in {crate} {cells[1]}")
+
+
+def clauses():
+    """Of each function name the names of the clauses of each function of that name."""
+    all_clauses, name = {}, None
+    for f in FILES:
+        if re.fullmatch(r"crates/\w+/src/.*\.rt", f):
+            for line in pathlib.Path(f).read_text().split("\n"):
+                if m := re.match(r"\s*(?:pub(?:\(\w+\))? )?fn (\w+)", line):
+                    name = m.group(1)
+                    all_clauses.setdefault(name, []).append(set())
+                elif (m := re.match(r"\s*ensures\s*(\w*)", line)) and name:
+                    all_clauses[name][-1].add(m.group(1))
+    return all_clauses
+
+
+def check_promises():
+    have = clauses()
+    for number, _, cells in rows("docs/PROMISES.md"):
+        if len(cells) < 3:
+            continue
+        # A clause that stands after "law", "over" or "of" is not one of the call.
+        wanted = set(re.findall(r"`(\w+)`", re.split(r", (?:by|over|and the law|of)\b|and the law", cells[2])[0]))
+        calls = [c.split("::")[-1] for c in re.findall(r"`([\w:]+)`", cells[1])]
+        for call in calls:
+            if call not in have:
+                tell(f"docs/PROMISES.md:{number}", f"no function {call}")
+        named = set().union(*(s for call in calls for s in have.get(call, [])))
+        for clause in wanted - named - {"value"}:
+            tell(f"docs/PROMISES.md:{number}", f"no clause {clause} of {', '.join(calls)}")
+
+
+words = known_words()
+for doc in DOCS:
+    if doc != "docs/GUIDE.md":
+        check_names(doc, words)
+    check_paths(doc)
+check_definitions()
+check_promises()
+print(f"{found} citations of what is not there")
+sys.exit(1 if found else 0)
