@@ -9,7 +9,7 @@ use Rattle.df_expr.specs.declared.expr.Expr.{Expr}
 use Rattle.df_ops.specs.Tables.{key_column, aggregate_column, aggregate_dtype, group_by_columns}
 use Rattle.df_ops.specs.NamedColumns.{with_columns}
 use Rattle.df_ops.specs.RowWise.{item_column, with_columns_schema}
-use Rattle.df_value.specs.Names.{doubled_column_after}
+use Rattle.df_value.specs.Names.{doubled_name_after}
 use Rattle.df_value.specs.Schemas.{Columns}
 use Rattle.df_plan.specs.ItemChecks.{CheckResult, DtypeResult, ColumnResult, key_dtype, aggregate_dtype_check, key_column_result, aggregate_column_result, select_column_result, with_columns_column_result, with_column, columns_after}
 use Rattle.df_value.specs.Outcomes.{then_next}
@@ -146,7 +146,7 @@ pub join_found :
 join_found left right [] cs h = cc
 join_found left right (k ∷ ks) cs h =
     let columns = columns_of_join left right (k ∷ ks) in
-    neither_doubled columns (doubled_column_after (λ k. k) [] (k ∷ ks)) (doubled_column_after [] columns) cs
+    neither_doubled columns (doubled_name_after (λ k. k) [] (k ∷ ks)) (doubled_column_after [] columns) cs
     (first_ok (keys_fault left right (k ∷ ks)) (join_schema columns (k ∷ ks)) cs h)
 
 deep : (b : Bool) (c : CheckResult) (cs : Columns) (f : PlanFault) → cond {A = CheckResult} b (Err f) c ≡ Ok cs → c ≡ Ok cs

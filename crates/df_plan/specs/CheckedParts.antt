@@ -3,7 +3,7 @@ use Rattle.std.specs.Prelude.{◌≡◌, ℕ, List, IsTrue}
 use Rattle.df_value.specs.declared.cell.Cell.{Cell}
 use Rattle.df_value.specs.declared.cell.CellType.{CellType}
 use Rattle.df_value.specs.Rows.{rows_fit}
-use Rattle.df_plan.specs.Meaning.{frames_fit, table_of}
+use Rattle.df_plan.specs.Meaning.{table_of}
 use Rattle.df_plan.specs.declared.plan.Plan.{Plan}
 
 -- a plan, the schemas of the frames that it was checked over, and that of its result

@@ -1,11 +1,10 @@
 -- The check of a plan: the columns of its result, or the first fault.
-use Rattle.std.specs.Prelude.{◌≡◌, ◌≢◌, ◌+◌, ℕ, List, [], Option, Some, None, Result, Ok, Err, MatchResult, max, nat_lt, slice_get, if◌then◌else◌}
+use Rattle.std.specs.Prelude.{◌+◌, ℕ, List, [], Option, Some, None, Ok, Err, max, nat_lt, slice_get, if◌then◌else◌}
 use Rattle.df_value.specs.Outcomes.{then_next}
 use Rattle.df_value.specs.declared.cell.CellType.TheVariants as dtype
 use Rattle.df_value.specs.Schemas.{doubled_column_after}
 use Rattle.df_expr.specs.declared.expr.Expr.{Expr}
 use Rattle.df_expr.specs.declared.fault.ExprFault.TheVariants as expr
-use Rattle.df_plan.specs.declared.fault.PlanFault.{PlanFault}
 use Rattle.df_plan.specs.declared.fault.PlanFault.TheVariants as fault
 use Rattle.df_ops.specs.declared.agg.Agg.{Agg}
 use Rattle.df_plan.specs.declared.plan.Plan.{Plan, fold-Plan}

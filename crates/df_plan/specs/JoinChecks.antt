@@ -1,10 +1,8 @@
 -- The check of a join: the columns of its result, or the first fault.
-use Rattle.std.specs.Prelude.{ℕ, List, [], ◌∷◌, ◌++◌, Option, Some, None, Ok, Err, if◌then◌else◌}
-use Rattle.std.specs.List.{list_any}
-use Rattle.std.specs.Str.{bytes_eq}
+use Rattle.std.specs.Prelude.{ℕ, List, [], ◌∷◌, Option, Some, None, Ok, Err}
 use Rattle.df_value.specs.declared.cell.CellType.{CellType}
 use Rattle.df_value.specs.declared.cell.CellType.TheVariants as dtype
-use Rattle.df_value.specs.Names.{doubled_column_after}
+use Rattle.df_value.specs.Names.{doubled_name_after}
 use Rattle.df_value.specs.Schemas.{column_dtype, doubled_column_after}
 use Rattle.df_expr.specs.declared.fault.ExprFault.TheVariants as expr
 use Rattle.df_plan.specs.declared.fault.PlanFault.{PlanFault}
@@ -44,7 +42,7 @@ either_name (Some name) second = Some name
 
 -- the columns of a join whose keys are sound
 abbrev pub join_schema : Columns → List (List ℕ) → CheckResult
-join_schema columns keys = to_schema_unless columns (either_name (doubled_column_after (λ k. k) [] keys) (doubled_column_after [] columns))
+join_schema columns keys = to_schema_unless columns (either_name (doubled_name_after (λ k. k) [] keys) (doubled_column_after [] columns))
 
 abbrev pub fault_first : Option PlanFault → CheckResult → CheckResult
 fault_first None checked = checked
