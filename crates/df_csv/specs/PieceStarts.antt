@@ -1,6 +1,6 @@
 -- That each piece stands at its index, and that a good one begins with the row that its source says: facts for the
 -- laws of a source.
-use Rattle.std.specs.Prelude.{◌≡◌, ◌+◌, ◌*◌, ◌<◌, ℕ, zero, suc, List, length, map, take, drop, Option, Some, option_map, slice_get}
+use Rattle.std.specs.Prelude.{◌≡◌, ◌+◌, ◌*◌, ◌<◌, ℕ, zero, suc, List, length, take, drop, Some, option_map, slice_get}
 use Rattle.std.specs.List.{range_with_len}
 use Rattle.std.proofs.Common.{ap, arith, refl, sym, ◌∙◌, zero-add}
 use Rattle.std.proofs.lemmas.List.{length-map}

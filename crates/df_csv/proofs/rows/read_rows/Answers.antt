@@ -20,10 +20,10 @@ pick-requires g c =
     let h = c.in-Row.ensures in
     (texts_next _ _ _ h.1 c.records.invariant.texts).0
 
-pub returns-then-count-eq-MOST_RECORDS : goal.returns-then-count-eq-MOST_RECORDS
-returns-then-count-eq-MOST_RECORDS g c _ =
+pub returns-then-count-eq-MOST_ROWS_OF_FRAME : goal.returns-then-count-eq-MOST_ROWS_OF_FRAME
+returns-then-count-eq-MOST_ROWS_OF_FRAME g c _ =
     let h = c.in-Row.ensures in
-    too_many _ _ _ _ _ _ _ _ c.records.invariant.so_far h.1 (rw c.records.invariant.width at h.3) (omega (arith, c.if-count-eq-MOST_RECORDS.true))
+    too_many _ _ _ _ _ _ _ _ c.records.invariant.so_far h.1 (rw c.records.invariant.width at h.3) (omega (arith, c.if-count-eq-MOST_ROWS_OF_FRAME.true))
 
 pub records-preserved : goal.records-preserved
 records-preserved g c =
@@ -34,8 +34,8 @@ records-preserved g c =
     record {
       plain = h.0;
       width = h.2 ∙ ap Some (sym w);
-      below = omega (arith, c.records.invariant.below, c.if-count-eq-MOST_RECORDS.false);
+      below = omega (arith, c.records.invariant.below, c.if-count-eq-MOST_ROWS_OF_FRAME.false);
       texts = (texts_next _ _ _ h.1 c.records.invariant.texts).1;
       even = more_fields _ _ _ _ _ c.records.invariant.even picked;
-      so_far = more_records _ _ _ _ _ _ _ _ _ c.records.invariant.so_far h.1 w (omega (arith, c.records.invariant.below, c.if-count-eq-MOST_RECORDS.false)) c.records.invariant.even picked;
+      so_far = more_records _ _ _ _ _ _ _ _ _ c.records.invariant.so_far h.1 w (omega (arith, c.records.invariant.below, c.if-count-eq-MOST_ROWS_OF_FRAME.false)) c.records.invariant.even picked;
     }
