@@ -1,29 +1,27 @@
 -- The value of an expression that checks is null or of its type.
-use Rattle.std.proofs.Common.{◌≡◌, ℕ, Bool, true, false, zero, suc, ◌<◌, ◌≤◌, List, [], ◌∷◌, refl, subst, arith, cond}
+use Rattle.std.proofs.Common.{◌≡◌, ℕ, Bool, true, false, zero, suc, ◌<◌, List, [], ◌∷◌, refl, subst, arith, cond}
 use Rattle.std.specs.Prelude.{IsTrue, Ok, Err, Option, Some, None, ◌&&◌, not, option_map, slice_get, unwrap_or, nat_lt, length}
 use Rattle.std.specs.List.{position_or_len}
 use Rattle.std.specs.Str.{bytes_eq}
 use Rattle.std.proofs.lemmas.List.Folds.{find_at}
 use Rattle.std.proofs.lemmas.Option.{slice_get_within}
 use Rattle.std.proofs.lemmas.Bool.Decides.{Decides-ltb}
-use Rattle.std.proofs.lemmas.Bool.{le-ltb}
 use Rattle.std.specs.declared.cmp.Ordering.{Ordering}
 use Rattle.std.proofs.lemmas.Grind.{common_steps}
 use Rattle.df_value.specs.declared.cell.Cell.{Cell}
 use Rattle.df_value.specs.declared.cell.Cell.TheVariants as cell
 use Rattle.df_value.specs.declared.cell.CellType.{CellType}
 use Rattle.df_value.specs.declared.cell.CellType.TheVariants as dtype
-use Rattle.df_value.specs.Cells.{fits_dtype, is_text}
+use Rattle.df_value.specs.Cells.{fits_dtype}
 use Rattle.df_value.specs.CellEq.{cell_eq}
 use Rattle.df_value.specs.Rows.{cell_at, row_fits}
 use Rattle.df_value.specs.Schemas.{column_dtype, column_index}
 use Rattle.df_expr.specs.Value.{value_of, value_step, arith_of, compare_of, cell_of, fill_of, is_null}
 use Rattle.df_value.specs.Outcomes.{then_next}
-use Rattle.df_expr.specs.Typing.{dtype_of, dtype_step, TypeResult, both, arith_dtype, ordered_dtype, compare_dtype, bool_dtype, bools_dtype, literal_dtype, column_dtype_check, not_text, no_text, no_text_step}
+use Rattle.df_expr.specs.Typing.{dtype_of, dtype_step, TypeResult, both, arith_dtype, ordered_dtype, compare_dtype, bool_dtype, bools_dtype, literal_dtype, column_dtype_check}
 use Rattle.df_expr.specs.declared.expr.ArithOp.{ArithOp}
 use Rattle.df_expr.specs.declared.expr.CompareOp.{CompareOp}
 use Rattle.df_expr.specs.declared.expr.Expr.{Expr}
-use Rattle.df_expr.specs.declared.expr.Expr.TheVariants as expr
 use Rattle.df_expr.specs.declared.expr.Expr.TheOpen.{Expr-F}
 use Rattle.df_expr.specs.declared.expr.Expr.TheFolds.{fold-roll-Expr, ind-Expr, map-Expr}
 use Rattle.df_expr.specs.declared.expr.Expr.TheViews.{roll-Expr}
@@ -147,37 +145,3 @@ pub value_fits :
     (columns : List (List ℕ × CellType)) (row : List Cell) → IsTrue (row_fits columns row) →
     (e : Expr) → HasValue columns row e
 value_fits columns row fits = ind-Expr (HasValue columns row) (λ x y is. subst (λ z. HasValue columns row (roll-Expr z)) is (step columns row fits y))
-
--- a cell of a column that is no text is no text either
-no_text_of : (o : Option CellType) (c : Cell) (name : List ℕ) → Fits (column_dtype_check name o) c → (o ≡ None → c ≡ cell.Null) →
-    IsTrue (not_text o) → IsTrue (not (is_text c))
-no_text_of None c name fits none h = rw (none refl) refl
-no_text_of (Some dtype.Text) c name fits none h = cc
-no_text_of (Some dtype.Int) cell.Null name fits none h = refl
-no_text_of (Some dtype.Int) (cell.Text t) name fits none h = fits dtype.Int refl
-no_text_of (Some k) c name fits none h = grind (arith, common_steps, fits k refl)
-
-beyond :
-    (columns : List (List ℕ × CellType)) (i : ℕ) →
-    option_map (λ c. c.1) (slice_get columns i) ≡ None → length columns ≤ i
-beyond [] i h = omega arith
-beyond (c ∷ cs) zero h = cc
-beyond (c ∷ cs) (suc i) h = let rest : length cs ≤ i = beyond cs i h in omega arith
-
-no_column :
-    (columns : List (List ℕ × CellType)) (row : List Cell) (name : List ℕ) →
-    column_dtype name columns ≡ None → cell_at (column_index name columns) row ≡ cell.Null
-no_column columns row name h =
-    let at = position_or_len (λ c. bytes_eq c.0 name) columns in
-    let out : nat_lt at (length columns) ≡ false = le-ltb at (length columns) (beyond columns at (simp find_at at h)) in
-    rw out refl
-
-pub column_no_text :
-    (columns : List (List ℕ × CellType)) (row : List Cell) → IsTrue (row_fits columns row) → (name : List ℕ) →
-    IsTrue (not_text (column_dtype name columns)) → IsTrue (not (is_text (cell_at (column_index name columns) row)))
-column_no_text columns row fits name h =
-    no_text_of (column_dtype name columns) _ name (column_fits columns row fits name) (no_column columns row name) h
-
-pub column_free : (columns : List (List ℕ × CellType)) (name : List ℕ) → no_text (expr.Column name) columns ≡ not_text (column_dtype name columns)
-unfolding roll-Expr denote.Hole.Carrier.roll
-column_free columns name = fold-roll-Expr Bool (no_text_step columns) (Expr-F.Column name)

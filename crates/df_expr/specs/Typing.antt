@@ -1,12 +1,11 @@
 -- The types of expressions, as the Polars Python reference types them where this project allows the
 -- operands, and the order in which a check finds faults.
-use Rattle.std.specs.Prelude.{◌≡◌, ◌+◌, ◌&&◌, ◌||◌, ℕ, Bool, true, false, List, Option, Some, None, Result, Ok, Err, max, nat_lt, not, if◌then◌else◌}
+use Rattle.std.specs.Prelude.{◌≡◌, ◌+◌, ◌||◌, ℕ, Bool, true, false, List, Option, Some, None, Result, Ok, Err, max, nat_lt, if◌then◌else◌}
 use Rattle.df_value.specs.Outcomes.{then_next}
 use Rattle.df_value.specs.declared.cell.Cell.{Cell}
 use Rattle.df_value.specs.declared.cell.Cell.TheVariants as cell
 use Rattle.df_value.specs.declared.cell.CellType.{CellType}
 use Rattle.df_value.specs.declared.cell.CellType.TheVariants as dtype
-use Rattle.df_value.specs.Cells.{is_text}
 use Rattle.df_value.specs.Schemas.{column_dtype}
 use Rattle.df_expr.specs.Limits.{most_expr_levels}
 use Rattle.df_expr.specs.declared.fault.ExprFault.{ExprFault}
@@ -101,29 +100,6 @@ expr_levels e = fold-Expr ℕ expr_levels_step e
 -- the answer of a check: too many levels come before all else
 abbrev pub expr_check : Expr → List (List ℕ × CellType) → TypeResult
 expr_check e schema = if nat_lt most_expr_levels (expr_levels e) then Err fault.TooDeep else dtype_of e schema
-
--- whether a type, if there is one, is no Text
-abbrev pub not_text : Option CellType → Bool
-not_text (Some dtype.Text) = false
-not_text _ = true
-
-abbrev pub no_text_step : List (List ℕ × CellType) → Expr-F Bool → Bool
-no_text_step schema (Expr-F.Column name) = not_text (column_dtype name schema)
-no_text_step schema (Expr-F.Literal c k) = not_text (Some k) && not (is_text c)
-no_text_step schema (Expr-F.Arith op a b) = a && b
-no_text_step schema (Expr-F.Compare op a b) = a && b
-no_text_step schema (Expr-F.EqMissing a b) = a && b
-no_text_step schema (Expr-F.And a b) = a && b
-no_text_step schema (Expr-F.Or a b) = a && b
-no_text_step schema (Expr-F.Not a) = a
-no_text_step schema (Expr-F.IsNull a) = a
-no_text_step schema (Expr-F.IsNotNull a) = a
-no_text_step schema (Expr-F.FillNull a b) = a && b
-
--- whether no column and no literal of an expression has type Text; then, where it checks, no node has, since the
--- type of an operator is Int, Bool or that of an operand
-abbrev pub no_text : Expr → List (List ℕ × CellType) → Bool
-no_text e schema = fold-Expr Bool (no_text_step schema) e
 
 abbrev pub names_column_step : Expr-F Bool → Bool
 names_column_step (Expr-F.Column name) = true

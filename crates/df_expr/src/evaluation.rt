@@ -2,20 +2,25 @@
 ghost use Rattle.std.specs.Prelude.{◌≡◌, ◌+◌, ◌<◌, ◌^◌, IfOk, IsOk, IsTrue, Ok, not};
 ghost use Rattle.df_value.specs.declared.cell.CellType.{CellType};
 ghost use Rattle.df_value.specs.Cells.{fits_dtype, is_text};
-ghost use Rattle.df_value.specs.Rows.{cell_at, row_fits};
-ghost use Rattle.df_expr.specs.Typing.{dtype_of, no_text};
+ghost use Rattle.df_value.specs.Rows as rows;
+ghost use Rattle.df_value.specs.Rows.{row_fits};
+ghost use Rattle.df_expr.specs.Typing.{dtype_of};
 ghost use Rattle.df_expr.specs.Operators.{binary_value, unary_value};
 ghost use Rattle.df_expr.specs.Value.{value_of};
+ghost use Rattle.df_expr.specs.Lent.{cell_of_value};
 
 use crate::expr::Expr;
+use crate::lent::Value;
 use crate::meter::Meter;
 use crate::operators::{Binary, Unary};
-use df_value::{Boxed, Cell, CellType, Duplicate, Row, Schema, Text, column_index};
+use df_value::{Boxed, Cell, CellType, Row, Schema, Text, column_index};
 use std::alloc::{AllocError, Global};
 
 /// The value of an expression in a row of a table with this schema. Counts one evaluation.
 ///
-/// An expression that does not check against the schema has some value too, which says nothing.
+/// Cells are lent until the value is known, so that only a value that is a text takes memory: a
+/// comparison of texts takes none. An expression that does not check against the schema has some
+/// value too, which says nothing.
 pub fn eval(
     alloc: Global,
     expr: &Expr,
@@ -23,7 +28,7 @@ pub fn eval(
     row: &Row,
     meter: &mut Meter,
 ) -> Result<Cell, AllocError>
-    requires { meter.old.evals < 2 ^ 127 }
+    requires { meter.old.evals + 1 < 2 ^ 128 }
     ensures value { IfOk result (λ c. c ≡ value_of expr.now schema.now row.now) }
     ensures counted { meter.new ≡ record meter.old { evals = meter.old.evals + 1 } }
 
@@ -32,10 +37,7 @@ pub fn eval(
     ensures typed { IsTrue (row_fits schema.now row.now) → (t : CellType) →
         dtype_of expr.now schema.now ≡ Ok t
         → IsTrue (fits_dtype t (value_of expr.now schema.now row.now)) }
-
-    // Only a text takes memory.
-    ensures free { IsTrue (row_fits schema.now row.now) → IsTrue (no_text expr.now schema.now)
-        → IsOk result }
+    ensures free { IsTrue (not (is_text (value_of expr.now schema.now row.now))) → IsOk result }
 {
     meter.evals += 1;
     value(alloc, expr, schema.columns().as_slice(), row)
@@ -43,7 +45,6 @@ pub fn eval(
 
 /// As [`eval`], over columns that need not be a schema, and without a count: for the plain
 /// evaluation of whole tables, which counts no work.
-#[cycle(values)]
 pub fn value(
     alloc: Global,
     expr: &Expr,
@@ -51,90 +52,90 @@ pub fn value(
     row: &Row,
 ) -> Result<Cell, AllocError>
     ensures value { IfOk result (λ c. c ≡ value_of expr.now columns.now row.now) }
-    ensures free { IsTrue (row_fits columns.now row.now) → IsTrue (no_text expr.now columns.now)
-        → IsOk result }
+    ensures free { IsTrue (not (is_text (value_of expr.now columns.now row.now))) → IsOk result }
+{
+    value_in(expr, columns, row).into_cell(alloc)
+}
+
+// The value, lent where a row or a literal has it.
+#[cycle(values)]
+fn value_in<'a>(expr: &'a Expr, columns: &[(Text, CellType)], row: &'a Row) -> Value<'a>
+    ensures { cell_of_value result ≡ value_of expr.now columns.now row.now }
 {
     match expr {
-        Expr::Column(name) => copy_at(alloc, column_index(name, columns), row),
-        Expr::Literal(cell, _) => cell.copy(alloc),
+        Expr::Column(name) => cell_at(column_index(name, columns), row),
+        Expr::Literal(cell, _) => Value::Lent(cell),
         Expr::Arith(op, a, b) => {
-            let a = value(alloc, a.get(), columns, row)?;
-            apply_binary(alloc, b, columns, row, Binary::Arith(*op), a)
+            let a = value_in(a.get(), columns, row);
+            apply_binary(b, columns, row, Binary::Arith(*op), a)
         }
         Expr::Compare(op, a, b) => {
-            let a = value(alloc, a.get(), columns, row)?;
-            apply_binary(alloc, b, columns, row, Binary::Compare(*op), a)
+            let a = value_in(a.get(), columns, row);
+            apply_binary(b, columns, row, Binary::Compare(*op), a)
         }
         Expr::EqMissing(a, b) => {
-            let a = value(alloc, a.get(), columns, row)?;
-            apply_binary(alloc, b, columns, row, Binary::EqMissing, a)
+            let a = value_in(a.get(), columns, row);
+            apply_binary(b, columns, row, Binary::EqMissing, a)
         }
         Expr::And(a, b) => {
-            let a = value(alloc, a.get(), columns, row)?;
-            apply_binary(alloc, b, columns, row, Binary::And, a)
+            let a = value_in(a.get(), columns, row);
+            apply_binary(b, columns, row, Binary::And, a)
         }
         Expr::Or(a, b) => {
-            let a = value(alloc, a.get(), columns, row)?;
-            apply_binary(alloc, b, columns, row, Binary::Or, a)
+            let a = value_in(a.get(), columns, row);
+            apply_binary(b, columns, row, Binary::Or, a)
         }
-        Expr::Not(a) => apply_unary(alloc, a, columns, row, Unary::Not),
-        Expr::IsNull(a) => apply_unary(alloc, a, columns, row, Unary::IsNull),
-        Expr::IsNotNull(a) => apply_unary(alloc, a, columns, row, Unary::IsNotNull),
-        Expr::FillNull(a, b) => match value(alloc, a.get(), columns, row)? {
-            Cell::Null => value(alloc, b.get(), columns, row),
-            a => Ok(a),
+        Expr::Not(a) => apply_unary(a, columns, row, Unary::Not),
+        Expr::IsNull(a) => apply_unary(a, columns, row, Unary::IsNull),
+        Expr::IsNotNull(a) => apply_unary(a, columns, row, Unary::IsNotNull),
+        Expr::FillNull(a, b) => match value_in(a.get(), columns, row) {
+            Value::Lent(Cell::Null) | Value::Made(Cell::Null) => value_in(b.get(), columns, row),
+            a => a,
         },
     }
 }
 
 // The value of an operator over the value of its operand.
 #[cycle(values)]
-fn apply_unary(
-    alloc: Global,
-    a: &Boxed<Expr>,
+fn apply_unary<'a>(
+    a: &'a Boxed<Expr>,
     columns: &[(Text, CellType)],
-    row: &Row,
+    row: &'a Row,
     operator: Unary,
-) -> Result<Cell, AllocError>
-    ensures value { IfOk result
-        (λ c. c ≡ unary_value operator (value_of a.now columns.now row.now)) }
-    ensures free { IsTrue (row_fits columns.now row.now) → IsTrue (no_text a.now columns.now)
-        → IsOk result }
+) -> Value<'a>
+    ensures { cell_of_value result
+        ≡ unary_value operator (value_of a.now columns.now row.now) }
 {
-    let a = value(alloc, a.get(), columns, row)?;
-    Ok(operator.apply(&a))
+    let a = value_in(a.get(), columns, row);
+    Value::Made(operator.apply(a.cell()))
 }
 
 // The value of an operator over its left operand's value and the value of its right operand. The
 // right operand comes before all that is read of it, since the recursion ends by its depth.
 #[cycle(values)]
-fn apply_binary(
-    alloc: Global,
-    b: &Boxed<Expr>,
+fn apply_binary<'a>(
+    b: &'a Boxed<Expr>,
     columns: &[(Text, CellType)],
-    row: &Row,
+    row: &'a Row,
     operator: Binary,
-    a: Cell,
-) -> Result<Cell, AllocError>
-    ensures value { IfOk result
-        (λ c. c ≡ binary_value operator a (value_of b.now columns.now row.now)) }
-    ensures free { IsTrue (row_fits columns.now row.now) → IsTrue (no_text b.now columns.now)
-        → IsOk result }
+    a: Value<'a>,
+) -> Value<'a>
+    ensures { cell_of_value result
+        ≡ binary_value operator (cell_of_value a.entry) (value_of b.now columns.now row.now) }
 {
-    let b = value(alloc, b.get(), columns, row)?;
-    Ok(operator.apply(&a, &b))
+    let b = value_in(b.get(), columns, row);
+    Value::Made(operator.apply(a.cell(), b.cell()))
 }
 
-// A copy of the cell at an index, null where there is none.
-fn copy_at(alloc: Global, index: Option<usize>, row: &Row) -> Result<Cell, AllocError>
-    ensures value { IfOk result (λ c. c ≡ cell_at index row.now) }
-    ensures free { IsTrue (not (is_text (cell_at index row.now))) → IsOk result }
+// The cell at an index, null where there is none.
+fn cell_at(index: Option<usize>, row: &Row) -> Value<'_>
+    ensures { cell_of_value result ≡ rows.cell_at index row.now }
 {
     let Some(index) = index else {
-        return Ok(Cell::Null);
+        return Value::Made(Cell::Null);
     };
     match row.get(index) {
-        Some(cell) => cell.copy(alloc),
-        None => Ok(Cell::Null),
+        Some(cell) => Value::Lent(cell),
+        None => Value::Made(Cell::Null),
     }
 }

@@ -8,6 +8,7 @@ mod arithmetic;
 mod evaluation;
 mod expr;
 mod fault;
+mod lent;
 mod logic;
 mod meter;
 mod operators;
