@@ -3,3 +3,4 @@ pub mod PlaceFacts
 mod OptionFacts
 pub mod TextReads
 pub mod Unread
+pub mod ChunkSizes

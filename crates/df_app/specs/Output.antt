@@ -6,6 +6,7 @@ use Rattle.df_value.specs.Outcomes.{then_next}
 use Rattle.df_value.specs.declared.cell.Cell.{Cell}
 use Rattle.df_value.specs.declared.chunk.Piece.{Piece}
 use Rattle.df_value.specs.declared.chunk.Piece.TheVariants as made
+use Rattle.df_value.specs.Pieces.{is_good, rows_of_pieces}
 use Rattle.df_plan.specs.CheckedParts.{CheckedParts}
 use Rattle.df_value.specs.Schemas.{Columns}
 use Rattle.df_plan.specs.Checks.{CheckResult, plan_check}
@@ -71,15 +72,6 @@ of_records chunk frame (Err f) = Err (fault.Csv frame.name f)
 abbrev pub pieces_in : Contents → ℕ → FrameSpec → Result (List Piece) RunFault
 pieces_in contents chunk frame = of_records chunk frame (records_in contents frame.source frame.schema)
 
--- the rows of a chunk, and none where a cell is bad
-abbrev pub good_rows : Piece → List (List Cell)
-good_rows (made.Good chunk) = chunk.rows
-good_rows (made.Bad cell) = []
-
--- the rows of a frame: those of its chunks, in their order
-abbrev pub rows_of_pieces : List Piece → List (List Cell)
-rows_of_pieces pieces = flat_map good_rows pieces
-
 -- the table of a view over the rows of the frames
 abbrev pub printed_view : List (List (List Cell)) → ViewSpec × CheckedParts → List ℕ
 printed_view frames view = printed view.0.name view.1.schema (table_of view.1.plan view.1.frames frames).rows
@@ -97,10 +89,6 @@ refused_line frame first (made.Bad cell) =
 -- the lines of a frame's refused pieces; piece n begins with row n * chunk
 abbrev pub refused_in : ℕ → FrameSpec × List Piece → List ℕ
 refused_in chunk frame = flat_map (λ p. refused_line frame.0 (p.0 * chunk) p.1) (enumerate_from 0 frame.1)
-
-abbrev pub is_good : Piece → Bool
-is_good (made.Good chunk) = true
-is_good (made.Bad cell) = false
 
 -- Refused where a piece has a bad cell
 abbrev pub outcome_of : List (List Piece) → Outcome

@@ -4,8 +4,9 @@ ghost use Rattle.df_value.specs.Limits.{most_rows_of_chunk};
 ghost use Rattle.std.specs.List.{list_all};
 ghost use Rattle.df_csv.specs.Records.{GivesRead, IsRecords, file_records};
 ghost use Rattle.df_csv.specs.Typed.{pieces_of};
+ghost use Rattle.df_value.specs.Pieces as pieces_spec;
 ghost use Rattle.df_app.specs.Output as output;
-ghost use Rattle.df_app.specs.Output.{AnswersOrFails, AreKnown, IsFile, IsKnown, MayFail, results_after, pieces_in, good_rows, outcome_of, records_in};
+ghost use Rattle.df_app.specs.Output.{AnswersOrFails, AreKnown, IsFile, IsKnown, MayFail, results_after, pieces_in, outcome_of, records_in};
 
 use crate::fault::RunFault;
 use crate::files::Files;
@@ -131,19 +132,19 @@ pub fn outcome(pieces: &[List<Piece>]) -> Outcome
 }
 
 fn all_frames_good(pieces: &[List<Piece>]) -> bool
-    ensures { result ≡ list_all (list_all output.is_good) pieces.now }
+    ensures { result ≡ list_all (list_all pieces_spec.is_good) pieces.now }
 {
     pieces.iter().all(|of_frame| all_good(of_frame))
 }
 
 fn all_good(pieces: &List<Piece>) -> bool
-    ensures { result ≡ list_all output.is_good pieces.now }
+    ensures { result ≡ list_all pieces_spec.is_good pieces.now }
 {
     pieces.as_slice().iter().all(|made| is_good(made))
 }
 
 fn is_good(made: &Piece) -> bool
-    ensures { result ≡ output.is_good made.now }
+    ensures { result ≡ pieces_spec.is_good made.now }
 {
     match made {
         Piece::Good(_) => true,
@@ -153,7 +154,7 @@ fn is_good(made: &Piece) -> bool
 
 /// The rows of the frames: those of their good pieces.
 pub fn all_rows(alloc: Global, pieces: List<List<Piece>>) -> Result<Vec<List<Row>>, AllocError>
-    ensures { IfOk result (λ rows. rows.items ≡ map output.rows_of_pieces pieces) }
+    ensures { IfOk result (λ rows. rows.items ≡ map pieces_spec.rows_of_pieces pieces) }
 {
     let mut all = Vec::with_capacity(alloc, pieces.len())?;
     for of_frame in pieces.into_vec() {
@@ -163,7 +164,7 @@ pub fn all_rows(alloc: Global, pieces: List<List<Piece>>) -> Result<Vec<List<Row
 }
 
 fn rows_of_pieces(alloc: Global, pieces: List<Piece>) -> Result<List<Row>, AllocError>
-    ensures { IfOk result (λ rows. rows ≡ output.rows_of_pieces pieces) }
+    ensures { IfOk result (λ rows. rows ≡ pieces_spec.rows_of_pieces pieces) }
 {
     let mut rows = Vec::new(alloc);
     for made in pieces.into_vec() {
@@ -174,7 +175,7 @@ fn rows_of_pieces(alloc: Global, pieces: List<Piece>) -> Result<List<Row>, Alloc
 
 // Moves the rows of a good piece behind the others.
 fn append_good(rows: &mut Vec<Row>, made: Piece) -> Result<(), AllocError>
-    ensures { OnOk result (rows.new.items ≡ rows.old.items ++ good_rows made) }
+    ensures { OnOk result (rows.new.items ≡ rows.old.items ++ pieces_spec.rows_of_piece made) }
 {
     match made {
         Piece::Good(chunk) => {

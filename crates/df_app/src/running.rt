@@ -42,6 +42,12 @@ pub fn run<V: Read, F: Files, W: Write>(
     ensures nothing_else { IfErr result
         (KeepsUnlessWrite (W.contents writer.old) (W.contents writer.new)) }
     ensures same { F.bytes_at files.new ≡ F.bytes_at files.old }
+
+    // With another size of chunks the run has the same fault, or the same outcome; and the same
+    // output where no chunk was refused.
+    ensures any_size { IfSome (V.remaining reader.old) (λ bytes. (size : ℕ) → 1 ≤ size →
+        IsSameUnlessRefused (output_of bytes (F.bytes_at files.old) chunk)
+        (output_of bytes (F.bytes_at files.old) size)) }
 {
     match read_output(alloc, reader, files, chunk) {
         Ok(output) => write_output(writer, &output),

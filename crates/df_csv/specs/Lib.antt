@@ -5,3 +5,4 @@ pub mod Records
 pub mod Rows
 pub mod Sources
 pub mod Typed
+pub mod GoodPieces

@@ -10,6 +10,7 @@ pub mod Schemas
 pub mod SchemaFaults
 pub mod Chunks
 pub mod ChunkFaults
+pub mod Pieces
 pub mod Same
 pub mod Outcomes
 pub mod RowEq

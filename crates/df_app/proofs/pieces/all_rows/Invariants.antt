@@ -1,5 +1,5 @@
 use Rattle.std.proofs.Common.{◌≡◌, map}
-use Rattle.df_app.specs.Output.{rows_of_pieces}
+use Rattle.df_value.specs.Pieces.{rows_of_pieces}
 use Rattle.df_app.proofs.pieces.all_rows.Given as goal
 
 abbrev pub invariant-loop-of_frame : goal.invariant-loop-of_frame

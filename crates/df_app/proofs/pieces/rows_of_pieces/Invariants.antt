@@ -1,5 +1,5 @@
 use Rattle.std.proofs.Common.{◌≡◌}
-use Rattle.df_app.specs.Output.{rows_of_pieces}
+use Rattle.df_value.specs.Pieces.{rows_of_pieces}
 use Rattle.df_app.proofs.pieces.rows_of_pieces.Given as goal
 
 abbrev pub invariant-loop-made : goal.invariant-loop-made
