@@ -4,6 +4,8 @@ pub mod Rising
 pub mod FrameFacts
 pub mod ViewFacts
 pub mod Legal
+pub mod RowSearch
+pub mod NumberSetFacts
 pub mod Refusing
 pub mod Counting
 pub mod RangeFacts

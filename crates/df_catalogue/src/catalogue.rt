@@ -6,7 +6,7 @@ ghost use Rattle.df_catalogue.specs.Ledgers as ledgers;
 ghost use Rattle.df_value.specs.Limits as limits;
 ghost use Rattle.df_catalogue.specs.States.{empty_frame, opening_of, IsLegal};
 
-use crate::desk::Desk;
+use crate::desk::{Desk, audit_all};
 use crate::fault::NewFault;
 use crate::frame::Frame;
 use crate::views::View;
@@ -78,6 +78,8 @@ impl<Acc: Ledger, Del: Ledger> Catalogue<Acc, Del> {
         ensures in_order { IfOk result (λ made. desks_spec.AreInOrder made.1.items made.0) }
         ensures refused { IfErr result (λ fault. fault ≢ NewFault.Memory →
             new_spec.new_fault schemas ≡ Some fault) }
+        ensures memory_last { IfErr result (λ fault.
+            fault ≡ NewFault.Memory → new_spec.new_fault schemas ≡ None) }
     {
         check_schemas(schemas.as_slice())?;
         let frames = empty_frames(alloc, schemas.len())?;
@@ -131,6 +133,25 @@ impl<Acc: Ledger, Del: Ledger> Catalogue<Acc, Del> {
             ≤ limits.most_frames * limits.most_rows_of_frame }
     {
         desk.audit(&mut self.accepted, &mut self.deleted);
+    }
+
+    /// Tells how these desks together stand to what was accepted and deleted over all frames: they
+    /// count no more, and exactly that where they have every part of the ledgers that the first
+    /// desks were given.
+    ///
+    /// It goes a call deeper for each desk, so it is for short lists, as one desk for each frame.
+    pub fn audit_all(&mut self, desks: &mut [Desk<Acc, Del>])
+        ensures same { self.new ≡ self.old }
+        ensures desks { desks.new ≡ desks.old }
+        ensures books { desks_spec.AreAudited desks.new self.new }
+    {
+        audit_all(
+            desks,
+            &mut self.accepted,
+            &mut self.deleted,
+            &mut self.accepted_of_no_desk,
+            &mut self.deleted_of_no_desk,
+        );
     }
 }
 

@@ -1,7 +1,7 @@
 //! Desks: what was accepted and deleted through them, as shares of the ledgers over all frames.
-ghost use Rattle.std.specs.Prelude.{◌≡◌, ◌+◌, ◌<◌, ◌≤◌, ◌^◌, ◌↔◌, false, true};
+ghost use Rattle.std.specs.Prelude.{◌≡◌, ◌+◌, ◌<◌, ◌≤◌, ◌^◌, ◌↔◌, false, true, length};
 ghost use Rattle.std.specs.Prelude.{IfErr, IfNone, IfSome, IsNone, OnOk};
-ghost use Rattle.df_catalogue.specs.Desks as desks;
+ghost use Rattle.df_catalogue.specs.Desks as desks_spec;
 ghost use Rattle.df_catalogue.specs.Ledgers as ledgers;
 ghost use Rattle.df_value.specs.Limits as limits;
 
@@ -54,7 +54,7 @@ impl<Acc: Ledger, Del: Ledger> Desk<Acc, Del> {
         requires accepted_amount { accepted.old.amount ≡ 0 }
         requires deleted_parts { ledgers.parts_of_first_desk ≤ deleted.old.parts }
         requires deleted_amount { deleted.old.amount ≡ 0 }
-        ensures desk { result ≡ desks.first_desk frame }
+        ensures desk { result ≡ desks_spec.first_desk frame }
         ensures accepted_parts { accepted.new.parts + ledgers.parts_of_first_desk
             ≡ accepted.old.parts }
         ensures accepted_amount { accepted.new.amount ≡ 0 }
@@ -108,7 +108,7 @@ impl<Acc: Ledger, Del: Ledger> Desk<Acc, Del> {
     pub fn split(&mut self) -> Option<Desk<Acc, Del>>
         ensures one_part { IsNone result ↔ (self.old.parts ≡ 1) }
         ensures same { IfNone result (self.new ≡ self.old) }
-        ensures halves { IfSome result (desks.IsSplit self.old self.new) }
+        ensures halves { IfSome result (desks_spec.IsSplit self.old self.new) }
     {
         let half = self.parts / 2;
         if half == 0 {
@@ -129,11 +129,11 @@ impl<Acc: Ledger, Del: Ledger> Desk<Acc, Del> {
     /// one with which an amount passed 64 bits: no desk of this catalogue is refused so, as
     /// [`audit`](crate::Catalogue::audit) tells.
     pub fn join(&mut self, other: Desk<Acc, Del>) -> Result<(), Desk<Acc, Del>>
-        ensures joined { OnOk result (self.new ≡ desks.joined_desk self.old other) }
+        ensures joined { OnOk result (self.new ≡ desks_spec.joined_desk self.old other) }
         ensures back { IfErr result (λ desk. desk ≡ other) }
         ensures same { IfErr result (λ _. self.new ≡ self.old) }
-        ensures refused { IfErr result (λ _. desks.may_join self.old other ≡ false) }
-        ensures accepted { OnOk result (desks.may_join self.old other ≡ true) }
+        ensures refused { IfErr result (λ _. desks_spec.may_join self.old other ≡ false) }
+        ensures accepted { OnOk result (desks_spec.may_join self.old other ≡ true) }
     {
         if !self.may_join(&other) {
             return Err(other);
@@ -155,7 +155,7 @@ impl<Acc: Ledger, Del: Ledger> Desk<Acc, Del> {
     }
 
     fn may_join(&self, other: &Desk<Acc, Del>) -> bool
-        ensures { result ≡ desks.may_join self.now other.now }
+        ensures { result ≡ desks_spec.may_join self.now other.now }
     {
         self.frame == other.frame
             && self.accepted.checked_add(other.accepted).is_some()
@@ -195,4 +195,55 @@ impl<Acc: Ledger, Del: Ledger> Desk<Acc, Del> {
         accepted.audit(&mut self.accepted_share);
         deleted.audit(&mut self.deleted_share);
     }
+}
+
+/// Tells how these desks and two more shares together stand to the books.
+///
+/// For the time of the call the desks lend their shares to those given, one desk at each level of a
+/// recursion.
+pub(crate) fn audit_all<Acc: Ledger, Del: Ledger>(
+    desks: &mut [Desk<Acc, Del>],
+    accepted: &mut Book<Acc>,
+    deleted: &mut Book<Del>,
+    accepted_share: &mut Share<Acc>,
+    deleted_share: &mut Share<Del>,
+)
+    requires accepted_backed { accepted_share.old.parts ≡ 0 → accepted_share.old.amount ≡ 0 }
+    requires deleted_backed { deleted_share.old.parts ≡ 0 → deleted_share.old.amount ≡ 0 }
+    ensures desks { desks.new ≡ desks.old }
+    ensures accepted_book { accepted.new.total ≡ accepted.old.total }
+    ensures deleted_book { deleted.new.total ≡ deleted.old.total }
+    ensures accepted_parts { accepted_share.new.parts ≡ accepted_share.old.parts }
+    ensures accepted_amount { accepted_share.new.amount ≡ accepted_share.old.amount }
+    ensures deleted_parts { deleted_share.new.parts ≡ deleted_share.old.parts }
+    ensures deleted_amount { deleted_share.new.amount ≡ deleted_share.old.amount }
+    ensures most_accepted { desks_spec.accepted_through desks.old + accepted_share.old.amount
+        ≤ accepted.old.total }
+    ensures most_deleted { desks_spec.deleted_through desks.old + deleted_share.old.amount
+        ≤ deleted.old.total }
+    ensures all_accepted { desks_spec.parts_of desks.old + accepted_share.old.parts ≡ Acc.parts →
+        desks_spec.accepted_through desks.old + accepted_share.old.amount ≡ accepted.old.total }
+    ensures all_deleted { desks_spec.parts_of desks.old + deleted_share.old.parts ≡ Del.parts →
+        desks_spec.deleted_through desks.old + deleted_share.old.amount ≡ deleted.old.total }
+    ensures accepted_ledger { 0 < length desks.old → Acc.parts ≡ ledgers.parts_of_ledger }
+    ensures deleted_ledger { 0 < length desks.old → Del.parts ≡ ledgers.parts_of_ledger }
+{
+    let Some((first, rest)) = desks.split_first_mut() else {
+        accepted.audit(accepted_share);
+        deleted.audit(deleted_share);
+        return;
+    };
+    let Desk {
+        frame: _,
+        accepted: accepted_rows,
+        deleted: deleted_rows,
+        parts,
+        accepted_share: accepted_lent,
+        deleted_share: deleted_lent,
+    } = first;
+    accepted_lent.give(accepted_share, *parts, *accepted_rows);
+    deleted_lent.give(deleted_share, *parts, *deleted_rows);
+    audit_all(rest, accepted, deleted, accepted_share, deleted_share);
+    accepted_share.give(accepted_lent, *parts, *accepted_rows);
+    deleted_share.give(deleted_lent, *parts, *deleted_rows);
 }

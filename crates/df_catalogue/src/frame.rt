@@ -9,7 +9,7 @@ ghost use Rattle.df_catalogue.specs.Refusals as refusals;
 ghost use Rattle.df_catalogue.specs.Refusals.{doubled_number_after};
 
 use crate::copies::{
-    Numbered, copy_below, copy_from, copy_numbered, copy_numbers, copy_others, copy_rows,
+    Numbered, copy_below, copy_from, copy_numbered, copy_numbers, copy_rows, copy_without,
 };
 use crate::frame_change::FrameChange;
 use crate::ranges::Ranges;
@@ -104,13 +104,15 @@ impl Frame {
 
     /// Whether there is a row of this number.
     pub fn has_row(&self, number: u32) -> bool
+        requires { IsNumbered self.now }
         ensures { result ≡ frames.has_row self.now number }
     {
-        self.rows.iter().any(|r| r.0 == number)
+        self.rows.binary_search_by_key(&number, |r| r.0).is_ok()
     }
 
     /// The first number of the list of which there is no row.
     pub fn first_not_live(&self, numbers: &[u32]) -> Option<u32>
+        requires { IsNumbered self.now }
         ensures { result ≡ refusals.first_not_live self.now numbers.now }
     {
         numbers.iter().copied().find(|n| !self.has_row(*n))
@@ -159,8 +161,7 @@ impl Frame {
         ensures { IfOk result (λ frame. frame ≡ frames.without_rows numbers.now self.now) }
     {
         let accepted = self.accepted.copy(alloc)?;
-        let mut rows = Vec::with_capacity(alloc, self.rows.len())?;
-        copy_others(alloc, &mut rows, self.rows.as_slice(), numbers)?;
+        let rows = copy_without(alloc, self.rows.as_slice(), numbers)?;
         Ok(Frame {
             accepted,
             rows,

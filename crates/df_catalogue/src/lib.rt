@@ -14,6 +14,7 @@ mod desk;
 mod fault;
 mod frame;
 mod frame_change;
+mod number_sets;
 mod ranges;
 mod reading;
 mod replay;

@@ -117,6 +117,7 @@ found_within at p (f ∷ frames) (Some j) i is e =
 
 -- a frame that is named is there
 named_scans : (at : Location) (frames : List FrameSpec) (name : List ℕ) (i : ℕ) → frame_named at name frames ≡ Ok i → scans_below (length frames) (Scan i) ≡ true
+unfolding frame_named
 named_scans at frames name i is = scans-Scan (length frames) i ∙ found_within at (λ (f : FrameSpec). bytes_eq f.name name) frames _ i refl is
 
 -- a plan that reads no other frames

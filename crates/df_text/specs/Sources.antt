@@ -39,5 +39,5 @@ found_frame at (Some i) = Ok i
 found_frame at None = Err (fault.NoFrame at)
 
 -- the index of the frame of this name
-abbrev pub frame_named : Location → List ℕ → List FrameSpec → Result ℕ ViewsFault
+unfoldable pub frame_named : Location → List ℕ → List FrameSpec → Result ℕ ViewsFault
 frame_named at name frames = found_frame at (index_of_name (λ (f : FrameSpec). f.name) name frames)

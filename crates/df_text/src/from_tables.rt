@@ -58,6 +58,7 @@ pub fn array_or_none<'a>(
 }
 
 /// The index of the frame of this name.
+#[tactic(auto, unfolding(crate::specs::Sources::frame_named))]
 pub fn frame_of_name(
     location: Location,
     name: &str,

@@ -45,6 +45,12 @@ fn keys_are_among(table: &Table, keys: &[&str]) -> bool
 fn is_among(key: &str, keys: &[&str]) -> bool
     ensures { result ≡ list_any (bytes_eq key.now) (map (λ k. k.now) keys.now) }
 {
+    equals_one(key, keys)
+}
+
+fn equals_one(key: &str, keys: &[&str]) -> bool
+    ensures { result ≡ list_any (λ k. bytes_eq key.now k.now) keys.now }
+{
     keys.iter().any(|k| key == *k)
 }
 

@@ -1,4 +1,4 @@
-use Rattle.std.proofs.Common.{◌≡◌, ℕ, ◌+◌, ◌∙◌, ◌++◌, List, filter, length, ap, sym, arith}
+use Rattle.std.proofs.Common.{◌≡◌, ℕ, ◌+◌, ◌∙◌, List, filter, length, ap, sym, arith}
 use Rattle.std.specs.Prelude.{not}
 use Rattle.df_value.specs.declared.cell.Cell.{Cell}
 use Rattle.df_catalogue.specs.Numbers.{has_number}
@@ -7,17 +7,15 @@ use Rattle.df_catalogue.proofs.FrameFacts.{frame-made, frame-counted, numbered-w
 use Rattle.df_catalogue.proofs.Counting.{deleted-more, deleted-fit}
 use Rattle.df_catalogue.proofs.frame.Frame.without_rows.Goals as goal
 
-accepted-same : (c : goal.In_ok-copy_others) → c.in_ok-accepted.accepted ≡ c.args.self.now.accepted
+accepted-same : (c : goal.In_ok-rows) → c.in_ok-accepted.accepted ≡ c.args.self.now.accepted
 accepted-same c = c.in_ok-accepted.ensures ∙ ap (λ f. f.accepted) c.self.view_is
 
-rows-left : (c : goal.In_ok-copy_others) → c.copy_others.new.out.items ≡ (without_rows c.args.numbers.now c.args.self.now).rows
+rows-left : (c : goal.In_ok-rows) → c.in_ok-rows.rows.items ≡ (without_rows c.args.numbers.now c.args.self.now).rows
 rows-left c =
     let left : List (ℕ × List Cell) → List (ℕ × List Cell) = filter (λ r. not (has_number c.args.numbers.now r.0)) in
-    c.in_ok-copy_others.ensures
-    ∙ (ap (λ rs. rs ++ left c.as_slice.result.now) c.in_ok-rows.ensures.items
-    ∙ ap left (c.as_slice.ensures.value ∙ ap (λ f. f.rows) c.self.view_is))
+    c.in_ok-rows.ensures ∙ ap left (c.as_slice.ensures.value ∙ ap (λ f. f.rows) c.self.view_is)
 
-deleted-before : (c : goal.In_ok-copy_others) → c.self.inside.deleted_rows ≡ length c.args.self.now.deleted
+deleted-before : (c : goal.In_ok-rows) → c.self.inside.deleted_rows ≡ length c.args.self.now.deleted
 deleted-before c = c.self.invariant.counts_deleted ∙ ap (λ f. length f.deleted) c.self.view_is
 
 pub overflow_add-result : goal.overflow_add-result
