@@ -1,13 +1,17 @@
 pub mod Keys
+pub mod KeyOrder
 pub mod Partition
 pub mod Beside
 pub mod NamedColumnsFacts
 pub mod RowWiseLaws
+pub mod FilterLaws
 pub mod Steps
 pub mod JoinLaws
+pub mod JoinCells
 pub mod WindowFacts
 pub mod WindowLaws
 pub mod RankLaws
 pub mod Least
 pub mod MinMaxFacts
 pub mod GroupSums
+pub mod AggregateLaws

@@ -1,8 +1,10 @@
 //! Operators that look at one row at a time: filter, select, with_columns.
-ghost use Rattle.std.specs.Prelude.{◌≡◌, ◌++◌, ◌∷◌, [], IfOk, IsTrue, OnOk, length, map};
+ghost use Rattle.std.specs.Prelude.{◌≡◌, ◌++◌, ◌∷◌, [], true, IfOk, IsTrue, OnOk, length, map};
+ghost use Rattle.df_value.specs.declared.cell.Cell.TheVariants as cell;
 ghost use Rattle.df_value.specs.Rows.{row_fits};
 ghost use Rattle.df_expr.specs.declared.expr.Expr.{Expr as AnyExpr};
 ghost use Rattle.df_expr.specs.declared.expr.Expr.TheVariants as expr;
+ghost use Rattle.df_expr.specs.Value.{value_of};
 ghost use Rattle.df_ops.specs.Tables as tables;
 ghost use Rattle.df_ops.specs.RowWise as row_wise;
 ghost use Rattle.df_ops.specs.RowWise.{item_column, item_cell, KeepsOthers};
@@ -48,6 +50,11 @@ pub fn filter_rows(
         → row_wise.filter_rows columns.now again
         (row_wise.filter_rows columns.now predicate.now rows.now)
         ≡ row_wise.filter_rows columns.now (expr.And predicate.now again) rows.now }
+
+    // Exactly the rows whose value is true are kept, in their order.
+    ensures exactly { row_wise.IsFilter
+        (λ row. value_of predicate.now columns.now row ≡ cell.Bool true)
+        (row_wise.filter_rows columns.now predicate.now) }
 {
     let mut kept = Vec::new(alloc);
     for row in rows {
