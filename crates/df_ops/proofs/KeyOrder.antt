@@ -12,7 +12,7 @@ use Rattle.df_ops.specs.Groups.{distinct_after, keys_of, key_of, KeysStandFirst}
 abbrev Rows : Type 0
 Rows = List (List Cell)
 
-same_choice : {X Y : Type 0} (f : X → Y) (b : Bool) (x : X) (y : X) (v w : Y) → v ≡ f x → w ≡ f y → cond b v w ≡ f (cond b x y)
+pub same_choice : {X Y : Type 0} (f : X → Y) (b : Bool) (x : X) (y : X) (v w : Y) → v ≡ f x → w ≡ f y → cond b v w ≡ f (cond b x y)
 same_choice f true x y v w e h = e
 same_choice f false x y v w e h = h
 

@@ -15,3 +15,4 @@ pub mod Least
 pub mod MinMaxFacts
 pub mod GroupSums
 pub mod AggregateLaws
+pub mod ColumnLaws
