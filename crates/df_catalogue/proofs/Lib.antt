@@ -9,6 +9,7 @@ pub mod NumberSetFacts
 pub mod Refusing
 pub mod Counting
 pub mod RangeFacts
+pub mod RangesApart
 pub mod StateFacts
 pub mod RunFacts
 pub mod PartFacts

@@ -1,7 +1,7 @@
 -- The value of an expression in a row, as the Polars Python reference evaluates arithmetic, comparisons,
 -- `eq_missing`, `&`, `|`, `~`, `is_null`, `is_not_null` and `fill_null`: null spreads where nothing else is
 -- said. Operands of types that the check refuses have some value too, so that the definition is total.
-use Rattle.std.specs.Prelude.{ℕ, Bool, true, false, List, Option, Some, None, not}
+use Rattle.std.specs.Prelude.{◌≡◌, ℕ, Bool, true, false, List, Option, Some, None, not}
 use Rattle.std.specs.Ordering.{is_lt, is_le, is_gt, is_ge, is_eq}
 use Rattle.std.specs.declared.cmp.Ordering.{Ordering}
 use Rattle.df_value.specs.declared.cell.Cell.{Cell}
@@ -76,3 +76,8 @@ value_step schema row (Expr-F.FillNull a b) = fill_of a b
 -- the value of an expression in a row
 abbrev pub value_of : Expr → List (List ℕ × CellType) → List Cell → Cell
 value_of e schema row = fold-Expr Cell (value_step schema row) e
+
+-- an expression has one value, in every row under any columns
+abbrev pub IsConstant : Expr → Type 0
+IsConstant e =
+    (columns others : List (List ℕ × CellType)) (row other : List Cell) → value_of e columns row ≡ value_of e others other

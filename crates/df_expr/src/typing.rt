@@ -1,8 +1,9 @@
 //! The type of an expression.
-ghost use Rattle.std.specs.Prelude.{◌≡◌, ◌≤◌, ◌↔◌, IsTrue};
+ghost use Rattle.std.specs.Prelude.{◌≡◌, ◌≤◌, ◌↔◌, false, IsTrue};
 ghost use Rattle.df_value.specs.Schemas.{column_dtype};
 ghost use Rattle.df_expr.specs.Typing as typing;
 ghost use Rattle.df_expr.specs.Typing.{expr_levels, expr_check, AnswersType};
+ghost use Rattle.df_expr.specs.Value.{IsConstant};
 
 use crate::expr::Expr;
 use crate::fault::ExprFault;
@@ -29,17 +30,24 @@ pub fn check(alloc: Global, expr: &Expr, schema: &Schema) -> Result<CellType, Ex
 
 /// Whether a column stands in an expression; if none does, its value is the same in every row.
 pub fn names_column(expr: &Expr) -> bool
+    ensures value { result ≡ typing.names_column expr.now }
+    ensures constant { typing.names_column expr.now ≡ false → IsConstant expr.now }
+{
+    has_column_name(expr)
+}
+
+fn has_column_name(expr: &Expr) -> bool
     ensures { result ≡ typing.names_column expr.now }
 {
     match expr {
         Expr::Column(_) => true,
         Expr::Literal(_, _) => false,
-        Expr::Not(a) | Expr::IsNull(a) | Expr::IsNotNull(a) => names_column(a.get()),
+        Expr::Not(a) | Expr::IsNull(a) | Expr::IsNotNull(a) => has_column_name(a.get()),
         Expr::Arith(_, a, b) | Expr::Compare(_, a, b) => {
-            names_column(a.get()) || names_column(b.get())
+            has_column_name(a.get()) || has_column_name(b.get())
         }
         Expr::EqMissing(a, b) | Expr::And(a, b) | Expr::Or(a, b) | Expr::FillNull(a, b) => {
-            names_column(a.get()) || names_column(b.get())
+            has_column_name(a.get()) || has_column_name(b.get())
         }
     }
 }

@@ -24,7 +24,7 @@ sum_over f (x ∷ xs) = f x +ℤ sum_over f xs
 abbrev worth : Option ℕ → List Cell → ℤ
 worth index r = sum_with (pos 0) (number_of (cell_at index r))
 
-with_more : (s : ℤ) (o : Option ℤ) → sum_with s o ≡ s +ℤ sum_with (pos 0) o
+pub with_more : (s : ℤ) (o : Option ℤ) → sum_with s o ≡ s +ℤ sum_with (pos 0) o
 with_more s None = omega (arith, ints)
 with_more s (Some n) = omega (arith, ints)
 

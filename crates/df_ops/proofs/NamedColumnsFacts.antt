@@ -42,7 +42,7 @@ same_found true false r o x y e same rest = cc
 same_found false true r o x y e same rest = cc
 same_found false false r o x y e same rest = rest refl
 
-or_later : (b c : Bool) → (b || c) ≡ true → b ≡ false → c ≡ true
+pub or_later : (b c : Bool) → (b || c) ≡ true → b ≡ false → c ≡ true
 or_later true c h e = cc
 or_later false c h e = h
 

@@ -9,6 +9,7 @@ use Rattle.df_value.specs.declared.cell.Cell.TheVariants as cell
 use Rattle.df_value.specs.declared.cell.CellType.{CellType}
 use Rattle.df_value.specs.Cells.{fits_dtype}
 use Rattle.df_value.specs.Rows.{cell_at, row_fits}
+use Rattle.df_value.specs.Schemas.{column_index}
 use Rattle.df_expr.specs.declared.expr.Expr.{Expr}
 use Rattle.df_expr.specs.declared.expr.Expr.TheVariants as expr
 use Rattle.df_expr.specs.declared.expr.Expr.TheOpen.{Expr-F}
@@ -81,11 +82,11 @@ pub filtered_twice :
 filtered_twice columns p rows again =
     filter_twice (keeps columns p) (keeps columns again) (keeps columns (expr.And p again)) (keeps_both columns p again) rows
 
-abbrev OneName : {A B : Type 0} → List ℕ × A → List ℕ × B → Type 0
+abbrev pub OneName : {A B : Type 0} → List ℕ × A → List ℕ × B → Type 0
 OneName c v = c.0 ≡ v.0
 
 -- the cell that was found under a name, null where there is none
-abbrev cell_of_found : Option (List ℕ × Cell) → Cell
+abbrev pub cell_of_found : Option (List ℕ × Cell) → Cell
 cell_of_found None = cell.Null
 cell_of_found (Some v) = v.1
 
@@ -110,7 +111,7 @@ found_cell false true e o v row f h = cc
 found_cell false false e o v row f h = next_cell o v.1 row ∙ h
 
 -- the cell below the column of a name is what is found under the name
-cell_named :
+pub cell_named :
     (name : List ℕ) (columns : Columns) (cells : List (List ℕ × Cell)) → Beside OneName columns cells →
     cell_at (position_from (λ c. bytes_eq c.0 name) 0 columns) (map (λ c. c.1) cells) ≡ cell_of_found (first_of_name name cells)
 cell_named name [] [] h = refl
@@ -123,11 +124,11 @@ cell_named name (c ∷ columns) (v ∷ cells) h =
     (found_cell (bytes_eq c.0 name) (bytes_eq v.0 name) (ap (λ n. bytes_eq n name) h.0) (position_from test 0 columns) v _ (first_of_name name cells)
     (cell_named name columns cells h.1))
 
-second_of_two : (a b : Bool) → IsTrue (a && b) → IsTrue b
+pub second_of_two : (a b : Bool) → IsTrue (a && b) → IsTrue b
 second_of_two true b h = h
 second_of_two false b h = cc
 
-named_names : (columns : Columns) (row : List Cell) → IsTrue (row_fits columns row) → Beside OneName columns (named_cells columns row)
+pub named_names : (columns : Columns) (row : List Cell) → IsTrue (row_fits columns row) → Beside OneName columns (named_cells columns row)
 named_names [] [] h = tt
 named_names [] (v ∷ row) h = tt
 named_names (c ∷ columns) [] h = cc
@@ -139,34 +140,43 @@ unnamed [] (v ∷ row) h = cc
 unnamed (c ∷ columns) [] h = cc
 unnamed (c ∷ columns) (v ∷ row) h = ap (λ r. v ∷ r) (unnamed columns row (second_of_two (fits_dtype c.1 v) (row_fits columns row) h))
 
-item_names : (columns : Columns) (row : List Cell) (items : List (List ℕ × Expr)) → Beside OneName (map (item_column columns) items) (map (item_cell columns row) items)
+pub item_names : (columns : Columns) (row : List Cell) (items : List (List ℕ × Expr)) → Beside OneName (map (item_column columns) items) (map (item_cell columns row) items)
 item_names columns row [] = tt
 item_names columns row (i ∷ items) = (refl, item_names columns row items)
 
-has_item : (columns : Columns) (row : List Cell) (name : List ℕ) (items : List (List ℕ × Expr)) → has_column name (map (item_cell columns row) items) ≡ has_column name items
+pub has_item : (columns : Columns) (row : List Cell) (name : List ℕ) (items : List (List ℕ × Expr)) → has_column name (map (item_cell columns row) items) ≡ has_column name items
 has_item columns row name [] = refl
 has_item columns row name (i ∷ items) = ap (λ b. bytes_eq i.0 name || b) (has_item columns row name items)
 
-not_true : (b : Bool) → IsTrue (not b) → b ≡ false
+pub not_true : (b : Bool) → IsTrue (not b) → b ≡ false
 not_true true h = cc
 not_true false h = refl
 
-pub keeps_others :
-    (columns : Columns) (items : List (List ℕ × Expr)) (row : List Cell) → IsTrue (row_fits columns row) →
-    KeepsOthers columns items row (with_columns_row columns items row)
-unfolding with_columns_row with_columns
-keeps_others columns items row fits name here other =
+-- a name that nothing put has finds the cell that stood below its column
+pub kept_cell :
+    (columns added : Columns) (row : List Cell) (values : List (List ℕ × Cell)) → IsTrue (row_fits columns row) → Beside OneName added values →
+    (name : List ℕ) → IsTrue (has_column name columns) → has_column name values ≡ false →
+    cell_at (column_index name (with_columns columns added)) (map (λ c. c.1) (with_columns (named_cells columns row) values))
+    ≡ cell_at (column_index name columns) row
+unfolding with_columns
+kept_cell columns added row values fits beside name here none =
     let own = named_cells columns row in
-    let values = map (item_cell columns row) items in
     let test : List ℕ × CellType → Bool = λ c. bytes_eq c.0 name in
     let names = named_names columns row fits in
-    let all = with_columns-beside OneName (λ c v e. e) columns own names (map (item_column columns) items) values (item_names columns row items) in
-    let none : has_column name values ≡ false = has_item columns row name items ∙ not_true (has_column name items) other in
+    let all = with_columns-beside OneName (λ c v e. e) columns own names added values beside in
     let some : has_column name own ≡ true = sym (has_beside OneName (λ c v e. e) name columns own names) ∙ here in
     let kept : first_of_name name (with_columns own values) ≡ first_of_name name own = kept_own name values own _ none some in
-    ap (λ o. cell_at o (map (λ c. c.1) (with_columns own values))) (position_from-zero test (with_columns_schema columns items))
-    ∙ (cell_named name (with_columns_schema columns items) (with_columns own values) all
+    ap (λ o. cell_at o (map (λ c. c.1) (with_columns own values))) (position_from-zero test (with_columns columns added))
+    ∙ (cell_named name (with_columns columns added) (with_columns own values) all
     ∙ (ap cell_of_found kept
     ∙ (sym (cell_named name columns own names)
     ∙ (ap (λ r. cell_at (position_from test 0 columns) r) (unnamed columns row fits)
     ∙ ap (λ o. cell_at o row) (sym (position_from-zero test columns))))))
+
+pub keeps_others :
+    (columns : Columns) (items : List (List ℕ × Expr)) (row : List Cell) → IsTrue (row_fits columns row) →
+    KeepsOthers columns items row (with_columns_row columns items row)
+unfolding with_columns_row
+keeps_others columns items row fits name here other =
+    kept_cell columns (map (item_column columns) items) row (map (item_cell columns row) items) fits (item_names columns row items) name here
+    (has_item columns row name items ∙ not_true (has_column name items) other)

@@ -1,7 +1,7 @@
 -- What an aggregate takes of a list of cells, those of a group or a window, as the Polars Python reference has `len`, `count`, `sum`, `min`,
 -- `max`, `first`, `last`, `n_unique` and `mean` with their null rules. This project's own choice: a sum of 64-bit
 -- integers is kept in 128 bits, where it never wraps, and a mean is the pair of that sum and the count.
-use Rattle.std.specs.Prelude.{ℕ, ℤ, Bool, true, false, zero, suc, pos, ◌-◌, ◌+ℤ◌, List, [], ◌∷◌, Option, Some, None, not, filter, find, length, map, fold, slice_get, unwrap_or}
+use Rattle.std.specs.Prelude.{◌≡◌, ◌≢◌, ◌+◌, ◌++◌, ℕ, ℤ, Bool, true, false, zero, suc, pos, ◌-◌, ◌+ℤ◌, List, [], ◌∷◌, Option, Some, None, not, filter, find, length, map, fold, slice_get, unwrap_or}
 use Rattle.std.specs.List.{list_all}
 use Rattle.std.specs.Ordering.{is_lt, is_gt}
 use Rattle.df_value.specs.declared.cell.Cell.{Cell}
@@ -82,3 +82,17 @@ n_unique_of index rows = length (keys_of (index ∷ []) rows)
 -- the sum of whole numbers
 abbrev pub total : List ℤ → ℤ
 total ns = fold (λ a b. a +ℤ b) (pos 0) ns
+
+-- what a sum of cells is: one Int has its number, a true 1, a false 0, null 0, and the sum of the whole is that of its parts
+pub record IsSum (sum : List Cell → ℤ) : Type 0 where
+  pub of_int : (n : ℤ) → sum (cell.Int n ∷ []) ≡ n
+  pub of_true : sum (cell.Bool true ∷ []) ≡ pos 1
+  pub of_false : sum (cell.Bool false ∷ []) ≡ pos 0
+  pub of_null : sum (cell.Null ∷ []) ≡ pos 0
+  pub of_parts : (first second : List Cell) → sum (first ++ second) ≡ sum first +ℤ sum second
+
+-- what a count of cells is: null counts 0, any other cell 1, and the count of the whole is that of its parts
+pub record IsCount (count : List Cell → ℕ) : Type 0 where
+  pub of_null : count (cell.Null ∷ []) ≡ 0
+  pub of_other : (c : Cell) → c ≢ cell.Null → count (c ∷ []) ≡ 1
+  pub of_parts : (first second : List Cell) → count (first ++ second) ≡ count first + count second

@@ -1,6 +1,6 @@
 -- Groups of rows by the cells of key columns, as `group_by` with `maintain_order=True` forms them in
 -- the Polars Python reference: null is a key like any other.
-use Rattle.std.specs.Prelude.{ℕ, List, [], ◌∷◌, ◌++◌, Option, map, filter, if◌then◌else◌}
+use Rattle.std.specs.Prelude.{◌≡◌, ℕ, List, [], ◌∷◌, ◌++◌, Option, length, map, filter, take, if◌then◌else◌}
 use Rattle.std.specs.List.{list_any}
 use Rattle.df_value.specs.declared.cell.Cell.{Cell}
 use Rattle.df_value.specs.Rows.{cell_at, row_eq}
@@ -22,3 +22,7 @@ keys_of indices rows = distinct_after [] (map (key_of indices) rows)
 -- the rows that have this key, in their order
 abbrev pub group_of : List (Option ℕ) → List (List Cell) → List Cell → List (List Cell)
 group_of indices rows key = filter (λ r. row_eq (key_of indices r) key) rows
+
+-- these keys stand first, in their order, among the keys of the rows and of any further ones after them
+abbrev pub KeysStandFirst : List (Option ℕ) → List (List Cell) → List (List Cell) → Type 0
+KeysStandFirst indices rows keys = (more : List (List Cell)) → take (length keys) (keys_of indices (rows ++ more)) ≡ keys

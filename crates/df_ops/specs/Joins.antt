@@ -1,7 +1,7 @@
 -- Joins on columns of one name and type on both sides, as `join` of the Polars Python reference with `how` "inner" or
 -- "left" and `nulls_equal=False`: null keys match nothing, and a right name that stands on the left gets the suffix
 -- `_right`. That rows come in left order, and for one left row in right order, is this project's own choice.
-use Rattle.std.specs.Prelude.{ℕ, Bool, ◌&&◌, not, List, [], ◌∷◌, ◌++◌, Option, codes, filter, map, max, length, if◌then◌else◌}
+use Rattle.std.specs.Prelude.{◌≡◌, ◌≢◌, ℕ, Bool, All, ◌&&◌, not, List, [], ◌∷◌, ◌++◌, Option, codes, filter, map, max, length, replicate, if◌then◌else◌}
 use Rattle.std.specs.List.{list_any, flat_map}
 use Rattle.df_value.specs.declared.cell.Cell.{Cell}
 use Rattle.df_value.specs.declared.cell.Cell.TheVariants as cell
@@ -82,3 +82,21 @@ match_count s rights left = length (matches_of s.right (key_of s.left left) righ
 abbrev pub join_count : How → ℕ → ℕ
 join_count how.Inner n = n
 join_count how.Left n = max 1 n
+
+-- a right row matches a left one: the cells of its keys are those of the left row's, and none of them is null
+abbrev pub Matches : JoinIndices → List Cell → List Cell → Type 0
+Matches s left right = (key_of s.left left ≡ key_of s.right right) × All (λ c. c ≢ cell.Null) (key_of s.left left)
+
+-- which rows a left row gives: beside it stand the further cells of each right row that matches, in right order; in a
+-- left join of a row without a match nulls stand there, once
+pub record IsJoinOfRow (s : JoinIndices) (left : List Cell) (joined : How → Rows → Rows) : Type 0 where
+  pub match : (right : List Cell) → Matches s left right → joined how.Inner (right ∷ []) ≡ (left ++ key_of s.rest right) ∷ []
+  pub no_match : (right : List Cell) → ¬ (Matches s left right) → joined how.Inner (right ∷ []) ≡ []
+  pub of_parts : (first second : Rows) → joined how.Inner (first ++ second) ≡ joined how.Inner first ++ joined how.Inner second
+  pub like_inner : (rights : Rows) → joined how.Inner rights ≢ [] → joined how.Left rights ≡ joined how.Inner rights
+  pub nulls : (rights : Rows) → joined how.Inner rights ≡ [] → joined how.Left rights ≡ (left ++ replicate (length s.rest) cell.Null) ∷ []
+
+-- the rows of one left row are those that it gives, and the rows of the whole are those of its parts in their order
+pub record JoinsInOrder (h : How) (s : JoinIndices) (rights : Rows) : Type 0 where
+  pub of_one : (left : List Cell) → join_rows h s (left ∷ []) rights ≡ join_row h s rights left
+  pub of_parts : (first second : Rows) → join_rows h s (first ++ second) rights ≡ join_rows h s first rights ++ join_rows h s second rights

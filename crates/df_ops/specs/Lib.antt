@@ -8,3 +8,4 @@ pub mod Joins
 pub mod Windows
 pub mod Ranks
 pub mod Tables
+pub mod TableColumns

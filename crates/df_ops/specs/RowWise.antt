@@ -1,6 +1,6 @@
 -- Operators that look at one row at a time, as `filter`, `select` and `with_columns` of the Polars Python reference:
 -- every expression sees the input's row. Last, the putting of further cells, one to a row.
-use Rattle.std.specs.Prelude.{◌≡◌, ℕ, Bool, false, IsTrue, not, List, [], ◌∷◌, filter, map, unwrap_or}
+use Rattle.std.specs.Prelude.{◌≡◌, ◌++◌, ℕ, Bool, false, IsTrue, not, List, [], ◌∷◌, filter, map, unwrap_or}
 use Rattle.std.specs.List.{zip}
 use Rattle.df_value.specs.declared.cell.Cell.{Cell}
 use Rattle.df_value.specs.declared.cell.Cell.TheVariants as cell
@@ -45,6 +45,12 @@ keeps columns predicate row = is_true (value_of predicate columns row)
 -- the rows whose predicate is true, in their order
 abbrev pub filter_rows : List (List ℕ × CellType) → Expr → List (List Cell) → List (List Cell)
 filter_rows columns predicate rows = filter (keeps columns predicate) rows
+
+-- what a filter by a condition is: a row of which it holds stays, any other goes, and the whole is the parts in their order
+pub record IsFilter (Holds : List Cell → Type 0) (kept : List (List Cell) → List (List Cell)) : Type 0 where
+  pub stays : (row : List Cell) → Holds row → kept (row ∷ []) ≡ row ∷ []
+  pub goes : (row : List Cell) → ¬ (Holds row) → kept (row ∷ []) ≡ []
+  pub of_parts : (first second : List (List Cell)) → kept (first ++ second) ≡ kept first ++ kept second
 
 -- the values of a select's items
 abbrev pub select_row : List (List ℕ × CellType) → List (List ℕ × Expr) → List Cell → List Cell

@@ -44,6 +44,7 @@ pub fn count_of(index: Option<usize>, rows: &[Row]) -> usize
     // With the number of nulls it is the number of rows.
     ensures with_nulls { result + length (filter is_null (cells_of index rows.now))
         ≡ length rows.now }
+    ensures counts { aggregates.IsCount aggregates.count_of }
 {
     count_non_null(index, rows)
 }
@@ -71,7 +72,8 @@ fn one_if_non_null(index: Option<usize>, row: &Row) -> usize
 
 /// The sum of the Int cells of the rows at an index, or the number of trues among its Bool cells.
 pub fn sum_of(index: Option<usize>, rows: &[Row]) -> i128
-    ensures { result ≡ aggregates.sum_of (cells_of index rows.now) }
+    ensures value { result ≡ aggregates.sum_of (cells_of index rows.now) }
+    ensures sums { aggregates.IsSum aggregates.sum_of }
 {
     let mut sum: i128 = 0;
     for row in rows {

@@ -4,6 +4,7 @@ ghost use Rattle.std.specs.List.{list_any};
 ghost use Rattle.df_value.specs.CellEq.{cell_eq};
 ghost use Rattle.df_value.specs.Rows.{cell_at, row_eq};
 ghost use Rattle.df_ops.specs.Groups as groups;
+ghost use Rattle.df_ops.specs.Groups.{KeysStandFirst};
 
 use df_value::{Cell, Duplicate, List, Row, push_made};
 use std::alloc::{AllocError, Global};
@@ -19,6 +20,12 @@ pub fn keys_of(
     ensures none_twice { IfOk result (λ keys. AllPairs (λ a b. a ≢ b) keys.items) }
     ensures each_row { IfOk result
         (λ keys. All (λ r. Contains keys.items (groups.key_of indices.now r)) rows.now) }
+
+    // Each is the key of a row, and they stand in the order of their first rows.
+    ensures of_a_row { IfOk result
+        (λ keys. All (Contains (map (groups.key_of indices.now) rows.now)) keys.items) }
+    ensures first_appearance { IfOk result
+        (λ keys. KeysStandFirst indices.now rows.now keys.items) }
 {
     distinct_keys(alloc, indices, rows)
 }

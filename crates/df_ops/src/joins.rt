@@ -3,7 +3,7 @@ ghost use Rattle.std.specs.Prelude.{◌≡◌, ◌<◌, ◌++◌, ◌∷◌, [],
 ghost use Rattle.std.specs.List.{list_any, sum_by};
 ghost use Rattle.df_expr.specs.Value as value_spec;
 ghost use Rattle.df_ops.specs.Joins as joins;
-ghost use Rattle.df_ops.specs.Joins.{has_match, join_count, match_count};
+ghost use Rattle.df_ops.specs.Joins.{has_match, join_count, match_count, IsJoinOfRow};
 ghost use Rattle.df_ops.specs.Groups as groups_spec;
 ghost use Rattle.df_ops.specs.Tables as tables;
 
@@ -83,6 +83,9 @@ pub fn join_rows(
     ensures inner_is_left { joins.join_rows How.Inner join_indices.now lefts.now rights.now
         ≡ joins.join_rows How.Left join_indices.now
         (filter (has_match join_indices.now rights.now) lefts.now) rights.now }
+
+    // The rows of each left row stand in left order.
+    ensures left_order { joins.JoinsInOrder how join_indices.now rights.now }
 {
     all_joined(alloc, how, join_indices, lefts, rights)
 }
@@ -141,6 +144,10 @@ pub fn join_row(
     // Each begins with the left row.
     ensures begins { IfOk result
         (λ rows. All (λ row. take (length left.now) row ≡ left.now) rows.items) }
+
+    // And goes on with the cells of a match, or in a left join with nulls where there is none.
+    ensures right_cells { IsJoinOfRow join_indices.now left.now
+        (λ h rows. joins.join_row h join_indices.now rows left.now) }
 {
     matched_row(alloc, how, join_indices, left, rights)
 }

@@ -1,6 +1,8 @@
 //! Ranks.
-ghost use Rattle.std.specs.Prelude.{◌≡◌, ◌≤◌, ◌∷◌, [], IfOk, filter, length};
-ghost use Rattle.df_value.specs.Rows.{cell_at};
+ghost use Rattle.std.specs.Prelude.{◌≡◌, ◌≤◌, ◌∷◌, [], IfOk, IsTrue, filter, length};
+ghost use Rattle.df_value.specs.Rows.{cell_at, rows_fit};
+ghost use Rattle.df_value.specs.Schemas as schemas_spec;
+ghost use Rattle.df_ops.specs.TableColumns.{PutsColumn};
 ghost use Rattle.df_ops.specs.Tables as tables;
 ghost use Rattle.df_ops.specs.Ranks as ranks_spec;
 ghost use Rattle.df_ops.specs.Ranks.{dense_rank_of, ranks_of, GreatestCounts, RanksAgree, RanksRise, RanksWithin};
@@ -20,8 +22,26 @@ pub enum RankKind {
 }
 
 /// The table with the ranks of a column put among its own.
-#[tactic(auto, unfolding(crate::specs::Tables::rank_table))]
 pub fn rank_table(
+    alloc: Global,
+    table: &PlainTable,
+    output: &Text,
+    kind: RankKind,
+    column: &Text,
+) -> Result<PlainTable, AllocError>
+    ensures value { IfOk result
+        (λ t. t ≡ tables.rank_table table.now output.now kind column.now) }
+
+    // Over rows that fit, the other columns are as they were.
+    ensures column { IsTrue (rows_fit table.now.columns table.now.rows)
+        → IfOk result (PutsColumn table.now output.now
+        (ranks_of kind (schemas_spec.column_index column.now table.now.columns) table.now.rows)) }
+{
+    table_with_ranks(alloc, table, output, kind, column)
+}
+
+#[tactic(auto, unfolding(crate::specs::Tables::rank_table))]
+fn table_with_ranks(
     alloc: Global,
     table: &PlainTable,
     output: &Text,

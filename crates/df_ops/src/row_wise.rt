@@ -1,9 +1,12 @@
 //! Operators that look at one row at a time: filter, select, with_columns.
-ghost use Rattle.std.specs.Prelude.{◌≡◌, ◌++◌, ◌∷◌, [], IfOk, IsTrue, OnOk, length, map};
-ghost use Rattle.df_value.specs.Rows.{row_fits};
+ghost use Rattle.std.specs.Prelude.{◌≡◌, ◌++◌, ◌∷◌, [], true, IfOk, IsTrue, OnOk, length, map};
+ghost use Rattle.df_value.specs.declared.cell.Cell.TheVariants as cell;
+ghost use Rattle.df_value.specs.Rows.{row_fits, rows_fit};
 ghost use Rattle.df_expr.specs.declared.expr.Expr.{Expr as AnyExpr};
 ghost use Rattle.df_expr.specs.declared.expr.Expr.TheVariants as expr;
+ghost use Rattle.df_expr.specs.Value.{value_of};
 ghost use Rattle.df_ops.specs.Tables as tables;
+ghost use Rattle.df_ops.specs.TableColumns.{HasItemValues, KeepsOtherColumns};
 ghost use Rattle.df_ops.specs.RowWise as row_wise;
 ghost use Rattle.df_ops.specs.RowWise.{item_column, item_cell, KeepsOthers};
 
@@ -48,6 +51,11 @@ pub fn filter_rows(
         → row_wise.filter_rows columns.now again
         (row_wise.filter_rows columns.now predicate.now rows.now)
         ≡ row_wise.filter_rows columns.now (expr.And predicate.now again) rows.now }
+
+    // Exactly the rows whose value is true are kept, in their order.
+    ensures exactly { row_wise.IsFilter
+        (λ row. value_of predicate.now columns.now row ≡ cell.Bool true)
+        (row_wise.filter_rows columns.now predicate.now) }
 {
     let mut kept = Vec::new(alloc);
     for row in rows {
@@ -86,8 +94,19 @@ fn is_true(cell: &Cell) -> bool
 }
 
 /// The table of the items' values.
-#[tactic(auto, unfolding(crate::specs::Tables::select_table))]
 pub fn select_table(
+    alloc: Global,
+    table: &PlainTable,
+    items: &[(Text, Expr)],
+) -> Result<PlainTable, AllocError>
+    ensures value { IfOk result (λ t. t ≡ tables.select_table table.now items.now) }
+    ensures items { IfOk result (HasItemValues table.now items.now) }
+{
+    table_of_items(alloc, table, items)
+}
+
+#[tactic(auto, unfolding(crate::specs::Tables::select_table))]
+fn table_of_items(
     alloc: Global,
     table: &PlainTable,
     items: &[(Text, Expr)],
@@ -133,8 +152,24 @@ pub fn select_row(
 }
 
 /// The table with the items' columns put among its own.
-#[tactic(auto, unfolding(crate::specs::Tables::with_columns_table))]
 pub fn with_columns_table(
+    alloc: Global,
+    table: &PlainTable,
+    items: &[(Text, Expr)],
+) -> Result<PlainTable, AllocError>
+    ensures value { IfOk result (λ t. t ≡ tables.with_columns_table table.now items.now) }
+
+    // Over rows that fit, the items' columns have their values, and the others are as they were.
+    ensures items { IsTrue (rows_fit table.now.columns table.now.rows)
+        → IfOk result (HasItemValues table.now items.now) }
+    ensures others { IsTrue (rows_fit table.now.columns table.now.rows)
+        → IfOk result (KeepsOtherColumns table.now items.now) }
+{
+    table_with_items(alloc, table, items)
+}
+
+#[tactic(auto, unfolding(crate::specs::Tables::with_columns_table))]
+fn table_with_items(
     alloc: Global,
     table: &PlainTable,
     items: &[(Text, Expr)],

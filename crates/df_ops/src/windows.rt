@@ -1,9 +1,10 @@
 //! Rolling windows and cumulative sums.
-ghost use Rattle.std.specs.Prelude.{◌≡◌, ◌-◌, pos, IfOk, drop, length};
-ghost use Rattle.df_value.specs.Rows.{cell_at};
+ghost use Rattle.std.specs.Prelude.{◌≡◌, ◌-◌, pos, IfOk, IsTrue, drop, length};
+ghost use Rattle.df_value.specs.Rows.{cell_at, rows_fit};
 ghost use Rattle.df_ops.specs.Aggregates.{cells_of};
 ghost use Rattle.df_ops.specs.Tables as tables;
 ghost use Rattle.df_ops.specs.LoopStates.{cum_sum_after, cum_sum_cell};
+ghost use Rattle.df_ops.specs.TableColumns.{column_of, PutsColumn};
 ghost use Rattle.df_ops.specs.Windows as windows;
 ghost use Rattle.df_ops.specs.Windows.{rolling_cell, window_of, IsCumSum, EndsInSum};
 
@@ -27,8 +28,28 @@ pub enum RollKind {
 
 /// The table with the rolling values of a column put among its own, over w rows, of which m are to
 /// be not null.
-#[tactic(auto, unfolding(crate::specs::Tables::rolling_table))]
 pub fn rolling_table(
+    alloc: Global,
+    table: &PlainTable,
+    output: &Text,
+    kind: RollKind,
+    column: &Text,
+    w: usize,
+    m: usize,
+) -> Result<PlainTable, AllocError>
+    ensures value { IfOk result
+        (λ t. t ≡ tables.rolling_table table.now output.now kind column.now w m) }
+
+    // Over rows that fit, the other columns are as they were.
+    ensures column { IsTrue (rows_fit table.now.columns table.now.rows)
+        → IfOk result (PutsColumn table.now output.now
+        (windows.rolling_cells kind w m (column_of column.now table.now))) }
+{
+    table_with_rolling(alloc, table, output, kind, column, w, m)
+}
+
+#[tactic(auto, unfolding(crate::specs::Tables::rolling_table))]
+fn table_with_rolling(
     alloc: Global,
     table: &PlainTable,
     output: &Text,
@@ -115,8 +136,24 @@ pub fn size_of(n: i64) -> usize
 }
 
 /// The table with the cumulative sums of a column put among its own.
-#[tactic(auto, unfolding(crate::specs::Tables::cum_sum_table))]
 pub fn cum_sum_table(
+    alloc: Global,
+    table: &PlainTable,
+    output: &Text,
+    column: &Text,
+) -> Result<PlainTable, AllocError>
+    ensures value { IfOk result (λ t. t ≡ tables.cum_sum_table table.now output.now column.now) }
+
+    // Over rows that fit, the other columns are as they were.
+    ensures column { IsTrue (rows_fit table.now.columns table.now.rows)
+        → IfOk result (PutsColumn table.now output.now
+        (windows.cum_sum (column_of column.now table.now))) }
+{
+    table_with_cum_sum(alloc, table, output, column)
+}
+
+#[tactic(auto, unfolding(crate::specs::Tables::cum_sum_table))]
+fn table_with_cum_sum(
     alloc: Global,
     table: &PlainTable,
     output: &Text,

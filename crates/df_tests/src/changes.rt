@@ -1,10 +1,11 @@
 //! Lists of changes.
 ghost use Rattle.std.specs.Prelude.{◌≡◌};
+ghost use Rattle.df_catalogue.specs.Desks.{AreInOrder};
 ghost use Rattle.df_catalogue.specs.Ledgers as ledgers;
 
 use crate::given::{chunk, scan, schema};
 use crate::openings::{PARTS, books, opened};
-use df_catalogue::{CatalogueFault, Change};
+use df_catalogue::{Catalogue, CatalogueFault, Change, Desk};
 use df_value::CellType::{Bool, Int};
 use df_value::{Chunk, List, Text};
 use std::alloc::{AllocError, Global};
@@ -68,6 +69,25 @@ fn changes(alloc: Global) -> Result<List<Change>, AllocError> {
     Ok(List::from_vec(changes))
 }
 
+// A replay can follow a replay, and the desks of all frames are audited.
+fn again<Acc: Ledger, Del: Ledger, R: Abort>(
+    rt: &R,
+    alloc: Global,
+    catalogue: &mut Catalogue<Acc, Del>,
+    desks: &mut [Desk<Acc, Del>],
+) -> Result<(), Fail>
+    requires { AreInOrder desks.old catalogue.old }
+{
+    let first = List::from_vec(vec![in alloc; change(alloc, Step::Delete(0, 0))?]?);
+    let second = List::from_vec(vec![in alloc; change(alloc, Step::Append(9))?]?);
+    let gone = catalogue.replay(alloc, desks, first)?;
+    assert!(rt; gone.as_slice() == [Some(CatalogueFault::NotLive(0))].as_slice());
+    let nowhere = catalogue.replay(alloc, desks, second)?;
+    assert!(rt; nowhere.as_slice() == [Some(CatalogueFault::NoFrame)].as_slice());
+    catalogue.audit_all(desks);
+    Ok(())
+}
+
 fn replayed<Acc: Ledger, Del: Ledger, R: Abort>(
     rt: &R,
     alloc: Global,
@@ -87,6 +107,7 @@ fn replayed<Acc: Ledger, Del: Ledger, R: Abort>(
     assert!(rt; answers.as_slice().iter().eq(wanted));
     assert!(rt; catalogue.frame_numbers(alloc, 0)?.as_slice() == [1].as_slice());
     assert!(rt; books(&catalogue, 0) == [Some(2), Some(1), Some(1)]);
+    again(rt, alloc, &mut catalogue, desks.as_mut_slice())?;
     let desk = desks.pop().ok_or("a desk")?;
     assert!(rt; desk.accepted() == 2 && desk.deleted() == 1);
     Ok(())

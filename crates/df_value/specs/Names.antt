@@ -22,6 +22,11 @@ doubled_name_after name_of seen (x ∷ xs) =
 abbrev pub AreDistinct : {T : Type 0} → (T → List ℕ) → List T → List T → Type 0
 AreDistinct name_of seen xs = doubled_name_after name_of seen xs ≡ None
 
+-- a name stands at two places of a list of names
+abbrev pub StandsTwice : List ℕ → List (List ℕ) → Type 0
+StandsTwice name names =
+    (before between after : List (List ℕ)) × (names ≡ before ++ name ∷ (between ++ name ∷ after))
+
 not_doubled : (b : Bool) (name : List ℕ) (later : Option (List ℕ)) → cond b (Some name) later ≡ None → (b ≡ false) × (later ≡ None)
 not_doubled true name later h = cc
 not_doubled false name later h = (refl, h)

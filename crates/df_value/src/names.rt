@@ -1,8 +1,10 @@
 //! Lists of items that have names: columns, keys, frames, views.
-ghost use Rattle.std.specs.Prelude.{◌≡◌, ◌<◌, [], ℕ, IfSome, List as Seq, length};
-ghost use Rattle.std.specs.Option.{option_copied};
+ghost use Rattle.std.specs.Prelude.{◌≡◌, ◌<◌, [], ℕ, IfSome, List as Seq, length, map};
+ghost use Rattle.std.specs.List.{IsDistinct};
+ghost use Rattle.std.specs.Option.{IsNone, option_copied};
 ghost use Rattle.std.specs.Str.{bytes_eq};
 ghost use Rattle.df_value.specs.Names as names;
+ghost use Rattle.df_value.specs.Names.{StandsTwice};
 
 use crate::text::Text;
 
@@ -48,6 +50,14 @@ pub fn index_of_name<N: Named>(items: &[N], name: &str) -> Option<usize>
 
 /// The first name that stands earlier in the list.
 pub fn first_doubled_name<N: Named>(items: &[N]) -> Option<&Text>
+    ensures value { option_copied result ≡ names.doubled_name_after N.name_of [] items.now }
+    ensures distinct { IsNone result → IsDistinct bytes_eq (map N.name_of items.now) }
+    ensures twice { IfSome result (λ name. StandsTwice name.now (map N.name_of items.now)) }
+{
+    first_standing_earlier(items)
+}
+
+fn first_standing_earlier<N: Named>(items: &[N]) -> Option<&Text>
     ensures { option_copied result ≡ names.doubled_name_after N.name_of [] items.now }
 {
     for i in 0..items.len() {

@@ -5,10 +5,11 @@ use Rattle.std.proofs.lemmas.List.{at_drop_all, drop_more}
 use Rattle.std.specs.Int.{w128}
 use Rattle.std.specs.Prelude.{fold, ℤ}
 use Rattle.std.proofs.Common.{◌∙◌, sym, to_z, List, ◌∷◌, ◌+◌, ap, arith, drop}
+use Rattle.df_ops.proofs.AggregateLaws.{sum_is_sum}
 use Rattle.df_ops.proofs.aggregates.sum_of.Goals as goal
 
-pub returns : goal.returns
-returns c =
+pub returns-clause-value : goal.returns-clause-value
+returns-clause-value c =
     sym
     (c.loop-row.invariant.so_far
     ∙ at_drop_all (λ rows. fold (λ sum v. sum_with sum (number_of v)) (to_z w128 c.loop-row.sum-bits) (cells_of c.args.index rows)) c.args.rows.now
@@ -31,3 +32,6 @@ loop-row-preserved c =
       least = omega (arith, ints);
       most = omega (arith, ints);
     }
+
+pub returns-clause-sums : goal.returns-clause-sums
+returns-clause-sums c = sum_is_sum

@@ -1,5 +1,6 @@
 use Rattle.std.proofs.lemmas.Result.{IfOk-weaker}
 use Rattle.df_ops.proofs.JoinLaws.{row_begins, row_count, row_kept}
+use Rattle.df_ops.proofs.JoinCells.{is_join_of_row}
 use Rattle.df_ops.proofs.joins.join_row.Goals as goal
 
 pub returns-clause-count : goal.returns-clause-count
@@ -16,3 +17,6 @@ pub returns-clause-begins : goal.returns-clause-begins
 returns-clause-begins c =
     IfOk-weaker c.matched_row.result _ _
     (λ rows e. rw e (row_begins c.args.how c.args.join_indices.now c.args.rights.now c.args.left.now)) c.matched_row.ensures
+
+pub returns-clause-right_cells : goal.returns-clause-right_cells
+returns-clause-right_cells c = is_join_of_row c.args.join_indices.now c.args.left.now

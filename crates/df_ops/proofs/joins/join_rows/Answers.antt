@@ -1,5 +1,6 @@
 use Rattle.std.proofs.lemmas.Result.{IfOk-weaker}
 use Rattle.df_ops.proofs.JoinLaws.{inner_is_left, rows_count}
+use Rattle.df_ops.proofs.JoinCells.{joins_in_order}
 use Rattle.df_ops.proofs.joins.join_rows.Goals as goal
 
 pub returns-clause-count : goal.returns-clause-count
@@ -9,3 +10,6 @@ returns-clause-count c =
 
 pub returns-clause-inner_is_left : goal.returns-clause-inner_is_left
 returns-clause-inner_is_left c = inner_is_left c.args.join_indices.now c.args.rights.now c.args.lefts.now
+
+pub returns-clause-left_order : goal.returns-clause-left_order
+returns-clause-left_order c = joins_in_order c.args.how c.args.join_indices.now c.args.rights.now

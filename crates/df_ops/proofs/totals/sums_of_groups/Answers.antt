@@ -11,7 +11,7 @@ use Rattle.df_ops.proofs.totals.sums_of_groups.Goals as goal
 pub loop-key-preserved : goal.loop-key-preserved
 loop-key-preserved c =
     mapped_more _ _ _ _ _ _ _ (omega arith) c.key-item.is c.loop-key.invariant
-    (c.sum_of.ensures ∙ ap (λ rows. sum_of (cells_of c.args.index rows)) (c.as_slice.ensures.value ∙ c.in_ok-group.ensures))
+    (c.sum_of.ensures.value ∙ ap (λ rows. sum_of (cells_of c.args.index rows)) (c.as_slice.ensures.value ∙ c.in_ok-group.ensures))
     (c.in_ok-push.ensures.items ∙ ap (λ (v : ℤ). c.loop-key.sums.items ++ v ∷ []) (to_z-of_z w128 c.sum_of.result (omega (arith, ints))))
 
 pub returns : goal.returns

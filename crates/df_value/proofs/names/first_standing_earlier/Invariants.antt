@@ -1,6 +1,6 @@
 use Rattle.std.proofs.Common.{◌≡◌, [], take, drop}
 use Rattle.df_value.specs.Names.{doubled_name_after}
-use Rattle.df_value.proofs.names.first_doubled_name.Given as goal
+use Rattle.df_value.proofs.names.first_standing_earlier.Given as goal
 
 abbrev pub invariant-loop-i : goal.invariant-loop-i
 invariant-loop-i g l =

@@ -1,0 +1,5 @@
+use Rattle.df_expr.proofs.Constant.{constant}
+use Rattle.df_expr.proofs.typing.names_column.Goals as goal
+
+pub returns-clause-constant : goal.returns-clause-constant
+returns-clause-constant c = constant c.args.expr.now
