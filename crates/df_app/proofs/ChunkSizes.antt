@@ -1,6 +1,6 @@
 -- The size of chunks does not matter where no cell is bad, and for no fault.
-use Rattle.std.proofs.Common.{◌≡◌, ◌∙◌, ◌<◌, ℕ, ⊤, ⊥, Bool, true, false, cond, List, [], ◌∷◌, ◌++◌, map, Result, Ok, Err, refl, ap, sym, tt}
-use Rattle.std.specs.Prelude.{◌≤◌, ◌&&◌, ◌*◌, ◌+◌, codes, Option, Some, None, IfSome, flat_map, length, nat_lt}
+use Rattle.std.proofs.Common.{◌≡◌, ◌∙◌, ◌<◌, ℕ, Bool, true, false, cond, List, [], ◌∷◌, ◌++◌, map, Result, Ok, Err, refl, ap, sym}
+use Rattle.std.specs.Prelude.{⊤, ◌≤◌, ◌&&◌, ◌*◌, ◌+◌, codes, Option, Some, None, IfSome, flat_map, length, nat_lt}
 use Rattle.std.specs.List.{enumerate_from, join_by, list_all}
 use Rattle.df_value.specs.declared.cell.Cell.{Cell}
 use Rattle.df_value.specs.declared.chunk.Piece.{Piece}
@@ -150,14 +150,16 @@ same_output t u o p h k = rw (h, k) refl
 same_made : (document : Views) (plans : List CheckedParts) (k l : ℕ) → 0 < k → 0 < l → (ps qs : List (List Piece)) → AllSizes k l ps qs →
     (outcome_of ps ≡ outcome_of qs)
     × (outcome_of ps ≡ outcome.Clean →
-      output_made l (record { document = document; plans = plans; pieces = qs }) ≡ output_made k (record { document = document; plans = plans; pieces = ps }))
+    output_made l (record { document = document; plans = plans; pieces = qs }) ≡ output_made k (record { document = document; plans = plans; pieces = ps }))
 same_made document plans k l some others ps qs h =
-    let same : outcome_of ps ≡ outcome_of qs = ap (λ (b : Bool). cond b outcome.Clean outcome.Refused) (all_good k l some others ps qs h) in
-    (same, λ clean.
-    let good = is_clean (list_all (list_all is_good) ps) clean in
-    same_output _ _ _ _
-    (same_text document plans k l ps qs (same_rows k l some others ps qs h good) (nothing_refused k document.frames ps good)
-    (nothing_refused l document.frames qs (sym (all_good k l some others ps qs h) ∙ good))) (sym same))
+    let same : outcome_of ps ≡ outcome_of qs = ap (λ (b : Bool). cond b outcome.Clean outcome.Refused) (all_good k l some others ps qs h) in (
+      same,
+      λ clean.
+          let good = is_clean (list_all (list_all is_good) ps) clean in
+          same_output _ _ _ _
+          (same_text document plans k l ps qs (same_rows k l some others ps qs h good) (nothing_refused k document.frames ps good)
+          (nothing_refused l document.frames qs (sym (all_good k l some others ps qs h) ∙ good))) (sym same),
+    )
 
 from_readings :
     (document : Views) (plans : List CheckedParts) (k l : ℕ) → 0 < k → 0 < l → (r s : Result (List (List Piece)) RunFault) → AreReadings k l r s →
@@ -197,3 +199,8 @@ by_bytes false bytes contents k l some others = by_document contents k l some ot
 pub same_unless_refused : (bytes : List ℕ) (contents : Contents) (k l : ℕ) → 0 < k → 0 < l →
     IsSameUnlessRefused (output_of bytes contents k) (output_of bytes contents l)
 same_unless_refused bytes contents k l some others = by_bytes (nat_lt most_bytes_of_document (length bytes)) bytes contents k l some others
+
+-- of bytes that are known or not
+pub of_known : {A : Type 0} (P : A → Type 0) (o : Option A) → ((x : A) → P x) → IfSome o P
+of_known P (Some x) h = h x
+of_known P None h = tt

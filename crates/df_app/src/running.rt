@@ -1,7 +1,8 @@
 //! A run, from the bytes of a document to what is written.
-ghost use Rattle.std.specs.Prelude.{◌≡◌, ◌≤◌, IfErr, IfSome};
+ghost use Rattle.std.specs.Prelude.{◌≡◌, ◌≤◌, ℕ, IfErr, IfSome};
 ghost use Rattle.df_value.specs.Limits.{most_rows_of_chunk};
-ghost use Rattle.df_app.specs.Output.{KnowsFiles};
+ghost use Rattle.df_app.specs.ChunkSizes.{IsSameUnlessRefused};
+ghost use Rattle.df_app.specs.Output.{KnowsFiles, output_of};
 ghost use Rattle.df_app.specs.Ran.{IsOutput, KeepsUnlessWrite, IsRunOn, IsWriting};
 
 use crate::fault::RunFault;
