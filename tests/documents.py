@@ -1,5 +1,5 @@
 #!/usr/bin/env python3
-"""check_docs.py: what the documents cite is there. Run it at the top of the repository.
+"""documents.py: what the documents cite is there. Run it at the top of the repository.
 
 1. Each name in backticks is a word of the crates, of tests, bench or examples, or a file of the repository (GUIDE's
    Polars names excepted).
@@ -14,7 +14,18 @@ import re
 import subprocess
 import sys
 
-FILES = [f for f in subprocess.run(["git", "ls-files"], capture_output=True, text=True, check=True).stdout.split("\n") if f]
+
+
+def files():
+    """The files of the repository; without git, all but what was built."""
+    listed = subprocess.run(["git", "ls-files"], capture_output=True, text=True)
+    if listed.returncode == 0:
+        return [f for f in listed.stdout.split("\n") if f and pathlib.Path(f).exists()]
+    found = (str(f) for f in pathlib.Path(".").rglob("*") if f.is_file())
+    return sorted(f for f in found if "/out/" not in f and not f.startswith(".git/"))
+
+
+FILES = files()
 DOCS = ["README.md", *sorted(f for f in FILES if re.fullmatch(r"docs/\w+\.md", f)), "tests/README.md", "bench/README.md"]
 # Words of the field, of the toolchain and of examples that stand for any name.
 KNOWN = set("rt ci sqlite3 mlr clang cc Box sort NAME document toml stdout session sh py c md txt out main".split())
@@ -106,7 +117,7 @@ def check_promises():
         if len(cells) < 3:
             continue
         # A clause that stands after "law", "over" or "of" is not one of the call.
-        wanted = set(re.findall(r"`(\w+)`", re.split(r", (?:by|over|and the law|of)\b|and the law", cells[2])[0]))
+        wanted = set(re.findall(r"`(\w+)(?:\.\w+)?`", re.split(r", (?:by|over|and the law|of)\b|and the law", cells[2])[0]))
         calls = [c.split("::")[-1] for c in re.findall(r"`([\w:]+)`", cells[1])]
         for call in calls:
             if call not in have:

@@ -1,11 +1,10 @@
 -- Sets that hold the numbers of a list, and the walk that finds the first number that is doubled.
 use Rattle.std.proofs.Common.{◌≡◌, ℕ, ◌+◌, ◌<◌, Bool, true, false, suc, cond, ◌∙◌, List, [], ◌∷◌, ◌++◌, filter, length, take, drop, get_or, refl, ap, sym, arith, add-one, drop-cons}
-use Rattle.std.specs.Prelude.{◌==◌, ◌||◌, not, Option, Some}
-use Rattle.std.specs.BTreeSet.{BTreeSet, contains, IsEmpty, Updates}
+use Rattle.std.specs.Prelude.{◌==◌, ◌||◌, not, Some}
+use Rattle.std.specs.BTreeSet.{BTreeSet, contains, Updates}
 use Rattle.std.specs.BTreeMap.{is_at}
 use Rattle.std.specs.Ordering.{nat_cmp, is_eq, MatchOrdering}
 use Rattle.std.specs.Cmp.{ranks}
-use Rattle.std.specs.declared.cmp.Ordering.{Ordering}
 use Rattle.std.specs.declared.cmp.Ordering.TheVariants.{Less, Equal, Greater}
 use Rattle.std.proofs.lemmas.Bool.{eq-eqb, ne_eqb}
 use Rattle.std.proofs.lemmas.List.{take_more}

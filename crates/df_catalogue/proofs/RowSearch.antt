@@ -1,19 +1,17 @@
 -- A binary search among rows by rising number finds a row exactly where there is one of the number.
-use Rattle.std.proofs.Common.{◌≡◌, ℕ, ◌<◌, ◌≤◌, Bool, true, false, zero, suc, List, [], ◌∷◌, map, length, get_or, refl, sym, subst, ⊎_elim, arith}
+use Rattle.std.proofs.Common.{◌≡◌, ℕ, ◌<◌, ◌≤◌, true, false, zero, suc, List, [], ◌∷◌, map, length, get_or, refl, sym, subst, ⊎_elim, arith}
 use Rattle.std.specs.Prelude.{◌==◌, nat_lt, Result, Ok, Err}
 use Rattle.std.specs.List.{list_any, list_all}
-use Rattle.std.specs.List.Sorted.{IsBinarySearchResult, IsNonDecreasingBy, IsSearchInRange}
+use Rattle.std.specs.List.Sorted.{IsBinarySearchResult, IsSearchInRange}
 use Rattle.std.specs.Ordering.{nat_cmp, ordering_index, MatchOrdering}
 use Rattle.std.specs.Result.{is_ok}
 use Rattle.std.specs.Cmp.{ranks}
-use Rattle.std.specs.declared.cmp.Ordering.{Ordering}
 use Rattle.std.specs.declared.cmp.Ordering.TheVariants.{Less, Equal, Greater}
 use Rattle.std.proofs.lemmas.Bool.{and_parts, cases_lt, eq-eqb, ltb-true, ne_eqb}
 use Rattle.std.proofs.lemmas.Bool.Decides.{nat_tests}
 use Rattle.std.proofs.lemmas.List.Elements.{All-from_get_or}
 use Rattle.std.proofs.lemmas.List.Folds.{list_any_at, list_any_none}
-use Rattle.df_catalogue.specs.Numbers.{has_number, is_rising}
-use Rattle.df_catalogue.proofs.Members.{all-to}
+use Rattle.df_catalogue.specs.Numbers.{is_rising}
 
 equal-number : (a n : ℕ) → nat_cmp a n ≡ Equal → (a == n) ≡ true
 equal-number a n e = eq-eqb a n (subst (λ o. MatchOrdering o (a < n) (a ≡ n) (n < a)) e (ranks a n))

@@ -1,6 +1,6 @@
 -- Transitions of a state and of desks, by what was answered.
-use Rattle.std.proofs.Common.{◌≡◌, ◌≢◌, ℕ, Bool, false, ◌∙◌, sym, refl}
-use Rattle.std.specs.Prelude.{IsTrue, Some, None, Result, Ok, Err}
+use Rattle.std.proofs.Common.{◌≡◌, false, ◌∙◌, sym, refl}
+use Rattle.std.specs.Prelude.{IsTrue, Some, None, Ok, Err}
 use Rattle.std.proofs.lemmas.Bool.{false≢true}
 use Rattle.df_catalogue.specs.declared.state.State.{State}
 use Rattle.df_catalogue.specs.declared.change.Change.{Change}

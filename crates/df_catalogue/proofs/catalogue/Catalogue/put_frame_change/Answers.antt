@@ -1,9 +1,8 @@
-use Rattle.std.proofs.Common.{◌≡◌, length, map, sym, subst}
-use Rattle.std.specs.Prelude.{None, slice_set}
+use Rattle.std.proofs.Common.{◌≡◌, length, map}
+use Rattle.std.specs.Prelude.{slice_set}
 use Rattle.df_catalogue.specs.Changes.{after}
 use Rattle.df_catalogue.specs.FrameChanges.{change_of, frame_after}
 use Rattle.df_catalogue.specs.Parts.{state_of, IsCatalogue}
-use Rattle.df_catalogue.specs.Refusals.{refusal_of}
 use Rattle.df_catalogue.specs.States.{value_over}
 use Rattle.df_catalogue.proofs.FrameChangeFacts.{changeable-of, frame-changed, free-of, room}
 use Rattle.df_catalogue.proofs.TransitionFacts.{made}
