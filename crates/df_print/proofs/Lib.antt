@@ -1,4 +1,5 @@
 pub mod ColumnFacts
+pub mod EscapeFacts
 pub mod Known
 pub mod LineFacts
 pub mod SpaceFacts
