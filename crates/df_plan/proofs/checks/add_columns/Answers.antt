@@ -12,5 +12,5 @@ schema_unless_wide-requires c =
     let own : c.as_slice-2.result.now ≡ c.args.input.now = c.as_slice-2.ensures ∙ c.columns.ensures.value in
     let added : c.as_slice-3.result.now ≡ c.args.added.now = c.as_slice-3.ensures in
     let apart : doubled_column_after [] c.args.added.now ≡ None =
-    ap (λ (cs : Columns). doubled_column_after [] cs) (sym c.as_slice.ensures) ∙ sym c.in_default.ensures in
+    ap (λ (cs : Columns). doubled_column_after [] cs) (sym c.as_slice.ensures) ∙ sym c.in_default.ensures.value in
     rw (is, own, added) (with_columns-distinct c.args.input.now c.args.added.now c.columns.ensures.sound.distinct apart)
