@@ -16,7 +16,7 @@ printable b h k = grind (arith, nat_tests)
 pub also : (b : ℕ) (bs : List ℕ) → is_printable b ≡ true → is_all_printable bs ≡ true → is_all_printable (b ∷ bs) ≡ true
 also b bs h k = ap (λ t. t && is_all_printable bs) h ∙ k
 
-two_true : (a b : Bool) → (a && b) ≡ true → (a ≡ true) × (b ≡ true)
+pub two_true : (a b : Bool) → (a && b) ≡ true → (a ≡ true) × (b ≡ true)
 two_true true b h = (refl, h)
 two_true false b h = cc
 
@@ -81,7 +81,7 @@ encode_printable c h k =
     (λ e. also (240 + c / 262144) (next (c / 4096) ∷ next (c / 64) ∷ next c ∷ []) (high 112 (c / 262144))
     (also (next (c / 4096)) (next (c / 64) ∷ next c ∷ []) (high 0 (c / 4096 % 64)) (two_next (c / 64) c)))))
 
-hex_printable : (d : ℕ) → d < 16 → is_printable (hex_digit d) ≡ true
+pub hex_printable : (d : ℕ) → d < 16 → is_printable (hex_digit d) ≡ true
 hex_printable d h =
     let small = hex_small d h in
     printable (hex_digit d) (omega arith) (λ e. omega arith)

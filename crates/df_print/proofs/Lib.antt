@@ -4,3 +4,4 @@ pub mod Known
 pub mod LineFacts
 pub mod SpaceFacts
 pub mod TableFacts
+pub mod TableLines
