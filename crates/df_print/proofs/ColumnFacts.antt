@@ -25,7 +25,7 @@ each_below a (x ∷ xs) zero d h = omega (arith, fold_above (max a x) xs)
 each_below a (x ∷ xs) (suc k) d h = each_below (max a x) xs k d (omega arith)
 
 -- the greatest width of some texts is not below the width of any of them
-texts_below : (ts : List (List ℕ)) (k : ℕ) (d : List ℕ) → k < length ts → width_of (get_or ts k d) ≤ fold max 0 (map width_of ts)
+pub texts_below : (ts : List (List ℕ)) (k : ℕ) (d : List ℕ) → k < length ts → width_of (get_or ts k d) ≤ fold max 0 (map width_of ts)
 texts_below ts k d h =
     let l = length-map ts (λ (t : List ℕ). width_of t) in
     rw (← get_or-map (λ (t : List ℕ). width_of t) ts k d) (each_below 0 (map width_of ts) k (width_of d) (omega (arith, l)))

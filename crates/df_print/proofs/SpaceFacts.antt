@@ -10,19 +10,19 @@ use Rattle.unicode_width.proofs.Computing.{unicode_width}
 use Rattle.unicode_width.proofs.Rules.{is_simple, str_width-append_simple, str_width-printable}
 use Rattle.df_print.specs.Printed.{padded, width_of}
 
-abbrev spaces : ℕ → List ℕ
+abbrev pub spaces : ℕ → List ℕ
 spaces n = replicate n 32
 
-spaces-IsAscii : (n : ℕ) → IsAscii (spaces n)
+pub spaces-IsAscii : (n : ℕ) → IsAscii (spaces n)
 spaces-IsAscii zero i = omega arith
 spaces-IsAscii (suc n) zero = omega arith
 spaces-IsAscii (suc n) (suc i) = spaces-IsAscii n i
 
-spaces-simple : (n : ℕ) → list_all is_simple (spaces n) ≡ true
+pub spaces-simple : (n : ℕ) → list_all is_simple (spaces n) ≡ true
 spaces-simple zero = refl
 spaces-simple (suc n) = spaces-simple n
 
-spaces-printable : (n : ℕ) → list_all (is_in_range 0x20 0x7E) (spaces n) ≡ true
+pub spaces-printable : (n : ℕ) → list_all (is_in_range 0x20 0x7E) (spaces n) ≡ true
 spaces-printable zero = refl
 spaces-printable (suc n) = spaces-printable n
 
@@ -34,7 +34,7 @@ width-after t n h =
     let e : str_width false (chars t ++ spaces n) ≡ str_width false (chars t) + str_width false (spaces n) = str_width-append_simple false (chars t) (spaces n) (spaces-simple n) in
     rw (chars-append t (spaces n) h, b, e, w) refl
 
-space_joins_none : is_emoji_variation_base 32 ≡ false
+pub space_joins_none : is_emoji_variation_base 32 ≡ false
 unfolding unicode_width
 space_joins_none = refl
 

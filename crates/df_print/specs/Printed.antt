@@ -1,8 +1,8 @@
 -- Printed tables: the lines of a table in columns. How wide a text is in a terminal the crate unicode_width says,
 -- by Unicode's East Asian Width (UAX 11), emoji sequences and combining characters.
-use Rattle.std.specs.Prelude.{◌+◌, ◌-◌, ◌==◌, ◌||◌, ◌/◌, ◌%◌, ℕ, Bool, true, false, nat_lt, max, List, [], ◌∷◌, ◌++◌, length, map, fold, slice_get, unwrap_or, replicate, codes, decimal, chars, encode_utf8, flat_map, if◌then◌else◌}
+use Rattle.std.specs.Prelude.{◌≡◌, ◌+◌, ◌-◌, ◌==◌, ◌||◌, ◌&&◌, not, nat_le, IsTrue, IsUtf8, All, ◌<◌, slice_index_or, ◌/◌, ◌%◌, ℕ, Bool, true, false, nat_lt, max, List, [], ◌∷◌, ◌++◌, length, map, fold, slice_get, unwrap_or, replicate, codes, decimal, chars, encode_utf8, flat_map, if◌then◌else◌}
 use Rattle.std.specs.Fmt.{signed_decimal}
-use Rattle.std.specs.List.{enumerate_from, join_by, range_with_len}
+use Rattle.std.specs.List.{enumerate_from, join_by, list_all, range_with_len}
 use Rattle.unicode_width.specs.Width.{str_width}
 use Rattle.df_value.specs.declared.cell.Cell.{Cell}
 use Rattle.df_value.specs.declared.cell.Cell.TheVariants as cell
@@ -20,6 +20,18 @@ escaped_char c = if c == 92 then codes "\\\\" else if nat_lt c 32 || (c == 127) 
 -- a text as it is printed, character by character
 abbrev pub escaped_text : List ℕ → List ℕ
 escaped_text text = flat_map escaped_char (chars text)
+
+-- whether a byte is no control character of ASCII
+abbrev pub is_printable : ℕ → Bool
+is_printable b = nat_le 32 b && not (b == 127)
+
+-- whether no byte is one
+abbrev pub is_all_printable : List ℕ → Bool
+is_all_printable bytes = list_all is_printable bytes
+
+-- no other text is printed as this one
+abbrev pub IsPrintedAlone : List ℕ → Type 0
+IsPrintedAlone text = (other : List ℕ) → IsUtf8 other → escaped_text other ≡ escaped_text text → other ≡ text
 
 -- a cell as it is printed
 abbrev pub cell_text : Cell → List ℕ
@@ -96,3 +108,19 @@ printed name columns rows =
     title name (length columns) (length rows)
     ++ (printed_line columns widths (header_texts columns)
     ++ flat_map (λ row. printed_line columns widths (row_texts (length columns) row)) rows)
+
+-- the texts of every column are UTF-8
+abbrev pub AreUtf8 : List (List ℕ × CellType) → List (List Cell) → Type 0
+AreUtf8 columns rows =
+    (at : ℕ) → at < length columns → (d : List ℕ × CellType) → All IsUtf8 (column_texts at (slice_index_or columns at d).0 rows)
+
+-- what the printed table of so many rows is: the line of the title, and below it a line of names and one of each row, all
+-- of one width; no line holds a control character, so none is broken in two
+pub record IsTableOfRows (rows : ℕ) (bytes : List ℕ) : Type 0 where
+  pub heading : List ℕ
+  pub lines : List (List ℕ)
+  pub width : ℕ
+  pub made_of : bytes ≡ flat_map (λ line. line ++ codes "\n") (heading ∷ lines)
+  pub printable : IsTrue (list_all is_all_printable (heading ∷ lines))
+  pub count : length lines ≡ rows + 1
+  pub one_width : All (λ line. width_of line ≡ width) lines

@@ -1,6 +1,6 @@
 //! Texts as they are printed.
-ghost use Rattle.std.specs.Prelude.{◌≡◌, ◌≤◌, ◌++◌, ◌∷◌, ◌/◌, ◌%◌, [], IfOk, OnOk, string_bytes};
-ghost use Rattle.df_print.specs.Printed.{escaped_char, escaped_text, hex_digit};
+ghost use Rattle.std.specs.Prelude.{◌≡◌, ◌≤◌, ◌++◌, ◌∷◌, ◌/◌, ◌%◌, [], IfOk, IsTrue, OnOk, string_bytes};
+ghost use Rattle.df_print.specs.Printed.{escaped_char, escaped_text, hex_digit, is_all_printable, IsPrintedAlone};
 
 use std::alloc::{AllocError, Global};
 
@@ -14,6 +14,14 @@ fn hex(digit: u8) -> u8
 /// A text as it is printed, in tables and in the texts of faults: a byte below 0x20 and 0x7F as
 /// `\x` and two lower-case hexadecimal digits, a backslash as two, all else as it is.
 pub fn escape(alloc: Global, text: &str) -> Result<String, AllocError>
+    ensures value { IfOk result (λ s. string_bytes s ≡ escaped_text text.now) }
+    ensures printable { IfOk result (λ s. IsTrue (is_all_printable (string_bytes s))) }
+    ensures injective { IsPrintedAlone text.now }
+{
+    escaped(alloc, text)
+}
+
+fn escaped(alloc: Global, text: &str) -> Result<String, AllocError>
     ensures { IfOk result (λ s. string_bytes s ≡ escaped_text text.now) }
 {
     let mut out = String::with_capacity(alloc, text.len())?;

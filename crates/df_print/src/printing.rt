@@ -1,6 +1,6 @@
 //! Printed tables.
 ghost use Rattle.std.specs.Prelude.{◌≡◌, ◌++◌, codes, length, map, vec_len, IfOk, OnOk, string_bytes};
-ghost use Rattle.df_print.specs.Printed.{column_widths, gap, header_texts, is_left, padded, printed, printed_line, row_texts, title};
+ghost use Rattle.df_print.specs.Printed.{AreUtf8, IsTableOfRows, column_widths, gap, header_texts, is_left, padded, printed, printed_line, row_texts, title};
 
 use crate::escapes::escape;
 use crate::widths::{column_width, print_cell_at};
@@ -21,7 +21,8 @@ pub fn print_table(
     schema: &Schema,
     rows: &[Row],
 ) -> Result<Vec<u8>, AllocError>
-    ensures { IfOk result (λ v. v.items ≡ printed name.now schema.now rows.now) }
+    ensures value { IfOk result (λ v. v.items ≡ printed name.now schema.now rows.now) }
+    ensures lines { IfOk result (λ v. IsTableOfRows (length rows.now) v.items) }
 {
     let columns = schema.columns().as_slice();
     let widths = print_widths(alloc, columns, rows)?;
@@ -55,6 +56,7 @@ fn print_widths(
 ) -> Result<Vec<usize>, AllocError>
     ensures widths { IfOk result (λ v. v.items ≡ column_widths columns.now rows.now) }
     ensures len { IfOk result (λ v. length v.items ≡ length columns.now) }
+    ensures utf8 { IfOk result (λ _. AreUtf8 columns.now rows.now) }
 {
     let mut widths = Vec::with_capacity(alloc, columns.len())?;
     for i in 0..columns.len() {

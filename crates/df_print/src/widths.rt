@@ -61,6 +61,7 @@ pub fn column_width(
     ensures greatest { IfOk result (λ w. w ≡ printed.column_width at name.now rows.now) }
     ensures filled { IfOk result (λ w. All (λ t. (left : Bool) → width_of (padded left w t) ≡ w)
         (column_texts at name.now rows.now)) }
+    ensures utf8 { IfOk result (λ _. All IsUtf8 (column_texts at name.now rows.now)) }
 {
     let header = escape(alloc, name.as_str())?;
     let mut width = header.as_str().width();

@@ -1,11 +1,10 @@
-use Rattle.std.proofs.Common.{◌∙◌, ap, sym, flat_map}
-use Rattle.std.proofs.lemmas.Iterator.{YieldsList-from_chars}
-use Rattle.std.proofs.lemmas.Iterator.Consumers.{YieldsList-end}
-use Rattle.std.proofs.lemmas.List.{map-id}
-use Rattle.df_print.specs.Printed.{escaped_char}
+use Rattle.std.proofs.lemmas.Result.{IfOk-weaker}
+use Rattle.df_print.proofs.EscapeFacts.{escaped_printable, printed_alone}
 use Rattle.df_print.proofs.escapes.escape.Goals as goal
 
-pub returns : goal.returns
-returns c =
-    let t = YieldsList-end (YieldsList-from_chars c.args.text.now c.utf8.text cc) c.loop-c.yielded _ c.loop-c.yielded_by _ _ c.in-None.is c.next.ensures.steps in
-    c.loop-c.invariant ∙ ap (flat_map escaped_char) (sym (map-id c.loop-c.yielded) ∙ t.0)
+pub returns-clause-printable : goal.returns-clause-printable
+returns-clause-printable c =
+    IfOk-weaker c.escaped.result _ _ (λ s e. rw e (escaped_printable c.args.text.now)) c.escaped.ensures
+
+pub returns-clause-injective : goal.returns-clause-injective
+returns-clause-injective c = printed_alone c.args.text.now c.utf8.text

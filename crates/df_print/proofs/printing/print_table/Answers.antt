@@ -1,9 +1,18 @@
-use Rattle.std.proofs.Common.{◌∙◌}
+use Rattle.std.proofs.Common.{ℕ, ◌∙◌, List, subst}
+use Rattle.df_value.specs.declared.cell.CellType.{CellType}
+use Rattle.df_print.specs.Printed.{AreUtf8}
 use Rattle.df_print.proofs.TableFacts.{table_end}
+use Rattle.df_print.proofs.TableLines.{table_is}
 use Rattle.df_print.proofs.printing.print_table.Goals as goal
 
-pub returns : goal.returns
-returns c =
+pub returns-clause-value : goal.returns-clause-value
+returns-clause-value c =
     let same = c.as_slice-columns.ensures ∙ c.columns.ensures.value in
     let line = rw (c.as_slice.ensures.value, c.as_slice-2.ensures.value) at c.in_ok-push_line.ensures in
     table_end c.args.name.now c.args.schema.now c.as_slice-columns.result.now c.args.rows.now c.loop-row.row-index c.in_ok-widths.widths.items _ c.in_ok-out.out.items _ c.loop-row.out.items same c.loop-row-test.false c.in_ok-widths.ensures.widths c.in_ok-header.ensures.texts c.in_ok-out.ensures line c.loop-row.invariant
+
+pub returns-clause-lines : goal.returns-clause-lines
+returns-clause-lines c =
+    let same = c.as_slice-columns.ensures ∙ c.columns.ensures.value in
+    let utf8 = subst (λ (cs : List (List ℕ × CellType)). AreUtf8 cs c.args.rows.now) same c.in_ok-widths.ensures.utf8 in
+    rw (returns-clause-value c) (table_is c.args.name.now c.args.schema.now c.args.rows.now utf8)
