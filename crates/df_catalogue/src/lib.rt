@@ -30,7 +30,7 @@ mod views;
 
 pub use catalogue::{Catalogue, MOST_FRAMES, MOST_VIEWS};
 pub use change::Change;
-pub use desk::Desk;
+pub use desk::{Desk, PARTS_OF_LEDGER};
 pub use fault::{CatalogueFault, NewFault};
 pub use frame::MOST_ROWS;
 pub use state::{FrameState, State, ViewState};
