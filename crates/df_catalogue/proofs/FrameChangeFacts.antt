@@ -1,6 +1,6 @@
 -- What a catalogue's parts are after a change of one frame that is not refused: the parts of the state after it, and sound.
 use Rattle.std.proofs.Common.{◌≡◌, ℕ, ◌+◌, ◌<◌, ◌∙◌, List, [], ◌∷◌, map, length, refl, ap, sym, subst, arith, get_or}
-use Rattle.std.specs.Prelude.{IsTrue, Option, Some, None, Result, option_map, slice_get, slice_index_or, slice_set}
+use Rattle.std.specs.Prelude.{Option, Some, None, Result, option_map, slice_get, slice_index_or, slice_set}
 use Rattle.std.proofs.lemmas.Result.{on_err_weaker, on_ok_weaker}
 use Rattle.std.proofs.lemmas.List.{set-get_or}
 use Rattle.std.proofs.lemmas.Option.{slice_get_read, slice_get_within}
@@ -15,7 +15,6 @@ use Rattle.df_catalogue.specs.declared.frame_change.FrameChange.{FrameChange}
 use Rattle.df_catalogue.specs.declared.frame_change.FrameChange.TheVariants.{Append, Delete}
 use Rattle.df_catalogue.specs.declared.fault.CatalogueFault.{CatalogueFault}
 use Rattle.df_catalogue.specs.declared.fault.CatalogueFault.TheVariants as fault
-use Rattle.df_catalogue.specs.Answers.{takes_memory}
 use Rattle.df_catalogue.specs.Changes.{accepted_rows, after, change_at, deleted_rows, refreshed_views, IsSound}
 use Rattle.df_catalogue.specs.Desks.{DeskParts, accepted_in, deleted_in, desk_after, desks_after}
 use Rattle.df_catalogue.specs.FrameChanges.{change_of, frame_after, FrameTakes}
@@ -91,11 +90,6 @@ pub changeable-of :
     x ≡ get_or s.frames f x → IsChangeable s f c x
 changeable-of s t f g c x same place h free lent =
     changeable s f c x h (free-of s t f g c same place free) lent
-
--- such a change takes memory
-pub rows-take-memory : (f : ℕ) (c : FrameChange) → IsTrue (takes_memory (change_of f c))
-rows-take-memory f (Append chunk) = refl
-rows-take-memory f (Delete ns) = refl
 
 -- what it makes of a state
 after-frame :

@@ -135,15 +135,16 @@ impl<Acc: Ledger, Del: Ledger> Catalogue<Acc, Del> {
         desk.audit(&mut self.accepted, &mut self.deleted);
     }
 
-    /// Tells how these desks together stand to what was accepted and deleted over all frames: they
-    /// count no more, and exactly that where they have every part of the ledgers that the first
-    /// desks were given.
+    /// Tells that these desks together count no more rows than were accepted and deleted over all
+    /// frames, and exactly these where they have every part of the ledgers that the first desks
+    /// were given.
     ///
-    /// It goes a call deeper for each desk, so it is for short lists, as one desk for each frame.
+    /// Each desk takes a further level of a recursion, so the list is to be short, as one desk for
+    /// each frame.
     pub fn audit_all(&mut self, desks: &mut [Desk<Acc, Del>])
         ensures same { self.new ≡ self.old }
         ensures desks { desks.new ≡ desks.old }
-        ensures books { desks_spec.AreAudited desks.new self.new }
+        ensures books { desks_spec.AgreeWithBooks desks.new self.new }
     {
         audit_all(
             desks,

@@ -8,6 +8,9 @@ ghost use Rattle.df_value.specs.Limits as limits;
 use std::marker::Model;
 use std::sync::ledger::{Book, Ledger, Share};
 
+/// The parts of each ledger of a catalogue.
+pub const PARTS_OF_LEDGER: u64 = 524_288;
+
 /// The parts of each ledger that the first desk of a frame has.
 pub const PARTS_OF_FIRST_DESK: u64 = 65_536;
 
@@ -197,7 +200,8 @@ impl<Acc: Ledger, Del: Ledger> Desk<Acc, Del> {
     }
 }
 
-/// Tells how these desks and two more shares together stand to the books.
+/// Tells that these desks and two more shares together have no more than the books, and exactly
+/// these where they have every part.
 ///
 /// For the time of the call the desks lend their shares to those given, one desk at each level of a
 /// recursion.

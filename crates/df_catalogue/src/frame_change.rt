@@ -3,12 +3,12 @@ ghost use Rattle.std.specs.Prelude.{◌≡◌, ℕ};
 
 use df_value::Chunk;
 
-/// What a change makes of the rows of a frame. Where the frame stands, the call says that makes it.
+/// A change of one frame's rows. Which frame it is, the call says that makes the change.
 #[derive(Clone, Copy)]
 pub enum FrameChange<'a> {
-    /// The chunk's rows come.
+    /// The chunk's rows are added.
     Append(&'a Chunk),
-    /// The rows of these numbers go.
+    /// The rows of these numbers are taken out.
     Delete(&'a [u32]),
 }
 
@@ -16,7 +16,7 @@ impl FrameChange<'_> {
     ghost use Rattle.df_catalogue.specs.Changes as changes;
     ghost use Rattle.df_catalogue.specs.FrameChanges as frame_changes;
 
-    /// How many rows come. Also tells that a chunk is sound.
+    /// How many rows are added. Tells also that a chunk is sound.
     pub fn accepted_rows(&self) -> u64
         ensures value { (f : ℕ) →
             result ≡ changes.accepted_rows (frame_changes.change_of f self.now) }
@@ -28,7 +28,7 @@ impl FrameChange<'_> {
         }
     }
 
-    /// How many rows go.
+    /// How many rows are taken out.
     pub fn deleted_rows(&self) -> u64
         ensures { (f : ℕ) → result ≡ changes.deleted_rows (frame_changes.change_of f self.now) }
     {

@@ -24,6 +24,6 @@ mod views;
 
 pub use catalogue::Catalogue;
 pub use change::Change;
-pub use desk::Desk;
+pub use desk::{Desk, PARTS_OF_LEDGER};
 pub use fault::{CatalogueFault, NewFault};
 pub use state::{FrameState, State, ViewState};

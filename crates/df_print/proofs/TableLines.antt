@@ -141,8 +141,8 @@ utf8_from k (c ∷ cs) rows h =
     let here : k + 0 ≡ k = add-zero k in (
       subst (λ n. All IsUtf8 (column_texts n c.0 rows)) here (h 0 (omega arith) c),
       utf8_from (k + 1) cs rows (λ i l d.
-      let later : k + suc i ≡ (k + 1) + i = omega arith in
-      subst (λ n. All IsUtf8 (column_texts n (get_or cs i d).0 rows)) later (h (suc i) (omega arith) d)),
+          let later : k + suc i ≡ (k + 1) + i = omega arith in
+          subst (λ n. All IsUtf8 (column_texts n (get_or cs i d).0 rows)) later (h (suc i) (omega arith) d)),
     )
 
 abbrev widths_from : ℕ → Columns → Rows → List ℕ

@@ -12,6 +12,7 @@ use crate::refusal_texts::refusal_text;
 use crate::store::Store;
 use crate::words::{count_lines, read_words};
 use df_app::{Files, OpenedDocument, open_document, refused_lines};
+use df_catalogue::PARTS_OF_LEDGER;
 use df_text::write_text;
 use std::alloc::{AllocError, Global};
 use std::io::{BufRead, Read, Write};
@@ -20,9 +21,6 @@ use std::sync::ledger::{Blank, Ledger};
 
 /// The records of a chunk of the first rows.
 const RECORDS_OF_CHUNK: usize = 1000;
-
-/// The parts of each ledger.
-const PARTS: u64 = 524_288;
 
 /// Opens a document and answers the commands of `input`, each before the next one is read, to its
 /// end.
@@ -40,8 +38,8 @@ pub fn run_shell<V: Read, F: Files, I: BufRead, W: Write>(
     let opened = open_document(alloc, document, files, RECORDS_OF_CHUNK)?;
     serve::<Brand, Brand, I, W>(
         alloc,
-        Blank::new(PARTS),
-        Blank::new(PARTS),
+        Blank::new(PARTS_OF_LEDGER),
+        Blank::new(PARTS_OF_LEDGER),
         opened,
         input,
         output,

@@ -4,8 +4,8 @@ ghost use Rattle.df_catalogue.specs.Desks.{AreInOrder};
 ghost use Rattle.df_catalogue.specs.Ledgers as ledgers;
 
 use crate::given::{chunk, scan, schema};
-use crate::openings::{PARTS, books, opened};
-use df_catalogue::{Catalogue, CatalogueFault, Change, Desk};
+use crate::openings::{books, opened};
+use df_catalogue::{Catalogue, CatalogueFault, Change, Desk, PARTS_OF_LEDGER};
 use df_value::CellType::{Bool, Int};
 use df_value::{Chunk, List, Text};
 use std::alloc::{AllocError, Global};
@@ -80,10 +80,10 @@ fn again<Acc: Ledger, Del: Ledger, R: Abort>(
 {
     let first = List::from_vec(vec![in alloc; change(alloc, Step::Delete(0, 0))?]?);
     let second = List::from_vec(vec![in alloc; change(alloc, Step::Append(9))?]?);
-    let gone = catalogue.replay(alloc, desks, first)?;
-    assert!(rt; gone.as_slice() == [Some(CatalogueFault::NotLive(0))].as_slice());
-    let nowhere = catalogue.replay(alloc, desks, second)?;
-    assert!(rt; nowhere.as_slice() == [Some(CatalogueFault::NoFrame)].as_slice());
+    let of_delete = catalogue.replay(alloc, desks, first)?;
+    assert!(rt; of_delete.as_slice() == [Some(CatalogueFault::NotLive(0))].as_slice());
+    let of_append = catalogue.replay(alloc, desks, second)?;
+    assert!(rt; of_append.as_slice() == [Some(CatalogueFault::NoFrame)].as_slice());
     catalogue.audit_all(desks);
     Ok(())
 }
@@ -115,5 +115,10 @@ fn replayed<Acc: Ledger, Del: Ledger, R: Abort>(
 
 #[test]
 fn changes_are_answered_in_turn(rt: HostRuntime) -> Result<(), Fail> {
-    replayed::<Brand, Brand, _>(&rt, rt.alloc(), Blank::new(PARTS), Blank::new(PARTS))
+    replayed::<Brand, Brand, _>(
+        &rt,
+        rt.alloc(),
+        Blank::new(PARTS_OF_LEDGER),
+        Blank::new(PARTS_OF_LEDGER),
+    )
 }

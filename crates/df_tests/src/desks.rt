@@ -3,8 +3,8 @@ ghost use Rattle.std.specs.Prelude.{◌≡◌};
 ghost use Rattle.df_catalogue.specs.Ledgers as ledgers;
 
 use crate::given::chunk;
-use crate::openings::{PARTS, books, opened};
-use df_catalogue::{Catalogue, Desk};
+use crate::openings::{books, opened};
+use df_catalogue::{Catalogue, Desk, PARTS_OF_LEDGER};
 use df_value::CellType::Int;
 use std::alloc::Global;
 use std::marker::Brand;
@@ -90,5 +90,10 @@ fn joins<Acc: Ledger, Del: Ledger, R: Abort>(
 
 #[test]
 fn two_desks_change_one_frame(rt: HostRuntime) -> Result<(), Fail> {
-    shared::<Brand, Brand, _>(&rt, rt.alloc(), Blank::new(PARTS), Blank::new(PARTS))
+    shared::<Brand, Brand, _>(
+        &rt,
+        rt.alloc(),
+        Blank::new(PARTS_OF_LEDGER),
+        Blank::new(PARTS_OF_LEDGER),
+    )
 }

@@ -4,16 +4,13 @@ ghost use Rattle.df_catalogue.specs.Desks.{AreInOrder};
 ghost use Rattle.df_catalogue.specs.Ledgers as ledgers;
 
 use crate::given::schemas;
-use df_catalogue::{Catalogue, Desk, NewFault};
+use df_catalogue::{Catalogue, Desk, NewFault, PARTS_OF_LEDGER};
 use df_value::CellType::{self, Bool, Frac, Int, Text, Wide};
 use std::alloc::Global;
 use std::marker::Brand;
 use std::process::Abort;
 use std::sync::ledger::{Blank, Ledger};
 use std::test::Fail;
-
-/// The parts of each ledger.
-pub const PARTS: u64 = 524_288;
 
 /// A catalogue and the desks of its frames.
 pub type Opened<Acc, Del> = (Catalogue<Acc, Del>, Vec<Desk<Acc, Del>>);
@@ -66,7 +63,12 @@ fn fault_of_new<Acc: Ledger, Del: Ledger>(
 
 // The fault of frames with a column of these types.
 fn fault_of(alloc: Global, kinds: &[CellType]) -> Option<NewFault> {
-    fault_of_new::<Brand, Brand>(alloc, Blank::new(PARTS), Blank::new(PARTS), kinds)
+    fault_of_new::<Brand, Brand>(
+        alloc,
+        Blank::new(PARTS_OF_LEDGER),
+        Blank::new(PARTS_OF_LEDGER),
+        kinds,
+    )
 }
 
 #[test]
@@ -117,5 +119,10 @@ fn opening<Acc: Ledger, Del: Ledger, R: Abort>(
 
 #[test]
 fn each_frame_has_a_desk(rt: HostRuntime) -> Result<(), Fail> {
-    opening::<Brand, Brand, _>(&rt, rt.alloc(), Blank::new(PARTS), Blank::new(PARTS))
+    opening::<Brand, Brand, _>(
+        &rt,
+        rt.alloc(),
+        Blank::new(PARTS_OF_LEDGER),
+        Blank::new(PARTS_OF_LEDGER),
+    )
 }

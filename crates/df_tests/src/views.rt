@@ -3,8 +3,8 @@ ghost use Rattle.std.specs.Prelude.{◌≡◌};
 ghost use Rattle.df_catalogue.specs.Ledgers as ledgers;
 
 use crate::given::scan;
-use crate::openings::{PARTS, opened};
-use df_catalogue::{Catalogue, CatalogueFault};
+use crate::openings::opened;
+use df_catalogue::{Catalogue, CatalogueFault, PARTS_OF_LEDGER};
 use df_value::CellType::{self, Int};
 use df_value::Text;
 use std::alloc::{AllocError, Global};
@@ -93,5 +93,10 @@ fn many<Acc: Ledger, Del: Ledger, R: Abort>(
 
 #[test]
 fn views_are_at_most_32(rt: HostRuntime) -> Result<(), Fail> {
-    crowded::<Brand, Brand, _>(&rt, rt.alloc(), Blank::new(PARTS), Blank::new(PARTS))
+    crowded::<Brand, Brand, _>(
+        &rt,
+        rt.alloc(),
+        Blank::new(PARTS_OF_LEDGER),
+        Blank::new(PARTS_OF_LEDGER),
+    )
 }

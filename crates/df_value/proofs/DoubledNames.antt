@@ -74,10 +74,13 @@ twice_from name_of seen [] name h = cc
 twice_from {T} name_of seen (x ∷ xs) name h =
     told (has_name name_of (name_of x) seen) (name_of x) name (doubled_name_after name_of (seen ++ x ∷ []) xs) h
     (λ e same. let at = stands name_of (name_of x) seen e in
-    subst (λ n. StandsTwice n (map name_of (seen ++ x ∷ xs))) same
-    (at.0, at.1, map name_of xs,
-    map-append name_of seen (x ∷ xs)
-    ∙ (ap (λ ns. ns ++ name_of x ∷ map name_of xs) at.2 ∙ append_assoc at.0 (name_of x ∷ at.1) (name_of x ∷ map name_of xs))))
+    subst (λ n. StandsTwice n (map name_of (seen ++ x ∷ xs))) same (
+      at.0,
+      at.1,
+      map name_of xs,
+      map-append name_of seen (x ∷ xs)
+          ∙ (ap (λ ns. ns ++ name_of x ∷ map name_of xs) at.2 ∙ append_assoc at.0 (name_of x ∷ at.1) (name_of x ∷ map name_of xs)),
+    ))
     (λ e later. subst (λ l. StandsTwice name (map name_of l)) (append_assoc seen (x ∷ []) xs) (twice_from name_of (seen ++ x ∷ []) xs name later))
 
 pub stands_twice :
