@@ -26,12 +26,12 @@ pub fn output(alloc: Global, opened: OpenedDocument, chunk: usize) -> Result<Out
         pieces,
     } = opened;
     let outcome = outcome(pieces.as_slice());
-    let text = fault_text_of(alloc, &document, plans.as_slice(), pieces, chunk)?;
+    let text = output_text(alloc, &document, plans.as_slice(), pieces, chunk)?;
     Ok(Output { text, outcome })
 }
 
 // The tables and the refused lines, with an empty line between each two blocks.
-fn fault_text_of(
+fn output_text(
     alloc: Global,
     document: &Views,
     plans: &[CheckedPlan],
