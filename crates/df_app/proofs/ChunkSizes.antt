@@ -1,5 +1,5 @@
 -- The size of chunks does not matter where no cell is bad, and for no fault.
-use Rattle.std.proofs.Common.{◌≡◌, ◌∙◌, ◌<◌, ℕ, Bool, true, false, cond, List, [], ◌∷◌, ◌++◌, map, Result, Ok, Err, refl, ap, sym}
+use Rattle.std.proofs.Common.{◌≡◌, ◌∙◌, ◌<◌, ℕ, Bool, true, false, cond, List, [], ◌∷◌, ◌++◌, map, Result, Ok, Err, refl, ap, sym, arith}
 use Rattle.std.specs.Prelude.{⊤, ◌≤◌, ◌&&◌, ◌*◌, ◌+◌, codes, Option, Some, None, IfSome, flat_map, length, nat_lt}
 use Rattle.std.specs.List.{enumerate_from, join_by, list_all}
 use Rattle.df_value.specs.declared.cell.Cell.{Cell}
@@ -161,11 +161,14 @@ same_made document plans k l some others ps qs h =
           (nothing_refused l document.frames qs (sym (all_good k l some others ps qs h) ∙ good))) (sym same),
     )
 
+abbrev opened_as : Views → List CheckedParts → List (List Piece) → Result OpenedDocument RunFault
+opened_as document plans pieces = Ok (record { document = document; plans = plans; pieces = pieces })
+
 from_readings :
     (document : Views) (plans : List CheckedParts) (k l : ℕ) → 0 < k → 0 < l → (r s : Result (List (List Piece)) RunFault) → AreReadings k l r s →
     IsSameUnlessRefused
-    (then_next (then_next r (λ pieces. Ok {E = RunFault} {A = OpenedDocument} (record { document = document; plans = plans; pieces = pieces }))) (λ o. Ok (output_made k o)))
-    (then_next (then_next s (λ pieces. Ok {E = RunFault} {A = OpenedDocument} (record { document = document; plans = plans; pieces = pieces }))) (λ o. Ok (output_made l o)))
+    (then_next (then_next r (opened_as document plans)) (λ o. Ok (output_made k o)))
+    (then_next (then_next s (opened_as document plans)) (λ o. Ok (output_made l o)))
 from_readings document plans k l some others (Ok ps) (Ok qs) h = same_made document plans k l some others ps qs h
 from_readings document plans k l some others (Ok ps) (Err g) h = absurd h
 from_readings document plans k l some others (Err f) (Ok qs) h = absurd h
@@ -174,7 +177,7 @@ from_readings document plans k l some others (Err f) (Err g) h = ap Err (sym h)
 -- the document with its frames read in this size
 abbrev opened_with : Views → Contents → ℕ → List CheckedParts → Result OpenedDocument RunFault
 opened_with document contents k plans =
-    then_next (results_after (pieces_in contents k) [] document.frames) (λ pieces. Ok (record { document = document; plans = plans; pieces = pieces }))
+    then_next (results_after (pieces_in contents k) [] document.frames) (opened_as document plans)
 
 by_plans : (document : Views) (contents : Contents) (k l : ℕ) → 0 < k → 0 < l → (r : Result (List CheckedParts) RunFault) →
     IsSameUnlessRefused (then_next (then_next r (opened_with document contents k)) (λ o. Ok (output_made k o)))
@@ -200,7 +203,12 @@ pub same_unless_refused : (bytes : List ℕ) (contents : Contents) (k l : ℕ) �
     IsSameUnlessRefused (output_of bytes contents k) (output_of bytes contents l)
 same_unless_refused bytes contents k l some others = by_bytes (nat_lt most_bytes_of_document (length bytes)) bytes contents k l some others
 
--- of bytes that are known or not
-pub of_known : {A : Type 0} (P : A → Type 0) (o : Option A) → ((x : A) → P x) → IfSome o P
-of_known P (Some x) h = h x
-of_known P None h = tt
+beside_sizes : (bytes : List ℕ) (contents : Contents) (chunk : ℕ) → 1 ≤ chunk → (size : ℕ) → 1 ≤ size →
+    IsSameUnlessRefused (output_of bytes contents chunk) (output_of bytes contents size)
+beside_sizes bytes contents chunk some size others = same_unless_refused bytes contents chunk size (omega (arith, some)) (omega (arith, others))
+
+-- of bytes that are known or not, beside every size
+pub any_size : (known : Option (List ℕ)) (contents : Contents) (chunk : ℕ) → 1 ≤ chunk →
+    IfSome known (λ bytes. (size : ℕ) → 1 ≤ size → IsSameUnlessRefused (output_of bytes contents chunk) (output_of bytes contents size))
+any_size (Some bytes) contents chunk some = beside_sizes bytes contents chunk some
+any_size None contents chunk some = tt
