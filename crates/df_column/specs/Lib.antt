@@ -1,0 +1,5 @@
+pub mod Tags
+pub mod Places
+pub mod Masks
+pub mod Pools
+pub mod Texts

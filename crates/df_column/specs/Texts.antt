@@ -1,0 +1,18 @@
+-- Texts by their places in a pool.
+use Rattle.std.specs.Prelude.{ℕ, Bool, true, nat_lt, List, [], Option, Some, None, slice_index_or}
+use Rattle.std.specs.Borrow.{Bor}
+
+-- the text at a place, or none for a null
+abbrev pub text_at : List (List ℕ) → Option ℕ → Option (List ℕ)
+text_at pool None = None
+text_at pool (Some p) = Some (slice_index_or pool p [])
+
+-- whether a place lies below n, or is none
+abbrev pub is_below : ℕ → Option ℕ → Bool
+is_below n None = true
+is_below n (Some p) = nat_lt p n
+
+-- the text that is lent, if one is
+abbrev pub text_now : Option (Bor (List ℕ)) → Option (List ℕ)
+text_now None = None
+text_now (Some r) = Some r.now
