@@ -4,4 +4,6 @@ pub mod Places
 pub mod Parts
 pub mod Pools
 pub mod PoolOrder
+pub mod Masks
+pub mod PickedCells
 pub mod TextPlaces

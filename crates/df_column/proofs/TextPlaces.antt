@@ -1,10 +1,10 @@
 -- Texts by their places, when the pool grows.
-use Rattle.std.proofs.Common.{◌≡◌, ℕ, zero, suc, ◌<◌, ◌≤◌, Bool, true, nat_lt, List, [], ◌∷◌, ◌++◌, length, map, get_or, Option, Some, None, sym, ap, subst, ◌∙◌, refl, arith}
+use Rattle.std.proofs.Common.{◌≡◌, ℕ, zero, suc, ◌+◌, ◌<◌, ◌≤◌, Bool, true, nat_lt, List, [], ◌∷◌, ◌++◌, length, map, get_or, Option, Some, None, sym, ap, subst, ◌∙◌, refl, arith}
 use Rattle.std.proofs.lemmas.Bool.{lt-ltb}
 use Rattle.std.specs.Prelude.{T, ◌&&◌}
 use Rattle.std.specs.List.{list_all}
 use Rattle.df_column.specs.Pools.{place_of, with_text, place_or_end}
-use Rattle.df_column.specs.Texts.{text_at, is_below}
+use Rattle.df_column.specs.Texts.{text_at, is_below, ArePlaces}
 use Rattle.df_column.proofs.Bools.{T-first, T-second, T-both}
 use Rattle.df_column.proofs.Pools.{IsGrown, put_there, put_grown, lt_from, lt_to}
 
@@ -50,3 +50,24 @@ pub text_at_place : (ts : List (List ℕ)) (places : List (Option ℕ)) (i : ℕ
 text_at_place ts [] i d lt = absurd (omega arith)
 text_at_place ts (o ∷ places) zero d lt = refl
 text_at_place ts (o ∷ places) (suc i) d lt = text_at_place ts places i d (omega arith)
+
+length_more : (places : List (Option ℕ)) (o : Option ℕ) → length (places ++ o ∷ []) ≡ length places + 1
+length_more [] o = refl
+length_more (p ∷ places) o = let e = length_more places o in omega (arith, e)
+
+-- a text, or a null, more
+pub places_put : (ts : List (List ℕ)) (t : List ℕ) (places : List (Option ℕ)) → ArePlaces ts places
+    → record { sound : ArePlaces (with_text (place_of t ts) ts t) (places ++ Some (place_or_end (place_of t ts) ts) ∷ []); texts : map (text_at (with_text (place_of t ts) ts t)) (places ++ Some (place_or_end (place_of t ts) ts) ∷ []) ≡ map (text_at ts) places ++ Some t ∷ [] }
+places_put ts t places h =
+    let one = (put_grown ts t).one in
+    let more = length_more places (Some (place_or_end (place_of t ts) ts)) in
+    record { sound = record { below = below_put ts t places h.below; few = omega (arith, one, more, h.few) }; texts = text_at_put ts t places h.below }
+
+below_null : (n : ℕ) (places : List (Option ℕ)) → T (list_all (is_below n) places) → T (list_all (is_below n) (places ++ None ∷ []))
+below_null n [] h = tt
+below_null n (p ∷ places) h = T-both _ _ (T-first (is_below n p) _ h) (below_null n places (T-second (is_below n p) _ h))
+
+pub places_null : (ts : List (List ℕ)) (places : List (Option ℕ)) → ArePlaces ts places → record { sound : ArePlaces ts (places ++ None ∷ []); texts : map (text_at ts) (places ++ None ∷ []) ≡ map (text_at ts) places ++ None ∷ [] }
+places_null ts places h =
+    let more = length_more places None in
+    record { sound = record { below = below_null (length ts) places h.below; few = omega (arith, more, h.few) }; texts = map_push ts places None }

@@ -3,3 +3,5 @@ pub mod Places
 pub mod Masks
 pub mod Pools
 pub mod Texts
+pub mod ValueCells
+pub mod Picks

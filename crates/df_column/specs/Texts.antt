@@ -1,5 +1,6 @@
 -- Texts by their places in a pool.
-use Rattle.std.specs.Prelude.{ℕ, Bool, true, nat_lt, List, [], Option, Some, None, slice_index_or}
+use Rattle.std.specs.Prelude.{ℕ, ◌≤◌, Bool, true, nat_lt, T, List, [], Option, Some, None, length, slice_index_or}
+use Rattle.std.specs.List.{list_all}
 use Rattle.std.specs.Borrow.{Bor}
 
 -- the text at a place, or none for a null
@@ -16,3 +17,8 @@ is_below n (Some p) = nat_lt p n
 abbrev pub text_now : Option (Bor (List ℕ)) → Option (List ℕ)
 text_now None = None
 text_now (Some r) = Some r.now
+
+-- the places lie in the pool, which has no more texts than there are places
+pub record ArePlaces (pool : List (List ℕ)) (places : List (Option ℕ)) : Type 0 where
+  pub below : T (list_all (is_below (length pool)) places)
+  pub few : length pool ≤ length places

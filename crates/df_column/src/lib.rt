@@ -3,8 +3,12 @@
 //! A row stands at a [`Tag`].
 #![tactic(auto)]
 
+mod masked;
+mod picks;
 mod pool;
 mod tag;
+mod texts;
+mod values;
 
 pub use pool::TextPool;
 pub use tag::Tag;
