@@ -6,4 +6,5 @@ pub mod Pools
 pub mod PoolOrder
 pub mod Masks
 pub mod PickedCells
+pub mod RowLemmas
 pub mod TextPlaces

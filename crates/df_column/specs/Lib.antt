@@ -5,3 +5,5 @@ pub mod Pools
 pub mod Texts
 pub mod ValueCells
 pub mod Picks
+pub mod Columns
+pub mod Rows

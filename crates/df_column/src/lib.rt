@@ -3,6 +3,7 @@
 //! A row stands at a [`Tag`].
 #![tactic(auto)]
 
+mod column;
 mod masked;
 mod picks;
 mod pool;
@@ -10,5 +11,8 @@ mod tag;
 mod texts;
 mod values;
 
+pub use column::Column;
+pub use masked::Masked;
 pub use pool::TextPool;
 pub use tag::Tag;
+pub use texts::Texts;

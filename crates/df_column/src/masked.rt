@@ -1,11 +1,10 @@
 //! Values with a null mask.
 ghost use Rattle.std.specs.Prelude.{◌≡◌, ◌<◌, ◌≤◌, ◌++◌, ◌∷◌, [], T as Holds, length, map, slice_index_or, IfOk, OnOk, OnErr, Option, None, true};
-ghost use Rattle.std.specs.List.{list_all};
 ghost use Rattle.df_value.specs.declared.cell.Cell.{Cell};
 ghost use Rattle.df_column.specs.Masks.{filled_mask, masked_values};
-ghost use Rattle.df_column.specs.Picks.{is_fit, is_within, picked_cell};
+ghost use Rattle.df_column.specs.Picks.{AreFit, AreWithin, is_fit, is_within, origin_cell, picked_cells, start_of};
 
-use crate::picks::Pick;
+use crate::picks::{Origin, Pick};
 use crate::values::CellValue;
 use df_value::Cell;
 use std::alloc::{AllocError, Global};
@@ -93,6 +92,27 @@ impl<T: Copy> Masked<T> {
         })
     }
 
+    /// These values, with room for more.
+    pub fn copy(&self, alloc: Global, more: usize) -> Result<Self, AllocError>
+        ensures { IfOk result (λ m. m ≡ self.now) }
+    {
+        let nulls = Vec::from_slice(alloc, &self.nulls)?;
+        let mut values = Vec::from_slice(alloc, &self.values)?;
+        values.reserve_exact(more)?;
+        Ok(Masked { nulls, values })
+    }
+
+    /// These values or none, with room for more.
+    pub fn start(&self, alloc: Global, whole: bool, more: usize) -> Result<Self, AllocError>
+        ensures { IfOk result (λ m. m ≡ start_of whole self.now) }
+    {
+        if whole {
+            Ok(self.copy(alloc, more)?)
+        } else {
+            Ok(Masked::with_capacity(alloc, more)?)
+        }
+    }
+
     /// The number of values and nulls.
     pub fn len(&self) -> usize
         ensures { result ≡ length self.now }
@@ -135,34 +155,52 @@ impl<T: CellValue> Masked<T> {
         T::to_cell(self.get(at))
     }
 
-    /// Adds the cells that the picks take from the old column and, at this index, from the new rows.
+    /// The cells of the picked rows, as [`Masked::push_picked`] has them; behind all cells of this column, if `whole` says so.
+    pub fn picked(
+        &self,
+        alloc: Global,
+        whole: bool,
+        column: usize,
+        picks: &[Pick<'_>],
+    ) -> Result<Masked<T>, AllocError>
+        requires within { AreWithin (length (map T.cell_of self.now)) picks.now }
+        requires fits { AreFit T.dtype column picks.now }
+        ensures { IfOk result (λ m. map T.cell_of m ≡
+            start_of whole (map T.cell_of self.now) ++ picked_cells (map T.cell_of self.now) column picks.now) }
+    {
+        let mut values = self.start(alloc, whole, picks.len())?;
+        values.push_picked(self, column, picks)?;
+        Ok(values)
+    }
+
+    /// Adds the cells of the picked rows, in the old column or at this index of a new row.
     pub fn push_picked(
         &mut self,
         old: &Masked<T>,
         column: usize,
         picks: &[Pick<'_>],
     ) -> Result<(), AllocError>
-        requires within { Holds (list_all (is_within (length old.now)) picks.now) }
-        requires fits { Holds (list_all (is_fit T.dtype column) picks.now) }
+        requires within { AreWithin (length old.now) picks.now }
+        requires fits { AreFit T.dtype column picks.now }
         ensures { OnOk result (map T.cell_of self.new ≡
-            map T.cell_of self.old ++ map (picked_cell (map T.cell_of old.now) column) picks.now) }
+            map T.cell_of self.old ++ picked_cells (map T.cell_of old.now) column picks.now) }
     {
         for pick in picks {
-            self.push(picked_value(old, column, *pick), T::filler())?;
+            self.push(value_from(old, column, pick.origin), T::filler())?;
         }
         Ok(())
     }
 }
 
-/// The value that the pick takes from the old column or, at this index, from the new row.
-fn picked_value<T: CellValue>(old: &Masked<T>, column: usize, pick: Pick<'_>) -> Option<T>
-    requires within { Holds (is_within (length old.now) pick) }
-    requires fits { Holds (is_fit T.dtype column pick) }
-    ensures { T.cell_of result ≡ picked_cell (map T.cell_of old.now) column pick.entry }
+/// The value of a picked row, in the old column or at this index of a new row.
+fn value_from<T: CellValue>(old: &Masked<T>, column: usize, origin: Origin<'_>) -> Option<T>
+    requires within { Holds (is_within (length old.now) origin) }
+    requires fits { Holds (is_fit T.dtype column origin) }
+    ensures { T.cell_of result ≡ origin_cell (map T.cell_of old.now) column origin.entry }
 {
-    match pick {
-        Pick::Old(at) => old.get(at),
-        Pick::New(row) => match row.get(column) {
+    match origin {
+        Origin::Old(at) => old.get(at),
+        Origin::New(row) => match row.get(column) {
             Some(cell) => T::from_cell(cell),
             None => None,
         },

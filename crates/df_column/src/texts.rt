@@ -1,17 +1,16 @@
 //! The texts of one column of a block.
 ghost use Rattle.std.specs.Prelude.{◌≡◌, ◌<◌, ◌≤◌, ◌+◌, ◌++◌, ◌∷◌, [], T, List, ℕ, length, map, slice_index_or, IfOk, IsTrue, OnOk, Option};
-ghost use Rattle.std.specs.List.{list_all};
 ghost use Rattle.df_value.specs.Cells.{fits_type};
 ghost use Rattle.df_value.specs.declared.cell.Cell.{Cell};
 ghost use Rattle.df_value.specs.declared.cell.CellType.TheVariants as dtype_as;
-ghost use Rattle.df_column.specs.Picks.{is_fit, is_within, picked_cell};
+ghost use Rattle.df_column.specs.Picks.{AreFit, AreWithin, is_fit, is_within, origin_cell, picked_cells, start_of};
 ghost use Rattle.df_column.specs.Texts.{ArePlaces, text_at, text_now};
 ghost use Rattle.df_column.specs.ValueCells.{text_cell};
 
 use crate::masked::Masked;
-use crate::picks::Pick;
+use crate::picks::{Origin, Pick};
 use crate::pool::TextPool;
-use df_value::{Cell, Text};
+use df_value::{Cell, Text, both};
 use std::alloc::{AllocError, Global};
 use std::marker::Model;
 
@@ -68,15 +67,15 @@ fn text_of(cell: &Cell) -> Option<&str>
     }
 }
 
-/// The text that the pick takes from the old column or, at this index, from the new row.
-fn picked_text<'a>(old: &'a Texts, column: usize, pick: Pick<'a>) -> Option<&'a str>
-    requires within { T (is_within (length old.now) pick) }
-    requires fits { T (is_fit dtype_as.Text column pick) }
-    ensures { text_cell (text_now result) ≡ picked_cell (map text_cell old.now) column pick.entry }
+/// The text of a picked row, in the old column or at this index of a new row.
+fn text_from<'a>(old: &'a Texts, column: usize, origin: Origin<'a>) -> Option<&'a str>
+    requires within { T (is_within (length old.now) origin) }
+    requires fits { T (is_fit dtype_as.Text column origin) }
+    ensures { text_cell (text_now result) ≡ origin_cell (map text_cell old.now) column origin.entry }
 {
-    match pick {
-        Pick::Old(at) => old.get(at),
-        Pick::New(row) => match row.get(column) {
+    match origin {
+        Origin::Old(at) => old.get(at),
+        Origin::New(row) => match row.get(column) {
             Some(cell) => text_of(cell),
             None => None,
         },
@@ -123,25 +122,67 @@ impl Texts {
         }
     }
 
-    /// These texts, and then those that the picks take from the old column and, at this index, from the new rows.
+    /// These texts, with room for more places.
+    pub fn copy(&self, alloc: Global, more: usize) -> Result<Texts, AllocError>
+        ensures { IfOk result (λ t. t ≡ self.now) }
+    {
+        let (places, pool) = both(self.places.copy(alloc, more), self.pool.copy(alloc))?;
+        Ok(Texts { places, pool })
+    }
+
+    /// These texts or none, with room for more places.
+    pub fn start(&self, alloc: Global, whole: bool, more: usize) -> Result<Texts, AllocError>
+        ensures { IfOk result (λ t. t ≡ start_of whole self.now) }
+    {
+        if whole {
+            Ok(self.copy(alloc, more)?)
+        } else {
+            Ok(Texts {
+                places: Masked::with_capacity(alloc, more)?,
+                pool: TextPool::new(alloc),
+            })
+        }
+    }
+
+    /// The cells of the picked rows, as [`Texts::with_picked`] has them; behind all cells of this column, if `whole`
+    /// says so. Without them the pool has the texts that stay.
+    pub fn picked(
+        &self,
+        alloc: Global,
+        whole: bool,
+        column: usize,
+        picks: &[Pick<'_>],
+    ) -> Result<Texts, AllocError>
+        requires within { AreWithin (length (map text_cell self.now)) picks.now }
+        requires fits { AreFit dtype_as.Text column picks.now }
+        requires few { length (start_of whole (map text_cell self.now)) + length picks.now ≤ 1024 }
+        ensures { IfOk result (λ t. map text_cell t ≡
+            start_of whole (map text_cell self.now) ++ picked_cells (map text_cell self.now) column picks.now) }
+    {
+        let start = self.start(alloc, whole, picks.len())?;
+        let texts = start.with_picked(self, column, picks)?;
+        Ok(texts)
+    }
+
+    /// These texts, and then those of the picked rows, in the old column or at this index of a new row.
     pub fn with_picked(
         self,
         old: &Texts,
         column: usize,
         picks: &[Pick<'_>],
     ) -> Result<Texts, AllocError>
-        requires within { T (list_all (is_within (length old.now)) picks.now) }
-        requires fits { T (list_all (is_fit dtype_as.Text column) picks.now) }
+        requires within { AreWithin (length old.now) picks.now }
+        requires fits { AreFit dtype_as.Text column picks.now }
         requires few { length self + length picks.now ≤ 1024 }
         ensures { IfOk result (λ t. map text_cell t ≡
-            map text_cell self ++ map (picked_cell (map text_cell old.now) column) picks.now) }
+            map text_cell self ++ picked_cells (map text_cell old.now) column picks.now) }
     {
         let Texts {
             mut places,
             mut pool,
         } = self;
         for pick in picks {
-            push_text(&mut places, &mut pool, picked_text(old, column, *pick))?;
+            push_text(&mut places, &mut pool, text_from(old, column, pick.origin))?;
         }
         Ok(Texts { places, pool })
     }
