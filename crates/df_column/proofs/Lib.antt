@@ -7,4 +7,6 @@ pub mod PoolOrder
 pub mod Masks
 pub mod PickedCells
 pub mod RowLemmas
+pub mod ChangeRuns
+pub mod MergeLemmas
 pub mod TextPlaces

@@ -7,3 +7,5 @@ pub mod ValueCells
 pub mod Picks
 pub mod Columns
 pub mod Rows
+pub mod Changes
+pub mod Tables

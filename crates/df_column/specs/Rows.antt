@@ -1,7 +1,8 @@
 -- The rows of a block: a tag and, in each column, a cell for each of them.
-use Rattle.std.specs.Prelude.{ℕ, Bool, true, T, List, [], ◌∷◌, ◌++◌, ◌+◌, map, length, slice_index_or, ◌==◌}
+use Rattle.std.specs.Prelude.{ℕ, Bool, true, T, List, [], ◌∷◌, ◌++◌, ◌+◌, map, length, slice_index_or, ◌==◌, Option, Some, None}
 use Rattle.std.specs.Cmp.Lexicographic.{pointwise}
 use Rattle.std.specs.List.{list_all}
+use Rattle.std.specs.FinMap.{is_sorted}
 use Rattle.df_value.specs.Cells.{fits_type}
 use Rattle.df_value.specs.declared.cell.Cell.{Cell}
 use Rattle.df_value.specs.declared.cell.Cell.TheVariants as cell
@@ -10,7 +11,9 @@ use Rattle.df_column.specs.Picks.{picked_cells, start_of}
 use Rattle.df_column.specs.declared.picks.Origin.{Origin}
 use Rattle.df_column.specs.declared.picks.Origin.TheVariants.{Old, New}
 use Rattle.df_column.specs.declared.picks.Pick.{Pick}
+use Rattle.df_column.specs.declared.entry.Entry.{Entry}
 use Rattle.df_column.specs.declared.tag.Tag.{Tag}
+use Rattle.df_column.specs.Tags.{tag_cmp}
 
 -- the first cell of a column, null if there is none, and the cells after it
 abbrev pub first_cell : List Cell → Cell
@@ -60,3 +63,16 @@ AreRows dtypes picks = T (list_all (λ p. is_new_row dtypes p.origin) picks)
 abbrev pub picked_columns : Bool → ℕ → List (List Cell) → List Pick → List (List Cell)
 picked_columns whole at [] picks = []
 picked_columns whole at (c ∷ cs) picks = (start_of whole c ++ picked_cells c at picks) ∷ picked_columns whole (at + 1) cs picks
+
+-- the tags rise
+abbrev pub AreRisingTags : List Tag → Type 0
+AreRisingTags ts = T (is_sorted tag_cmp (tagged_rows ts []))
+
+-- whether there is no new row, or one of these types
+abbrev pub is_row_if_any : List CellType → Option (List Cell) → Bool
+is_row_if_any dtypes None = true
+is_row_if_any dtypes (Some row) = is_row dtypes row
+
+-- all new rows are rows of these types
+abbrev pub AreNewRows : List CellType → List Entry → Type 0
+AreNewRows dtypes entries = T (list_all (λ e. is_row_if_any dtypes e.new) entries)

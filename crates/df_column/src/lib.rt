@@ -4,7 +4,9 @@
 #![tactic(auto)]
 
 mod column;
+mod entry;
 mod masked;
+mod merge;
 mod picks;
 mod pool;
 mod tag;
@@ -12,6 +14,7 @@ mod texts;
 mod values;
 
 pub use column::Column;
+pub use entry::Entry;
 pub use masked::Masked;
 pub use pool::TextPool;
 pub use tag::Tag;

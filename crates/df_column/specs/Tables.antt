@@ -1,0 +1,39 @@
+-- Tables: a schema, and a map from tags to rows.
+use Rattle.std.specs.Prelude.{◌≡◌, ℕ, ◌+◌, ◌<◌, ◌≤◌, Bool, true, T, List, [], ◌∷◌, ◌++◌, Option, Some, None, map, length, refl}
+use Rattle.std.specs.List.{list_all, prefix_len}
+use Rattle.std.specs.Ordering.{is_lt}
+use Rattle.std.specs.Coded.{Coded, code_by, coded×, coded_list}
+use Rattle.std.specs.FinMap as finite
+use Rattle.df_value.specs.Rows.{row_fits}
+use Rattle.df_value.specs.declared.cell.Cell.{Cell}
+use Rattle.df_value.specs.declared.cell.CellType.{CellType}
+use Rattle.df_value.specs.contracts.cell.Cell as cell_type
+use Rattle.df_column.specs.Tags.{tag_cmp, tag_code}
+use Rattle.df_column.specs.Changes.{Change}
+use Rattle.df_column.specs.declared.tag.Tag.{Tag}
+use Rattle.df_column.specs.declared.entry.Entry.{Entry}
+
+-- rows by their tags
+abbrev pub TaggedRows : Type 0
+TaggedRows = finite.FinMap tag_cmp (List Cell)
+
+abbrev pub rows_code : Coded TaggedRows
+rows_code = finite.code tag_code (coded_list cell_type.the_row.coded)
+
+-- what an entry changes
+abbrev pub change_of : Entry → Tag × Change (List Cell)
+change_of e = (e.tag, record { old = e.old; new = e.new })
+
+-- whether the new row, if there is one, fits the schema
+abbrev pub new_row_fits : List (List ℕ × CellType) → Option (List Cell) → Bool
+new_row_fits schema None = true
+new_row_fits schema (Some row) = row_fits schema row
+
+-- the entries name rising tags
+abbrev pub AreRising : List Entry → Type 0
+AreRising entries = T (finite.is_sorted tag_cmp (map change_of entries))
+
+-- how many of these entries stand before the tag, or all
+abbrev pub count_before : Option Tag → List Entry → ℕ
+count_before None es = length es
+count_before (Some k) es = prefix_len (λ e. is_lt (tag_cmp e.tag k)) es
