@@ -7,6 +7,7 @@ pub mod PoolOrder
 pub mod Masks
 pub mod PickedCells
 pub mod RowLemmas
+pub mod BlockLemmas
 pub mod ChangeRuns
 pub mod MergeLemmas
 pub mod TextPlaces

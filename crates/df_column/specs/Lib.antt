@@ -9,3 +9,4 @@ pub mod Columns
 pub mod Rows
 pub mod Changes
 pub mod Tables
+pub mod Blocks

@@ -3,6 +3,7 @@
 //! A row stands at a [`Tag`].
 #![tactic(auto)]
 
+mod block;
 mod column;
 mod entry;
 mod masked;
