@@ -7,6 +7,10 @@ pub mod PoolOrder
 pub mod Masks
 pub mod PickedCells
 pub mod RowLemmas
+pub mod BlockRowLemmas
+pub mod Removal
+pub mod TableChanges
+pub mod PartLemmas
 pub mod BlockLemmas
 pub mod ChangeRuns
 pub mod MergeLemmas

@@ -10,3 +10,4 @@ pub mod Rows
 pub mod Changes
 pub mod Tables
 pub mod Blocks
+pub mod BlockRows

@@ -4,6 +4,7 @@
 #![tactic(auto)]
 
 mod block;
+mod blocks;
 mod column;
 mod entry;
 mod masked;
