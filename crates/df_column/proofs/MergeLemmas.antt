@@ -69,13 +69,13 @@ drop_none : {X : Type 0} (n : ℕ) → drop {A = X} n [] ≡ []
 drop_none zero = refl
 drop_none (suc n) = refl
 
-drop_past : {X : Type 0} (xs : List X) (n : ℕ) → length xs ≤ n → drop n xs ≡ []
+pub drop_past : {X : Type 0} (xs : List X) (n : ℕ) → length xs ≤ n → drop n xs ≡ []
 drop_past [] zero h = refl
 drop_past [] (suc n) h = refl
 drop_past (x ∷ xs) zero h = absurd (omega arith)
 drop_past (x ∷ xs) (suc n) h = drop_past xs n (omega arith)
 
-drop_at : {X : Type 0} (xs : List X) (n : ℕ) (d : X) → n < length xs → drop n xs ≡ get_or xs n d ∷ drop (n + 1) xs
+pub drop_at : {X : Type 0} (xs : List X) (n : ℕ) (d : X) → n < length xs → drop n xs ≡ get_or xs n d ∷ drop (n + 1) xs
 drop_at [] n d h = absurd (omega arith)
 drop_at (x ∷ xs) zero d h = refl
 drop_at (x ∷ xs) (suc n) d h =

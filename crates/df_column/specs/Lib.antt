@@ -11,3 +11,4 @@ pub mod Changes
 pub mod Tables
 pub mod Blocks
 pub mod BlockRows
+pub mod TableBlocks

@@ -1,0 +1,173 @@
+//! Tables of tagged rows in shared blocks.
+ghost use Rattle.std.specs.Prelude.{◌≡◌, ℕ, ◌<◌, ◌≤◌, ◌^◌, T, List, IfOk, map, length};
+ghost use Rattle.std.specs.Arc.{arc_value};
+ghost use Rattle.std.specs.FinMap as finite;
+ghost use Rattle.std.specs.List.{list_all};
+ghost use Rattle.df_value.specs.Rows.{row_fits};
+ghost use Rattle.df_value.specs.declared.cell.Cell.{Cell};
+ghost use Rattle.df_value.specs.declared.cell.CellType.{CellType};
+ghost use Rattle.df_column.specs.Blocks.{AreOfTypes, ends_of, rows_of};
+ghost use Rattle.df_column.specs.Columns.{cells_of, dtype_of};
+ghost use Rattle.df_column.specs.Rows.{are_even};
+ghost use Rattle.df_column.specs.Tables as tables;
+ghost use Rattle.df_column.specs.Tables.{AreFitting, AreRising, after_entries, types_of};
+ghost use Rattle.df_column.specs.Tags.{tag_cmp};
+ghost use Rattle.df_column.specs.declared.tag.Tag.{Tag};
+
+use crate::block::Block;
+use crate::blocks::{changed_blocks, push_shared};
+use crate::column::Column;
+use crate::entry::Entry;
+use df_value::Schema;
+use std::alloc::{AllocError, Global};
+use std::marker::Model;
+use std::sync::Arc;
+
+/// Rows by rising tags, which fit a schema. They stand in blocks that several tables share.
+#[derive(Drop)]
+pub struct Table {
+    schema: Arc<Schema>,
+    blocks: Vec<Arc<Block>>,
+    ends: Vec<usize>,
+}
+
+impl Model for Table {
+    ghost use Rattle.std.specs.Arc.{arc_value};
+    ghost use Rattle.std.specs.FinMap as finite;
+    ghost use Rattle.df_column.specs.Tables.{TableParts, table_code};
+    ghost use Rattle.df_column.specs.Blocks.{rows_of};
+    ghost use Rattle.df_column.specs.TableBlocks.{IsTable};
+
+    ghost Value = { TableParts };
+
+    ghost coded = { table_code };
+
+    ghost view = { λ t. record { schema = arc_value t.schema; rows = finite.from_sorted (rows_of t.blocks.items) } };
+
+    ghost invariant = { λ t. IsTable (arc_value t.schema) t.blocks.items t.ends.items };
+}
+
+/// How many rows stand up to the end of each block.
+fn block_ends(alloc: Global, blocks: &[Arc<Block>]) -> Result<Vec<usize>, AllocError>
+    requires { length (rows_of blocks.now) ≤ 2 ^ 60 }
+    ensures { IfOk result (λ v. v.items ≡ ends_of 0 blocks.now) }
+{
+    let mut ends = Vec::with_capacity(alloc, blocks.len())?;
+    let mut end = 0;
+    for block in blocks {
+        end += block.tags().len();
+        ends.push(end)?;
+    }
+    Ok(ends)
+}
+
+/// The same blocks, shared.
+fn shared_blocks(alloc: Global, blocks: &[Arc<Block>]) -> Result<Vec<Arc<Block>>, AllocError>
+    requires { length (rows_of blocks.now) ≤ 2 ^ 60 }
+    ensures rows { IfOk result (λ v. rows_of v.items ≡ rows_of blocks.now) }
+    ensures types { IfOk result (λ v. (dtypes : List CellType) → AreOfTypes dtypes blocks.now → AreOfTypes dtypes v.items) }
+{
+    let mut out = Vec::with_capacity(alloc, blocks.len())?;
+    for block in blocks {
+        push_shared(&mut out, block)?;
+    }
+    Ok(out)
+}
+
+/// A column of no cells for each column of the schema.
+fn empty_columns(alloc: Global, schema: &Schema) -> Result<Vec<Column>, AllocError>
+    ensures types { IfOk result (λ v. map dtype_of v.items ≡ types_of schema.now) }
+    ensures even { IfOk result (λ v. T (are_even 0 (map cells_of v.items))) }
+{
+    let columns = schema.columns().as_slice();
+    let mut out = Vec::with_capacity(alloc, columns.len())?;
+    for column in columns {
+        out.push(Column::new(alloc, column.1))?;
+    }
+    Ok(out)
+}
+
+/// The table of these blocks.
+fn from_blocks(
+    alloc: Global,
+    schema: Arc<Schema>,
+    blocks: Vec<Arc<Block>>,
+) -> Result<Table, AllocError>
+    requires sorted { T (finite.is_sorted tag_cmp (rows_of blocks.items)) }
+    requires types { AreOfTypes (types_of (arc_value schema)) blocks.items }
+    requires few { length (rows_of blocks.items) ≤ 2 ^ 60 }
+    ensures schema { IfOk result (λ t. t.schema ≡ arc_value schema) }
+    ensures rows { IfOk result (λ t. t.rows ≡ finite.from_sorted (rows_of blocks.items)) }
+{
+    let ends = block_ends(alloc, &blocks)?;
+    Ok(Table {
+        schema,
+        blocks,
+        ends,
+    })
+}
+
+impl Table {
+    /// The table of this schema without rows.
+    pub fn new(alloc: Global, schema: Schema) -> Result<Table, AllocError>
+        ensures schema { IfOk result (λ t. t.schema ≡ schema) }
+        ensures rows { IfOk result (λ t. t.rows ≡ finite.empty) }
+    {
+        Ok(Table {
+            schema: Arc::new(alloc, schema)?,
+            blocks: Vec::new(alloc),
+            ends: Vec::new(alloc),
+        })
+    }
+
+    /// The schema.
+    pub fn schema(&self) -> &Schema
+        ensures { result.now ≡ self.now.schema }
+    {
+        &self.schema
+    }
+
+    /// The schema, shared.
+    fn shared_schema(&self) -> Result<Arc<Schema>, AllocError>
+        ensures { IfOk result (λ s. arc_value s ≡ self.now.schema) }
+    {
+        let schema = Arc::try_clone(&self.schema)?;
+        Ok(schema)
+    }
+
+    /// The blocks.
+    fn blocks(&self) -> &[Arc<Block>]
+        ensures rows { rows_of result.now ≡ finite.entries self.now.rows }
+        ensures value { finite.from_sorted (rows_of result.now) ≡ self.now.rows }
+        ensures sorted { T (finite.is_sorted tag_cmp (rows_of result.now)) }
+        ensures types { AreOfTypes (types_of self.now.schema) result.now }
+        ensures few { length (rows_of result.now) ≤ 2 ^ 60 }
+    {
+        &self.blocks
+    }
+
+    /// An equal table over the same blocks.
+    pub fn share(&self, alloc: Global) -> Result<Table, AllocError>
+        ensures { IfOk result (λ t. t ≡ self.now) }
+    {
+        let blocks = shared_blocks(alloc, self.blocks())?;
+        let schema = self.shared_schema()?;
+        let table = from_blocks(alloc, schema, blocks)?;
+        Ok(table)
+    }
+
+    /// The table after the changes of these entries: at each tag that they name stands the new row, or nothing. Blocks
+    /// without a change are shared with this table.
+    pub fn edited(&self, alloc: Global, entries: &[Entry]) -> Result<Table, AllocError>
+        requires rising { AreRising entries.now }
+        requires fits { AreFitting self.now.schema entries.now }
+        requires few { finite.len (after_entries self.now entries.now).rows ≤ 2 ^ 60 }
+        ensures { IfOk result (λ t. t ≡ after_entries self.now entries.now) }
+    {
+        let columns = empty_columns(alloc, self.schema())?;
+        let blocks = changed_blocks(alloc, self.blocks(), &columns, entries)?;
+        let schema = self.shared_schema()?;
+        let table = from_blocks(alloc, schema, blocks)?;
+        Ok(table)
+    }
+}
