@@ -12,6 +12,8 @@ pub mod Removal
 pub mod TableChanges
 pub mod PartLemmas
 pub mod TableLemmas
+pub mod SpotLemmas
+pub mod ReadLemmas
 pub mod BlockLemmas
 pub mod ChangeRuns
 pub mod MergeLemmas

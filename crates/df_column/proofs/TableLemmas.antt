@@ -45,7 +45,7 @@ module _ {S : Type 0} where
       omega (arith, l, a, r)
 
 -- rows that fit a schema are rows of its types
-fits_types : (schema : List (List ℕ × CellType)) (row : List Cell) → T (row_fits schema row) → T (is_row (types_of schema) row)
+pub fits_types : (schema : List (List ℕ × CellType)) (row : List Cell) → T (row_fits schema row) → T (is_row (types_of schema) row)
 fits_types [] [] h = tt
 fits_types [] (c ∷ row) h = absurd h
 fits_types (s ∷ schema) [] h = absurd h

@@ -11,6 +11,7 @@ mod masked;
 mod merge;
 mod picks;
 mod pool;
+mod spots;
 mod table;
 mod tag;
 mod texts;

@@ -29,7 +29,7 @@ impl Model for TextPool {
 }
 
 /// Where the part at this place begins.
-fn start_of(ends: &[usize], place: usize) -> usize
+pub fn start_of(ends: &[usize], place: usize) -> usize
     requires { place ≤ length ends.now }
     ensures { result ≡ pools.start_at 0 ends.now place }
 {
