@@ -11,6 +11,7 @@ pub mod BlockRowLemmas
 pub mod Removal
 pub mod TableChanges
 pub mod PartLemmas
+pub mod BehindLemmas
 pub mod TableLemmas
 pub mod SpotLemmas
 pub mod ReadLemmas

@@ -19,7 +19,7 @@ use Rattle.df_column.proofs.MergeLemmas.{sorted_keys}
 use Rattle.df_column.proofs.RowLemmas.{tags_of_rows}
 
 module _ {X : Type 0} where
-  all_drop : (p : X → Bool) (n : ℕ) (xs : List X) → T (list_all p xs) → T (list_all p (drop n xs))
+  pub all_drop : (p : X → Bool) (n : ℕ) (xs : List X) → T (list_all p xs) → T (list_all p (drop n xs))
   all_drop p zero xs h = h
   all_drop p (suc n) [] h = tt
   all_drop p (suc n) (x ∷ xs) h = all_drop p n xs (T-second (p x) _ h)

@@ -1,5 +1,5 @@
 //! Lists of shared blocks, and their changes.
-ghost use Rattle.std.specs.Prelude.{◌≡◌, ◌<◌, ◌≤◌, ◌+◌, ◌++◌, T, IfOk, OnOk, map, length};
+ghost use Rattle.std.specs.Prelude.{◌≡◌, ◌<◌, ◌≤◌, ◌+◌, ◌-◌, ◌++◌, [], T, IfOk, OnOk, map, length, slice_index_or};
 ghost use Rattle.std.specs.Arc.{arc_value};
 ghost use Rattle.std.specs.FinMap as finite;
 ghost use Rattle.std.specs.List.{prefix_len};
@@ -14,6 +14,8 @@ ghost use Rattle.df_column.specs.Rows.{AreNewRows, AreRows, are_even};
 ghost use Rattle.df_column.specs.Tables as tables;
 ghost use Rattle.df_column.specs.Tables.{AreRising, change_of};
 ghost use Rattle.df_column.specs.Tags.{tag_cmp};
+ghost use Rattle.df_column.specs.declared.entry.Entry.{Entry};
+ghost use Rattle.df_column.specs.declared.tag.Tag.{Tag};
 
 use crate::block::{Block, MOST_ROWS};
 use crate::column::Column;
@@ -96,12 +98,82 @@ fn part_size(rows: usize) -> usize
     rows.div_ceil(parts).clamp(1, MOST_ROWS)
 }
 
-/// Adds the block's rows after these changes: the block itself where there is none.
+/// Whether the first entry stands behind all of these tags.
+fn is_behind(tags: &[Tag], entries: &[Entry]) -> bool
+    requires tags { 0 < length tags.now }
+    requires entries { 0 < length entries.now }
+    ensures { (t : Tag) (e : Entry) → result ≡
+        is_lt (tag_cmp (slice_index_or tags.now (length tags.now - 1) t) (slice_index_or entries.now 0 e).tag) }
+{
+    let first = &entries[0];
+    tags[tags.len() - 1] < first.tag
+}
+
+/// Adds the block's rows and the picked rows in one block: the block itself where there are none.
+fn push_grown(
+    alloc: Global,
+    out: &mut Vec<Arc<Block>>,
+    block: &Arc<Block>,
+    picks: &[Pick<'_>],
+) -> Result<(), AllocError>
+    requires within { AreWithin 0 picks.now }
+    requires rows { AreRows (map dtype_of (arc_value block.now).columns) picks.now }
+    requires few { length (arc_value block.now).tags + length picks.now ≤ 1024 }
+    ensures { OnOk result (AddsRows (map dtype_of (arc_value block.now).columns) (block_rows (arc_value block.now)
+        ++ rows.picked_rows (map cells_of (arc_value block.now).columns) picks.now) out.old.items out.new.items) }
+{
+    if picks.is_empty() {
+        push_shared(out, block)?;
+        return Ok(());
+    }
+    push_picked(alloc, out, block.tags(), block.columns(), true, picks)?;
+    Ok(())
+}
+
+/// Adds the block's rows and, behind them, the picked rows. The block is filled up.
+fn push_filled(
+    alloc: Global,
+    out: &mut Vec<Arc<Block>>,
+    block: &Arc<Block>,
+    picks: &[Pick<'_>],
+) -> Result<(), AllocError>
+    requires within { AreWithin 0 picks.now }
+    requires rows { AreRows (map dtype_of (arc_value block.now).columns) picks.now }
+    ensures { OnOk result (AddsRows (map dtype_of (arc_value block.now).columns) (block_rows (arc_value block.now)
+        ++ rows.picked_rows (map cells_of (arc_value block.now).columns) picks.now) out.old.items out.new.items) }
+{
+    let room = MOST_ROWS - block.tags().len();
+    let (first, rest) = picks.split_at(room.min(picks.len()));
+    push_grown(alloc, out, block, first)?;
+    push_parts(alloc, out, block.tags(), block.columns(), rest, MOST_ROWS)?;
+    Ok(())
+}
+
+/// Adds the block's rows and, behind them, the new rows of these entries. The block is filled up.
+fn push_behind(
+    alloc: Global,
+    out: &mut Vec<Arc<Block>>,
+    block: &Arc<Block>,
+    entries: &[Entry],
+) -> Result<(), AllocError>
+    requires entries { AreRising entries.now }
+    requires fits { AreNewRows (map dtype_of (arc_value block.now).columns) entries.now }
+    ensures { OnOk result (AddsRows (map dtype_of (arc_value block.now).columns) (block_rows (arc_value block.now)
+        ++ after_changes tag_cmp [] (map change_of entries.now)) out.old.items out.new.items) }
+{
+    let picks = merge(alloc, &[], entries)?;
+    push_filled(alloc, out, block, &picks)?;
+    Ok(())
+}
+
+/// Adds the block's rows after these changes: the block itself where there is none. New rows behind the last block
+/// fill it up; else the rows are cut evenly.
 fn push_changed(
     alloc: Global,
     out: &mut Vec<Arc<Block>>,
     block: &Arc<Block>,
     entries: &[Entry],
+    is_last: bool,
 ) -> Result<(), AllocError>
     requires rows { T (finite.is_sorted tag_cmp (block_rows (arc_value block.now))) }
     requires entries { AreRising entries.now }
@@ -111,6 +183,10 @@ fn push_changed(
 {
     if entries.is_empty() {
         return push_shared(out, block);
+    }
+    if is_last && is_behind(block.tags(), entries) {
+        push_behind(alloc, out, block, entries)?;
+        return Ok(());
     }
     let picks = merge(alloc, block.tags(), entries)?;
     let size = part_size(picks.len());
@@ -164,7 +240,7 @@ fn push_first<'a>(
         (block_rows (arc_value block.now)) (rows_of later.now) entries.now rest.now out.old.items out.new.items) }
 {
     let (mine, others) = entries.split_at(count_before(entries, first_tag(later)));
-    push_changed(alloc, out, block, mine)?;
+    push_changed(alloc, out, block, mine, later.is_empty())?;
     Ok(others)
 }
 
