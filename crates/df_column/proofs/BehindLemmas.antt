@@ -1,7 +1,6 @@
 -- New rows behind all rows of a block.
-use Rattle.std.proofs.Common.{◌≡◌, ℕ, zero, suc, ◌+◌, ◌-◌, ◌<◌, ◌≤◌, Bool, true, List, [], ◌∷◌, ◌++◌, length, map, take, drop, get_or, refl, sym, ap, subst, ◌∙◌, arith, append-nil, append_assoc}
-use Rattle.std.specs.Prelude.{T, ◌&&◌}
-use Rattle.std.specs.List.{list_all}
+use Rattle.std.proofs.Common.{◌≡◌, ℕ, suc, ◌-◌, ◌<◌, List, [], ◌∷◌, ◌++◌, length, map, take, drop, get_or, refl, sym, ap, subst, ◌∙◌, arith, append-nil, append_assoc}
+use Rattle.std.specs.Prelude.{T}
 use Rattle.std.proofs.lemmas.List.{map-append, take-append-drop}
 use Rattle.std.specs.Ordering.{is_lt}
 use Rattle.std.specs.declared.sync.Arc.{Arc}
@@ -11,7 +10,7 @@ use Rattle.df_value.specs.declared.cell.Cell.{Cell}
 use Rattle.df_value.specs.declared.cell.CellType.{CellType}
 use Rattle.df_column.specs.BlockRows.{AddsRows}
 use Rattle.df_column.specs.Blocks.{BlockParts}
-use Rattle.df_column.specs.Changes.{all_under, after_changes, apart}
+use Rattle.df_column.specs.Changes.{all_under, after_changes}
 use Rattle.df_column.specs.Picks.{AreWithin, is_within}
 use Rattle.df_column.specs.Rows.{picked_rows, origin_row, tagged_rows}
 use Rattle.df_column.specs.Tables.{AreRising, change_of}
@@ -25,7 +24,7 @@ use Rattle.df_column.proofs.BlockRowLemmas.{adds_both, adds_same}
 use Rattle.df_column.proofs.Bools.{T-both, T-first, T-second, less_from_is_lt, is_lt_from_less}
 use Rattle.df_column.proofs.ChangeRuns.{after_changes-right, apart_at, sorted_from}
 use Rattle.df_column.proofs.PartLemmas.{all_drop}
-use Rattle.df_column.proofs.Pools.{lt_from, lt_to}
+use Rattle.df_column.proofs.Pools.{lt_from}
 use Rattle.df_column.proofs.TagOrder.{tag_total}
 
 -- picks of new rows alone are within any number of old rows
@@ -64,8 +63,8 @@ pub adds_parts : {S : Type 0} (dtypes : List CellType) (columns : List (List Cel
     → AddsRows dtypes (first ++ picked_rows columns xs) old mid → AddsRows dtypes (picked_rows columns ys) mid new → AddsRows dtypes (first ++ picked_rows columns picks) old new
 adds_parts dtypes columns first xs ys picks n old mid new e f p q =
     let whole : (first ++ picked_rows columns xs) ++ picked_rows columns ys ≡ first ++ picked_rows columns picks =
-        append_assoc first (picked_rows columns xs) (picked_rows columns ys)
-        ∙ ap (λ r. first ++ r) (sym (map-append (λ p. (p.tag, origin_row columns p.origin)) xs ys) ∙ ap (picked_rows columns) (ap (λ r. r ++ ys) e ∙ ap (λ r. take n picks ++ r) f ∙ take-append-drop n picks)) in
+    append_assoc first (picked_rows columns xs) (picked_rows columns ys)
+    ∙ ap (λ r. first ++ r) (sym (map-append (λ p. (p.tag, origin_row columns p.origin)) xs ys) ∙ ap (picked_rows columns) (ap (λ r. r ++ ys) e ∙ ap (λ r. take n picks ++ r) f ∙ take-append-drop n picks)) in
     adds_same dtypes dtypes _ _ old new refl whole (adds_both dtypes _ _ old mid new p q)
 
 pub within_rest : (n m : ℕ) (picks rest : List Pick) → rest ≡ drop m picks → AreWithin 0 picks → AreWithin n rest

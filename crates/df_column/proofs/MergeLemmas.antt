@@ -1,10 +1,9 @@
 -- Old rows along picks, and the merge of changes into them.
-use Rattle.std.proofs.Common.{◌≡◌, ℕ, zero, suc, ◌+◌, ◌-◌, ◌<◌, ◌≤◌, Bool, true, false, cond, List, [], ◌∷◌, ◌++◌, Option, Some, None, length, map, take, drop, get_or, refl, sym, ap, subst, ◌∙◌, arith, append_assoc}
-use Rattle.std.specs.Prelude.{T, ◌&&◌, nat_lt}
+use Rattle.std.proofs.Common.{◌≡◌, ℕ, zero, suc, ◌+◌, ◌-◌, ◌<◌, ◌≤◌, Bool, true, false, cond, List, [], ◌∷◌, ◌++◌, length, map, take, drop, get_or, refl, sym, ap, subst, ◌∙◌, arith, append_assoc}
+use Rattle.std.specs.Prelude.{T, ◌&&◌}
 use Rattle.std.specs.List.{list_all, prefix_len}
 use Rattle.std.proofs.lemmas.List.{take-append-drop}
 use Rattle.std.specs.Ordering.{eq_by_cmp, is_eq, is_lt}
-use Rattle.std.specs.declared.cmp.Ordering.{Ordering}
 use Rattle.std.specs.Cmp.{tied_itself}
 use Rattle.std.specs.FinMap.{is_sorted}
 use Rattle.std.specs.FinMap.Entries.{below_all}
@@ -14,8 +13,7 @@ use Rattle.df_column.specs.Tags.{tag_cmp}
 use Rattle.df_column.specs.Changes.{Change, after_changes, rest_after, one_at, all_under, all_from}
 use Rattle.df_column.specs.Picks.{AreWithin, is_within}
 use Rattle.df_column.specs.Rows.{tagged_rows, row_at, origin_row, picked_rows, AreRows, is_new_row, AreRisingTags}
-use Rattle.df_column.specs.declared.picks.Origin.{Origin}
-use Rattle.df_column.specs.declared.picks.Origin.TheVariants.{Old, New}
+use Rattle.df_column.specs.declared.picks.Origin.TheVariants.{Old}
 use Rattle.df_column.specs.declared.picks.Pick.{Pick}
 use Rattle.df_column.specs.Tables.{change_of}
 use Rattle.df_column.specs.declared.entry.Entry.{Entry}

@@ -1,6 +1,6 @@
 -- Picks cut into parts.
-use Rattle.std.proofs.Common.{◌≡◌, ℕ, zero, suc, ◌+◌, ◌-◌, ◌≤◌, Bool, true, List, [], ◌∷◌, ◌++◌, length, map, take, drop, refl, sym, ap, subst, ◌∙◌, arith}
-use Rattle.std.specs.Prelude.{T, ◌&&◌}
+use Rattle.std.proofs.Common.{◌≡◌, ℕ, zero, suc, ◌+◌, Bool, List, [], ◌∷◌, ◌++◌, take, drop, refl, sym, ap, subst, ◌∙◌, arith}
+use Rattle.std.specs.Prelude.{T}
 use Rattle.std.specs.List.{list_all}
 use Rattle.std.specs.FinMap.{is_sorted}
 use Rattle.std.proofs.lemmas.List.{map-append}
@@ -47,9 +47,9 @@ pub adds_part : {S : Type 0} (dtypes : List CellType) (columns : List (List Cell
     → AddsRows dtypes (picked_rows columns (take (from + n) picks)) old new
 adds_part dtypes columns picks from n m old mid new e p q =
     let whole : picked_rows columns (take from picks) ++ picked_rows columns (take m (drop from picks)) ≡ picked_rows columns (take (from + n) picks) =
-        sym (map-append (λ p. (p.tag, origin_row columns p.origin)) (take from picks) (take m (drop from picks)))
-        ∙ ap (λ k. picked_rows columns (take from picks ++ take k (drop from picks))) e
-        ∙ ap (picked_rows columns) (sym (take_parts from n picks)) in
+    sym (map-append (λ p. (p.tag, origin_row columns p.origin)) (take from picks) (take m (drop from picks)))
+    ∙ ap (λ k. picked_rows columns (take from picks ++ take k (drop from picks))) e
+    ∙ ap (picked_rows columns) (sym (take_parts from n picks)) in
     adds_same dtypes dtypes _ _ old new refl whole (adds_both dtypes _ _ old mid new p q)
 
 -- the tags of rows that rise

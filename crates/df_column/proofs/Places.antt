@@ -1,9 +1,9 @@
 -- A key's place in entries in order, as a search finds it, and what a new entry at that place makes.
-use Rattle.std.proofs.Common.{◌≡◌, ℕ, zero, suc, ◌<◌, ◌≤◌, cond, List, [], ◌∷◌, length, map, get_or, Option, Some, None, Result, Ok, Err, IfOk, IfErr, refl, sym, ap, subst, ◌∙◌, arith}
+use Rattle.std.proofs.Common.{◌≡◌, ℕ, zero, suc, ◌<◌, ◌≤◌, cond, List, [], ◌∷◌, length, map, get_or, Some, None, Result, Ok, Err, IfOk, IfErr, refl, sym, ap, subst, ◌∙◌, arith}
 use Rattle.std.specs.Prelude.{T}
 use Rattle.std.specs.List.{insert}
 use Rattle.std.specs.List.Sorted.{IsNonDecreasingBy, IsSearchInRange, IsBinarySearchResult}
-use Rattle.std.specs.Ordering.{eq_by_cmp, is_eq, ordering_reverse, ordering_index}
+use Rattle.std.specs.Ordering.{is_eq, ordering_reverse, ordering_index}
 use Rattle.std.specs.declared.cmp.Ordering.{Ordering}
 use Rattle.std.specs.declared.cmp.Ordering.TheVariants.{Less, Equal, Greater}
 use Rattle.std.specs.Cmp.{IsTotalOrder}
@@ -44,6 +44,7 @@ module _ {K X : Type 0} {R : K → K → Ordering} (o : IsTotalOrder R) (same : 
   put-gap (e ∷ es) k v (suc i) g =
       ap (λ r. by_order r ((k, v) ∷ e ∷ es) ((e.0, v) ∷ es) (e ∷ put R k v es)) (flipped o e.0 k Less (g.before 0 e (omega arith)))
       ∙ ap (λ rest. e ∷ rest) (put-gap es k v i (gap_tail e es k i g))
+
   -- in order, an entry whose key ties with k stands after lesser ones
   less_before_place : (e : K × X) (es : List (K × X)) (k : K) (i : ℕ) → T (below_all R e.0 es) → IsPlace R es k i → R e.0 k ≡ Less
   less_before_place e [] k i h p = absurd (omega (arith, p.in_range))
@@ -114,9 +115,10 @@ module _ {K X A : Type 0} {R : K → K → Ordering} (o : IsTotalOrder R) (same 
   keyed_result f xs e k (Ok i) range h = λ d. ap (λ x. R x.0 k) (mapped_at f xs i d e range) ∙ h e
   keyed_result f xs e k (Err i) range h = λ rises.
       let l = mapped_length f xs in
-      let parts = h (keyed_rises f (λ x. ordering_index (R x.0 k)) xs e rises) in
-      (λ j d low high. ap (λ x. R x.0 k) (mapped_at f xs j d e (omega (arith, range))) ∙ parts.0 j e low high,
-       λ j d low high. ap (λ x. R x.0 k) (mapped_at f xs j d e (omega (arith, l))) ∙ parts.1 j e low (omega (arith, l)))
+      let parts = h (keyed_rises f (λ x. ordering_index (R x.0 k)) xs e rises) in (
+        λ j d low high. ap (λ x. R x.0 k) (mapped_at f xs j d e (omega (arith, range))) ∙ parts.0 j e low high,
+        λ j d low high. ap (λ x. R x.0 k) (mapped_at f xs j d e (omega (arith, l))) ∙ parts.1 j e low (omega (arith, l)),
+      )
 
   pub placed_by : (f : A → K × X) (xs : List A) (e : A) (k : K) (r : Result ℕ ℕ) → T (is_sorted R (map f xs)) → IsSearchInRange r (length xs) → IsBinarySearchResult (λ x. R (f x).0 k) xs r
       → record { found : IfOk r (IsPlace R (map f xs) k); absent : IfErr r (IsGap R (map f xs) k) }

@@ -1,6 +1,6 @@
 -- Reading the rows of a table, and rows that are all new.
 use Rattle.std.proofs.Common.{◌≡◌, ℕ, ◌+◌, ◌<◌, ◌≤◌, List, [], ◌∷◌, ◌++◌, Some, None, length, map, drop, get_or, refl, sym, ap, subst, ◌∙◌, arith, append_assoc, append-nil}
-use Rattle.std.specs.Prelude.{T, ◌&&◌}
+use Rattle.std.specs.Prelude.{T}
 use Rattle.std.specs.List.{list_all}
 use Rattle.std.specs.FinMap as finite
 use Rattle.std.specs.Borrow.{Bor}

@@ -1,8 +1,6 @@
 -- The blocks of a table, one by one, and its rows as a map.
-use Rattle.std.proofs.Common.{◌≡◌, ℕ, zero, suc, ◌+◌, ◌<◌, ◌≤◌, ◌^◌, Bool, true, List, [], ◌∷◌, ◌++◌, Option, Some, None, length, map, drop, get_or, refl, sym, ap, subst, ◌∙◌, arith, append_assoc, length-append}
-use Rattle.std.specs.Prelude.{T, ◌&&◌}
-use Rattle.std.specs.List.{list_all}
-use Rattle.std.specs.Cmp.Lexicographic.{pointwise}
+use Rattle.std.proofs.Common.{◌≡◌, ℕ, ◌+◌, ◌<◌, List, [], ◌∷◌, ◌++◌, Option, Some, None, length, map, drop, get_or, sym, ap, subst, ◌∙◌, arith, length-append}
+use Rattle.std.specs.Prelude.{T}
 use Rattle.std.specs.Arc.{arc_value}
 use Rattle.std.specs.declared.sync.Arc.{Arc}
 use Rattle.std.specs.FinMap as finite
@@ -10,7 +8,6 @@ use Rattle.df_value.specs.Cells.{fits_type}
 use Rattle.df_value.specs.Rows.{row_fits}
 use Rattle.df_value.specs.declared.cell.Cell.{Cell}
 use Rattle.df_value.specs.declared.cell.CellType.{CellType}
-use Rattle.df_column.specs.BlockRows.{AddsRows}
 use Rattle.df_column.specs.Blocks.{AreOfTypes, BlockParts, block_rows, ends_of, rows_of}
 use Rattle.df_column.specs.Changes.{after_changes, applied}
 use Rattle.df_column.specs.Columns.{cells_of, dtype_of}

@@ -1,7 +1,6 @@
 -- The cells of a column.
-use Rattle.std.specs.Prelude.{ℕ, ℤ, Bool, List, map, Option, Some, None}
+use Rattle.std.specs.Prelude.{List, map}
 use Rattle.df_value.specs.declared.cell.Cell.{Cell}
-use Rattle.df_value.specs.declared.cell.Cell.TheVariants as cell
 use Rattle.df_value.specs.declared.cell.CellType.{CellType}
 use Rattle.df_value.specs.declared.cell.CellType.TheVariants as dtype
 use Rattle.df_column.specs.ValueCells.{int_cell, wide_cell, text_cell, bool_cell, frac_cell}

@@ -52,7 +52,7 @@ fn picked_column(
     requires few { length (start_of whole tags.now) + length picks.now ≤ 1024 }
     ensures cells { IfOk result (λ c. (d : Column) → cells_of c ≡
         start_of whole (cells_of (slice_index_or columns.now at d))
-            ++ picked_cells (cells_of (slice_index_or columns.now at d)) at picks.now) }
+        ++ picked_cells (cells_of (slice_index_or columns.now at d)) at picks.now) }
     ensures dtype { IfOk result (λ c. (d : Column) → dtype_of c ≡ dtype_of (slice_index_or columns.now at d)) }
 {
     columns[at].picked(alloc, whole, at, picks)
@@ -100,12 +100,7 @@ fn picked_tags(
 }
 
 /// These tags or none, with room for more.
-fn start_tags(
-    alloc: Global,
-    tags: &[Tag],
-    whole: bool,
-    more: usize,
-) -> Result<Vec<Tag>, AllocError>
+fn start_tags(alloc: Global, tags: &[Tag], whole: bool, more: usize) -> Result<Vec<Tag>, AllocError>
     requires { length (start_of whole tags.now) + more ≤ 1024 }
     ensures { IfOk result (λ v. v.items ≡ start_of whole tags.now) }
 {
@@ -134,7 +129,7 @@ impl Block {
         requires few { length (start_of whole tags.now) + length picks.now ≤ 1024 }
         ensures rows { IfOk result (λ b. block_rows b ≡
             start_of whole (rows.tagged_rows tags.now (map cells_of columns.now))
-                ++ rows.picked_rows (map cells_of columns.now) picks.now) }
+            ++ rows.picked_rows (map cells_of columns.now) picks.now) }
         ensures dtypes { IfOk result (λ b. map dtype_of b.columns ≡ map dtype_of columns.now) }
     {
         let made = picked_columns(alloc, tags, columns, whole, picks);

@@ -52,7 +52,7 @@ pub fn push_picked(
     requires few { length (start_of whole tags.now) + length picks.now ≤ 1024 }
     ensures { OnOk result (AddsRows (map dtype_of columns.now)
         (start_of whole (rows.tagged_rows tags.now (map cells_of columns.now))
-            ++ rows.picked_rows (map cells_of columns.now) picks.now) out.old.items out.new.items) }
+        ++ rows.picked_rows (map cells_of columns.now) picks.now) out.old.items out.new.items) }
 {
     let block = Block::picked(alloc, tags, columns, whole, picks)?;
     let block = Arc::new(alloc, block)?;

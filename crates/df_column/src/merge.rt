@@ -40,12 +40,7 @@ fn index_after(tags: &[Tag], at: usize, tag: Tag) -> usize
 }
 
 /// Adds the old rows from this index up to that one.
-fn push_old(
-    out: &mut Vec<Pick<'_>>,
-    tags: &[Tag],
-    from: usize,
-    to: usize,
-) -> Result<(), AllocError>
+fn push_old(out: &mut Vec<Pick<'_>>, tags: &[Tag], from: usize, to: usize) -> Result<(), AllocError>
     requires ordered { from ≤ to }
     requires within { to ≤ length tags.now }
     requires sound { AreWithin (length tags.now) out.old.items }
@@ -102,7 +97,7 @@ fn merge_entry<'a>(
         T (below_all tag_cmp entry.now.tag later) →
         picked_rows columns out.new.items ++ after_changes tag_cmp (drop next (tagged_rows tags.now columns)) later ≡
         picked_rows columns out.old.items ++
-            after_changes tag_cmp (drop at (tagged_rows tags.now columns)) (change_of entry.now ∷ later)) }
+        after_changes tag_cmp (drop at (tagged_rows tags.now columns)) (change_of entry.now ∷ later)) }
     ensures fits { OnOk result ((dtypes : List CellType) → T (is_row_if_any dtypes entry.now.new) →
         AreRows dtypes out.old.items → AreRows dtypes out.new.items) }
 {

@@ -1,8 +1,7 @@
-use Rattle.std.proofs.Common.{map, sym, subst, refl, None, ◌∙◌, ap}
+use Rattle.std.proofs.Common.{map, sym, subst, refl, None, ◌∙◌}
 use Rattle.std.specs.Prelude.{T}
 use Rattle.std.specs.Arc.{arc_value}
-use Rattle.df_column.specs.Blocks.{block_rows}
-use Rattle.df_column.specs.Columns.{cells_of, dtype_of}
+use Rattle.df_column.specs.Columns.{cells_of}
 use Rattle.df_column.specs.declared.entry.Entry.{Entry}
 use Rattle.df_column.specs.declared.tag.Tag.{Tag}
 use Rattle.df_column.proofs.BehindLemmas.{rows_behind}

@@ -1,4 +1,4 @@
-use Rattle.std.proofs.Common.{map, ap, ◌∙◌, sym, subst}
+use Rattle.std.proofs.Common.{map}
 use Rattle.std.specs.Arc.{arc_value}
 use Rattle.df_column.specs.Blocks.{block_rows}
 use Rattle.df_column.specs.Columns.{cells_of, dtype_of}

@@ -1,6 +1,5 @@
-use Rattle.std.proofs.Common.{◌∙◌, ap, ◌++◌, append_assoc, map}
+use Rattle.std.proofs.Common.{append_assoc}
 use Rattle.std.specs.Arc.{arc_value}
-use Rattle.df_value.specs.declared.cell.Cell.{Cell}
 use Rattle.df_column.specs.Blocks.{block_rows, rows_of}
 use Rattle.df_column.proofs.ChangeRuns.{sorted_first}
 use Rattle.df_column.proofs.TableChanges.{sorted_taken, sorted_dropped, first_run}

@@ -1,4 +1,4 @@
-use Rattle.std.proofs.Common.{ap, ◌∙◌, None, map}
+use Rattle.std.proofs.Common.{◌∙◌, None, map}
 use Rattle.df_column.proofs.PickedCells.{old_cell, new_cell, no_cell}
 use Rattle.df_column.proofs.masked.value_from.Goals as goal
 

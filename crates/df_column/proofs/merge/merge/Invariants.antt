@@ -1,6 +1,4 @@
 use Rattle.std.proofs.Common.{◌≡◌, ◌≤◌, ◌++◌, List, map, drop, length}
-use Rattle.std.specs.Prelude.{T}
-use Rattle.std.specs.FinMap.{is_sorted}
 use Rattle.df_value.specs.declared.cell.Cell.{Cell}
 use Rattle.df_value.specs.declared.cell.CellType.{CellType}
 use Rattle.df_column.specs.Changes.{after_changes}

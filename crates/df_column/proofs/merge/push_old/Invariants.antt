@@ -1,4 +1,4 @@
-use Rattle.std.proofs.Common.{◌≡◌, ◌++◌, ◌-◌, List, map, take, drop, length}
+use Rattle.std.proofs.Common.{◌≡◌, ◌++◌, ◌-◌, List, take, drop, length}
 use Rattle.df_value.specs.declared.cell.Cell.{Cell}
 use Rattle.df_value.specs.declared.cell.CellType.{CellType}
 use Rattle.df_column.specs.Picks.{AreWithin}

@@ -1,4 +1,4 @@
-use Rattle.std.proofs.Common.{sym, ap, ◌∙◌, get_or}
+use Rattle.std.proofs.Common.{sym, ap}
 use Rattle.df_column.proofs.SpotLemmas.{at_spot}
 use Rattle.df_column.proofs.spots.tag_at.Goals as goal
 

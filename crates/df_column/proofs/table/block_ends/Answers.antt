@@ -1,6 +1,4 @@
-use Rattle.std.proofs.Common.{◌∙◌, ap, sym, ◌+◌, ◌++◌, ◌∷◌, [], append_assoc, length, arith, drop}
-use Rattle.std.specs.Arc.{arc_value}
-use Rattle.df_column.specs.Blocks.{ends_of}
+use Rattle.std.proofs.Common.{◌∙◌, ap, sym, ◌++◌, append_assoc, arith}
 use Rattle.df_column.proofs.TableLemmas.{ends_step, count_step}
 use Rattle.df_column.proofs.table.block_ends.Goals as goal
 

@@ -1,4 +1,4 @@
-use Rattle.std.proofs.Common.{◌≡◌, ◌++◌, ℕ, List, map, drop}
+use Rattle.std.proofs.Common.{◌≡◌, ◌++◌, ℕ, List, drop}
 use Rattle.std.specs.Prelude.{T}
 use Rattle.std.specs.List.{list_all}
 use Rattle.df_value.specs.Rows.{row_fits}

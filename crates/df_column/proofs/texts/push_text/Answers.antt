@@ -1,4 +1,4 @@
-use Rattle.std.proofs.Common.{ap, ◌∙◌, sym, length, ◌++◌, ◌∷◌, [], Some, arith, map}
+use Rattle.std.proofs.Common.{ap, ◌∙◌, sym, ◌++◌, ◌∷◌, [], arith, map}
 use Rattle.df_column.specs.Texts.{text_at, text_now}
 use Rattle.df_column.proofs.TextPlaces.{places_put, place_small}
 use Rattle.df_column.proofs.texts.push_text.Goals as goal

@@ -1,4 +1,4 @@
-use Rattle.std.proofs.Common.{◌≡◌, ◌++◌, ◌<◌, map, drop, length}
+use Rattle.std.proofs.Common.{◌≡◌, ◌++◌, map, drop, length}
 use Rattle.std.specs.Prelude.{T}
 use Rattle.df_column.specs.Columns.{cells_of}
 use Rattle.df_column.specs.Rows.{are_even, row_at}

@@ -1,4 +1,4 @@
-use Rattle.std.proofs.Common.{ap, ◌∙◌, sym, None, length, arith, map, ◌<◌}
+use Rattle.std.proofs.Common.{ap, ◌∙◌, sym, None, arith}
 use Rattle.df_column.proofs.Places.{mapped_at, mapped_length}
 use Rattle.df_column.proofs.masked.Masked.cell.Goals as goal
 

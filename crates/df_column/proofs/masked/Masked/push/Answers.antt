@@ -1,4 +1,4 @@
-use Rattle.std.proofs.Common.{ap, ◌∙◌, sym, ◌++◌, ◌∷◌, [], true, false, Some, None}
+use Rattle.std.proofs.Common.{ap, ◌∙◌, sym, ◌++◌, ◌∷◌, [], Some, None}
 use Rattle.df_column.proofs.Masks.{masked_push, masked_null}
 use Rattle.df_column.proofs.masked.Masked.push.Goals as goal
 

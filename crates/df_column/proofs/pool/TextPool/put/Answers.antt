@@ -1,4 +1,4 @@
-use Rattle.std.proofs.Common.{ap, sym, ◌∙◌, ◌++◌, ◌∷◌, [], length, arith}
+use Rattle.std.proofs.Common.{ap, sym, ◌∙◌, length, arith}
 use Rattle.df_column.specs.Pools.{place_of, place_or_end, with_text}
 use Rattle.df_column.proofs.Parts.{length-parts, parts-push}
 use Rattle.df_column.proofs.PoolOrder.{place_at, place_of_new, gap_in_order, pool_push}

@@ -1,7 +1,5 @@
-use Rattle.std.proofs.Common.{sym, subst, ap, ◌∙◌, length, arith, map}
-use Rattle.df_column.specs.Columns.{dtype_of}
-use Rattle.df_column.specs.Rows.{AreNewRows}
-use Rattle.df_column.specs.Tables.{after_entries, types_of}
+use Rattle.std.proofs.Common.{◌∙◌, arith}
+use Rattle.df_column.specs.Tables.{after_entries}
 use Rattle.df_column.proofs.TableLemmas.{new_rows, changed_sorted, changed_rows, changed_length, same_table}
 use Rattle.df_column.proofs.table.Table.edited.Goals as goal
 

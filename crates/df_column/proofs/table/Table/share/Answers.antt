@@ -1,5 +1,3 @@
-use Rattle.std.proofs.Common.{sym, subst}
-use Rattle.df_column.specs.Blocks.{AreOfTypes}
 use Rattle.df_column.specs.Tables.{types_of}
 use Rattle.df_column.proofs.table.Table.share.Goals as goal
 

@@ -1,4 +1,4 @@
-use Rattle.std.proofs.Common.{ap, ◌∙◌, sym, None, length, arith}
+use Rattle.std.proofs.Common.{ap, ◌∙◌, sym, None, arith}
 use Rattle.df_value.specs.declared.cell.Cell.TheVariants as cell
 use Rattle.df_column.specs.ValueCells.{text_cell}
 use Rattle.df_column.proofs.Places.{mapped_at, mapped_length}
