@@ -15,6 +15,7 @@ pub mod BehindLemmas
 pub mod TableLemmas
 pub mod SpotLemmas
 pub mod ReadLemmas
+pub mod FitLemmas
 pub mod BlockLemmas
 pub mod ChangeRuns
 pub mod MergeLemmas

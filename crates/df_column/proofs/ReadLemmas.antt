@@ -1,10 +1,10 @@
 -- Reading the rows of a table, and rows that are all new.
-use Rattle.std.proofs.Common.{◌≡◌, ℕ, ◌+◌, ◌<◌, ◌≤◌, List, [], ◌∷◌, ◌++◌, Some, None, length, map, drop, get_or, refl, sym, ap, subst, ◌∙◌, arith, append_assoc, append-nil}
+use Rattle.std.proofs.Common.{◌≡◌, ℕ, ◌+◌, ◌<◌, ◌≤◌, true, List, [], ◌∷◌, ◌++◌, Some, None, length, map, drop, get_or, refl, sym, ap, subst, ◌∙◌, arith, append_assoc, append-nil}
 use Rattle.std.specs.Prelude.{T}
 use Rattle.std.specs.List.{list_all}
 use Rattle.std.specs.FinMap as finite
 use Rattle.std.specs.Borrow.{Bor}
-use Rattle.df_value.specs.Rows.{row_fits}
+use Rattle.df_value.specs.Rows.{row_fits, rows_fit}
 use Rattle.df_value.specs.declared.cell.Cell.{Cell}
 use Rattle.df_value.specs.declared.cell.CellType.{CellType}
 use Rattle.df_column.specs.Blocks.{BlockParts, block_rows}
@@ -12,12 +12,12 @@ use Rattle.df_column.specs.Columns.{cells_of}
 use Rattle.df_column.specs.Picks.{AreWithin, is_within}
 use Rattle.df_column.specs.Places.{IsGap, IsPlace}
 use Rattle.df_column.specs.Rows.{AreRows, is_new_row, origin_row, picked_rows, row_at}
-use Rattle.df_column.specs.Tables.{TaggedRows, types_of}
+use Rattle.df_column.specs.Tables.{TableParts, TaggedRows, types_of}
 use Rattle.df_column.specs.Tags.{tag_cmp}
 use Rattle.df_column.specs.declared.picks.Origin.TheVariants.{New}
 use Rattle.df_column.specs.declared.picks.Pick.{Pick}
 use Rattle.df_column.specs.declared.tag.Tag.{Tag}
-use Rattle.df_column.proofs.Bools.{T-first, T-second}
+use Rattle.df_column.proofs.Bools.{T-first, T-second, true_from_T}
 use Rattle.df_column.proofs.MergeLemmas.{all_last, drop_at, drop_past}
 use Rattle.df_column.proofs.Places.{find-gap, find-place}
 use Rattle.df_column.proofs.RowLemmas.{length_rows, row_in_rows}
@@ -53,6 +53,22 @@ block_rows_end b out before at le h =
     let l = length_rows b.tags (map cells_of b.columns) in
     sym (append-nil out) ∙ ap (λ rs. out ++ map (λ r. r.1) rs) (sym (drop_past (block_rows b) at (omega (arith, l, le)))) ∙ h
 
+pub tagged_row_step : (b : BlockParts) (out before : List (Tag × List Cell)) (at : ℕ) (row : List Cell) (none : Tag) → at < length b.tags → row ≡ row_at (map cells_of b.columns) at
+    → out ++ drop at (block_rows b) ≡ before → (out ++ (get_or b.tags at none, row) ∷ []) ++ drop (at + 1) (block_rows b) ≡ before
+tagged_row_step b out before at row none lt e h =
+    let d : Tag × List Cell = (none, []) in
+    let l = length_rows b.tags (map cells_of b.columns) in
+    let cut = drop_at (block_rows b) at d (omega (arith, l, lt)) in
+    let here = row_in_rows b.tags (map cells_of b.columns) at d none lt in
+    append_assoc out ((get_or b.tags at none, row) ∷ []) (drop (at + 1) (block_rows b))
+    ∙ ap (λ r. out ++ r ∷ drop (at + 1) (block_rows b)) (ap (λ r. (get_or b.tags at none, r)) e ∙ sym here)
+    ∙ ap (λ rs. out ++ rs) (sym cut) ∙ h
+
+pub tagged_rows_end : (b : BlockParts) (out before : List (Tag × List Cell)) (at : ℕ) → length b.tags ≤ at → out ++ drop at (block_rows b) ≡ before → out ≡ before
+tagged_rows_end b out before at le h =
+    let l = length_rows b.tags (map cells_of b.columns) in
+    sym (append-nil out) ∙ ap (λ rs. out ++ rs) (sym (drop_past (block_rows b) at (omega (arith, l, le)))) ∙ h
+
 -- one new row more
 map_last : {X Y : Type 0} (f : X → Y) (xs : List X) (x : X) → map f (xs ++ x ∷ []) ≡ map f xs ++ f x ∷ []
 map_last f [] x = refl
@@ -80,3 +96,11 @@ new_fit schema rows picks made i p item row made_is lt e is now left h =
       fits = subst (AreRows (types_of schema)) (sym made_is) (all_last (λ p. is_new_row (types_of schema) p.origin) picks p h (subst (λ o. T (is_new_row (types_of schema) o)) (sym is) (fits_types schema row.now own)));
       left = T-second (row_fits schema item.1) _ cut;
     }
+
+-- the rows of a table whose blocks' rows fit
+pub fitting_rows : (t : TableParts) (schema : List (List ℕ × CellType)) (rows : List (Tag × List Cell)) → record { schema = schema; rows = finite.from_sorted rows } ≡ t → T (finite.is_sorted tag_cmp rows) → T (list_all (row_fits schema) (map (λ r. r.1) rows))
+    → rows_fit t.schema (finite.values t.rows) ≡ true
+fitting_rows t schema rows is h fit =
+    let s : schema ≡ t.schema = ap (λ t. t.schema) is in
+    let e : rows ≡ finite.entries t.rows = sym (finite.entries-from_sorted tag_cmp rows h) ∙ ap (λ t. finite.entries t.rows) is in
+    true_from_T _ (subst (λ s. T (list_all (row_fits s) (finite.values t.rows))) s (subst (λ es. T (list_all (row_fits schema) (map (λ r. r.1) es))) e fit))

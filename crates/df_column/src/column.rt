@@ -77,7 +77,7 @@ impl Column {
 
     /// The cells of the picked rows, in this column or at this index of a new row; behind all cells of this
     /// column, if `whole` says so.
-    pub fn picked(
+    pub(crate) fn picked(
         &self,
         alloc: Global,
         whole: bool,

@@ -1,6 +1,12 @@
 //! Tables of tagged rows, in shared blocks of typed columns.
 //!
-//! A row stands at a [`Tag`].
+//! A [`Table`] has a schema and rows by rising [`Tag`]. Contracts see it as the schema and a finite map from tags to
+//! rows. The rows stand in blocks of at most 1,024, which tables share. A block has a tag for each row and a [`Column`]
+//! for each column of the schema: values under a null mask ([`Masked`]), or texts by their places in a dictionary
+//! ([`Texts`], [`TextPool`]).
+//!
+//! [`Table::edited`] gives the table after the changes of some [`Entry`]s. It makes new only the blocks that are
+//! changed, column by column.
 #![tactic(auto)]
 
 mod block;

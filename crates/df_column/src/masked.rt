@@ -82,7 +82,7 @@ impl<T: Copy> Masked<T> {
     }
 
     /// No values, with room for this many.
-    pub fn with_capacity(alloc: Global, capacity: usize) -> Result<Self, AllocError>
+    pub(crate) fn with_capacity(alloc: Global, capacity: usize) -> Result<Self, AllocError>
         ensures { IfOk result (λ m. m ≡ []) }
     {
         let values = Vec::with_capacity(alloc, capacity)?;
@@ -93,7 +93,7 @@ impl<T: Copy> Masked<T> {
     }
 
     /// These values, with room for more.
-    pub fn copy(&self, alloc: Global, more: usize) -> Result<Self, AllocError>
+    pub(crate) fn copy(&self, alloc: Global, more: usize) -> Result<Self, AllocError>
         ensures { IfOk result (λ m. m ≡ self.now) }
     {
         let nulls = Vec::from_slice(alloc, &self.nulls)?;
@@ -103,7 +103,7 @@ impl<T: Copy> Masked<T> {
     }
 
     /// These values or none, with room for more.
-    pub fn start(&self, alloc: Global, whole: bool, more: usize) -> Result<Self, AllocError>
+    pub(crate) fn start(&self, alloc: Global, whole: bool, more: usize) -> Result<Self, AllocError>
         ensures { IfOk result (λ m. m ≡ start_of whole self.now) }
     {
         if whole {
@@ -156,7 +156,7 @@ impl<T: CellValue> Masked<T> {
     }
 
     /// The cells of the picked rows, as [`Masked::push_picked`] has them; behind all cells of this column, if `whole` says so.
-    pub fn picked(
+    pub(crate) fn picked(
         &self,
         alloc: Global,
         whole: bool,
@@ -174,7 +174,7 @@ impl<T: CellValue> Masked<T> {
     }
 
     /// Adds the cells of the picked rows, in the old column or at this index of a new row.
-    pub fn push_picked(
+    pub(crate) fn push_picked(
         &mut self,
         old: &Masked<T>,
         column: usize,

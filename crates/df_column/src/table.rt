@@ -3,7 +3,7 @@ ghost use Rattle.std.specs.Prelude.{◌≡◌, ◌↔◌, ℕ, ◌<◌, ◌≤�
 ghost use Rattle.std.specs.Arc.{arc_value};
 ghost use Rattle.std.specs.FinMap as finite;
 ghost use Rattle.std.specs.List.{list_all};
-ghost use Rattle.df_value.specs.Rows.{row_fits};
+ghost use Rattle.df_value.specs.Rows.{row_fits, rows_fit};
 ghost use Rattle.df_value.specs.declared.cell.Cell.{Cell};
 ghost use Rattle.df_value.specs.declared.cell.CellType.{CellType};
 ghost use Rattle.df_column.specs.Blocks.{AreOfTypes, block_rows, ends_of, rows_of};
@@ -124,9 +124,10 @@ impl Table {
         })
     }
 
-    /// The schema.
+    /// The schema, which all rows fit.
     pub fn schema(&self) -> &Schema
-        ensures { result.now ≡ self.now.schema }
+        ensures value { result.now ≡ self.now.schema }
+        ensures sound { IsTrue (rows_fit self.now.schema (finite.values self.now.rows)) }
     {
         &self.schema
     }
@@ -249,6 +250,18 @@ impl Table {
         }
         Ok(out)
     }
+
+    /// The tags with copies of their rows, by rising tag.
+    pub fn tagged_rows(&self, alloc: Global) -> Result<Vec<(Tag, Row)>, AllocError>
+        ensures { IfOk result (λ v. v.items ≡ finite.entries self.now.rows) }
+    {
+        let blocks = self.blocks();
+        let mut out = Vec::with_capacity(alloc, self.len())?;
+        for block in blocks {
+            push_tagged_rows(alloc, &mut out, block)?;
+        }
+        Ok(out)
+    }
 }
 
 /// The index of the row at this tag, or where it would stand.
@@ -268,6 +281,22 @@ fn push_rows(alloc: Global, out: &mut Vec<Row>, block: &Block) -> Result<(), All
     for at in 0..block.tags().len() {
         let row = block.row(alloc, at)?;
         out.push(row)?;
+    }
+    Ok(())
+}
+
+/// Adds the block's tags with copies of their rows.
+fn push_tagged_rows(
+    alloc: Global,
+    out: &mut Vec<(Tag, Row)>,
+    block: &Block,
+) -> Result<(), AllocError>
+    ensures { OnOk result (out.new.items ≡ out.old.items ++ block_rows block.now) }
+{
+    let tags = block.tags();
+    for at in 0..tags.len() {
+        let row = block.row(alloc, at)?;
+        out.push((tags[at], row))?;
     }
     Ok(())
 }

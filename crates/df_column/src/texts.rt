@@ -123,7 +123,7 @@ impl Texts {
     }
 
     /// These texts, with room for more places.
-    pub fn copy(&self, alloc: Global, more: usize) -> Result<Texts, AllocError>
+    pub(crate) fn copy(&self, alloc: Global, more: usize) -> Result<Texts, AllocError>
         ensures { IfOk result (λ t. t ≡ self.now) }
     {
         let (places, pool) = both(self.places.copy(alloc, more), self.pool.copy(alloc))?;
@@ -131,7 +131,7 @@ impl Texts {
     }
 
     /// These texts or none, with room for more places.
-    pub fn start(&self, alloc: Global, whole: bool, more: usize) -> Result<Texts, AllocError>
+    pub(crate) fn start(&self, alloc: Global, whole: bool, more: usize) -> Result<Texts, AllocError>
         ensures { IfOk result (λ t. t ≡ start_of whole self.now) }
     {
         if whole {
@@ -146,7 +146,7 @@ impl Texts {
 
     /// The cells of the picked rows, as [`Texts::with_picked`] has them; behind all cells of this column, if `whole`
     /// says so. Without them the pool has the texts that stay.
-    pub fn picked(
+    pub(crate) fn picked(
         &self,
         alloc: Global,
         whole: bool,
@@ -165,7 +165,7 @@ impl Texts {
     }
 
     /// These texts, and then those of the picked rows, in the old column or at this index of a new row.
-    pub fn with_picked(
+    pub(crate) fn with_picked(
         self,
         old: &Texts,
         column: usize,

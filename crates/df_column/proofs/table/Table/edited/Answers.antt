@@ -4,7 +4,7 @@ use Rattle.df_column.proofs.TableLemmas.{new_rows, changed_sorted, changed_rows,
 use Rattle.df_column.proofs.table.Table.edited.Goals as goal
 
 pub changed_blocks-requires-clause-fits : goal.changed_blocks-requires-clause-fits
-changed_blocks-requires-clause-fits c = rw (c.deref.ensures.value, c.in_ok-columns.ensures.types, c.schema.ensures) (new_rows c.args.self.now.schema c.args.entries.now c.requires.fits)
+changed_blocks-requires-clause-fits c = rw (c.deref.ensures.value, c.in_ok-columns.ensures.types, c.schema.ensures.value) (new_rows c.args.self.now.schema c.args.entries.now c.requires.fits)
 
 pub from_blocks-requires-clause-sorted : goal.from_blocks-requires-clause-sorted
 from_blocks-requires-clause-sorted c = changed_sorted _ _ c.args.entries.now c.blocks-2.ensures.sorted c.in_ok-blocks.ensures.rows
