@@ -260,7 +260,7 @@ pub fn changed_blocks(
         after_changes tag_cmp (rows_of blocks.now) (map change_of entries.now)) }
     ensures types { IfOk result (λ v. AreOfTypes (map dtype_of columns.now) v.items) }
 {
-    let mut out = Vec::with_capacity(alloc, blocks.len())?;
+    let mut out = Vec::with_capacity(alloc, blocks.len().saturating_add(1))?;
     let mut left = blocks;
     let mut rest = entries;
     while let Some((block, later)) = left.split_first() {

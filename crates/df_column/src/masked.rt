@@ -97,8 +97,8 @@ impl<T: Copy> Masked<T> {
         ensures { IfOk result (λ m. m ≡ self.now) }
     {
         let nulls = Vec::from_slice(alloc, &self.nulls)?;
-        let mut values = Vec::from_slice(alloc, &self.values)?;
-        values.reserve_exact(more)?;
+        let mut values = Vec::with_capacity(alloc, self.values.len().saturating_add(more))?;
+        values.extend_from_slice(&self.values)?;
         Ok(Masked { nulls, values })
     }
 

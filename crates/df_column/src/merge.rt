@@ -121,7 +121,8 @@ pub fn merge<'a>(
         picked_rows columns picks.items ≡ after_changes tag_cmp (tagged_rows tags.now columns) (map change_of entries.now)) }
     ensures fits { IfOk result (λ picks. (dtypes : List CellType) → AreNewRows dtypes entries.now → AreRows dtypes picks.items) }
 {
-    let mut picks = Vec::with_capacity(alloc, tags.len())?;
+    let most = tags.len().saturating_add(entries.len());
+    let mut picks = Vec::with_capacity(alloc, most)?;
     let mut at = 0;
     for entry in entries {
         at = merge_entry(&mut picks, tags, at, entry)?;
