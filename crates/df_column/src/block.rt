@@ -53,7 +53,8 @@ fn picked_column(
     ensures cells { IfOk result (λ c. (d : Column) → cells_of c ≡
         start_of whole (cells_of (slice_index_or columns.now at d))
         ++ picked_cells (cells_of (slice_index_or columns.now at d)) at picks.now) }
-    ensures dtype { IfOk result (λ c. (d : Column) → dtype_of c ≡ dtype_of (slice_index_or columns.now at d)) }
+    ensures dtype { IfOk result (λ c. (d : Column) → dtype_of c ≡
+        dtype_of (slice_index_or columns.now at d)) }
 {
     columns[at].picked(alloc, whole, at, picks)
 }

@@ -103,7 +103,8 @@ fn is_behind(tags: &[Tag], entries: &[Entry]) -> bool
     requires tags { 0 < length tags.now }
     requires entries { 0 < length entries.now }
     ensures { (t : Tag) (e : Entry) → result ≡
-        is_lt (tag_cmp (slice_index_or tags.now (length tags.now - 1) t) (slice_index_or entries.now 0 e).tag) }
+        is_lt (tag_cmp (slice_index_or tags.now (length tags.now - 1) t)
+        (slice_index_or entries.now 0 e).tag) }
 {
     let first = &entries[0];
     tags[tags.len() - 1] < first.tag
@@ -119,8 +120,10 @@ fn push_grown(
     requires within { AreWithin 0 picks.now }
     requires rows { AreRows (map dtype_of (arc_value block.now).columns) picks.now }
     requires few { length (arc_value block.now).tags + length picks.now ≤ 1024 }
-    ensures { OnOk result (AddsRows (map dtype_of (arc_value block.now).columns) (block_rows (arc_value block.now)
-        ++ rows.picked_rows (map cells_of (arc_value block.now).columns) picks.now) out.old.items out.new.items) }
+    ensures { OnOk result (AddsRows (map dtype_of (arc_value block.now).columns)
+        (block_rows (arc_value block.now)
+        ++ rows.picked_rows (map cells_of (arc_value block.now).columns) picks.now)
+        out.old.items out.new.items) }
 {
     if picks.is_empty() {
         push_shared(out, block)?;
@@ -139,8 +142,10 @@ fn push_filled(
 ) -> Result<(), AllocError>
     requires within { AreWithin 0 picks.now }
     requires rows { AreRows (map dtype_of (arc_value block.now).columns) picks.now }
-    ensures { OnOk result (AddsRows (map dtype_of (arc_value block.now).columns) (block_rows (arc_value block.now)
-        ++ rows.picked_rows (map cells_of (arc_value block.now).columns) picks.now) out.old.items out.new.items) }
+    ensures { OnOk result (AddsRows (map dtype_of (arc_value block.now).columns)
+        (block_rows (arc_value block.now)
+        ++ rows.picked_rows (map cells_of (arc_value block.now).columns) picks.now)
+        out.old.items out.new.items) }
 {
     let room = MOST_ROWS - block.tags().len();
     let (first, rest) = picks.split_at(room.min(picks.len()));
@@ -158,7 +163,8 @@ fn push_behind(
 ) -> Result<(), AllocError>
     requires entries { AreRising entries.now }
     requires fits { AreNewRows (map dtype_of (arc_value block.now).columns) entries.now }
-    ensures { OnOk result (AddsRows (map dtype_of (arc_value block.now).columns) (block_rows (arc_value block.now)
+    ensures { OnOk result (AddsRows (map dtype_of (arc_value block.now).columns)
+        (block_rows (arc_value block.now)
         ++ after_changes tag_cmp [] (map change_of entries.now)) out.old.items out.new.items) }
 {
     let picks = merge(alloc, &[], entries)?;
@@ -179,7 +185,8 @@ fn push_changed(
     requires entries { AreRising entries.now }
     requires fits { AreNewRows (map dtype_of (arc_value block.now).columns) entries.now }
     ensures { OnOk result (AddsRows (map dtype_of (arc_value block.now).columns)
-        (after_changes tag_cmp (block_rows (arc_value block.now)) (map change_of entries.now)) out.old.items out.new.items) }
+        (after_changes tag_cmp (block_rows (arc_value block.now)) (map change_of entries.now))
+        out.old.items out.new.items) }
 {
     if entries.is_empty() {
         return push_shared(out, block);
@@ -231,20 +238,24 @@ fn push_first<'a>(
     later: &[Arc<Block>],
     entries: &'a [Entry],
 ) -> Result<&'a [Entry], AllocError>
-    requires rows { T (finite.is_sorted tag_cmp (block_rows (arc_value block.now) ++ rows_of later.now)) }
+    requires rows { T (finite.is_sorted tag_cmp (block_rows (arc_value block.now)
+        ++ rows_of later.now)) }
     requires entries { AreRising entries.now }
     requires fits { AreNewRows (map dtype_of (arc_value block.now).columns) entries.now }
     ensures rising { IfOk result (λ rest. AreRising rest.now) }
-    ensures fits { IfOk result (λ rest. AreNewRows (map dtype_of (arc_value block.now).columns) rest.now) }
+    ensures fits { IfOk result (λ rest.
+        AreNewRows (map dtype_of (arc_value block.now).columns) rest.now) }
     ensures adds { IfOk result (λ rest. AddsFirst (map dtype_of (arc_value block.now).columns)
-        (block_rows (arc_value block.now)) (rows_of later.now) entries.now rest.now out.old.items out.new.items) }
+        (block_rows (arc_value block.now)) (rows_of later.now) entries.now rest.now
+        out.old.items out.new.items) }
 {
     let (mine, others) = entries.split_at(count_before(entries, first_tag(later)));
     push_changed(alloc, out, block, mine, later.is_empty())?;
     Ok(others)
 }
 
-/// The blocks after the changes. Where there are no blocks, the new rows go into blocks of these columns, which are empty.
+/// The blocks after the changes. Where there are no blocks, the new rows go into blocks of these columns, which have
+/// no cells.
 pub fn changed_blocks(
     alloc: Global,
     blocks: &[Arc<Block>],

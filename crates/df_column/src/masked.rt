@@ -155,7 +155,8 @@ impl<T: CellValue> Masked<T> {
         T::to_cell(self.get(at))
     }
 
-    /// The cells of the picked rows, as [`Masked::push_picked`] has them; behind all cells of this column, if `whole` says so.
+    /// The cells of the picked rows, as [`Masked::push_picked`] has them; behind all cells of this column, if `whole`
+    /// says so.
     pub(crate) fn picked(
         &self,
         alloc: Global,
@@ -166,7 +167,8 @@ impl<T: CellValue> Masked<T> {
         requires within { AreWithin (length (map T.cell_of self.now)) picks.now }
         requires fits { AreFit T.dtype column picks.now }
         ensures { IfOk result (λ m. map T.cell_of m ≡
-            start_of whole (map T.cell_of self.now) ++ picked_cells (map T.cell_of self.now) column picks.now) }
+            start_of whole (map T.cell_of self.now)
+            ++ picked_cells (map T.cell_of self.now) column picks.now) }
     {
         let mut values = self.start(alloc, whole, picks.len())?;
         values.push_picked(self, column, picks)?;

@@ -30,7 +30,8 @@ fn tags_before(tags: &[Tag], tag: Tag) -> usize
 fn index_after(tags: &[Tag], at: usize, tag: Tag) -> usize
     requires { at ≤ length tags.now }
     ensures rest { (columns : List (List Cell)) →
-        rest_after tag_cmp tag (drop at (tagged_rows tags.now columns)) ≡ drop result (tagged_rows tags.now columns) }
+        rest_after tag_cmp tag (drop at (tagged_rows tags.now columns)) ≡
+        drop result (tagged_rows tags.now columns) }
     ensures within { result ≤ length tags.now }
 {
     if at == tags.len() {
@@ -46,7 +47,8 @@ fn push_old(out: &mut Vec<Pick<'_>>, tags: &[Tag], from: usize, to: usize) -> Re
     requires sound { AreWithin (length tags.now) out.old.items }
     ensures within { OnOk result (AreWithin (length tags.now) out.new.items) }
     ensures rows { OnOk result ((columns : List (List Cell)) → picked_rows columns out.new.items ≡
-        picked_rows columns out.old.items ++ take (to - from) (drop from (tagged_rows tags.now columns))) }
+        picked_rows columns out.old.items
+        ++ take (to - from) (drop from (tagged_rows tags.now columns))) }
     ensures fits { OnOk result ((dtypes : List CellType) →
         AreRows dtypes out.old.items → AreRows dtypes out.new.items) }
 {
@@ -93,11 +95,14 @@ fn merge_entry<'a>(
     requires sound { AreWithin (length tags.now) out.old.items }
     ensures at { IfOk result (λ next. next ≤ length tags.now) }
     ensures within { OnOk result (AreWithin (length tags.now) out.new.items) }
-    ensures rows { IfOk result (λ next. (columns : List (List Cell)) (later : List (Tag × Change (List Cell))) →
+    ensures rows { IfOk result (λ next.
+        (columns : List (List Cell)) (later : List (Tag × Change (List Cell))) →
         T (below_all tag_cmp entry.now.tag later) →
-        picked_rows columns out.new.items ++ after_changes tag_cmp (drop next (tagged_rows tags.now columns)) later ≡
+        picked_rows columns out.new.items
+        ++ after_changes tag_cmp (drop next (tagged_rows tags.now columns)) later ≡
         picked_rows columns out.old.items ++
-        after_changes tag_cmp (drop at (tagged_rows tags.now columns)) (change_of entry.now ∷ later)) }
+        after_changes tag_cmp (drop at (tagged_rows tags.now columns))
+        (change_of entry.now ∷ later)) }
     ensures fits { OnOk result ((dtypes : List CellType) → T (is_row_if_any dtypes entry.now.new) →
         AreRows dtypes out.old.items → AreRows dtypes out.new.items) }
 {
@@ -118,8 +123,10 @@ pub fn merge<'a>(
     requires entries { AreRising entries.now }
     ensures within { IfOk result (λ picks. AreWithin (length tags.now) picks.items) }
     ensures rows { IfOk result (λ picks. (columns : List (List Cell)) →
-        picked_rows columns picks.items ≡ after_changes tag_cmp (tagged_rows tags.now columns) (map change_of entries.now)) }
-    ensures fits { IfOk result (λ picks. (dtypes : List CellType) → AreNewRows dtypes entries.now → AreRows dtypes picks.items) }
+        picked_rows columns picks.items ≡
+        after_changes tag_cmp (tagged_rows tags.now columns) (map change_of entries.now)) }
+    ensures fits { IfOk result (λ picks. (dtypes : List CellType) →
+        AreNewRows dtypes entries.now → AreRows dtypes picks.items) }
 {
     let most = tags.len().saturating_add(entries.len());
     let mut picks = Vec::with_capacity(alloc, most)?;

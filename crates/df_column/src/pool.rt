@@ -84,7 +84,8 @@ fn search(bytes: &[u8], ends: &[usize], order: &[u32], text: &[u8]) -> Result<us
     requires rising { IsRising 0 (length bytes.now) ends.now }
     requires ordered { IsOrder (parts 0 bytes.now ends.now) order.now }
     ensures found { IfOk result (IsPlaceOf text.now (parts 0 bytes.now ends.now) order.now) }
-    ensures absent { IfErr result (IsGap text_cmp (places_by_text (parts 0 bytes.now ends.now) order.now) text.now) }
+    ensures absent { IfErr result
+        (IsGap text_cmp (places_by_text (parts 0 bytes.now ends.now) order.now) text.now) }
 {
     order.binary_search_by(|place| compare_part(bytes, ends, *place, text))
 }
@@ -101,8 +102,10 @@ fn push_text(
     requires at { at ≤ length order.old.items }
     ensures place { IfOk result (λ p. p ≡ length ends.old.items) }
     ensures ok_bytes { OnOk result (bytes.new.items ≡ bytes.old.items ++ text.now) }
-    ensures ok_ends { OnOk result (ends.new.items ≡ ends.old.items ++ length (bytes.old.items ++ text.now) ∷ []) }
-    ensures ok_order { OnOk result (order.new.items ≡ insert order.old.items at (length ends.old.items)) }
+    ensures ok_ends { OnOk result (ends.new.items ≡
+        ends.old.items ++ length (bytes.old.items ++ text.now) ∷ []) }
+    ensures ok_order { OnOk result (order.new.items ≡
+        insert order.old.items at (length ends.old.items)) }
     ensures err_bytes { OnErr result (bytes.new.items ≡ bytes.old.items) }
     ensures err_ends { OnErr result (ends.new.items ≡ ends.old.items) }
     ensures err_order { OnErr result (order.new.items ≡ order.old.items) }
@@ -148,8 +151,10 @@ impl TextPool {
     /// The place of the text, which goes to the end if it is not there.
     pub fn put(&mut self, text: &str) -> Result<u32, AllocError>
         requires { length self.old < 1024 }
-        ensures place { IfOk result (λ p. p ≡ pools.place_or_end (place_of text.now self.old) self.old) }
-        ensures texts { OnOk result (self.new ≡ pools.with_text (place_of text.now self.old) self.old text.now) }
+        ensures place { IfOk result (λ p. p ≡
+            pools.place_or_end (place_of text.now self.old) self.old) }
+        ensures texts { OnOk result (self.new ≡
+            pools.with_text (place_of text.now self.old) self.old text.now) }
         ensures err { OnErr result (self.new ≡ self.old) }
     {
         match search(&self.bytes, &self.ends, &self.order, text.as_bytes()) {

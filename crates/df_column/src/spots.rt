@@ -73,7 +73,8 @@ pub fn row_at(
 ) -> Result<Row, AllocError>
     requires ends { ends.now ≡ ends_of 0 blocks.now }
     requires at { at < length (rows_of blocks.now) }
-    ensures { IfOk result (λ r. (d : Tag × List Cell) → r ≡ (slice_index_or (rows_of blocks.now) at d).1) }
+    ensures { IfOk result (λ r. (d : Tag × List Cell) → r ≡
+        (slice_index_or (rows_of blocks.now) at d).1) }
 {
     let spot = locate(blocks, ends, at);
     let row = blocks[spot.block].row(alloc, spot.row)?;

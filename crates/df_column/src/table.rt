@@ -46,7 +46,8 @@ impl Model for Table {
 
     ghost coded = { table_code };
 
-    ghost view = { λ t. record { schema = arc_value t.schema; rows = finite.from_sorted (rows_of t.blocks.items) } };
+    ghost view = { λ t. record
+        { schema = arc_value t.schema; rows = finite.from_sorted (rows_of t.blocks.items) } };
 
     ghost invariant = { λ t. IsTable (arc_value t.schema) t.blocks.items t.ends.items };
 }
@@ -69,7 +70,8 @@ fn block_ends(alloc: Global, blocks: &[Arc<Block>]) -> Result<Vec<usize>, AllocE
 fn shared_blocks(alloc: Global, blocks: &[Arc<Block>]) -> Result<Vec<Arc<Block>>, AllocError>
     requires { length (rows_of blocks.now) ≤ 2 ^ 60 }
     ensures rows { IfOk result (λ v. rows_of v.items ≡ rows_of blocks.now) }
-    ensures types { IfOk result (λ v. (dtypes : List CellType) → AreOfTypes dtypes blocks.now → AreOfTypes dtypes v.items) }
+    ensures types { IfOk result (λ v. (dtypes : List CellType) → AreOfTypes dtypes blocks.now →
+        AreOfTypes dtypes v.items) }
 {
     let mut out = Vec::with_capacity(alloc, blocks.len())?;
     for block in blocks {
@@ -212,7 +214,8 @@ impl Table {
     /// The tag of the row at this index.
     pub fn tag(&self, at: usize) -> Tag
         requires { at < finite.len self.now.rows }
-        ensures { (d : Tag × List Cell) → result ≡ (slice_index_or (finite.entries self.now.rows) at d).0 }
+        ensures { (d : Tag × List Cell) → result ≡
+            (slice_index_or (finite.entries self.now.rows) at d).0 }
     {
         spots::tag_at(&self.blocks, &self.ends, at)
     }
@@ -220,17 +223,20 @@ impl Table {
     /// A copy of the row at this index.
     pub fn row(&self, alloc: Global, at: usize) -> Result<Row, AllocError>
         requires { at < finite.len self.now.rows }
-        ensures { IfOk result (λ r. (d : Tag × List Cell) → r ≡ (slice_index_or (finite.entries self.now.rows) at d).1) }
+        ensures { IfOk result (λ r. (d : Tag × List Cell) → r ≡
+            (slice_index_or (finite.entries self.now.rows) at d).1) }
     {
         let row = spots::row_at(alloc, &self.blocks, &self.ends, at)?;
         Ok(row)
     }
 
-    /// The index of the row at this tag, if there is one. The look-up takes steps by the logarithm of the number of rows.
+    /// The index of the row at this tag, if there is one. The number of steps goes by the logarithm of the number of
+    /// rows.
     pub fn find(&self, tag: Tag) -> Option<usize>
         ensures found { IfSome result (IsPlace tag_cmp (finite.entries self.now.rows) tag) }
         ensures row { IfSome result (λ i. (d : Tag × List Cell) →
-            finite.get self.now.rows tag ≡ Some (slice_index_or (finite.entries self.now.rows) i d).1) }
+            finite.get self.now.rows tag ≡
+            Some (slice_index_or (finite.entries self.now.rows) i d).1) }
         ensures absent { IfNone result (finite.get self.now.rows tag ≡ None) }
     {
         match find_in(&self.blocks, &self.ends, tag) {
@@ -321,7 +327,8 @@ fn blocks_of(
 /// The rows as new rows of a block.
 fn new_picks<'a>(alloc: Global, rows: &'a [(Tag, Row)]) -> Result<Vec<Pick<'a>>, AllocError>
     ensures within { IfOk result (λ v. AreWithin 0 v.items) }
-    ensures rows { IfOk result (λ v. (columns : List (List Cell)) → picked_rows columns v.items ≡ rows.now) }
+    ensures rows { IfOk result (λ v. (columns : List (List Cell)) → picked_rows columns v.items ≡
+        rows.now) }
     ensures fits { IfOk result (λ v. (schema : List (List ℕ × CellType)) →
         T (list_all (λ r. row_fits schema r.1) rows.now) → AreRows (types_of schema) v.items) }
 {

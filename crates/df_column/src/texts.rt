@@ -42,7 +42,8 @@ fn push_text(
     requires few { length places.old < 1024 }
     ensures sound { OnOk result (ArePlaces pool.new places.new) }
     ensures len { OnOk result (length places.new ≡ length places.old + 1) }
-    ensures texts { OnOk result (map (text_at pool.new) places.new ≡ map (text_at pool.old) places.old ++ text_now text.entry ∷ []) }
+    ensures texts { OnOk result (map (text_at pool.new) places.new ≡
+        map (text_at pool.old) places.old ++ text_now text.entry ∷ []) }
 {
     match text {
         Some(text) => {
@@ -71,7 +72,8 @@ fn text_of(cell: &Cell) -> Option<&str>
 fn text_from<'a>(old: &'a Texts, column: usize, origin: Origin<'a>) -> Option<&'a str>
     requires within { T (is_within (length old.now) origin) }
     requires fits { T (is_fit dtype_as.Text column origin) }
-    ensures { text_cell (text_now result) ≡ origin_cell (map text_cell old.now) column origin.entry }
+    ensures { text_cell (text_now result) ≡
+        origin_cell (map text_cell old.now) column origin.entry }
 {
     match origin {
         Origin::Old(at) => old.get(at),
@@ -157,7 +159,8 @@ impl Texts {
         requires fits { AreFit dtype_as.Text column picks.now }
         requires few { length (start_of whole (map text_cell self.now)) + length picks.now ≤ 1024 }
         ensures { IfOk result (λ t. map text_cell t ≡
-            start_of whole (map text_cell self.now) ++ picked_cells (map text_cell self.now) column picks.now) }
+            start_of whole (map text_cell self.now)
+            ++ picked_cells (map text_cell self.now) column picks.now) }
     {
         let start = self.start(alloc, whole, picks.len())?;
         let texts = start.with_picked(self, column, picks)?;

@@ -46,7 +46,8 @@ impl CellValue for i64 {
     }
 
     fn from_cell(cell: &Cell) -> Option<i64>
-        ensures { IsTrue (fits_type dtype_as.Int cell.now) → value_cells.int_cell result ≡ cell.now }
+        ensures { IsTrue (fits_type dtype_as.Int cell.now) → value_cells.int_cell result ≡
+            cell.now }
     {
         match cell {
             Cell::Int(value) => Some(*value),
@@ -78,7 +79,8 @@ impl CellValue for i128 {
     }
 
     fn from_cell(cell: &Cell) -> Option<i128>
-        ensures { IsTrue (fits_type dtype_as.Wide cell.now) → value_cells.wide_cell result ≡ cell.now }
+        ensures { IsTrue (fits_type dtype_as.Wide cell.now) → value_cells.wide_cell result ≡
+            cell.now }
     {
         match cell {
             Cell::Wide(value) => Some(*value),
@@ -110,7 +112,8 @@ impl CellValue for bool {
     }
 
     fn from_cell(cell: &Cell) -> Option<bool>
-        ensures { IsTrue (fits_type dtype_as.Bool cell.now) → value_cells.bool_cell result ≡ cell.now }
+        ensures { IsTrue (fits_type dtype_as.Bool cell.now) → value_cells.bool_cell result ≡
+            cell.now }
     {
         match cell {
             Cell::Bool(value) => Some(*value),
@@ -142,7 +145,8 @@ impl CellValue for Frac {
     }
 
     fn from_cell(cell: &Cell) -> Option<Frac>
-        ensures { IsTrue (fits_type dtype_as.Frac cell.now) → value_cells.frac_cell result ≡ cell.now }
+        ensures { IsTrue (fits_type dtype_as.Frac cell.now) → value_cells.frac_cell result ≡
+            cell.now }
     {
         match cell {
             Cell::Frac(value) => Some(*value),
