@@ -62,7 +62,8 @@ AreRows dtypes picks = T (list_all (λ p. is_new_row dtypes p.origin) picks)
 -- the columns of the picked rows, from the column at this index on
 abbrev pub picked_columns : Bool → ℕ → List (List Cell) → List Pick → List (List Cell)
 picked_columns whole at [] picks = []
-picked_columns whole at (c ∷ cs) picks = (start_of whole c ++ picked_cells c at picks) ∷ picked_columns whole (at + 1) cs picks
+picked_columns whole at (c ∷ cs) picks =
+    (start_of whole c ++ picked_cells c at picks) ∷ picked_columns whole (at + 1) cs picks
 
 -- the tags rise
 abbrev pub AreRisingTags : List Tag → Type 0

@@ -52,7 +52,8 @@ AreFitting schema entries = T (list_all (λ e. new_row_fits schema e.new) entrie
 
 -- the table after the changes of these entries: at each tag that they name stands the new row, or nothing
 abbrev pub after_entries : TableParts → List Entry → TableParts
-after_entries t entries = record { schema = t.schema; rows = applied t.rows (finite.from_sorted (map change_of entries)) }
+after_entries t entries =
+    record { schema = t.schema; rows = applied t.rows (finite.from_sorted (map change_of entries)) }
 
 -- the entries name rising tags
 abbrev pub AreRising : List Entry → Type 0

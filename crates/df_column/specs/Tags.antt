@@ -7,7 +7,9 @@ use Rattle.df_column.specs.declared.tag.Tag.{Tag}
 
 -- how two tags compare
 abbrev pub tag_cmp : Tag → Tag → Ordering
-tag_cmp a b = ordering_then (nat_cmp a.first b.first) (ordering_then (nat_cmp a.second b.second) (nat_cmp a.third b.third))
+tag_cmp a b =
+    ordering_then (nat_cmp a.first b.first)
+    (ordering_then (nat_cmp a.second b.second) (nat_cmp a.third b.third))
 
 -- a tag is stored as its three numbers
 abbrev pub tag_code : Coded Tag
