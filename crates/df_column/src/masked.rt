@@ -130,7 +130,7 @@ impl<T: Copy> Masked<T> {
     }
 
     /// Adds the value, or a null, in whose place the filler stands. After a refusal one value more may be there.
-    pub fn push(&mut self, value: Option<T>, filler: T) -> Result<(), AllocError>
+    pub(crate) fn push(&mut self, value: Option<T>, filler: T) -> Result<(), AllocError>
         ensures { OnOk result (self.new ≡ self.old ++ value ∷ []) }
     {
         match value {

@@ -1,10 +1,3 @@
-use Rattle.std.proofs.Common.{ap, sym, ◌∙◌, subst, map}
-use Rattle.std.specs.Prelude.{T}
-use Rattle.std.specs.List.{list_all}
-use Rattle.std.specs.FinMap as finite
-use Rattle.df_value.specs.Rows.{row_fits, rows_fit}
-use Rattle.df_column.specs.Blocks.{rows_of}
-use Rattle.df_column.proofs.Bools.{true_from_T}
 use Rattle.df_column.proofs.FitLemmas.{blocks_fit}
 use Rattle.df_column.proofs.ReadLemmas.{fitting_rows}
 use Rattle.df_column.proofs.table.Table.schema.Goals as goal
