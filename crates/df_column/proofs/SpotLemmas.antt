@@ -1,0 +1,207 @@
+-- Where a row of a list of blocks stands, and the search for a tag.
+use Rattle.std.proofs.Common.{◌≡◌, ℕ, zero, suc, ◌+◌, ◌-◌, ◌<◌, ◌≤◌, true, false, List, [], ◌∷◌, ◌++◌, Some, None, length, map, get_or, nat_le, refl, sym, ap, subst, ◌∙◌, arith, length-append}
+use Rattle.std.specs.Prelude.{T}
+use Rattle.std.specs.List.{slice_get}
+use Rattle.std.specs.List.Sorted.{IsNonDecreasing, IsPartitionPoint, IsPartitionedBy}
+use Rattle.std.proofs.lemmas.Bool.{leb-true, leb-false, le-leb}
+use Rattle.std.proofs.lemmas.Option.{get_or_from_slice_get, slice_get-get_or}
+use Rattle.std.specs.Arc.{arc_value}
+use Rattle.std.specs.declared.sync.Arc.{Arc}
+use Rattle.std.specs.Ordering.{ordering_index}
+use Rattle.std.specs.declared.cmp.Ordering.{Ordering}
+use Rattle.std.specs.declared.cmp.Ordering.TheVariants.{Less, Equal, Greater}
+use Rattle.std.specs.FinMap as finite
+use Rattle.df_value.specs.declared.cell.Cell.{Cell}
+use Rattle.df_column.specs.Blocks.{BlockParts, block_rows, ends_of, rows_of}
+use Rattle.df_column.specs.Columns.{cells_of}
+use Rattle.df_column.specs.Places.{IsGap, IsPlace}
+use Rattle.df_column.specs.Pools.{start_at}
+use Rattle.df_column.specs.Rows.{row_at}
+use Rattle.df_column.specs.TableBlocks.{IsEndCount, IsSpot, IsWindow}
+use Rattle.df_column.specs.Tags.{tag_cmp}
+use Rattle.df_column.specs.declared.tag.Tag.{Tag}
+use Rattle.df_column.proofs.Places.{rises_along}
+use Rattle.df_column.proofs.RowLemmas.{length_rows, row_in_rows}
+use Rattle.df_column.proofs.TagOrder.{tag_total, tag_same}
+
+get_front : {X : Type 0} (xs ys : List X) (i : ℕ) (d : X) → i < length xs → get_or (xs ++ ys) i d ≡ get_or xs i d
+get_front [] ys i d h = absurd (omega arith)
+get_front (x ∷ xs) ys zero d h = refl
+get_front (x ∷ xs) ys (suc i) d h = get_front xs ys i d (omega arith)
+
+get_back : {X : Type 0} (xs ys : List X) (i j : ℕ) (d : X) → i ≡ length xs + j → get_or (xs ++ ys) i d ≡ get_or ys j d
+get_back [] ys i j d h = let e : i ≡ j = omega arith in ap (λ k. get_or ys k d) e
+get_back (x ∷ xs) ys zero j d h = absurd (omega arith)
+get_back (x ∷ xs) ys (suc i) j d h = get_back xs ys i j d (omega arith)
+
+module _ {S : Type 0} where
+  length_ends : (n : ℕ) (bs : List (Arc BlockParts S)) → length (ends_of n bs) ≡ length bs
+  length_ends n [] = refl
+  length_ends n (b ∷ bs) = ap suc (length_ends (n + length (arc_value b).tags) bs)
+
+  block_length : (b : Arc BlockParts S) → length (block_rows (arc_value b)) ≡ length (arc_value b).tags
+  block_length b = length_rows (arc_value b).tags (map cells_of (arc_value b).columns)
+
+  -- a row by the count of the ends before it
+  record IsSpotFrom (n at k : ℕ) (bs : List (Arc BlockParts S)) : Type 0 where
+    in_blocks : k < length bs
+    start : start_at n (ends_of n bs) k ≤ at
+    in_block : (b : Arc BlockParts S) → at - start_at n (ends_of n bs) k < length (arc_value (get_or bs k b)).tags
+    here : (b : Arc BlockParts S) (d : Tag × List Cell) → get_or (rows_of bs) (at - n) d ≡ get_or (block_rows (arc_value (get_or bs k b))) (at - start_at n (ends_of n bs) k) d
+
+  located : (n at k : ℕ) (bs : List (Arc BlockParts S)) → n ≤ at → at < n + length (rows_of bs) → IsEndCount (ends_of n bs) at k → IsSpotFrom n at k bs
+  located n at k [] le lt h = absurd (omega arith)
+  located n at zero (b ∷ bs) le lt h =
+      let end : at < n + length (arc_value b).tags = h.after 0 0 (omega arith) (omega arith) in
+      let l = block_length b in
+      record {
+        in_blocks = omega arith;
+        start = le;
+        in_block = λ c. omega (arith, end, le);
+        here = λ c d. get_front (block_rows (arc_value b)) (rows_of bs) (at - n) d (omega (arith, end, le, l));
+      }
+  located n at (suc k) (b ∷ bs) le lt h =
+      let m = n + length (arc_value b).tags in
+      let l = block_length b in
+      let a = length-append (block_rows (arc_value b)) (rows_of bs) in
+      let end : m ≤ at = h.before 0 0 (omega arith) in
+      let count : IsEndCount (ends_of m bs) at k = record {
+        in_range = omega (arith, h.in_range);
+        before = λ j d lt. h.before (suc j) d (omega arith);
+        after = λ j d le lt. h.after (suc j) d (omega arith) (omega arith);
+      } in
+      let rest = located m at k bs end (omega (arith, l, a, lt)) count in
+      record {
+        in_blocks = omega (arith, rest.in_blocks);
+        start = rest.start;
+        in_block = rest.in_block;
+        here = λ c d. get_back (block_rows (arc_value b)) (rows_of bs) (at - n) (at - m) d (omega (arith, l, end)) ∙ rest.here c d;
+      }
+
+  pub spot_from_ends : (bs : List (Arc BlockParts S)) (ends : List ℕ) (at k : ℕ) → ends ≡ ends_of 0 bs → at < length (rows_of bs) → IsEndCount ends at k
+      → record { start : start_at 0 ends k ≤ at; inside : k ≤ length ends; spot : IsSpot bs at k (at - start_at 0 ends k) }
+  spot_from_ends bs ends at k e lt h =
+      let found = located 0 at k bs (omega arith) (omega (arith, lt)) (subst (λ es. IsEndCount es at k) e h) in
+      let s : start_at 0 ends k ≡ start_at 0 (ends_of 0 bs) k = ap (λ es. start_at 0 es k) e in
+      let zero_off : at - 0 ≡ at = omega arith in
+      record {
+        start = subst (λ n. n ≤ at) (sym s) found.start;
+        inside = h.in_range;
+        spot = subst (λ n. IsSpot bs at k (at - n)) (sym s) (record {
+          in_blocks = found.in_blocks;
+          in_block = found.in_block;
+          here = λ b d. ap (λ i. get_or (rows_of bs) i d) (sym zero_off) ∙ found.here b d;
+        });
+      }
+
+  -- the number of all rows
+  last_end : (n : ℕ) (bs : List (Arc BlockParts S)) (d : ℕ) → 0 < length bs → get_or (ends_of n bs) (length (ends_of n bs) - 1) d ≡ n + length (rows_of bs)
+  last_end n [] d h = absurd (omega arith)
+  last_end n (b ∷ []) d h =
+      let l = block_length b in
+      let a = length-append (block_rows (arc_value b)) [] in
+      omega (arith, l, a)
+  last_end n (b ∷ (c ∷ bs)) d h =
+      let m = n + length (arc_value b).tags in
+      let rest = last_end m (c ∷ bs) d (omega arith) in
+      let l = block_length b in
+      let a = length-append (block_rows (arc_value b)) (rows_of (c ∷ bs)) in
+      let e : suc (suc (length (ends_of (m + length (arc_value c).tags) bs))) - 1 ≡ suc (suc (length (ends_of (m + length (arc_value c).tags) bs)) - 1) = omega arith in
+      ap (λ i. get_or (ends_of n (b ∷ (c ∷ bs))) i d) e ∙ rest ∙ omega (arith, l, a)
+
+  starts_low : (n : ℕ) (bs : List (Arc BlockParts S)) (j d : ℕ) → j < length bs → n ≤ get_or (ends_of n bs) j d
+  starts_low n [] j d h = absurd (omega arith)
+  starts_low n (b ∷ bs) zero d h = omega arith
+  starts_low n (b ∷ bs) (suc j) d h = let r = starts_low (n + length (arc_value b).tags) bs j d (omega arith) in omega (arith, r)
+
+  ends_from_rise : (n : ℕ) (bs : List (Arc BlockParts S)) → IsNonDecreasing (ends_of n bs)
+  ends_from_rise n [] i j d le lt = absurd (omega arith)
+  ends_from_rise n (b ∷ bs) zero zero d le lt = omega arith
+  ends_from_rise n (b ∷ bs) zero (suc j) d le lt = let l = length_ends (n + length (arc_value b).tags) bs in starts_low (n + length (arc_value b).tags) bs j d (omega (arith, l, lt))
+  ends_from_rise n (b ∷ bs) (suc i) zero d le lt = absurd (omega arith)
+  ends_from_rise n (b ∷ bs) (suc i) (suc j) d le lt = ends_from_rise (n + length (arc_value b).tags) bs i j d (omega arith) (omega arith)
+
+  pub ends_rise : (bs : List (Arc BlockParts S)) (ends : List ℕ) → ends ≡ ends_of 0 bs → IsNonDecreasing ends
+  ends_rise bs ends e = subst IsNonDecreasing (sym e) (ends_from_rise 0 bs)
+
+  some_end : (bs : List (Arc BlockParts S)) (e : ℕ) → Some e ≡ slice_get (ends_of 0 bs) (length (ends_of 0 bs) - 1) → e ≡ length (rows_of bs)
+  some_end [] e h = absurd (cc h)
+  some_end (b ∷ bs) e h = sym (get_or_from_slice_get (ends_of 0 (b ∷ bs)) (length (ends_of 0 (b ∷ bs)) - 1) e 0 (sym h)) ∙ last_end 0 (b ∷ bs) 0 (omega arith) ∙ (let z : 0 + length (rows_of (b ∷ bs)) ≡ length (rows_of (b ∷ bs)) = omega arith in z)
+
+  no_end : (bs : List (Arc BlockParts S)) → None ≡ slice_get (ends_of 0 bs) (length (ends_of 0 bs) - 1) → 0 ≡ length (rows_of bs)
+  no_end [] h = refl
+  no_end (b ∷ bs) h =
+      let l = length_ends 0 (b ∷ bs) in
+      let there = slice_get-get_or (ends_of 0 (b ∷ bs)) (length (ends_of 0 (b ∷ bs)) - 1) 0 (omega arith) in
+      absurd (absent (h ∙ there))
+    where
+      absent : {n : ℕ} → None ≡ Some n → ⊥
+      absent e = cc
+
+  pub count_some : (bs : List (Arc BlockParts S)) (ends : List ℕ) (e : ℕ) → ends ≡ ends_of 0 bs → Some e ≡ slice_get ends (length ends - 1) → e ≡ length (rows_of bs)
+  count_some bs ends e is h = some_end bs e (h ∙ ap (λ es. slice_get es (length es - 1)) is)
+
+  pub count_none : (bs : List (Arc BlockParts S)) (ends : List ℕ) → ends ≡ ends_of 0 bs → None ≡ slice_get ends (length ends - 1) → 0 ≡ length (rows_of bs)
+  count_none bs ends is h = no_end bs (h ∙ ap (λ es. slice_get es (length es - 1)) is)
+
+  -- the tag and the row at a spot
+  pub at_spot : (bs : List (Arc BlockParts S)) (at block row : ℕ) (b : Arc BlockParts S) (t : Tag) → IsSpot bs at block row → b ≡ get_or bs block b
+      → (d : Tag × List Cell) → get_or (rows_of bs) at d ≡ (get_or (arc_value b).tags row t, row_at (map cells_of (arc_value b).columns) row)
+  at_spot bs at block row b t h e = λ d.
+      h.here b d ∙ ap (λ c. get_or (block_rows (arc_value c)) row d) (sym e)
+      ∙ row_in_rows (arc_value b).tags (map cells_of (arc_value b).columns) row d t (subst (λ (c : Arc BlockParts S). row < length (arc_value c).tags) (sym e) (h.in_block b))
+
+-- how many ends a partition finds
+pub end_count : (ends : List ℕ) (at k : ℕ) → k ≤ length ends → IsPartitionPoint (λ y. nat_le y at ≡ true) (λ y. nat_le y at ≡ false) ends k → IsEndCount ends at k
+end_count ends at k h parts = record {
+  in_range = h;
+  before = λ j d lt. leb-true _ _ (parts.0 j d (omega arith) lt);
+  after = λ j d le lt. leb-false _ _ (parts.1 j d le lt);
+}
+
+pub ends_parted : (ends : List ℕ) (at : ℕ) → IsNonDecreasing ends → IsPartitionedBy (λ y. nat_le y at) ends
+ends_parted ends at rise i j d le lt h = le-leb _ _ (let a = rise i j d le lt in let b = leb-true _ _ h in omega (arith, a, b))
+
+-- a narrower window
+module _ (rows : List (Tag × List Cell)) (tag : Tag) where
+  index_low : (r : Ordering) → ordering_index r ≤ 0 → r ≡ Less
+  index_low Less h = refl
+  index_low Equal h = absurd (omega arith)
+  index_low Greater h = absurd (omega arith)
+
+  index_high : (r : Ordering) → 2 ≤ ordering_index r → r ≡ Greater
+  index_high Less h = absurd (omega arith)
+  index_high Equal h = absurd (omega arith)
+  index_high Greater h = refl
+
+  pub window_above : (low high middle : ℕ) (t : Tag) → T (finite.is_sorted tag_cmp rows) → IsWindow rows tag low high → low ≤ middle → middle < high → ((d : Tag × List Cell) → t ≡ (get_or rows middle d).0) → tag_cmp t tag ≡ Less → IsWindow rows tag (middle + 1) high
+  window_above low high middle t sorted w le lt is h = record {
+    ordered = omega arith;
+    in_range = w.in_range;
+    before = λ j d below.
+        let risen = rises_along tag_total tag_same rows tag sorted j middle d (omega arith) (omega (arith, w.in_range)) in
+        let here : ordering_index (tag_cmp (get_or rows middle d).0 tag) ≡ 0 = ap (λ s. ordering_index (tag_cmp s tag)) (sym (is d)) ∙ ap ordering_index h in
+        index_low _ (omega (arith, risen, here));
+    after = w.after;
+  }
+
+  pub window_below : (low high middle : ℕ) (t : Tag) → T (finite.is_sorted tag_cmp rows) → IsWindow rows tag low high → low ≤ middle → middle < high → ((d : Tag × List Cell) → t ≡ (get_or rows middle d).0) → tag_cmp t tag ≡ Greater → IsWindow rows tag low middle
+  window_below low high middle t sorted w le lt is h = record {
+    ordered = le;
+    in_range = omega (arith, w.in_range);
+    before = w.before;
+    after = λ j d from in_range.
+        let risen = rises_along tag_total tag_same rows tag sorted middle j d from in_range in
+        let here : ordering_index (tag_cmp (get_or rows middle d).0 tag) ≡ 2 = ap (λ s. ordering_index (tag_cmp s tag)) (sym (is d)) ∙ ap ordering_index h in
+        index_high _ (omega (arith, risen, here));
+  }
+
+  pub window_closed : (low high : ℕ) → IsWindow rows tag low high → high ≤ low → IsGap tag_cmp rows tag low
+  window_closed low high w h = record {
+    in_range = omega (arith, w.in_range, w.ordered);
+    before = w.before;
+    after = λ j d from in_range. w.after j d (omega (arith, h)) in_range;
+  }
+
+  pub window_place : (low high middle : ℕ) (t : Tag) → IsWindow rows tag low high → middle < high → ((d : Tag × List Cell) → t ≡ (get_or rows middle d).0) → tag_cmp t tag ≡ Equal → IsPlace tag_cmp rows tag middle
+  window_place low high middle t w lt is h = record { in_range = omega (arith, w.in_range); here = λ d. ap (λ s. tag_cmp s tag) (sym (is d)) ∙ h }

@@ -1,0 +1,22 @@
+use Rattle.std.proofs.Common.{◌≡◌, ◌≤◌, ◌++◌, List, map, drop, length}
+use Rattle.df_value.specs.declared.cell.Cell.{Cell}
+use Rattle.df_value.specs.declared.cell.CellType.{CellType}
+use Rattle.df_column.specs.Changes.{after_changes}
+use Rattle.df_column.specs.Picks.{AreWithin}
+use Rattle.df_column.specs.Rows.{AreNewRows, AreRows, picked_rows, tagged_rows}
+use Rattle.df_column.specs.Tables.{AreRising, change_of}
+use Rattle.df_column.specs.Tags.{tag_cmp}
+use Rattle.df_column.proofs.merge.merge.Given as goal
+
+abbrev pub invariant-loop-entry : goal.invariant-loop-entry
+invariant-loop-entry l =
+    record {
+      at : l.at ≤ length l.tags;
+      within : AreWithin (length l.tags) l.picks.items;
+      left : AreRising (drop l.entry-index l.entries);
+      rows : (columns : List (List Cell)) →
+          picked_rows columns l.picks.items ++ after_changes tag_cmp (drop l.at (tagged_rows l.tags columns)) (map change_of (drop l.entry-index l.entries))
+          ≡ after_changes tag_cmp (tagged_rows l.tags columns) (map change_of l.entries);
+      fits : (dtypes : List CellType) → AreNewRows dtypes l.entries → AreRows dtypes l.picks.items;
+      new_rows : (dtypes : List CellType) → AreNewRows dtypes l.entries → AreNewRows dtypes (drop l.entry-index l.entries);
+    }

@@ -1,0 +1,40 @@
+-- Blocks: some rows in columns, and the rows of blocks one behind the other.
+use Rattle.std.specs.Prelude.{◌≡◌, ℕ, ◌+◌, ◌<◌, ◌≤◌, T, List, [], ◌∷◌, ◌++◌, map, length}
+use Rattle.std.specs.Arc.{arc_value}
+use Rattle.std.specs.declared.sync.Arc.{Arc}
+use Rattle.df_value.specs.declared.cell.Cell.{Cell}
+use Rattle.df_value.specs.declared.cell.CellType.{CellType}
+use Rattle.df_column.specs.Columns.{cells_of, dtype_of}
+use Rattle.df_column.specs.Rows.{are_even, tagged_rows}
+use Rattle.df_column.specs.declared.column.Column.{Column}
+use Rattle.df_column.specs.declared.tag.Tag.{Tag}
+
+-- the tags of a block, and its columns
+pub record BlockParts : Type 0 where
+  pub tags : List Tag
+  pub columns : List Column
+
+-- from 1 to 1,024 rows, each with a cell in each column
+pub record IsBlock (tags : List Tag) (columns : List Column) : Type 0 where
+  pub some : 0 < length tags
+  pub few : length tags ≤ 1024
+  pub even : T (are_even (length tags) (map cells_of columns))
+
+-- the rows of a block with their tags
+abbrev pub block_rows : BlockParts → List (Tag × List Cell)
+block_rows b = tagged_rows b.tags (map cells_of b.columns)
+
+-- the rows of these blocks, in order
+abbrev pub rows_of : {S : Type 0} → List (Arc BlockParts S) → List (Tag × List Cell)
+rows_of [] = []
+rows_of (b ∷ bs) = block_rows (arc_value b) ++ rows_of bs
+
+-- each of these blocks has columns of these types
+abbrev pub AreOfTypes : {S : Type 0} → List CellType → List (Arc BlockParts S) → Type 0
+AreOfTypes dtypes [] = Unit {0}
+AreOfTypes dtypes (b ∷ bs) = (map dtype_of (arc_value b).columns ≡ dtypes) × AreOfTypes dtypes bs
+
+-- how many rows these blocks have up to the end of each, where n rows stand before them
+abbrev pub ends_of : {S : Type 0} → ℕ → List (Arc BlockParts S) → List ℕ
+ends_of n [] = []
+ends_of n (b ∷ bs) = (n + length (arc_value b).tags) ∷ ends_of (n + length (arc_value b).tags) bs

@@ -1,0 +1,14 @@
+pub mod Tags
+pub mod Places
+pub mod Masks
+pub mod Pools
+pub mod Texts
+pub mod ValueCells
+pub mod Picks
+pub mod Columns
+pub mod Rows
+pub mod Changes
+pub mod Tables
+pub mod Blocks
+pub mod BlockRows
+pub mod TableBlocks

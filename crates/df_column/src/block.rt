@@ -1,0 +1,177 @@
+//! Blocks of at most 1,024 tagged rows.
+ghost use Rattle.std.specs.Prelude.{◌≡◌, ◌<◌, ◌≤◌, ◌+◌, ◌++◌, T, List, IfOk, map, length, slice_index_or};
+ghost use Rattle.df_value.specs.declared.cell.Cell.{Cell};
+ghost use Rattle.df_column.specs.Blocks.{IsBlock, block_rows};
+ghost use Rattle.df_column.specs.Changes.{IsHead};
+ghost use Rattle.df_column.specs.Columns.{cells_of, dtype_of};
+ghost use Rattle.df_column.specs.Picks.{AreWithin, picked_cells, start_of};
+ghost use Rattle.df_column.specs.Rows as rows;
+ghost use Rattle.df_column.specs.Rows.{AreRows, are_even, row_at};
+ghost use Rattle.df_column.specs.declared.column.Column.{Column};
+
+use crate::column::Column;
+use crate::picks::Pick;
+use crate::tag::Tag;
+use df_value::{List, Row, both};
+use std::alloc::{AllocError, Global};
+use std::marker::Model;
+
+/// The most rows of a block.
+pub const MOST_ROWS: usize = 1024;
+
+/// Some rows: a tag for each, and a cell in each column.
+#[derive(Drop)]
+pub struct Block {
+    tags: Vec<Tag>,
+    columns: Vec<Column>,
+}
+
+impl Model for Block {
+    ghost use Rattle.df_column.specs.Blocks.{BlockParts, IsBlock};
+
+    ghost Value = { BlockParts };
+
+    ghost view = { λ b. record { tags = b.tags.items; columns = b.columns.items } };
+
+    ghost invariant = { λ b. IsBlock b.tags.items b.columns.items };
+}
+
+/// The column at this index for the picked rows, behind all its cells if `whole` says so.
+fn picked_column(
+    alloc: Global,
+    tags: &[Tag],
+    columns: &[Column],
+    at: usize,
+    whole: bool,
+    picks: &[Pick<'_>],
+) -> Result<Column, AllocError>
+    requires at { at < length columns.now }
+    requires even { T (are_even (length tags.now) (map cells_of columns.now)) }
+    requires within { AreWithin (length tags.now) picks.now }
+    requires rows { AreRows (map dtype_of columns.now) picks.now }
+    requires few { length (start_of whole tags.now) + length picks.now ≤ 1024 }
+    ensures cells { IfOk result (λ c. (d : Column) → cells_of c ≡
+        start_of whole (cells_of (slice_index_or columns.now at d))
+        ++ picked_cells (cells_of (slice_index_or columns.now at d)) at picks.now) }
+    ensures dtype { IfOk result (λ c. (d : Column) → dtype_of c ≡
+        dtype_of (slice_index_or columns.now at d)) }
+{
+    columns[at].picked(alloc, whole, at, picks)
+}
+
+/// The columns for the picked rows, behind all their cells if `whole` says so.
+fn picked_columns(
+    alloc: Global,
+    tags: &[Tag],
+    columns: &[Column],
+    whole: bool,
+    picks: &[Pick<'_>],
+) -> Result<Vec<Column>, AllocError>
+    requires even { T (are_even (length tags.now) (map cells_of columns.now)) }
+    requires within { AreWithin (length tags.now) picks.now }
+    requires rows { AreRows (map dtype_of columns.now) picks.now }
+    requires few { length (start_of whole tags.now) + length picks.now ≤ 1024 }
+    ensures cells { IfOk result (λ v. map cells_of v.items ≡
+        rows.picked_columns whole 0 (map cells_of columns.now) picks.now) }
+    ensures dtypes { IfOk result (λ v. map dtype_of v.items ≡ map dtype_of columns.now) }
+{
+    let mut out = Vec::with_capacity(alloc, columns.len())?;
+    for at in 0..columns.len() {
+        let column = picked_column(alloc, tags, columns, at, whole, picks)?;
+        out.push(column)?;
+    }
+    Ok(out)
+}
+
+/// The tags of the picked rows, behind all these tags if `whole` says so.
+fn picked_tags(
+    alloc: Global,
+    tags: &[Tag],
+    whole: bool,
+    picks: &[Pick<'_>],
+) -> Result<Vec<Tag>, AllocError>
+    requires { length (start_of whole tags.now) + length picks.now ≤ 1024 }
+    ensures { IfOk result (λ v. v.items ≡ start_of whole tags.now ++ map (λ p. p.tag) picks.now) }
+{
+    let mut out = start_tags(alloc, tags, whole, picks.len())?;
+    for pick in picks {
+        out.push(pick.tag)?;
+    }
+    Ok(out)
+}
+
+/// These tags or none, with room for more.
+fn start_tags(alloc: Global, tags: &[Tag], whole: bool, more: usize) -> Result<Vec<Tag>, AllocError>
+    requires { length (start_of whole tags.now) + more ≤ 1024 }
+    ensures { IfOk result (λ v. v.items ≡ start_of whole tags.now) }
+{
+    if whole {
+        let mut out = Vec::with_capacity(alloc, tags.len() + more)?;
+        out.extend_from_slice(tags)?;
+        Ok(out)
+    } else {
+        Ok(Vec::with_capacity(alloc, more)?)
+    }
+}
+
+impl Block {
+    /// The picked rows of the block of these tags and columns, behind all its rows if `whole` says so.
+    pub fn picked(
+        alloc: Global,
+        tags: &[Tag],
+        columns: &[Column],
+        whole: bool,
+        picks: &[Pick<'_>],
+    ) -> Result<Block, AllocError>
+        requires even { T (are_even (length tags.now) (map cells_of columns.now)) }
+        requires within { AreWithin (length tags.now) picks.now }
+        requires rows { AreRows (map dtype_of columns.now) picks.now }
+        requires some { 0 < length picks.now }
+        requires few { length (start_of whole tags.now) + length picks.now ≤ 1024 }
+        ensures rows { IfOk result (λ b. block_rows b ≡
+            start_of whole (rows.tagged_rows tags.now (map cells_of columns.now))
+            ++ rows.picked_rows (map cells_of columns.now) picks.now) }
+        ensures dtypes { IfOk result (λ b. map dtype_of b.columns ≡ map dtype_of columns.now) }
+    {
+        let made = picked_columns(alloc, tags, columns, whole, picks);
+        let (tags, columns) = both(picked_tags(alloc, tags, whole, picks), made)?;
+        Ok(Block { tags, columns })
+    }
+
+    /// The tags of the rows.
+    pub fn tags(&self) -> &[Tag]
+        ensures tags { result.now ≡ self.now.tags }
+        ensures some { 0 < length self.now.tags }
+        ensures few { length self.now.tags ≤ 1024 }
+    {
+        &self.tags
+    }
+
+    /// The columns.
+    pub fn columns(&self) -> &[Column]
+        ensures columns { result.now ≡ self.now.columns }
+        ensures even { T (are_even (length self.now.tags) (map cells_of self.now.columns)) }
+    {
+        &self.columns
+    }
+
+    /// The tag of the first row.
+    pub fn first(&self) -> Tag
+        ensures { IsHead (block_rows self.now) result }
+    {
+        self.tags()[0]
+    }
+
+    /// A copy of the row at this index.
+    pub fn row(&self, alloc: Global, at: usize) -> Result<Row, AllocError>
+        requires { at < length self.now.tags }
+        ensures { IfOk result (λ r. r ≡ row_at (map cells_of self.now.columns) at) }
+    {
+        let columns = self.columns();
+        let mut cells = Vec::with_capacity(alloc, columns.len())?;
+        for column in columns {
+            cells.push(column.cell(alloc, at)?)?;
+        }
+        Ok(List::from_vec(cells))
+    }
+}

@@ -1,0 +1,102 @@
+//! Columns of cells.
+ghost use Rattle.std.specs.Prelude.{◌≡◌, ◌<◌, ◌≤◌, ◌+◌, ◌++◌, [], IfOk, length, slice_index_or};
+ghost use Rattle.df_value.specs.declared.cell.Cell.{Cell};
+ghost use Rattle.df_column.specs.Columns.{cells_of, dtype_of};
+ghost use Rattle.df_column.specs.Picks.{AreFit, AreWithin, picked_cells, start_of};
+
+use crate::masked::Masked;
+use crate::picks::Pick;
+use crate::texts::Texts;
+use df_value::{Cell, CellType, Frac};
+use std::alloc::{AllocError, Global};
+
+/// The cells of one column of a block, all null or of one type.
+#[derive(Drop)]
+pub enum Column {
+    Int(Masked<i64>),
+    Wide(Masked<i128>),
+    Text(Texts),
+    Bool(Masked<bool>),
+    Frac(Masked<Frac>),
+}
+
+impl Column {
+    /// What the cells are.
+    pub fn dtype(&self) -> CellType
+        ensures { result ≡ dtype_of self.now }
+    {
+        match self {
+            Column::Int(_) => CellType::Int,
+            Column::Wide(_) => CellType::Wide,
+            Column::Text(_) => CellType::Text,
+            Column::Bool(_) => CellType::Bool,
+            Column::Frac(_) => CellType::Frac,
+        }
+    }
+
+    /// A column of no cells.
+    pub fn new(alloc: Global, dtype: CellType) -> Column
+        ensures cells { cells_of result ≡ [] }
+        ensures dtype { dtype_of result ≡ dtype }
+    {
+        match dtype {
+            CellType::Int => Column::Int(Masked::new(alloc)),
+            CellType::Wide => Column::Wide(Masked::new(alloc)),
+            CellType::Text => Column::Text(Texts::new(alloc)),
+            CellType::Bool => Column::Bool(Masked::new(alloc)),
+            CellType::Frac => Column::Frac(Masked::new(alloc)),
+        }
+    }
+
+    /// A copy of the cell at this index.
+    pub fn cell(&self, alloc: Global, at: usize) -> Result<Cell, AllocError>
+        requires { at < length (cells_of self.now) }
+        ensures { IfOk result (λ c. (d : Cell) → c ≡ slice_index_or (cells_of self.now) at d) }
+    {
+        match self {
+            Column::Int(values) => Ok(values.cell(at)),
+            Column::Wide(values) => Ok(values.cell(at)),
+            Column::Text(texts) => texts.cell(alloc, at),
+            Column::Bool(values) => Ok(values.cell(at)),
+            Column::Frac(values) => Ok(values.cell(at)),
+        }
+    }
+
+    /// The number of cells.
+    pub fn len(&self) -> usize
+        ensures { result ≡ length (cells_of self.now) }
+    {
+        match self {
+            Column::Int(values) => values.len(),
+            Column::Wide(values) => values.len(),
+            Column::Text(texts) => texts.len(),
+            Column::Bool(values) => values.len(),
+            Column::Frac(values) => values.len(),
+        }
+    }
+
+    /// The cells of the picked rows, in this column or at this index of a new row; behind all cells of this
+    /// column, if `whole` says so.
+    pub(crate) fn picked(
+        &self,
+        alloc: Global,
+        whole: bool,
+        at: usize,
+        picks: &[Pick<'_>],
+    ) -> Result<Column, AllocError>
+        requires within { AreWithin (length (cells_of self.now)) picks.now }
+        requires fits { AreFit (dtype_of self.now) at picks.now }
+        requires few { length (start_of whole (cells_of self.now)) + length picks.now ≤ 1024 }
+        ensures cells { IfOk result (λ c. cells_of c ≡
+            start_of whole (cells_of self.now) ++ picked_cells (cells_of self.now) at picks.now) }
+        ensures dtype { IfOk result (λ c. dtype_of c ≡ dtype_of self.now) }
+    {
+        match self {
+            Column::Int(values) => Ok(Column::Int(values.picked(alloc, whole, at, picks)?)),
+            Column::Wide(values) => Ok(Column::Wide(values.picked(alloc, whole, at, picks)?)),
+            Column::Text(texts) => Ok(Column::Text(texts.picked(alloc, whole, at, picks)?)),
+            Column::Bool(values) => Ok(Column::Bool(values.picked(alloc, whole, at, picks)?)),
+            Column::Frac(values) => Ok(Column::Frac(values.picked(alloc, whole, at, picks)?)),
+        }
+    }
+}

@@ -1,0 +1,32 @@
+//! Tables of tagged rows, in shared blocks of typed columns.
+//!
+//! A [`Table`] has a schema and rows by rising [`Tag`]. Contracts see it as the schema and a finite map from tags to
+//! rows. The rows stand in blocks of at most 1,024, which tables share. A block has a tag for each row and a [`Column`]
+//! for each column of the schema: values under a null mask ([`Masked`]), or texts by their places in a dictionary
+//! ([`Texts`], [`TextPool`]).
+//!
+//! [`Table::edited`] gives the table after the changes of some [`Entry`]s. It makes new only the blocks that are
+//! changed, column by column.
+#![tactic(auto)]
+
+mod block;
+mod blocks;
+mod column;
+mod entry;
+mod masked;
+mod merge;
+mod picks;
+mod pool;
+mod spots;
+mod table;
+mod tag;
+mod texts;
+mod values;
+
+pub use column::Column;
+pub use entry::Entry;
+pub use masked::Masked;
+pub use pool::TextPool;
+pub use table::Table;
+pub use tag::Tag;
+pub use texts::Texts;

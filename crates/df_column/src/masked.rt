@@ -1,0 +1,210 @@
+//! Values with a null mask.
+ghost use Rattle.std.specs.Prelude.{◌≡◌, ◌<◌, ◌≤◌, ◌++◌, ◌∷◌, [], T as Holds, length, map, slice_index_or, IfOk, OnOk, OnErr, Option, None, true};
+ghost use Rattle.df_value.specs.declared.cell.Cell.{Cell};
+ghost use Rattle.df_column.specs.Masks.{filled_mask, masked_values};
+ghost use Rattle.df_column.specs.Picks.{AreFit, AreWithin, is_fit, is_within, origin_cell, picked_cells, start_of};
+
+use crate::picks::{Origin, Pick};
+use crate::values::CellValue;
+use df_value::Cell;
+use std::alloc::{AllocError, Global};
+use std::marker::Model;
+
+/// Values of one type, or nulls, which contracts see as a list of options. The mask ends with the last null.
+#[derive(Drop)]
+pub struct Masked<T> {
+    nulls: Vec<bool>,
+    values: Vec<T>,
+}
+
+impl<T> Model for Masked<T> {
+    ghost use Rattle.std.specs.Prelude.{◌≤◌, List, Option, length};
+    ghost use Rattle.df_column.specs.Masks.{masked_values};
+
+    ghost Value = { List (Option T) };
+
+    ghost view = { λ m. masked_values m.nulls.items m.values.items };
+
+    ghost invariant = { λ m. length m.nulls.items ≤ length m.values.items };
+}
+
+fn value_at<T: Copy>(nulls: &[bool], values: &[T], at: usize) -> Option<T>
+    requires { at < length values.now }
+    ensures { (d : Option T) → result ≡ slice_index_or (masked_values nulls.now values.now) at d }
+{
+    if at < nulls.len() {
+        if nulls[at] { None } else { Some(values[at]) }
+    } else {
+        Some(values[at])
+    }
+}
+
+/// Fills the mask up to this length.
+fn fill_mask(nulls: &mut Vec<bool>, len: usize) -> Result<(), AllocError>
+    requires { length nulls.old.items ≤ len }
+    ensures ok { OnOk result (nulls.new.items ≡ filled_mask nulls.old.items len) }
+    ensures err { OnErr result (nulls.new.items ≡ nulls.old.items) }
+{
+    if nulls.as_slice().len() < len {
+        nulls.resize(len, false)?;
+    }
+    Ok(())
+}
+
+/// Adds a null, and the filler in its place.
+fn push_null<T: Drop>(
+    nulls: &mut Vec<bool>,
+    values: &mut Vec<T>,
+    filler: T,
+) -> Result<(), AllocError>
+    requires { length nulls.old.items ≤ length values.old.items }
+    ensures mask { length nulls.new.items ≤ length values.new.items }
+    ensures nulls { OnOk result (nulls.new.items ≡
+        filled_mask nulls.old.items (length values.old.items) ++ true ∷ []) }
+    ensures values { OnOk result (values.new.items ≡ values.old.items ++ filler ∷ []) }
+{
+    let len = values.as_slice().len();
+    values.push(filler)?;
+    fill_mask(nulls, len)?;
+    nulls.push(true)?;
+    Ok(())
+}
+
+impl<T: Copy> Masked<T> {
+    /// No values.
+    pub fn new(alloc: Global) -> Self
+        ensures { result ≡ [] }
+    {
+        Masked {
+            nulls: Vec::new(alloc),
+            values: Vec::new(alloc),
+        }
+    }
+
+    /// No values, with room for this many.
+    pub(crate) fn with_capacity(alloc: Global, capacity: usize) -> Result<Self, AllocError>
+        ensures { IfOk result (λ m. m ≡ []) }
+    {
+        let values = Vec::with_capacity(alloc, capacity)?;
+        Ok(Masked {
+            nulls: Vec::new(alloc),
+            values,
+        })
+    }
+
+    /// These values, with room for more.
+    pub(crate) fn copy(&self, alloc: Global, more: usize) -> Result<Self, AllocError>
+        ensures { IfOk result (λ m. m ≡ self.now) }
+    {
+        let nulls = Vec::from_slice(alloc, &self.nulls)?;
+        let mut values = Vec::with_capacity(alloc, self.values.len().saturating_add(more))?;
+        values.extend_from_slice(&self.values)?;
+        Ok(Masked { nulls, values })
+    }
+
+    /// These values or none, with room for more.
+    pub(crate) fn start(&self, alloc: Global, whole: bool, more: usize) -> Result<Self, AllocError>
+        ensures { IfOk result (λ m. m ≡ start_of whole self.now) }
+    {
+        if whole {
+            Ok(self.copy(alloc, more)?)
+        } else {
+            Ok(Masked::with_capacity(alloc, more)?)
+        }
+    }
+
+    /// The number of values and nulls.
+    pub fn len(&self) -> usize
+        ensures { result ≡ length self.now }
+    {
+        let values: &[T] = &self.values;
+        values.len()
+    }
+
+    /// The value at this index, or none for a null.
+    pub fn get(&self, at: usize) -> Option<T>
+        requires { at < length self.now }
+        ensures { (d : Option T) → result ≡ slice_index_or self.now at d }
+    {
+        value_at(&self.nulls, &self.values, at)
+    }
+
+    /// Adds the value, or a null, in whose place the filler stands. After a refusal one value more may be there.
+    pub(crate) fn push(&mut self, value: Option<T>, filler: T) -> Result<(), AllocError>
+        ensures { OnOk result (self.new ≡ self.old ++ value ∷ []) }
+    {
+        match value {
+            Some(value) => {
+                self.values.push(value)?;
+                Ok(())
+            }
+            None => {
+                push_null(&mut self.nulls, &mut self.values, filler)?;
+                Ok(())
+            }
+        }
+    }
+}
+
+impl<T: CellValue> Masked<T> {
+    /// The cell at this index.
+    pub fn cell(&self, at: usize) -> Cell
+        requires { at < length (map T.cell_of self.now) }
+        ensures { (d : Cell) → result ≡ slice_index_or (map T.cell_of self.now) at d }
+    {
+        T::to_cell(self.get(at))
+    }
+
+    /// The cells of the picked rows, as [`Masked::push_picked`] has them; behind all cells of this column, if `whole`
+    /// says so.
+    pub(crate) fn picked(
+        &self,
+        alloc: Global,
+        whole: bool,
+        column: usize,
+        picks: &[Pick<'_>],
+    ) -> Result<Masked<T>, AllocError>
+        requires within { AreWithin (length (map T.cell_of self.now)) picks.now }
+        requires fits { AreFit T.dtype column picks.now }
+        ensures { IfOk result (λ m. map T.cell_of m ≡
+            start_of whole (map T.cell_of self.now)
+            ++ picked_cells (map T.cell_of self.now) column picks.now) }
+    {
+        let mut values = self.start(alloc, whole, picks.len())?;
+        values.push_picked(self, column, picks)?;
+        Ok(values)
+    }
+
+    /// Adds the cells of the picked rows, in the old column or at this index of a new row.
+    pub(crate) fn push_picked(
+        &mut self,
+        old: &Masked<T>,
+        column: usize,
+        picks: &[Pick<'_>],
+    ) -> Result<(), AllocError>
+        requires within { AreWithin (length old.now) picks.now }
+        requires fits { AreFit T.dtype column picks.now }
+        ensures { OnOk result (map T.cell_of self.new ≡
+            map T.cell_of self.old ++ picked_cells (map T.cell_of old.now) column picks.now) }
+    {
+        for pick in picks {
+            self.push(value_from(old, column, pick.origin), T::filler())?;
+        }
+        Ok(())
+    }
+}
+
+/// The value of a picked row, in the old column or at this index of a new row.
+fn value_from<T: CellValue>(old: &Masked<T>, column: usize, origin: Origin<'_>) -> Option<T>
+    requires within { Holds (is_within (length old.now) origin) }
+    requires fits { Holds (is_fit T.dtype column origin) }
+    ensures { T.cell_of result ≡ origin_cell (map T.cell_of old.now) column origin.entry }
+{
+    match origin {
+        Origin::Old(at) => old.get(at),
+        Origin::New(row) => match row.get(column) {
+            Some(cell) => T::from_cell(cell),
+            None => None,
+        },
+    }
+}

@@ -1,0 +1,139 @@
+//! The rows of a block after changes, as picks.
+ghost use Rattle.std.specs.Prelude.{◌≡◌, ℕ, ◌≤◌, ◌-◌, ◌++◌, ◌∷◌, List, T, IfOk, OnOk, map, length, take, drop};
+ghost use Rattle.std.specs.List.{prefix_len};
+ghost use Rattle.std.specs.Ordering.{is_lt};
+ghost use Rattle.std.specs.FinMap.Entries.{below_all};
+ghost use Rattle.df_value.specs.declared.cell.Cell.{Cell};
+ghost use Rattle.df_value.specs.declared.cell.CellType.{CellType};
+ghost use Rattle.df_column.specs.Changes.{Change, after_changes, one_at, rest_after};
+ghost use Rattle.df_column.specs.Picks.{AreWithin};
+ghost use Rattle.df_column.specs.Rows.{AreNewRows, AreRisingTags, AreRows, is_row_if_any, picked_rows, tagged_rows};
+ghost use Rattle.df_column.specs.Tables.{AreRising, change_of};
+ghost use Rattle.df_column.specs.Tags.{tag_cmp};
+ghost use Rattle.df_column.specs.declared.tag.Tag.{Tag};
+
+use crate::entry::Entry;
+use crate::picks::{Origin, Pick};
+use crate::tag::Tag;
+use df_value::{Row, same};
+use std::alloc::{AllocError, Global};
+
+/// How many of the tags stand before this one.
+fn tags_before(tags: &[Tag], tag: Tag) -> usize
+    ensures count { result ≡ prefix_len (λ t. is_lt (tag_cmp t tag)) tags.now }
+    ensures within { result ≤ length tags.now }
+{
+    tags.iter().take_while(|t| **t < tag).count()
+}
+
+/// The index behind this one where the tag stands here, else this index.
+fn index_after(tags: &[Tag], at: usize, tag: Tag) -> usize
+    requires { at ≤ length tags.now }
+    ensures rest { (columns : List (List Cell)) →
+        rest_after tag_cmp tag (drop at (tagged_rows tags.now columns)) ≡
+        drop result (tagged_rows tags.now columns) }
+    ensures within { result ≤ length tags.now }
+{
+    if at == tags.len() {
+        return at;
+    }
+    if same(&tags[at], &tag) { at + 1 } else { at }
+}
+
+/// Adds the old rows from this index up to that one.
+fn push_old(out: &mut Vec<Pick<'_>>, tags: &[Tag], from: usize, to: usize) -> Result<(), AllocError>
+    requires ordered { from ≤ to }
+    requires within { to ≤ length tags.now }
+    requires sound { AreWithin (length tags.now) out.old.items }
+    ensures within { OnOk result (AreWithin (length tags.now) out.new.items) }
+    ensures rows { OnOk result ((columns : List (List Cell)) → picked_rows columns out.new.items ≡
+        picked_rows columns out.old.items
+        ++ take (to - from) (drop from (tagged_rows tags.now columns))) }
+    ensures fits { OnOk result ((dtypes : List CellType) →
+        AreRows dtypes out.old.items → AreRows dtypes out.new.items) }
+{
+    for at in from..to {
+        let pick = Pick {
+            tag: tags[at],
+            origin: Origin::Old(at),
+        };
+        out.push(pick)?;
+    }
+    Ok(())
+}
+
+/// Adds the entry's new row, if there is one.
+fn push_new<'a>(out: &mut Vec<Pick<'a>>, entry: &'a Entry) -> Result<(), AllocError>
+    ensures within { OnOk result ((n : ℕ) → AreWithin n out.old.items → AreWithin n out.new.items) }
+    ensures rows { OnOk result ((columns : List (List Cell)) → picked_rows columns out.new.items ≡
+        picked_rows columns out.old.items ++ one_at entry.now.tag entry.now.new) }
+    ensures fits { OnOk result ((dtypes : List CellType) → T (is_row_if_any dtypes entry.now.new) →
+        AreRows dtypes out.old.items → AreRows dtypes out.new.items) }
+{
+    match &entry.new {
+        Some(row) => {
+            let pick = Pick {
+                tag: entry.tag,
+                origin: Origin::New(row),
+            };
+            out.push(pick)?;
+            Ok(())
+        }
+        None => Ok(()),
+    }
+}
+
+/// Adds the rows from this index on that stand before the entry's tag, and the new row there. Gives the index behind.
+fn merge_entry<'a>(
+    out: &mut Vec<Pick<'a>>,
+    tags: &[Tag],
+    at: usize,
+    entry: &'a Entry,
+) -> Result<usize, AllocError>
+    requires rising { AreRisingTags tags.now }
+    requires at { at ≤ length tags.now }
+    requires sound { AreWithin (length tags.now) out.old.items }
+    ensures at { IfOk result (λ next. next ≤ length tags.now) }
+    ensures within { OnOk result (AreWithin (length tags.now) out.new.items) }
+    ensures rows { IfOk result (λ next.
+        (columns : List (List Cell)) (later : List (Tag × Change (List Cell))) →
+        T (below_all tag_cmp entry.now.tag later) →
+        picked_rows columns out.new.items
+        ++ after_changes tag_cmp (drop next (tagged_rows tags.now columns)) later ≡
+        picked_rows columns out.old.items ++
+        after_changes tag_cmp (drop at (tagged_rows tags.now columns))
+        (change_of entry.now ∷ later)) }
+    ensures fits { OnOk result ((dtypes : List CellType) → T (is_row_if_any dtypes entry.now.new) →
+        AreRows dtypes out.old.items → AreRows dtypes out.new.items) }
+{
+    let rest = &tags[at..];
+    let next = at + tags_before(rest, entry.tag);
+    push_old(out, tags, at, next)?;
+    push_new(out, entry)?;
+    Ok(index_after(tags, next, entry.tag))
+}
+
+/// The rows at these tags after the changes.
+pub fn merge<'a>(
+    alloc: Global,
+    tags: &[Tag],
+    entries: &'a [Entry],
+) -> Result<Vec<Pick<'a>>, AllocError>
+    requires tags { AreRisingTags tags.now }
+    requires entries { AreRising entries.now }
+    ensures within { IfOk result (λ picks. AreWithin (length tags.now) picks.items) }
+    ensures rows { IfOk result (λ picks. (columns : List (List Cell)) →
+        picked_rows columns picks.items ≡
+        after_changes tag_cmp (tagged_rows tags.now columns) (map change_of entries.now)) }
+    ensures fits { IfOk result (λ picks. (dtypes : List CellType) →
+        AreNewRows dtypes entries.now → AreRows dtypes picks.items) }
+{
+    let most = tags.len().saturating_add(entries.len());
+    let mut picks = Vec::with_capacity(alloc, most)?;
+    let mut at = 0;
+    for entry in entries {
+        at = merge_entry(&mut picks, tags, at, entry)?;
+    }
+    push_old(&mut picks, tags, at, tags.len())?;
+    Ok(picks)
+}

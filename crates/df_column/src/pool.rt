@@ -1,0 +1,180 @@
+//! The texts of one column of a block.
+ghost use Rattle.std.specs.Prelude.{◌≡◌, ℕ, ◌<◌, ◌≤◌, ◌++◌, ◌∷◌, [], length, slice_index_or, insert, List, IfOk, IfErr, OnOk, OnErr};
+ghost use Rattle.df_column.specs.Places.{IsGap};
+ghost use Rattle.df_column.specs.Pools as pools;
+ghost use Rattle.df_column.specs.Pools.{IsOrder, IsPlaceOf, IsRising, parts, place_of, places_by_text, text_cmp};
+
+use std::alloc::{AllocError, Global};
+use std::cmp::Ordering;
+use std::marker::Model;
+
+/// The dictionary of one column of texts: each distinct text once, in order of first appearance.
+/// Contracts see it as the list of its texts.
+#[derive(Drop)]
+pub struct TextPool {
+    bytes: Vec<u8>,
+    ends: Vec<usize>,
+    order: Vec<u32>,
+}
+
+impl Model for TextPool {
+    ghost use Rattle.std.specs.Prelude.{List, ℕ};
+    ghost use Rattle.df_column.specs.Pools.{IsPool, parts};
+
+    ghost Value = { List (List ℕ) };
+
+    ghost view = { λ p. parts 0 p.bytes.items p.ends.items };
+
+    ghost invariant = { λ p. IsPool p.bytes.items p.ends.items p.order.items };
+}
+
+/// Where the part at this place begins.
+pub fn start_of(ends: &[usize], place: usize) -> usize
+    requires { place ≤ length ends.now }
+    ensures { result ≡ pools.start_at 0 ends.now place }
+{
+    if place == 0 { 0 } else { ends[place - 1] }
+}
+
+/// Where the part at this place begins and ends.
+fn span(ends: &[usize], place: usize, len: usize) -> (usize, usize)
+    requires rising { IsRising 0 len ends.now }
+    requires place { place < length ends.now }
+    ensures start { result.0 ≡ pools.start_at 0 ends.now place }
+    ensures end { result.1 ≡ slice_index_or ends.now place 0 }
+    ensures ordered { result.0 ≤ result.1 }
+    ensures within { result.1 ≤ len }
+{
+    (start_of(ends, place), ends[place])
+}
+
+/// The bytes of the part at this place.
+fn part<'a>(bytes: &'a [u8], ends: &[usize], place: usize) -> &'a [u8]
+    requires rising { IsRising 0 (length bytes.now) ends.now }
+    requires place { place < length ends.now }
+    ensures { (d : List ℕ) → result.now ≡ slice_index_or (parts 0 bytes.now ends.now) place d }
+{
+    let (start, end) = span(ends, place, bytes.len());
+    &bytes[start..end]
+}
+
+/// The bytes of the part at this place, none where there is no such part.
+fn part_or_empty<'a>(bytes: &'a [u8], ends: &[usize], place: u32) -> &'a [u8]
+    requires { IsRising 0 (length bytes.now) ends.now }
+    ensures { result.now ≡ slice_index_or (parts 0 bytes.now ends.now) place [] }
+{
+    let place = place as usize;
+    if place < ends.len() {
+        part(bytes, ends, place)
+    } else {
+        &[]
+    }
+}
+
+/// How the part at this place compares with the text.
+fn compare_part(bytes: &[u8], ends: &[usize], place: u32, text: &[u8]) -> Ordering
+    requires { IsRising 0 (length bytes.now) ends.now }
+    ensures { result ≡ text_cmp (slice_index_or (parts 0 bytes.now ends.now) place []) text.now }
+{
+    part_or_empty(bytes, ends, place).cmp(text)
+}
+
+/// The index of the text's place in the order, or where it would stand.
+fn search(bytes: &[u8], ends: &[usize], order: &[u32], text: &[u8]) -> Result<usize, usize>
+    requires rising { IsRising 0 (length bytes.now) ends.now }
+    requires ordered { IsOrder (parts 0 bytes.now ends.now) order.now }
+    ensures found { IfOk result (IsPlaceOf text.now (parts 0 bytes.now ends.now) order.now) }
+    ensures absent { IfErr result
+        (IsGap text_cmp (places_by_text (parts 0 bytes.now ends.now) order.now) text.now) }
+{
+    order.binary_search_by(|place| compare_part(bytes, ends, *place, text))
+}
+
+/// Adds the text, whose place stands at this index of the order, and gives the place.
+fn push_text(
+    bytes: &mut Vec<u8>,
+    ends: &mut Vec<usize>,
+    order: &mut Vec<u32>,
+    text: &[u8],
+    at: usize,
+) -> Result<u32, AllocError>
+    requires few { length ends.old.items < 1024 }
+    requires at { at ≤ length order.old.items }
+    ensures place { IfOk result (λ p. p ≡ length ends.old.items) }
+    ensures ok_bytes { OnOk result (bytes.new.items ≡ bytes.old.items ++ text.now) }
+    ensures ok_ends { OnOk result (ends.new.items ≡
+        ends.old.items ++ length (bytes.old.items ++ text.now) ∷ []) }
+    ensures ok_order { OnOk result (order.new.items ≡
+        insert order.old.items at (length ends.old.items)) }
+    ensures err_bytes { OnErr result (bytes.new.items ≡ bytes.old.items) }
+    ensures err_ends { OnErr result (ends.new.items ≡ ends.old.items) }
+    ensures err_order { OnErr result (order.new.items ≡ order.old.items) }
+{
+    let place = ends.len() as u32;
+    ends.reserve(1)?;
+    order.reserve(1)?;
+    bytes.extend_from_slice(text)?;
+    let _ = ends.push(bytes.len());
+    let _ = order.insert(at, place);
+    Ok(place)
+}
+
+impl TextPool {
+    /// A pool of no texts.
+    pub fn new(alloc: Global) -> Self
+        ensures { result ≡ [] }
+    {
+        TextPool {
+            bytes: Vec::new(alloc),
+            ends: Vec::new(alloc),
+            order: Vec::new(alloc),
+        }
+    }
+
+    /// The number of texts.
+    pub fn len(&self) -> usize
+        ensures { result ≡ length self.now }
+    {
+        let ends: &[usize] = &self.ends;
+        ends.len()
+    }
+
+    /// The text at this place.
+    pub fn get(&self, place: u32) -> &str
+        requires { place < length self.now }
+        ensures { (d : List ℕ) → result.now ≡ slice_index_or self.now place d }
+    {
+        let text = part(&self.bytes, &self.ends, place as usize);
+        unsafe { str::from_utf8_unchecked(text) }
+    }
+
+    /// The place of the text, which goes to the end if it is not there.
+    pub fn put(&mut self, text: &str) -> Result<u32, AllocError>
+        requires { length self.old < 1024 }
+        ensures place { IfOk result (λ p. p ≡
+            pools.place_or_end (place_of text.now self.old) self.old) }
+        ensures texts { OnOk result (self.new ≡
+            pools.with_text (place_of text.now self.old) self.old text.now) }
+        ensures err { OnErr result (self.new ≡ self.old) }
+    {
+        match search(&self.bytes, &self.ends, &self.order, text.as_bytes()) {
+            Ok(at) => Ok(self.order[at]),
+            Err(at) => {
+                let text = text.as_bytes();
+                let place = push_text(&mut self.bytes, &mut self.ends, &mut self.order, text, at)?;
+                Ok(place)
+            }
+        }
+    }
+
+    /// An equal pool.
+    pub fn copy(&self, alloc: Global) -> Result<TextPool, AllocError>
+        ensures { IfOk result (λ p. p ≡ self.now) }
+    {
+        Ok(TextPool {
+            bytes: Vec::from_slice(alloc, &self.bytes)?,
+            ends: Vec::from_slice(alloc, &self.ends)?,
+            order: Vec::from_slice(alloc, &self.order)?,
+        })
+    }
+}

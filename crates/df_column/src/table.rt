@@ -1,0 +1,343 @@
+//! Tables of tagged rows in shared blocks.
+ghost use Rattle.std.specs.Prelude.{◌≡◌, ◌↔◌, ℕ, ◌<◌, ◌≤◌, ◌++◌, ◌^◌, T, List, Some, None, IfErr, IfNone, IfOk, IfSome, IsTrue, OnOk, map, length, slice_index_or};
+ghost use Rattle.std.specs.Arc.{arc_value};
+ghost use Rattle.std.specs.FinMap as finite;
+ghost use Rattle.std.specs.List.{list_all};
+ghost use Rattle.df_value.specs.Rows.{row_fits, rows_fit};
+ghost use Rattle.df_value.specs.declared.cell.Cell.{Cell};
+ghost use Rattle.df_value.specs.declared.cell.CellType.{CellType};
+ghost use Rattle.df_column.specs.Blocks.{AreOfTypes, block_rows, ends_of, rows_of};
+ghost use Rattle.df_column.specs.Columns.{cells_of, dtype_of};
+ghost use Rattle.df_column.specs.Picks.{AreWithin};
+ghost use Rattle.df_column.specs.Places.{IsGap, IsPlace};
+ghost use Rattle.df_column.specs.Rows.{AreRows, are_even, picked_rows};
+ghost use Rattle.df_column.specs.Tables.{AreFitting, AreRising, after_entries, types_of};
+ghost use Rattle.df_column.specs.Tags.{tag_cmp};
+ghost use Rattle.df_column.specs.declared.tag.Tag.{Tag};
+
+use crate::block::{Block, MOST_ROWS};
+use crate::blocks::{changed_blocks, push_parts, push_shared};
+use crate::column::Column;
+use crate::entry::Entry;
+use crate::picks::{Origin, Pick};
+use crate::spots;
+use crate::tag::Tag;
+use df_value::{Row, Schema};
+use std::alloc::{AllocError, Global};
+use std::marker::Model;
+use std::sync::Arc;
+
+/// Rows by rising tags, which fit a schema. They stand in blocks that several tables share.
+#[derive(Drop)]
+pub struct Table {
+    schema: Arc<Schema>,
+    blocks: Vec<Arc<Block>>,
+    ends: Vec<usize>,
+}
+
+impl Model for Table {
+    ghost use Rattle.std.specs.Arc.{arc_value};
+    ghost use Rattle.std.specs.FinMap as finite;
+    ghost use Rattle.df_column.specs.Tables.{TableParts, table_code};
+    ghost use Rattle.df_column.specs.Blocks.{rows_of};
+    ghost use Rattle.df_column.specs.TableBlocks.{IsTable};
+
+    ghost Value = { TableParts };
+
+    ghost coded = { table_code };
+
+    ghost view = { λ t. record
+        { schema = arc_value t.schema; rows = finite.from_sorted (rows_of t.blocks.items) } };
+
+    ghost invariant = { λ t. IsTable (arc_value t.schema) t.blocks.items t.ends.items };
+}
+
+/// How many rows stand up to the end of each block.
+fn block_ends(alloc: Global, blocks: &[Arc<Block>]) -> Result<Vec<usize>, AllocError>
+    requires { length (rows_of blocks.now) ≤ 2 ^ 60 }
+    ensures { IfOk result (λ v. v.items ≡ ends_of 0 blocks.now) }
+{
+    let mut ends = Vec::with_capacity(alloc, blocks.len())?;
+    let mut end = 0;
+    for block in blocks {
+        end += block.tags().len();
+        ends.push(end)?;
+    }
+    Ok(ends)
+}
+
+/// The same blocks, shared.
+fn shared_blocks(alloc: Global, blocks: &[Arc<Block>]) -> Result<Vec<Arc<Block>>, AllocError>
+    requires { length (rows_of blocks.now) ≤ 2 ^ 60 }
+    ensures rows { IfOk result (λ v. rows_of v.items ≡ rows_of blocks.now) }
+    ensures types { IfOk result (λ v. (dtypes : List CellType) → AreOfTypes dtypes blocks.now →
+        AreOfTypes dtypes v.items) }
+{
+    let mut out = Vec::with_capacity(alloc, blocks.len())?;
+    for block in blocks {
+        push_shared(&mut out, block)?;
+    }
+    Ok(out)
+}
+
+/// A column of no cells for each column of the schema.
+fn empty_columns(alloc: Global, schema: &Schema) -> Result<Vec<Column>, AllocError>
+    ensures types { IfOk result (λ v. map dtype_of v.items ≡ types_of schema.now) }
+    ensures even { IfOk result (λ v. T (are_even 0 (map cells_of v.items))) }
+{
+    let columns = schema.columns().as_slice();
+    let mut out = Vec::with_capacity(alloc, columns.len())?;
+    for column in columns {
+        out.push(Column::new(alloc, column.1))?;
+    }
+    Ok(out)
+}
+
+/// The table of these blocks.
+fn from_blocks(
+    alloc: Global,
+    schema: Arc<Schema>,
+    blocks: Vec<Arc<Block>>,
+) -> Result<Table, AllocError>
+    requires sorted { T (finite.is_sorted tag_cmp (rows_of blocks.items)) }
+    requires types { AreOfTypes (types_of (arc_value schema)) blocks.items }
+    requires few { length (rows_of blocks.items) ≤ 2 ^ 60 }
+    ensures schema { IfOk result (λ t. t.schema ≡ arc_value schema) }
+    ensures rows { IfOk result (λ t. t.rows ≡ finite.from_sorted (rows_of blocks.items)) }
+{
+    let ends = block_ends(alloc, &blocks)?;
+    Ok(Table {
+        schema,
+        blocks,
+        ends,
+    })
+}
+
+impl Table {
+    /// The table of this schema without rows.
+    pub fn new(alloc: Global, schema: Schema) -> Result<Table, AllocError>
+        ensures schema { IfOk result (λ t. t.schema ≡ schema) }
+        ensures rows { IfOk result (λ t. t.rows ≡ finite.empty) }
+    {
+        Ok(Table {
+            schema: Arc::new(alloc, schema)?,
+            blocks: Vec::new(alloc),
+            ends: Vec::new(alloc),
+        })
+    }
+
+    /// The schema, which all rows fit.
+    pub fn schema(&self) -> &Schema
+        ensures value { result.now ≡ self.now.schema }
+        ensures sound { IsTrue (rows_fit self.now.schema (finite.values self.now.rows)) }
+    {
+        &self.schema
+    }
+
+    /// The schema, shared.
+    fn shared_schema(&self) -> Result<Arc<Schema>, AllocError>
+        ensures { IfOk result (λ s. arc_value s ≡ self.now.schema) }
+    {
+        let schema = Arc::try_clone(&self.schema)?;
+        Ok(schema)
+    }
+
+    /// The blocks.
+    fn blocks(&self) -> &[Arc<Block>]
+        ensures rows { rows_of result.now ≡ finite.entries self.now.rows }
+        ensures value { finite.from_sorted (rows_of result.now) ≡ self.now.rows }
+        ensures sorted { T (finite.is_sorted tag_cmp (rows_of result.now)) }
+        ensures types { AreOfTypes (types_of self.now.schema) result.now }
+        ensures few { length (rows_of result.now) ≤ 2 ^ 60 }
+    {
+        &self.blocks
+    }
+
+    /// An equal table over the same blocks.
+    pub fn share(&self, alloc: Global) -> Result<Table, AllocError>
+        ensures { IfOk result (λ t. t ≡ self.now) }
+    {
+        let blocks = shared_blocks(alloc, self.blocks())?;
+        let schema = self.shared_schema()?;
+        let table = from_blocks(alloc, schema, blocks)?;
+        Ok(table)
+    }
+
+    /// The table after the changes of these entries: at each tag that they name stands the new row, or nothing. Blocks
+    /// without a change are shared with this table.
+    pub fn edited(&self, alloc: Global, entries: &[Entry]) -> Result<Table, AllocError>
+        requires rising { AreRising entries.now }
+        requires fits { AreFitting self.now.schema entries.now }
+        requires few { finite.len (after_entries self.now entries.now).rows ≤ 2 ^ 60 }
+        ensures { IfOk result (λ t. t ≡ after_entries self.now entries.now) }
+    {
+        let columns = empty_columns(alloc, self.schema())?;
+        let blocks = changed_blocks(alloc, self.blocks(), &columns, entries)?;
+        let schema = self.shared_schema()?;
+        let table = from_blocks(alloc, schema, blocks)?;
+        Ok(table)
+    }
+
+    /// The table of these rows. Their tags rise, and each fits the schema.
+    pub fn from_rows(
+        alloc: Global,
+        schema: Schema,
+        rows: &[(Tag, Row)],
+    ) -> Result<Table, AllocError>
+        requires rising { T (finite.is_sorted tag_cmp rows.now) }
+        requires fits { T (list_all (λ r. row_fits schema r.1) rows.now) }
+        requires few { length rows.now ≤ 2 ^ 60 }
+        ensures schema { IfOk result (λ t. t.schema ≡ schema) }
+        ensures rows { IfOk result (λ t. t.rows ≡ finite.from_sorted rows.now) }
+    {
+        let blocks = blocks_of(alloc, &schema, rows)?;
+        let schema = Arc::new(alloc, schema)?;
+        let table = from_blocks(alloc, schema, blocks)?;
+        Ok(table)
+    }
+
+    /// The number of rows.
+    pub fn len(&self) -> usize
+        ensures value { result ≡ finite.len self.now.rows }
+        ensures few { result ≤ 2 ^ 60 }
+    {
+        spots::count(&self.blocks, &self.ends)
+    }
+
+    /// Whether there are no rows.
+    pub fn is_empty(&self) -> bool
+        ensures { IsTrue result ↔ (finite.len self.now.rows ≡ 0) }
+    {
+        self.len() == 0
+    }
+
+    /// The tag of the row at this index.
+    pub fn tag(&self, at: usize) -> Tag
+        requires { at < finite.len self.now.rows }
+        ensures { (d : Tag × List Cell) → result ≡
+            (slice_index_or (finite.entries self.now.rows) at d).0 }
+    {
+        spots::tag_at(&self.blocks, &self.ends, at)
+    }
+
+    /// A copy of the row at this index.
+    pub fn row(&self, alloc: Global, at: usize) -> Result<Row, AllocError>
+        requires { at < finite.len self.now.rows }
+        ensures { IfOk result (λ r. (d : Tag × List Cell) → r ≡
+            (slice_index_or (finite.entries self.now.rows) at d).1) }
+    {
+        let row = spots::row_at(alloc, &self.blocks, &self.ends, at)?;
+        Ok(row)
+    }
+
+    /// The index of the row at this tag, if there is one. The number of steps goes by the logarithm of the number of
+    /// rows.
+    pub fn find(&self, tag: Tag) -> Option<usize>
+        ensures found { IfSome result (IsPlace tag_cmp (finite.entries self.now.rows) tag) }
+        ensures row { IfSome result (λ i. (d : Tag × List Cell) →
+            finite.get self.now.rows tag ≡
+            Some (slice_index_or (finite.entries self.now.rows) i d).1) }
+        ensures absent { IfNone result (finite.get self.now.rows tag ≡ None) }
+    {
+        match find_in(&self.blocks, &self.ends, tag) {
+            Ok(at) => Some(at),
+            Err(_) => None,
+        }
+    }
+
+    /// Copies of the rows, by rising tag.
+    pub fn rows(&self, alloc: Global) -> Result<Vec<Row>, AllocError>
+        ensures { IfOk result (λ v. v.items ≡ finite.values self.now.rows) }
+    {
+        let blocks = self.blocks();
+        let mut out = Vec::with_capacity(alloc, self.len())?;
+        for block in blocks {
+            push_rows(alloc, &mut out, block)?;
+        }
+        Ok(out)
+    }
+
+    /// The tags with copies of their rows, by rising tag.
+    pub fn tagged_rows(&self, alloc: Global) -> Result<Vec<(Tag, Row)>, AllocError>
+        ensures { IfOk result (λ v. v.items ≡ finite.entries self.now.rows) }
+    {
+        let blocks = self.blocks();
+        let mut out = Vec::with_capacity(alloc, self.len())?;
+        for block in blocks {
+            push_tagged_rows(alloc, &mut out, block)?;
+        }
+        Ok(out)
+    }
+}
+
+/// The index of the row at this tag, or where it would stand.
+fn find_in(blocks: &[Arc<Block>], ends: &[usize], tag: Tag) -> Result<usize, usize>
+    requires ends { ends.now ≡ ends_of 0 blocks.now }
+    requires sorted { T (finite.is_sorted tag_cmp (rows_of blocks.now)) }
+    ensures found { IfOk result (IsPlace tag_cmp (rows_of blocks.now) tag) }
+    ensures absent { IfErr result (IsGap tag_cmp (rows_of blocks.now) tag) }
+{
+    spots::search(blocks, ends, tag, 0, spots::count(blocks, ends))
+}
+
+/// Adds copies of the block's rows.
+fn push_rows(alloc: Global, out: &mut Vec<Row>, block: &Block) -> Result<(), AllocError>
+    ensures { OnOk result (out.new.items ≡ out.old.items ++ map (λ r. r.1) (block_rows block.now)) }
+{
+    for at in 0..block.tags().len() {
+        let row = block.row(alloc, at)?;
+        out.push(row)?;
+    }
+    Ok(())
+}
+
+/// Adds the block's tags with copies of their rows.
+fn push_tagged_rows(
+    alloc: Global,
+    out: &mut Vec<(Tag, Row)>,
+    block: &Block,
+) -> Result<(), AllocError>
+    ensures { OnOk result (out.new.items ≡ out.old.items ++ block_rows block.now) }
+{
+    let tags = block.tags();
+    for at in 0..tags.len() {
+        let row = block.row(alloc, at)?;
+        out.push((tags[at], row))?;
+    }
+    Ok(())
+}
+
+/// Blocks of these rows.
+fn blocks_of(
+    alloc: Global,
+    schema: &Schema,
+    rows: &[(Tag, Row)],
+) -> Result<Vec<Arc<Block>>, AllocError>
+    requires { T (list_all (λ r. row_fits schema.now r.1) rows.now) }
+    ensures rows { IfOk result (λ v. rows_of v.items ≡ rows.now) }
+    ensures types { IfOk result (λ v. AreOfTypes (types_of schema.now) v.items) }
+{
+    let columns = empty_columns(alloc, schema)?;
+    let picks = new_picks(alloc, rows)?;
+    let mut out = Vec::new(alloc);
+    push_parts(alloc, &mut out, &[], &columns, &picks, MOST_ROWS)?;
+    Ok(out)
+}
+
+/// The rows as new rows of a block.
+fn new_picks<'a>(alloc: Global, rows: &'a [(Tag, Row)]) -> Result<Vec<Pick<'a>>, AllocError>
+    ensures within { IfOk result (λ v. AreWithin 0 v.items) }
+    ensures rows { IfOk result (λ v. (columns : List (List Cell)) → picked_rows columns v.items ≡
+        rows.now) }
+    ensures fits { IfOk result (λ v. (schema : List (List ℕ × CellType)) →
+        T (list_all (λ r. row_fits schema r.1) rows.now) → AreRows (types_of schema) v.items) }
+{
+    let mut picks = Vec::with_capacity(alloc, rows.len())?;
+    for row in rows {
+        picks.push(Pick {
+            tag: row.0,
+            origin: Origin::New(&row.1),
+        })?;
+    }
+    Ok(picks)
+}

@@ -1,0 +1,23 @@
+//! The tags of rows.
+use df_value::{Duplicate, Exact};
+use std::alloc::{AllocError, Global};
+
+/// Where a row of a table stands: three numbers, compared from left to right.
+#[derive(Clone, Copy, Debug, PartialEq, Eq, PartialOrd, Ord, Hash)]
+pub struct Tag {
+    pub first: u64,
+    pub second: u64,
+    pub third: u64,
+}
+
+impl Exact for Tag {
+    ghost use Rattle.std.proofs.Common.{rules};
+
+    ghost decides = { Prim.search rules };
+}
+
+impl Duplicate for Tag {
+    fn copy(&self, _alloc: Global) -> Result<Tag, AllocError> {
+        Ok(*self)
+    }
+}

@@ -1,0 +1,192 @@
+//! The texts of one column of a block.
+ghost use Rattle.std.specs.Prelude.{◌≡◌, ◌<◌, ◌≤◌, ◌+◌, ◌++◌, ◌∷◌, [], T, List, ℕ, length, map, slice_index_or, IfOk, IsTrue, OnOk, Option};
+ghost use Rattle.df_value.specs.Cells.{fits_dtype};
+ghost use Rattle.df_value.specs.declared.cell.Cell.{Cell};
+ghost use Rattle.df_value.specs.declared.cell.CellType.TheVariants as dtype_as;
+ghost use Rattle.df_column.specs.Picks.{AreFit, AreWithin, is_fit, is_within, origin_cell, picked_cells, start_of};
+ghost use Rattle.df_column.specs.Texts.{ArePlaces, text_at, text_now};
+ghost use Rattle.df_column.specs.ValueCells.{text_cell};
+
+use crate::masked::Masked;
+use crate::picks::{Origin, Pick};
+use crate::pool::TextPool;
+use df_value::{Cell, Text, both};
+use std::alloc::{AllocError, Global};
+use std::marker::Model;
+
+/// Texts or nulls: the places of the texts in a pool. Contracts see a list of options.
+#[derive(Drop)]
+pub struct Texts {
+    places: Masked<u16>,
+    pool: TextPool,
+}
+
+impl Model for Texts {
+    ghost use Rattle.std.specs.Prelude.{List, ℕ, Option, map};
+    ghost use Rattle.df_column.specs.Texts.{text_at, ArePlaces};
+
+    ghost Value = { List (Option (List ℕ)) };
+
+    ghost view = { λ t. map (text_at t.pool) t.places };
+
+    ghost invariant = { λ t. ArePlaces t.pool t.places };
+}
+
+/// Adds the text or a null to the places, and a new text to the pool.
+fn push_text(
+    places: &mut Masked<u16>,
+    pool: &mut TextPool,
+    text: Option<&str>,
+) -> Result<(), AllocError>
+    requires sound { ArePlaces pool.old places.old }
+    requires few { length places.old < 1024 }
+    ensures sound { OnOk result (ArePlaces pool.new places.new) }
+    ensures len { OnOk result (length places.new ≡ length places.old + 1) }
+    ensures texts { OnOk result (map (text_at pool.new) places.new ≡
+        map (text_at pool.old) places.old ++ text_now text.entry ∷ []) }
+{
+    match text {
+        Some(text) => {
+            let place = pool.put(text)?;
+            places.push(Some(place as u16), 0)?;
+            Ok(())
+        }
+        None => {
+            places.push(None, 0)?;
+            Ok(())
+        }
+    }
+}
+
+/// The text of the cell, none for a null.
+fn text_of(cell: &Cell) -> Option<&str>
+    ensures { IsTrue (fits_dtype dtype_as.Text cell.now) → text_cell (text_now result) ≡ cell.now }
+{
+    match cell {
+        Cell::Text(text) => Some(text.as_str()),
+        _ => None,
+    }
+}
+
+/// The text of a picked row, in the old column or at this index of a new row.
+fn text_from<'a>(old: &'a Texts, column: usize, origin: Origin<'a>) -> Option<&'a str>
+    requires within { T (is_within (length old.now) origin) }
+    requires fits { T (is_fit dtype_as.Text column origin) }
+    ensures { text_cell (text_now result) ≡
+        origin_cell (map text_cell old.now) column origin.entry }
+{
+    match origin {
+        Origin::Old(at) => old.get(at),
+        Origin::New(row) => match row.get(column) {
+            Some(cell) => text_of(cell),
+            None => None,
+        },
+    }
+}
+
+impl Texts {
+    /// No texts.
+    pub fn new(alloc: Global) -> Self
+        ensures { result ≡ [] }
+    {
+        Texts {
+            places: Masked::new(alloc),
+            pool: TextPool::new(alloc),
+        }
+    }
+
+    /// The number of texts and nulls.
+    pub fn len(&self) -> usize
+        ensures { result ≡ length self.now }
+    {
+        self.places.len()
+    }
+
+    /// The text at this index, or none for a null.
+    pub fn get(&self, at: usize) -> Option<&str>
+        requires { at < length self.now }
+        ensures { (d : Option (List ℕ)) → text_now result ≡ slice_index_or self.now at d }
+    {
+        match self.places.get(at) {
+            Some(place) => Some(self.pool.get(place as u32)),
+            None => None,
+        }
+    }
+
+    /// A copy of the cell at this index.
+    pub fn cell(&self, alloc: Global, at: usize) -> Result<Cell, AllocError>
+        requires { at < length (map text_cell self.now) }
+        ensures { IfOk result (λ c. (d : Cell) → c ≡ slice_index_or (map text_cell self.now) at d) }
+    {
+        match self.get(at) {
+            Some(text) => Ok(Cell::Text(Text::from_str(alloc, text)?)),
+            None => Ok(Cell::Null),
+        }
+    }
+
+    /// These texts, with room for more places.
+    pub(crate) fn copy(&self, alloc: Global, more: usize) -> Result<Texts, AllocError>
+        ensures { IfOk result (λ t. t ≡ self.now) }
+    {
+        let (places, pool) = both(self.places.copy(alloc, more), self.pool.copy(alloc))?;
+        Ok(Texts { places, pool })
+    }
+
+    /// These texts or none, with room for more places.
+    pub(crate) fn start(&self, alloc: Global, whole: bool, more: usize) -> Result<Texts, AllocError>
+        ensures { IfOk result (λ t. t ≡ start_of whole self.now) }
+    {
+        if whole {
+            Ok(self.copy(alloc, more)?)
+        } else {
+            Ok(Texts {
+                places: Masked::with_capacity(alloc, more)?,
+                pool: TextPool::new(alloc),
+            })
+        }
+    }
+
+    /// The cells of the picked rows, as [`Texts::with_picked`] has them; behind all cells of this column, if `whole`
+    /// says so. Without them the pool has the texts that stay.
+    pub(crate) fn picked(
+        &self,
+        alloc: Global,
+        whole: bool,
+        column: usize,
+        picks: &[Pick<'_>],
+    ) -> Result<Texts, AllocError>
+        requires within { AreWithin (length (map text_cell self.now)) picks.now }
+        requires fits { AreFit dtype_as.Text column picks.now }
+        requires few { length (start_of whole (map text_cell self.now)) + length picks.now ≤ 1024 }
+        ensures { IfOk result (λ t. map text_cell t ≡
+            start_of whole (map text_cell self.now)
+            ++ picked_cells (map text_cell self.now) column picks.now) }
+    {
+        let start = self.start(alloc, whole, picks.len())?;
+        let texts = start.with_picked(self, column, picks)?;
+        Ok(texts)
+    }
+
+    /// These texts, and then those of the picked rows, in the old column or at this index of a new row.
+    pub(crate) fn with_picked(
+        self,
+        old: &Texts,
+        column: usize,
+        picks: &[Pick<'_>],
+    ) -> Result<Texts, AllocError>
+        requires within { AreWithin (length old.now) picks.now }
+        requires fits { AreFit dtype_as.Text column picks.now }
+        requires few { length self + length picks.now ≤ 1024 }
+        ensures { IfOk result (λ t. map text_cell t ≡
+            map text_cell self ++ picked_cells (map text_cell old.now) column picks.now) }
+    {
+        let Texts {
+            mut places,
+            mut pool,
+        } = self;
+        for pick in picks {
+            push_text(&mut places, &mut pool, text_from(old, column, pick.origin))?;
+        }
+        Ok(Texts { places, pool })
+    }
+}
