@@ -1,4 +1,4 @@
--- What the size of chunks changes in a run: which rows a bad cell takes with it, and nothing else.
+-- What the size of chunks does not change in a run.
 use Rattle.std.specs.Prelude.{◌≡◌, Result, Ok, Err, IsOkAnd, MatchResult}
 use Rattle.df_app.specs.declared.fault.RunFault.{RunFault}
 use Rattle.df_app.specs.declared.outcome.Outcome.TheVariants as outcome

@@ -44,8 +44,8 @@ pub fn run<V: Read, F: Files, W: Write>(
         (KeepsUnlessWrite (W.contents writer.old) (W.contents writer.new)) }
     ensures same { F.bytes_at files.new ≡ F.bytes_at files.old }
 
-    // With another size of chunks the run has the same fault, or the same outcome; and the same
-    // output where no chunk was refused.
+    // What a run with another size of chunks is to give is the same fault, or has the same outcome,
+    // and the same text where no chunk is refused.
     ensures any_size { IfSome (V.remaining reader.old) (λ bytes. (size : ℕ) → 1 ≤ size →
         IsSameUnlessRefused (output_of bytes (F.bytes_at files.old) chunk)
         (output_of bytes (F.bytes_at files.old) size)) }

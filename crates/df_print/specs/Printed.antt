@@ -114,8 +114,8 @@ abbrev pub AreUtf8 : List (List ℕ × CellType) → List (List Cell) → Type 0
 AreUtf8 columns rows =
     (at : ℕ) → at < length columns → (d : List ℕ × CellType) → All IsUtf8 (column_texts at (slice_index_or columns at d).0 rows)
 
--- what the printed table of so many rows is: the line of the title, and below it a line of names and one of each row, all
--- of one width; no line holds a control character, so none is broken in two
+-- the printed table of so many rows: a title, and below it one line more than there are rows, all of one width; no line
+-- holds an ASCII control character, and so none holds a newline
 pub record IsTableOfRows (rows : ℕ) (bytes : List ℕ) : Type 0 where
   pub heading : List ℕ
   pub lines : List (List ℕ)
