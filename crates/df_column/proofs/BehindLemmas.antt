@@ -13,7 +13,7 @@ use Rattle.df_column.specs.Blocks.{BlockParts}
 use Rattle.df_column.specs.Changes.{all_under, after_changes}
 use Rattle.df_column.specs.Picks.{AreWithin, is_within}
 use Rattle.df_column.specs.Rows.{picked_rows, origin_row, tagged_rows}
-use Rattle.df_column.specs.Tables.{AreRising, change_of}
+use Rattle.df_column.specs.Tables.{AreRising, entry_change}
 use Rattle.df_column.specs.Tags.{tag_cmp}
 use Rattle.df_column.specs.declared.entry.Entry.{Entry}
 use Rattle.df_column.specs.declared.picks.Origin.{Origin}
@@ -49,14 +49,14 @@ under_last (t ∷ (u ∷ ts)) columns k d h some less =
 
 pub rows_behind : (ts : List Tag) (columns : List (List Cell)) (entries : List Entry) (d : Tag) (n : Entry) → T (is_sorted tag_cmp (tagged_rows ts columns)) → AreRising entries → 0 < length ts
     → T (is_lt (tag_cmp (get_or ts (length ts - 1) d) (get_or entries 0 n).tag))
-    → tagged_rows ts columns ++ after_changes tag_cmp [] (map change_of entries) ≡ after_changes tag_cmp (tagged_rows ts columns) (map change_of entries)
+    → tagged_rows ts columns ++ after_changes tag_cmp [] (map entry_change entries) ≡ after_changes tag_cmp (tagged_rows ts columns) (map entry_change entries)
 rows_behind ts columns [] d n h rising some less = append-nil (tagged_rows ts columns)
 rows_behind ts columns (e ∷ es) d n h rising some less =
     let under = under_last ts columns e.tag d h some (less_from_is_lt _ less) in
-    let from = sorted_from tag_total e.tag (change_of e) (map change_of es) refl rising in
+    let from = sorted_from tag_total e.tag (entry_change e) (map entry_change es) refl rising in
     let rows = tagged_rows ts columns in
-    sym (after_changes-right tag_total rows [] (map change_of (e ∷ es)) (apart_at tag_total e.tag rows (map change_of (e ∷ es)) under from))
-    ∙ ap (λ r. after_changes tag_cmp r (map change_of (e ∷ es))) (append-nil rows)
+    sym (after_changes-right tag_total rows [] (map entry_change (e ∷ es)) (apart_at tag_total e.tag rows (map entry_change (e ∷ es)) under from))
+    ∙ ap (λ r. after_changes tag_cmp r (map entry_change (e ∷ es))) (append-nil rows)
 
 -- the two parts of picks
 pub adds_parts : {S : Type 0} (dtypes : List CellType) (columns : List (List Cell)) (first : List (Tag × List Cell)) (xs ys picks : List Pick) (n : ℕ) (old mid new : List (Arc BlockParts S)) → xs ≡ take n picks → ys ≡ drop n picks

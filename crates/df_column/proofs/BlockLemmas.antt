@@ -7,8 +7,8 @@ use Rattle.df_value.specs.declared.cell.Cell.{Cell}
 use Rattle.df_value.specs.declared.cell.Cell.TheVariants as cell
 use Rattle.df_value.specs.declared.cell.CellType.{CellType}
 use Rattle.df_column.specs.Blocks.{IsBlock}
-use Rattle.df_column.specs.Columns.{cells_of, dtype_of}
-use Rattle.df_column.specs.Picks.{AreFit, is_fit, origin_cell, picked_cells, start_of}
+use Rattle.df_column.specs.Columns.{column_cells, dtype_of_column}
+use Rattle.df_column.specs.Picks.{AreFit, is_fit, origin_cell, picked_cells, all_or_none}
 use Rattle.df_column.specs.Rows.{AreRows, are_even, is_new_row, is_row, picked_columns, tagged_rows, picked_rows}
 use Rattle.df_column.specs.declared.column.Column.{Column}
 use Rattle.df_column.specs.declared.picks.Origin.{Origin}
@@ -20,10 +20,10 @@ use Rattle.df_column.proofs.Places.{mapped_at, mapped_length}
 use Rattle.df_column.proofs.RowLemmas.{rows_made}
 
 -- one of the columns
-pub even_at : (n : ℕ) (columns : List Column) (at : ℕ) (d : Column) → T (are_even n (map cells_of columns)) → at < length columns → length (cells_of (get_or columns at d)) ≡ n
+pub even_at : (n : ℕ) (columns : List Column) (at : ℕ) (d : Column) → T (are_even n (map column_cells columns)) → at < length columns → length (column_cells (get_or columns at d)) ≡ n
 even_at n [] at d h lt = absurd (omega arith)
-even_at n (c ∷ cs) zero d h lt = eqb-true (length (cells_of c)) n (true_from_T _ (T-first (length (cells_of c) == n) _ h))
-even_at n (c ∷ cs) (suc at) d h lt = even_at n cs at d (T-second (length (cells_of c) == n) _ h) (omega arith)
+even_at n (c ∷ cs) zero d h lt = eqb-true (length (column_cells c)) n (true_from_T _ (T-first (length (column_cells c) == n) _ h))
+even_at n (c ∷ cs) (suc at) d h lt = even_at n cs at d (T-second (length (column_cells c) == n) _ h) (omega arith)
 
 fit_cell : (dtypes : List CellType) (row : List Cell) (at : ℕ) (d : CellType) → T (is_row dtypes row) → at < length dtypes → T (fits_dtype (get_or dtypes at d) (get_or row at cell.Null))
 fit_cell [] row at d h lt = absurd (omega arith)
@@ -39,12 +39,12 @@ fit_types : (dtypes : List CellType) (picks : List Pick) (at : ℕ) (d : CellTyp
 fit_types dtypes [] at d h lt = tt
 fit_types dtypes (p ∷ picks) at d h lt = T-both _ _ (fit_origin dtypes p.origin at d (T-first (is_new_row dtypes p.origin) _ h) lt) (fit_types dtypes picks at d (T-second (is_new_row dtypes p.origin) _ h) lt)
 
-pub fit_at : (columns : List Column) (picks : List Pick) (at : ℕ) (d : Column) → AreRows (map dtype_of columns) picks → at < length columns → AreFit (dtype_of (get_or columns at d)) at picks
+pub fit_at : (columns : List Column) (picks : List Pick) (at : ℕ) (d : Column) → AreRows (map dtype_of_column columns) picks → at < length columns → AreFit (dtype_of_column (get_or columns at d)) at picks
 fit_at columns picks at d h lt =
-    let l = mapped_length dtype_of columns in
-    subst (λ t. AreFit t at picks) (mapped_at dtype_of columns at (dtype_of d) d lt) (fit_types (map dtype_of columns) picks at (dtype_of d) h (omega (arith, l, lt)))
+    let l = mapped_length dtype_of_column columns in
+    subst (λ t. AreFit t at picks) (mapped_at dtype_of_column columns at (dtype_of_column d) d lt) (fit_types (map dtype_of_column columns) picks at (dtype_of_column d) h (omega (arith, l, lt)))
 
-pub start_length : {X Y : Type 0} (whole : Bool) (xs : List X) (ys : List Y) → length xs ≡ length ys → length (start_of whole xs) ≡ length (start_of whole ys)
+pub start_length : {X Y : Type 0} (whole : Bool) (xs : List X) (ys : List Y) → length xs ≡ length ys → length (all_or_none whole xs) ≡ length (all_or_none whole ys)
 start_length true xs ys e = e
 start_length false xs ys e = refl
 
@@ -61,54 +61,54 @@ map_push f [] x = refl
 map_push f (y ∷ xs) x = ap (λ r. f y ∷ r) (map_push f xs x)
 
 pub column_step : (whole : Bool) (columns out : List Column) (picks : List Pick) (at : ℕ) (c : Column) → at < length columns
-    → ((d : Column) → cells_of c ≡ start_of whole (cells_of (get_or columns at d)) ++ picked_cells (cells_of (get_or columns at d)) at picks)
-    → ((d : Column) → dtype_of c ≡ dtype_of (get_or columns at d))
+    → ((d : Column) → column_cells c ≡ all_or_none whole (column_cells (get_or columns at d)) ++ picked_cells (column_cells (get_or columns at d)) at picks)
+    → ((d : Column) → dtype_of_column c ≡ dtype_of_column (get_or columns at d))
     → record {
-      cells : map cells_of (out ++ c ∷ []) ++ picked_columns whole (at + 1) (map cells_of (drop (at + 1) columns)) picks ≡ map cells_of out ++ picked_columns whole at (map cells_of (drop at columns)) picks;
-      dtypes : map dtype_of (out ++ c ∷ []) ++ map dtype_of (drop (at + 1) columns) ≡ map dtype_of out ++ map dtype_of (drop at columns);
+      cells : map column_cells (out ++ c ∷ []) ++ picked_columns whole (at + 1) (map column_cells (drop (at + 1) columns)) picks ≡ map column_cells out ++ picked_columns whole at (map column_cells (drop at columns)) picks;
+      dtypes : map dtype_of_column (out ++ c ∷ []) ++ map dtype_of_column (drop (at + 1) columns) ≡ map dtype_of_column out ++ map dtype_of_column (drop at columns);
     }
 column_step whole columns out picks at c lt cells dtype =
     let cut = drop_column columns at c lt in
-    let later = picked_columns whole (at + 1) (map cells_of (drop (at + 1) columns)) picks in
+    let later = picked_columns whole (at + 1) (map column_cells (drop (at + 1) columns)) picks in
     record {
-      cells = ap (λ r. r ++ later) (map_push cells_of out c)
-          ∙ append_assoc (map cells_of out) (cells_of c ∷ []) later
-          ∙ ap (λ r. map cells_of out ++ r ∷ later) (cells c)
-          ∙ ap (λ cs. map cells_of out ++ picked_columns whole at (map cells_of cs) picks) (sym cut);
-      dtypes = ap (λ r. r ++ map dtype_of (drop (at + 1) columns)) (map_push dtype_of out c)
-          ∙ append_assoc (map dtype_of out) (dtype_of c ∷ []) (map dtype_of (drop (at + 1) columns))
-          ∙ ap (λ t. map dtype_of out ++ t ∷ map dtype_of (drop (at + 1) columns)) (dtype c)
-          ∙ ap (λ cs. map dtype_of out ++ map dtype_of cs) (sym cut);
+      cells = ap (λ r. r ++ later) (map_push column_cells out c)
+          ∙ append_assoc (map column_cells out) (column_cells c ∷ []) later
+          ∙ ap (λ r. map column_cells out ++ r ∷ later) (cells c)
+          ∙ ap (λ cs. map column_cells out ++ picked_columns whole at (map column_cells cs) picks) (sym cut);
+      dtypes = ap (λ r. r ++ map dtype_of_column (drop (at + 1) columns)) (map_push dtype_of_column out c)
+          ∙ append_assoc (map dtype_of_column out) (dtype_of_column c ∷ []) (map dtype_of_column (drop (at + 1) columns))
+          ∙ ap (λ t. map dtype_of_column out ++ t ∷ map dtype_of_column (drop (at + 1) columns)) (dtype c)
+          ∙ ap (λ cs. map dtype_of_column out ++ map dtype_of_column cs) (sym cut);
     }
 
 -- the block of all of them
-picked_even : (whole : Bool) (n at : ℕ) (columns : List (List Cell)) (picks : List Pick) (ts : List Tag) → length ts ≡ n → T (are_even n columns) → T (are_even (length (start_of whole ts ++ map (λ p. p.tag) picks)) (picked_columns whole at columns picks))
+picked_even : (whole : Bool) (n at : ℕ) (columns : List (List Cell)) (picks : List Pick) (ts : List Tag) → length ts ≡ n → T (are_even n columns) → T (are_even (length (all_or_none whole ts ++ map (λ p. p.tag) picks)) (picked_columns whole at columns picks))
 picked_even whole n at [] picks ts e h = tt
 picked_even whole n at (c ∷ cs) picks ts e h =
     let same = eqb-true (length c) n (true_from_T _ (T-first (length c == n) _ h)) in
     let starts = start_length whole c ts (same ∙ sym e) in
-    let a = length-append (start_of whole c) (picked_cells c at picks) in
-    let b = length-append (start_of whole ts) (map (λ p. p.tag) picks) in
+    let a = length-append (all_or_none whole c) (picked_cells c at picks) in
+    let b = length-append (all_or_none whole ts) (map (λ p. p.tag) picks) in
     let k = mapped_length (λ p. p.tag) picks in
     let m = mapped_length (λ p. origin_cell c at p.origin) picks in
-    let all : length (start_of whole c ++ picked_cells c at picks) ≡ length (start_of whole ts ++ map (λ p. p.tag) picks) = omega (arith, starts, a, b, k, m) in
+    let all : length (all_or_none whole c ++ picked_cells c at picks) ≡ length (all_or_none whole ts ++ map (λ p. p.tag) picks) = omega (arith, starts, a, b, k, m) in
     T-both _ _ (subst T (sym (eq-eqb _ _ all)) tt) (picked_even whole n (at + 1) cs picks ts e (T-second (length c == n) _ h))
 
-pub block_made : (whole : Bool) (ts made_tags : List Tag) (columns made : List Column) (picks : List Pick) → T (are_even (length ts) (map cells_of columns)) → AreRows (map dtype_of columns) picks → 0 < length picks → length (start_of whole ts) + length picks ≤ 1024
-    → made_tags ≡ start_of whole ts ++ map (λ p. p.tag) picks → map cells_of made ≡ picked_columns whole 0 (map cells_of columns) picks
-    → record { sound : IsBlock made_tags made; rows : tagged_rows made_tags (map cells_of made) ≡ start_of whole (tagged_rows ts (map cells_of columns)) ++ picked_rows (map cells_of columns) picks }
+pub block_made : (whole : Bool) (ts made_tags : List Tag) (columns made : List Column) (picks : List Pick) → T (are_even (length ts) (map column_cells columns)) → AreRows (map dtype_of_column columns) picks → 0 < length picks → length (all_or_none whole ts) + length picks ≤ 1024
+    → made_tags ≡ all_or_none whole ts ++ map (λ p. p.tag) picks → map column_cells made ≡ picked_columns whole 0 (map column_cells columns) picks
+    → record { sound : IsBlock made_tags made; rows : tagged_rows made_tags (map column_cells made) ≡ all_or_none whole (tagged_rows ts (map column_cells columns)) ++ picked_rows (map column_cells columns) picks }
 block_made whole ts made_tags columns made picks even rows some few tags cells =
-    let b = length-append (start_of whole ts) (map (λ p. p.tag) picks) in
+    let b = length-append (all_or_none whole ts) (map (λ p. p.tag) picks) in
     let k = mapped_length (λ p. p.tag) picks in
     let n = ap length tags in
-    let types = mapped_length dtype_of columns ∙ sym (mapped_length cells_of columns) in
+    let types = mapped_length dtype_of_column columns ∙ sym (mapped_length column_cells columns) in
     record {
       sound = record {
         some = omega (arith, b, k, n, some);
         few = omega (arith, b, k, n, few);
-        even = subst (λ ts. T (are_even (length ts) (map cells_of made))) (sym tags) (subst (λ cs. T (are_even (length (start_of whole ts ++ map (λ p. p.tag) picks)) cs)) (sym cells) (picked_even whole (length ts) 0 (map cells_of columns) picks ts refl even));
+        even = subst (λ ts. T (are_even (length ts) (map column_cells made))) (sym tags) (subst (λ cs. T (are_even (length (all_or_none whole ts ++ map (λ p. p.tag) picks)) cs)) (sym cells) (picked_even whole (length ts) 0 (map column_cells columns) picks ts refl even));
       };
-      rows = ap (λ ts. tagged_rows ts (map cells_of made)) tags
-          ∙ ap (tagged_rows (start_of whole ts ++ map (λ p. p.tag) picks)) cells
-          ∙ rows_made whole ts (map cells_of columns) (map dtype_of columns) picks even types rows;
+      rows = ap (λ ts. tagged_rows ts (map column_cells made)) tags
+          ∙ ap (tagged_rows (all_or_none whole ts ++ map (λ p. p.tag) picks)) cells
+          ∙ rows_made whole ts (map column_cells columns) (map dtype_of_column columns) picks even types rows;
     }

@@ -4,34 +4,34 @@ use Rattle.std.specs.Arc.{arc_value}
 use Rattle.std.specs.declared.sync.Arc.{Arc}
 use Rattle.df_value.specs.declared.cell.Cell.{Cell}
 use Rattle.df_value.specs.declared.cell.CellType.{CellType}
-use Rattle.df_column.specs.Blocks.{AreOfTypes, BlockParts, block_rows, rows_of}
+use Rattle.df_column.specs.Blocks.{AreOfDtypes, BlockParts, block_rows, rows_of_blocks}
 use Rattle.df_column.specs.BlockRows.{AddsRows}
-use Rattle.df_column.specs.Columns.{dtype_of}
+use Rattle.df_column.specs.Columns.{dtype_of_column}
 use Rattle.df_column.specs.declared.tag.Tag.{Tag}
 
 module _ {S : Type 0} where
-  rows_push : (bs : List (Arc BlockParts S)) (b : Arc BlockParts S) → rows_of (bs ++ b ∷ []) ≡ rows_of bs ++ block_rows (arc_value b)
+  rows_push : (bs : List (Arc BlockParts S)) (b : Arc BlockParts S) → rows_of_blocks (bs ++ b ∷ []) ≡ rows_of_blocks bs ++ block_rows (arc_value b)
   rows_push [] b = append-nil (block_rows (arc_value b))
   rows_push (x ∷ bs) b = ap (λ es. block_rows (arc_value x) ++ es) (rows_push bs b) ∙ sym (append_assoc (block_rows (arc_value x)) _ _)
 
-  types_push : (dtypes : List CellType) (bs : List (Arc BlockParts S)) (b : Arc BlockParts S) → map dtype_of (arc_value b).columns ≡ dtypes → AreOfTypes dtypes bs → AreOfTypes dtypes (bs ++ b ∷ [])
+  types_push : (dtypes : List CellType) (bs : List (Arc BlockParts S)) (b : Arc BlockParts S) → map dtype_of_column (arc_value b).columns ≡ dtypes → AreOfDtypes dtypes bs → AreOfDtypes dtypes (bs ++ b ∷ [])
   types_push dtypes [] b e h = (e, tt)
   types_push dtypes (x ∷ bs) b e h = (h.0, types_push dtypes bs b e h.1)
 
   -- one block more
-  pub adds_block : (dtypes : List CellType) (rows : List (Tag × List Cell)) (old new : List (Arc BlockParts S)) (b : Arc BlockParts S) → new ≡ old ++ b ∷ [] → block_rows (arc_value b) ≡ rows → map dtype_of (arc_value b).columns ≡ dtypes → AddsRows dtypes rows old new
+  pub adds_block : (dtypes : List CellType) (rows : List (Tag × List Cell)) (old new : List (Arc BlockParts S)) (b : Arc BlockParts S) → new ≡ old ++ b ∷ [] → block_rows (arc_value b) ≡ rows → map dtype_of_column (arc_value b).columns ≡ dtypes → AddsRows dtypes rows old new
   adds_block dtypes rows old new b e r t = record {
-    rows = ap rows_of e ∙ rows_push old b ∙ ap (λ es. rows_of old ++ es) r;
-    types = λ h. subst (AreOfTypes dtypes) (sym e) (types_push dtypes old b t h);
+    rows = ap rows_of_blocks e ∙ rows_push old b ∙ ap (λ es. rows_of_blocks old ++ es) r;
+    types = λ h. subst (AreOfDtypes dtypes) (sym e) (types_push dtypes old b t h);
   }
 
   -- nothing more, and one thing after another
   pub adds_none : (dtypes : List CellType) (old : List (Arc BlockParts S)) → AddsRows dtypes [] old old
-  adds_none dtypes old = record { rows = sym (append-nil (rows_of old)); types = λ h. h }
+  adds_none dtypes old = record { rows = sym (append-nil (rows_of_blocks old)); types = λ h. h }
 
   pub adds_both : (dtypes : List CellType) (xs ys : List (Tag × List Cell)) (old mid new : List (Arc BlockParts S)) → AddsRows dtypes xs old mid → AddsRows dtypes ys mid new → AddsRows dtypes (xs ++ ys) old new
   adds_both dtypes xs ys old mid new p q = record {
-    rows = q.rows ∙ ap (λ es. es ++ ys) p.rows ∙ append_assoc (rows_of old) xs ys;
+    rows = q.rows ∙ ap (λ es. es ++ ys) p.rows ∙ append_assoc (rows_of_blocks old) xs ys;
     types = λ h. q.types (p.types h);
   }
 

@@ -10,10 +10,10 @@ use Rattle.df_value.specs.declared.cell.Cell.{Cell}
 use Rattle.df_value.specs.declared.cell.Cell.TheVariants as cell
 use Rattle.df_value.specs.declared.cell.CellType.{CellType}
 use Rattle.df_value.specs.declared.cell.CellType.TheVariants as dtype
-use Rattle.df_column.specs.Blocks.{AreOfTypes, BlockParts, block_rows, rows_of}
-use Rattle.df_column.specs.Columns.{cells_of, dtype_of}
-use Rattle.df_column.specs.Rows.{first_cell, is_row, later_cells, tagged_rows}
-use Rattle.df_column.specs.Tables.{types_of}
+use Rattle.df_column.specs.Blocks.{AreOfDtypes, BlockParts, block_rows, rows_of_blocks}
+use Rattle.df_column.specs.Columns.{column_cells, dtype_of_column}
+use Rattle.df_column.specs.Rows.{head_cell, is_row, later_cells, tagged_rows}
+use Rattle.df_column.specs.Tables.{dtypes_of}
 use Rattle.df_column.specs.ValueCells.{int_cell, wide_cell, text_cell, bool_cell, frac_cell}
 use Rattle.df_column.specs.declared.column.Column.{Column}
 use Rattle.df_column.specs.declared.column.Column.TheVariants as column
@@ -45,7 +45,7 @@ frac_fits : (o : Option (ℤ × ℤ)) → T (fits_dtype dtype.Frac (frac_cell o)
 frac_fits None = tt
 frac_fits (Some f) = tt
 
-cells_fit : (c : Column) → T (list_all (fits_dtype (dtype_of c)) (cells_of c))
+cells_fit : (c : Column) → T (list_all (fits_dtype (dtype_of_column c)) (column_cells c))
 cells_fit (column.Int vs) = all_cells dtype.Int int_cell int_fits vs
 cells_fit (column.Wide vs) = all_cells dtype.Wide wide_cell wide_fits vs
 cells_fit (column.Text vs) = all_cells dtype.Text text_cell text_fits vs
@@ -59,7 +59,7 @@ AreFitColumns [] (c ∷ cs) = ⊥
 AreFitColumns (d ∷ ds) [] = ⊥
 AreFitColumns (d ∷ ds) (c ∷ cs) = T (list_all (fits_dtype d) c) × AreFitColumns ds cs
 
-columns_fit : (columns : List Column) → AreFitColumns (map dtype_of columns) (map cells_of columns)
+columns_fit : (columns : List Column) → AreFitColumns (map dtype_of_column columns) (map column_cells columns)
 columns_fit [] = tt
 columns_fit (c ∷ cs) = (cells_fit c, columns_fit cs)
 
@@ -70,7 +70,7 @@ null_fits dtype.Text = tt
 null_fits dtype.Bool = tt
 null_fits dtype.Frac = tt
 
-first_fits : (d : CellType) (c : List Cell) → T (list_all (fits_dtype d) c) → T (fits_dtype d (first_cell c))
+first_fits : (d : CellType) (c : List Cell) → T (list_all (fits_dtype d) c) → T (fits_dtype d (head_cell c))
 first_fits d [] h = null_fits d
 first_fits d (c ∷ cs) h = T-first (fits_dtype d c) _ h
 
@@ -78,7 +78,7 @@ later_fit : (d : CellType) (c : List Cell) → T (list_all (fits_dtype d) c) →
 later_fit d [] h = tt
 later_fit d (c ∷ cs) h = T-second (fits_dtype d c) _ h
 
-first_row : (ds : List CellType) (cs : List (List Cell)) → AreFitColumns ds cs → T (is_row ds (map first_cell cs))
+first_row : (ds : List CellType) (cs : List (List Cell)) → AreFitColumns ds cs → T (is_row ds (map head_cell cs))
 first_row [] [] h = tt
 first_row [] (c ∷ cs) h = absurd h
 first_row (d ∷ ds) [] h = absurd h
@@ -91,22 +91,22 @@ later_columns (d ∷ ds) [] h = absurd h
 later_columns (d ∷ ds) (c ∷ cs) h = (later_fit d c h.0, later_columns ds cs h.1)
 
 -- rows of a schema's types fit it
-types_fit : (schema : List (List ℕ × CellType)) (row : List Cell) → T (is_row (types_of schema) row) → T (row_fits schema row)
+types_fit : (schema : List (List ℕ × CellType)) (row : List Cell) → T (is_row (dtypes_of schema) row) → T (row_fits schema row)
 types_fit [] [] h = tt
 types_fit [] (c ∷ row) h = absurd h
 types_fit (s ∷ schema) [] h = absurd h
 types_fit (s ∷ schema) (c ∷ row) h = T-both _ _ (T-first (fits_dtype s.1 c) _ h) (types_fit schema row (T-second (fits_dtype s.1 c) _ h))
 
-rows_fit_schema : (schema : List (List ℕ × CellType)) (ts : List Tag) (cs : List (List Cell)) → AreFitColumns (types_of schema) cs → T (list_all (row_fits schema) (map (λ r. r.1) (tagged_rows ts cs)))
+rows_fit_schema : (schema : List (List ℕ × CellType)) (ts : List Tag) (cs : List (List Cell)) → AreFitColumns (dtypes_of schema) cs → T (list_all (row_fits schema) (map (λ r. r.1) (tagged_rows ts cs)))
 rows_fit_schema schema [] cs h = tt
-rows_fit_schema schema (t ∷ ts) cs h = T-both _ _ (types_fit schema _ (first_row (types_of schema) cs h)) (rows_fit_schema schema ts (map later_cells cs) (later_columns (types_of schema) cs h))
+rows_fit_schema schema (t ∷ ts) cs h = T-both _ _ (types_fit schema _ (first_row (dtypes_of schema) cs h)) (rows_fit_schema schema ts (map later_cells cs) (later_columns (dtypes_of schema) cs h))
 
 all_append : (p : List Cell → Bool) (xs ys : List (Tag × List Cell)) → T (list_all p (map (λ r. r.1) xs)) → T (list_all p (map (λ r. r.1) ys)) → T (list_all p (map (λ r. r.1) (xs ++ ys)))
 all_append p [] ys h k = k
 all_append p (x ∷ xs) ys h k = T-both _ _ (T-first (p x.1) _ h) (all_append p xs ys (T-second (p x.1) _ h) k)
 
-pub blocks_fit : {S : Type 0} (schema : List (List ℕ × CellType)) (bs : List (Arc BlockParts S)) → AreOfTypes (types_of schema) bs → T (list_all (row_fits schema) (map (λ r. r.1) (rows_of bs)))
+pub blocks_fit : {S : Type 0} (schema : List (List ℕ × CellType)) (bs : List (Arc BlockParts S)) → AreOfDtypes (dtypes_of schema) bs → T (list_all (row_fits schema) (map (λ r. r.1) (rows_of_blocks bs)))
 blocks_fit schema [] h = tt
 blocks_fit schema (b ∷ bs) h =
-    let fit = subst (λ ds. AreFitColumns ds (map cells_of (arc_value b).columns)) h.0 (columns_fit (arc_value b).columns) in
-    all_append (row_fits schema) (block_rows (arc_value b)) (rows_of bs) (rows_fit_schema schema (arc_value b).tags (map cells_of (arc_value b).columns) fit) (blocks_fit schema bs h.1)
+    let fit = subst (λ ds. AreFitColumns ds (map column_cells (arc_value b).columns)) h.0 (columns_fit (arc_value b).columns) in
+    all_append (row_fits schema) (block_rows (arc_value b)) (rows_of_blocks bs) (rows_fit_schema schema (arc_value b).tags (map column_cells (arc_value b).columns) fit) (blocks_fit schema bs h.1)

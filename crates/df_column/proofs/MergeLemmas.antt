@@ -15,7 +15,7 @@ use Rattle.df_column.specs.Picks.{AreWithin, is_within}
 use Rattle.df_column.specs.Rows.{tagged_rows, row_at, origin_row, picked_rows, AreRows, is_new_row, AreRisingTags}
 use Rattle.df_column.specs.declared.picks.Origin.TheVariants.{Old}
 use Rattle.df_column.specs.declared.picks.Pick.{Pick}
-use Rattle.df_column.specs.Tables.{change_of}
+use Rattle.df_column.specs.Tables.{entry_change}
 use Rattle.df_column.specs.declared.entry.Entry.{Entry}
 use Rattle.df_column.specs.declared.tag.Tag.{Tag}
 use Rattle.df_column.proofs.Bools.{T-both, T-first, T-second, true_from_T, equal_from_is_eq}
@@ -216,12 +216,12 @@ rest_rows ts columns at h =
 
 -- after the last change
 pub merge_end : (columns : List (List Cell)) (ts : List Tag) (picks after : List Pick) (at n : ℕ) (entries : List Entry) → at ≤ length ts → length entries ≤ n
-    → picked_rows columns picks ++ after_changes tag_cmp (drop at (tagged_rows ts columns)) (map change_of (drop n entries)) ≡ after_changes tag_cmp (tagged_rows ts columns) (map change_of entries)
+    → picked_rows columns picks ++ after_changes tag_cmp (drop at (tagged_rows ts columns)) (map entry_change (drop n entries)) ≡ after_changes tag_cmp (tagged_rows ts columns) (map entry_change entries)
     → picked_rows columns after ≡ picked_rows columns picks ++ take (length ts - at) (drop at (tagged_rows ts columns))
-    → picked_rows columns after ≡ after_changes tag_cmp (tagged_rows ts columns) (map change_of entries)
+    → picked_rows columns after ≡ after_changes tag_cmp (tagged_rows ts columns) (map entry_change entries)
 merge_end columns ts picks after at n entries le h e f =
     f ∙ ap (λ r. picked_rows columns picks ++ r) (rest_rows ts columns at le)
-    ∙ ap (λ es. picked_rows columns picks ++ after_changes tag_cmp (drop at (tagged_rows ts columns)) (map change_of es)) (sym (drop_past entries n h)) ∙ e
+    ∙ ap (λ es. picked_rows columns picks ++ after_changes tag_cmp (drop at (tagged_rows ts columns)) (map entry_change es)) (sym (drop_past entries n h)) ∙ e
 
 -- a slice from an index on
 pub rest_of : {X : Type 0} (xs : List X) (at : ℕ) → take (length xs - at) (drop at xs) ≡ drop at xs

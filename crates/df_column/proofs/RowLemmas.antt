@@ -7,8 +7,8 @@ use Rattle.df_value.specs.Cells.{fits_dtype}
 use Rattle.df_value.specs.declared.cell.Cell.{Cell}
 use Rattle.df_value.specs.declared.cell.Cell.TheVariants as cell
 use Rattle.df_value.specs.declared.cell.CellType.{CellType}
-use Rattle.df_column.specs.Picks.{origin_cell, picked_cells, start_of}
-use Rattle.df_column.specs.Rows.{first_cell, later_cells, tagged_rows, row_at, are_even, origin_row, picked_rows, is_row, is_new_row, AreRows, picked_columns}
+use Rattle.df_column.specs.Picks.{origin_cell, picked_cells, all_or_none}
+use Rattle.df_column.specs.Rows.{head_cell, later_cells, tagged_rows, row_at, are_even, origin_row, picked_rows, is_row, is_new_row, AreRows, picked_columns}
 use Rattle.df_column.specs.declared.picks.Origin.{Origin}
 use Rattle.df_column.specs.declared.picks.Origin.TheVariants.{Old, New}
 use Rattle.df_column.specs.declared.picks.Pick.{Pick}
@@ -25,7 +25,7 @@ length_rows [] columns = refl
 length_rows (t ∷ ts) columns = ap suc (length_rows ts (map later_cells columns))
 
 -- the row at an index
-row_first : (columns : List (List Cell)) → map first_cell columns ≡ row_at columns 0
+row_first : (columns : List (List Cell)) → map head_cell columns ≡ row_at columns 0
 row_first [] = refl
 row_first ([] ∷ cs) = ap (λ r. cell.Null ∷ r) (row_first cs)
 row_first ((c ∷ c') ∷ cs) = ap (λ r. c ∷ r) (row_first cs)
@@ -46,7 +46,7 @@ picked_from j [] p = []
 picked_from j (c ∷ cs) p = origin_cell c j p.origin ∷ picked_from (j + 1) cs p
 
 -- columns that are made along picks alone
-picked_firsts : (j : ℕ) (columns : List (List Cell)) (p : Pick) (picks : List Pick) → map first_cell (picked_columns false j columns (p ∷ picks)) ≡ picked_from j columns p
+picked_firsts : (j : ℕ) (columns : List (List Cell)) (p : Pick) (picks : List Pick) → map head_cell (picked_columns false j columns (p ∷ picks)) ≡ picked_from j columns p
 picked_firsts j [] p picks = refl
 picked_firsts j (c ∷ cs) p picks = ap (λ r. origin_cell c j p.origin ∷ r) (picked_firsts (j + 1) cs p picks)
 
@@ -116,7 +116,7 @@ not_even n h = let e : 0 ≡ suc n = eqb-true 0 (suc n) (true_from_T _ h) in ome
 not_none : (n : ℕ) → T (suc n == 0) → ⊥
 not_none n h = let e : suc n ≡ 0 = eqb-true (suc n) 0 (true_from_T _ h) in omega arith
 
-beside_firsts : (n : ℕ) (cs ds : List (List Cell)) → T (are_even (suc n) cs) → length ds ≡ length cs → map first_cell (beside cs ds) ≡ map first_cell cs
+beside_firsts : (n : ℕ) (cs ds : List (List Cell)) → T (are_even (suc n) cs) → length ds ≡ length cs → map head_cell (beside cs ds) ≡ map head_cell cs
 beside_firsts n [] ds h e = refl
 beside_firsts n (c ∷ cs) [] h e = absurd (omega arith)
 beside_firsts n ([] ∷ cs) (d ∷ ds) h e = absurd (not_even n (T-first (0 == suc n) _ h))
@@ -159,7 +159,7 @@ beside_rows (t ∷ ts) us cs ds h e =
 
 -- the rows of a block that is made along picks, behind all old rows or alone
 pub rows_made : (whole : Bool) (ts : List Tag) (columns : List (List Cell)) (dtypes : List CellType) (picks : List Pick) → T (are_even (length ts) columns) → length dtypes ≡ length columns → AreRows dtypes picks
-    → tagged_rows (start_of whole ts ++ map (λ p. p.tag) picks) (picked_columns whole 0 columns picks) ≡ start_of whole (tagged_rows ts columns) ++ picked_rows columns picks
+    → tagged_rows (all_or_none whole ts ++ map (λ p. p.tag) picks) (picked_columns whole 0 columns picks) ≡ all_or_none whole (tagged_rows ts columns) ++ picked_rows columns picks
 rows_made false ts columns dtypes picks h e rows = rows_of_picks columns dtypes picks e rows
 rows_made true ts columns dtypes picks h e rows =
     let l = length_columns false 0 columns picks in

@@ -12,8 +12,8 @@ use Rattle.std.specs.declared.cmp.Ordering.{Ordering}
 use Rattle.std.specs.declared.cmp.Ordering.TheVariants.{Less, Equal, Greater}
 use Rattle.std.specs.FinMap as finite
 use Rattle.df_value.specs.declared.cell.Cell.{Cell}
-use Rattle.df_column.specs.Blocks.{BlockParts, block_rows, ends_of, rows_of}
-use Rattle.df_column.specs.Columns.{cells_of}
+use Rattle.df_column.specs.Blocks.{BlockParts, block_rows, ends_of, rows_of_blocks}
+use Rattle.df_column.specs.Columns.{column_cells}
 use Rattle.df_column.specs.Places.{IsGap, IsPlace}
 use Rattle.df_column.specs.Pools.{start_at}
 use Rattle.df_column.specs.Rows.{row_at}
@@ -40,16 +40,16 @@ module _ {S : Type 0} where
   length_ends n (b ∷ bs) = ap suc (length_ends (n + length (arc_value b).tags) bs)
 
   block_length : (b : Arc BlockParts S) → length (block_rows (arc_value b)) ≡ length (arc_value b).tags
-  block_length b = length_rows (arc_value b).tags (map cells_of (arc_value b).columns)
+  block_length b = length_rows (arc_value b).tags (map column_cells (arc_value b).columns)
 
   -- a row by the count of the ends before it
   record IsSpotFrom (n at k : ℕ) (bs : List (Arc BlockParts S)) : Type 0 where
     in_blocks : k < length bs
     start : start_at n (ends_of n bs) k ≤ at
     in_block : (b : Arc BlockParts S) → at - start_at n (ends_of n bs) k < length (arc_value (get_or bs k b)).tags
-    here : (b : Arc BlockParts S) (d : Tag × List Cell) → get_or (rows_of bs) (at - n) d ≡ get_or (block_rows (arc_value (get_or bs k b))) (at - start_at n (ends_of n bs) k) d
+    here : (b : Arc BlockParts S) (d : Tag × List Cell) → get_or (rows_of_blocks bs) (at - n) d ≡ get_or (block_rows (arc_value (get_or bs k b))) (at - start_at n (ends_of n bs) k) d
 
-  located : (n at k : ℕ) (bs : List (Arc BlockParts S)) → n ≤ at → at < n + length (rows_of bs) → IsEndCount (ends_of n bs) at k → IsSpotFrom n at k bs
+  located : (n at k : ℕ) (bs : List (Arc BlockParts S)) → n ≤ at → at < n + length (rows_of_blocks bs) → IsEndCount (ends_of n bs) at k → IsSpotFrom n at k bs
   located n at k [] le lt h = absurd (omega arith)
   located n at zero (b ∷ bs) le lt h =
       let end : at < n + length (arc_value b).tags = h.after 0 0 (omega arith) (omega arith) in
@@ -58,12 +58,12 @@ module _ {S : Type 0} where
         in_blocks = omega arith;
         start = le;
         in_block = λ c. omega (arith, end, le);
-        here = λ c d. get_front (block_rows (arc_value b)) (rows_of bs) (at - n) d (omega (arith, end, le, l));
+        here = λ c d. get_front (block_rows (arc_value b)) (rows_of_blocks bs) (at - n) d (omega (arith, end, le, l));
       }
   located n at (suc k) (b ∷ bs) le lt h =
       let m = n + length (arc_value b).tags in
       let l = block_length b in
-      let a = length-append (block_rows (arc_value b)) (rows_of bs) in
+      let a = length-append (block_rows (arc_value b)) (rows_of_blocks bs) in
       let end : m ≤ at = h.before 0 0 (omega arith) in
       let count : IsEndCount (ends_of m bs) at k = record {
         in_range = omega (arith, h.in_range);
@@ -75,10 +75,10 @@ module _ {S : Type 0} where
         in_blocks = omega (arith, rest.in_blocks);
         start = rest.start;
         in_block = rest.in_block;
-        here = λ c d. get_back (block_rows (arc_value b)) (rows_of bs) (at - n) (at - m) d (omega (arith, l, end)) ∙ rest.here c d;
+        here = λ c d. get_back (block_rows (arc_value b)) (rows_of_blocks bs) (at - n) (at - m) d (omega (arith, l, end)) ∙ rest.here c d;
       }
 
-  pub spot_from_ends : (bs : List (Arc BlockParts S)) (ends : List ℕ) (at k : ℕ) → ends ≡ ends_of 0 bs → at < length (rows_of bs) → IsEndCount ends at k
+  pub spot_from_ends : (bs : List (Arc BlockParts S)) (ends : List ℕ) (at k : ℕ) → ends ≡ ends_of 0 bs → at < length (rows_of_blocks bs) → IsEndCount ends at k
       → record { start : start_at 0 ends k ≤ at; inside : k ≤ length ends; spot : IsSpot bs at k (at - start_at 0 ends k) }
   spot_from_ends bs ends at k e lt h =
       let found = located 0 at k bs (omega arith) (omega (arith, lt)) (subst (λ es. IsEndCount es at k) e h) in
@@ -90,12 +90,12 @@ module _ {S : Type 0} where
         spot = subst (λ n. IsSpot bs at k (at - n)) (sym s) (record {
           in_blocks = found.in_blocks;
           in_block = found.in_block;
-          here = λ b d. ap (λ i. get_or (rows_of bs) i d) (sym zero_off) ∙ found.here b d;
+          here = λ b d. ap (λ i. get_or (rows_of_blocks bs) i d) (sym zero_off) ∙ found.here b d;
         });
       }
 
   -- the number of all rows
-  last_end : (n : ℕ) (bs : List (Arc BlockParts S)) (d : ℕ) → 0 < length bs → get_or (ends_of n bs) (length (ends_of n bs) - 1) d ≡ n + length (rows_of bs)
+  last_end : (n : ℕ) (bs : List (Arc BlockParts S)) (d : ℕ) → 0 < length bs → get_or (ends_of n bs) (length (ends_of n bs) - 1) d ≡ n + length (rows_of_blocks bs)
   last_end n [] d h = absurd (omega arith)
   last_end n (b ∷ []) d h =
       let l = block_length b in
@@ -105,7 +105,7 @@ module _ {S : Type 0} where
       let m = n + length (arc_value b).tags in
       let rest = last_end m (c ∷ bs) d (omega arith) in
       let l = block_length b in
-      let a = length-append (block_rows (arc_value b)) (rows_of (c ∷ bs)) in
+      let a = length-append (block_rows (arc_value b)) (rows_of_blocks (c ∷ bs)) in
       let e : suc (suc (length (ends_of (m + length (arc_value c).tags) bs))) - 1 ≡ suc (suc (length (ends_of (m + length (arc_value c).tags) bs)) - 1) = omega arith in
       ap (λ i. get_or (ends_of n (b ∷ (c ∷ bs))) i d) e ∙ rest ∙ omega (arith, l, a)
 
@@ -124,11 +124,11 @@ module _ {S : Type 0} where
   pub ends_rise : (bs : List (Arc BlockParts S)) (ends : List ℕ) → ends ≡ ends_of 0 bs → IsNonDecreasing ends
   ends_rise bs ends e = subst IsNonDecreasing (sym e) (ends_from_rise 0 bs)
 
-  some_end : (bs : List (Arc BlockParts S)) (e : ℕ) → Some e ≡ slice_get (ends_of 0 bs) (length (ends_of 0 bs) - 1) → e ≡ length (rows_of bs)
+  some_end : (bs : List (Arc BlockParts S)) (e : ℕ) → Some e ≡ slice_get (ends_of 0 bs) (length (ends_of 0 bs) - 1) → e ≡ length (rows_of_blocks bs)
   some_end [] e h = absurd (cc h)
-  some_end (b ∷ bs) e h = sym (get_or_from_slice_get (ends_of 0 (b ∷ bs)) (length (ends_of 0 (b ∷ bs)) - 1) e 0 (sym h)) ∙ last_end 0 (b ∷ bs) 0 (omega arith) ∙ (let z : 0 + length (rows_of (b ∷ bs)) ≡ length (rows_of (b ∷ bs)) = omega arith in z)
+  some_end (b ∷ bs) e h = sym (get_or_from_slice_get (ends_of 0 (b ∷ bs)) (length (ends_of 0 (b ∷ bs)) - 1) e 0 (sym h)) ∙ last_end 0 (b ∷ bs) 0 (omega arith) ∙ (let z : 0 + length (rows_of_blocks (b ∷ bs)) ≡ length (rows_of_blocks (b ∷ bs)) = omega arith in z)
 
-  no_end : (bs : List (Arc BlockParts S)) → None ≡ slice_get (ends_of 0 bs) (length (ends_of 0 bs) - 1) → 0 ≡ length (rows_of bs)
+  no_end : (bs : List (Arc BlockParts S)) → None ≡ slice_get (ends_of 0 bs) (length (ends_of 0 bs) - 1) → 0 ≡ length (rows_of_blocks bs)
   no_end [] h = refl
   no_end (b ∷ bs) h =
       let l = length_ends 0 (b ∷ bs) in
@@ -138,18 +138,18 @@ module _ {S : Type 0} where
       absent : {n : ℕ} → None ≡ Some n → ⊥
       absent e = cc
 
-  pub count_some : (bs : List (Arc BlockParts S)) (ends : List ℕ) (e : ℕ) → ends ≡ ends_of 0 bs → Some e ≡ slice_get ends (length ends - 1) → e ≡ length (rows_of bs)
+  pub count_some : (bs : List (Arc BlockParts S)) (ends : List ℕ) (e : ℕ) → ends ≡ ends_of 0 bs → Some e ≡ slice_get ends (length ends - 1) → e ≡ length (rows_of_blocks bs)
   count_some bs ends e is h = some_end bs e (h ∙ ap (λ es. slice_get es (length es - 1)) is)
 
-  pub count_none : (bs : List (Arc BlockParts S)) (ends : List ℕ) → ends ≡ ends_of 0 bs → None ≡ slice_get ends (length ends - 1) → 0 ≡ length (rows_of bs)
+  pub count_none : (bs : List (Arc BlockParts S)) (ends : List ℕ) → ends ≡ ends_of 0 bs → None ≡ slice_get ends (length ends - 1) → 0 ≡ length (rows_of_blocks bs)
   count_none bs ends is h = no_end bs (h ∙ ap (λ es. slice_get es (length es - 1)) is)
 
   -- the tag and the row at a spot
   pub at_spot : (bs : List (Arc BlockParts S)) (at block row : ℕ) (b : Arc BlockParts S) (t : Tag) → IsSpot bs at block row → b ≡ get_or bs block b
-      → (d : Tag × List Cell) → get_or (rows_of bs) at d ≡ (get_or (arc_value b).tags row t, row_at (map cells_of (arc_value b).columns) row)
+      → (d : Tag × List Cell) → get_or (rows_of_blocks bs) at d ≡ (get_or (arc_value b).tags row t, row_at (map column_cells (arc_value b).columns) row)
   at_spot bs at block row b t h e = λ d.
       h.here b d ∙ ap (λ c. get_or (block_rows (arc_value c)) row d) (sym e)
-      ∙ row_in_rows (arc_value b).tags (map cells_of (arc_value b).columns) row d t (subst (λ (c : Arc BlockParts S). row < length (arc_value c).tags) (sym e) (h.in_block b))
+      ∙ row_in_rows (arc_value b).tags (map column_cells (arc_value b).columns) row d t (subst (λ (c : Arc BlockParts S). row < length (arc_value c).tags) (sym e) (h.in_block b))
 
 -- how many ends a partition finds
 pub end_count : (ends : List ℕ) (at k : ℕ) → k ≤ length ends → IsPartitionPoint (λ y. nat_le y at ≡ true) (λ y. nat_le y at ≡ false) ends k → IsEndCount ends at k

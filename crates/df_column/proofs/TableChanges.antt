@@ -9,7 +9,7 @@ use Rattle.std.specs.FinMap.{FinMap, is_sorted, from_sorted, entries, entries_so
 use Rattle.std.specs.FinMap.Entries.{is_sorted-put, is_sorted-where_key}
 use Rattle.df_value.specs.declared.cell.Cell.{Cell}
 use Rattle.df_column.specs.Changes.{Change, set_at, applied_list, applied, edit, after_changes, all_under, all_from, IsNext}
-use Rattle.df_column.specs.Tables.{change_of, count_before}
+use Rattle.df_column.specs.Tables.{entry_change, count_before}
 use Rattle.df_column.specs.Tags.{tag_cmp}
 use Rattle.df_column.specs.declared.entry.Entry.{Entry}
 use Rattle.df_column.specs.declared.tag.Tag.{Tag}
@@ -18,43 +18,43 @@ use Rattle.df_column.proofs.Removal.{remove_is}
 use Rattle.df_column.proofs.TagOrder.{tag_total, tag_same}
 
 -- changes in order, cut at a tag
-halves : (n : ℕ) (es : List Entry) → map change_of (take n es) ++ map change_of (drop n es) ≡ map change_of es
-halves n es = sym (map-append change_of (take n es) (drop n es)) ∙ ap (map change_of) (take-append-drop n es)
+halves : (n : ℕ) (es : List Entry) → map entry_change (take n es) ++ map entry_change (drop n es) ≡ map entry_change es
+halves n es = sym (map-append entry_change (take n es) (drop n es)) ∙ ap (map entry_change) (take-append-drop n es)
 
-halves_sorted : (n : ℕ) (es : List Entry) → T (is_sorted tag_cmp (map change_of es)) → T (is_sorted tag_cmp (map change_of (take n es) ++ map change_of (drop n es)))
+halves_sorted : (n : ℕ) (es : List Entry) → T (is_sorted tag_cmp (map entry_change es)) → T (is_sorted tag_cmp (map entry_change (take n es) ++ map entry_change (drop n es)))
 halves_sorted n es h = subst (λ es. T (is_sorted tag_cmp es)) (sym (halves n es)) h
 
-pub sorted_taken : (n : ℕ) (es : List Entry) → T (is_sorted tag_cmp (map change_of es)) → T (is_sorted tag_cmp (map change_of (take n es)))
-sorted_taken n es h = sorted_first tag_total (map change_of (take n es)) (map change_of (drop n es)) (halves_sorted n es h)
+pub sorted_taken : (n : ℕ) (es : List Entry) → T (is_sorted tag_cmp (map entry_change es)) → T (is_sorted tag_cmp (map entry_change (take n es)))
+sorted_taken n es h = sorted_first tag_total (map entry_change (take n es)) (map entry_change (drop n es)) (halves_sorted n es h)
 
-pub sorted_dropped : (n : ℕ) (es : List Entry) → T (is_sorted tag_cmp (map change_of es)) → T (is_sorted tag_cmp (map change_of (drop n es)))
-sorted_dropped n es h = sorted_second tag_total (map change_of (take n es)) (map change_of (drop n es)) (halves_sorted n es h)
+pub sorted_dropped : (n : ℕ) (es : List Entry) → T (is_sorted tag_cmp (map entry_change es)) → T (is_sorted tag_cmp (map entry_change (drop n es)))
+sorted_dropped n es h = sorted_second tag_total (map entry_change (take n es)) (map entry_change (drop n es)) (halves_sorted n es h)
 
-prefix_pairs : (k : Tag) (es : List Entry) → prefix_len (λ x. is_lt (tag_cmp x.0 k)) (map change_of es) ≡ prefix_len (λ e. is_lt (tag_cmp e.tag k)) es
+prefix_pairs : (k : Tag) (es : List Entry) → prefix_len (λ x. is_lt (tag_cmp x.0 k)) (map entry_change es) ≡ prefix_len (λ e. is_lt (tag_cmp e.tag k)) es
 prefix_pairs k [] = refl
 prefix_pairs k (e ∷ es) = ap (λ n. cond (is_lt (tag_cmp e.tag k)) (1 + n) 0) (prefix_pairs k es)
 
-under_taken : (k : Tag) (es : List Entry) → T (all_under tag_cmp k (map change_of (take (count_before (Some k) es) es)))
+under_taken : (k : Tag) (es : List Entry) → T (all_under tag_cmp k (map entry_change (take (count_before (Some k) es) es)))
 under_taken k es =
-    subst (λ cs. T (all_under tag_cmp k cs)) (ap (λ n. take n (map change_of es)) (prefix_pairs k es) ∙ take-map change_of (count_before (Some k) es) es) (under_prefix tag_total k (map change_of es))
+    subst (λ cs. T (all_under tag_cmp k cs)) (ap (λ n. take n (map entry_change es)) (prefix_pairs k es) ∙ take-map entry_change (count_before (Some k) es) es) (under_prefix tag_total k (map entry_change es))
 
-from_dropped : (k : Tag) (es : List Entry) → T (is_sorted tag_cmp (map change_of es)) → T (all_from tag_cmp k (map change_of (drop (count_before (Some k) es) es)))
+from_dropped : (k : Tag) (es : List Entry) → T (is_sorted tag_cmp (map entry_change es)) → T (all_from tag_cmp k (map entry_change (drop (count_before (Some k) es) es)))
 from_dropped k es h =
-    subst (λ cs. T (all_from tag_cmp k cs)) (ap (λ n. drop n (map change_of es)) (prefix_pairs k es) ∙ drop-map change_of (count_before (Some k) es) es) (from_rest tag_total k (map change_of es) h)
+    subst (λ cs. T (all_from tag_cmp k cs)) (ap (λ n. drop n (map entry_change es)) (prefix_pairs k es) ∙ drop-map entry_change (count_before (Some k) es) es) (from_rest tag_total k (map entry_change es) h)
 
 -- the first run of cells takes the changes before the next tag
-pub first_run : (xs ys : List (Tag × List Cell)) (next : Option Tag) (es : List Entry) → IsNext ys next → T (is_sorted tag_cmp (xs ++ ys)) → T (is_sorted tag_cmp (map change_of es))
-    → after_changes tag_cmp (xs ++ ys) (map change_of es) ≡ after_changes tag_cmp xs (map change_of (take (count_before next es) es)) ++ after_changes tag_cmp ys (map change_of (drop (count_before next es) es))
+pub first_run : (xs ys : List (Tag × List Cell)) (next : Option Tag) (es : List Entry) → IsNext ys next → T (is_sorted tag_cmp (xs ++ ys)) → T (is_sorted tag_cmp (map entry_change es))
+    → after_changes tag_cmp (xs ++ ys) (map entry_change es) ≡ after_changes tag_cmp xs (map entry_change (take (count_before next es) es)) ++ after_changes tag_cmp ys (map entry_change (drop (count_before next es) es))
 first_run xs ys None es none cells changes =
-    ap (λ ys. after_changes tag_cmp (xs ++ ys) (map change_of es)) none
-    ∙ ap (λ xs. after_changes tag_cmp xs (map change_of es)) (append-nil xs)
-    ∙ ap (λ es. after_changes tag_cmp xs (map change_of es)) (sym (take-length es))
+    ap (λ ys. after_changes tag_cmp (xs ++ ys) (map entry_change es)) none
+    ∙ ap (λ xs. after_changes tag_cmp xs (map entry_change es)) (append-nil xs)
+    ∙ ap (λ es. after_changes tag_cmp xs (map entry_change es)) (sym (take-length es))
     ∙ sym (append-nil _)
-    ∙ ap (λ zs. after_changes tag_cmp xs (map change_of (take (length es) es)) ++ zs) (ap (λ es. after_changes tag_cmp [] (map change_of es)) (sym (drop-length es)) ∙ ap (λ ys. after_changes tag_cmp ys (map change_of (drop (length es) es))) (sym none))
+    ∙ ap (λ zs. after_changes tag_cmp xs (map entry_change (take (length es) es)) ++ zs) (ap (λ es. after_changes tag_cmp [] (map entry_change es)) (sym (drop-length es)) ∙ ap (λ ys. after_changes tag_cmp ys (map entry_change (drop (length es) es))) (sym none))
 first_run xs [] (Some k) es none cells changes = absurd none
 first_run xs (y ∷ ys) (Some k) es head cells changes =
-    let mine = map change_of (take (count_before (Some k) es) es) in
-    let others = map change_of (drop (count_before (Some k) es) es) in
+    let mine = map entry_change (take (count_before (Some k) es) es) in
+    let others = map entry_change (drop (count_before (Some k) es) es) in
     let from : T (all_from tag_cmp k (y ∷ ys)) = sorted_from tag_total k y ys head (sorted_second tag_total xs (y ∷ ys) cells) in
     let under : T (all_under tag_cmp k xs) = subst (λ k. T (all_under tag_cmp k xs)) head (apart_heads tag_total xs y ys (sorted_apart tag_total xs (y ∷ ys) cells)) in
     ap (after_changes tag_cmp (xs ++ y ∷ ys)) (sym (halves (count_before (Some k) es) es))
@@ -82,12 +82,12 @@ applied_changes cells (c ∷ cs) h =
     let rest = applied_changes (edit tag_cmp cells c.0 c.1.new) cs one.sorted in
     record { sorted = rest.sorted; is = ap (λ t. applied_list t cs) one.is ∙ rest.is }
 
-pub applied_cells : (cells out : List (Tag × List Cell)) (es : List Entry) (d : FinMap tag_cmp (Change (List Cell))) → T (is_sorted tag_cmp cells) → map change_of es ≡ entries d → out ≡ after_changes tag_cmp cells (map change_of es) → from_sorted out ≡ applied (from_sorted {R = tag_cmp} cells) d
+pub applied_cells : (cells out : List (Tag × List Cell)) (es : List Entry) (d : FinMap tag_cmp (Change (List Cell))) → T (is_sorted tag_cmp cells) → map entry_change es ≡ entries d → out ≡ after_changes tag_cmp cells (map entry_change es) → from_sorted out ≡ applied (from_sorted {R = tag_cmp} cells) d
 applied_cells cells out es d h all e =
-    ap from_sorted e ∙ sym (applied_changes cells (map change_of es) h).is ∙ ap (applied_list (from_sorted {R = tag_cmp} cells)) all
+    ap from_sorted e ∙ sym (applied_changes cells (map entry_change es) h).is ∙ ap (applied_list (from_sorted {R = tag_cmp} cells)) all
 
-pub applied_sorted : (cells out : List (Tag × List Cell)) (es : List Entry) → T (is_sorted tag_cmp cells) → out ≡ after_changes tag_cmp cells (map change_of es) → T (is_sorted tag_cmp out)
-applied_sorted cells out es h e = subst (λ es. T (is_sorted tag_cmp es)) (sym e) (applied_changes cells (map change_of es) h).sorted
+pub applied_sorted : (cells out : List (Tag × List Cell)) (es : List Entry) → T (is_sorted tag_cmp cells) → out ≡ after_changes tag_cmp cells (map entry_change es) → T (is_sorted tag_cmp out)
+applied_sorted cells out es h e = subst (λ es. T (is_sorted tag_cmp es)) (sym e) (applied_changes cells (map entry_change es) h).sorted
 
-pub sorted_changes : (es : List Entry) (d : FinMap tag_cmp (Change (List Cell))) → map change_of es ≡ entries d → T (is_sorted tag_cmp (map change_of es))
+pub sorted_changes : (es : List Entry) (d : FinMap tag_cmp (Change (List Cell))) → map entry_change es ≡ entries d → T (is_sorted tag_cmp (map entry_change es))
 sorted_changes es d e = subst (λ es. T (is_sorted tag_cmp es)) (sym e) (entries_sorted d)

@@ -4,11 +4,11 @@ use Rattle.std.proofs.lemmas.Bool.{lt-ltb}
 use Rattle.std.specs.Prelude.{T, ◌&&◌}
 use Rattle.std.specs.List.{list_all}
 use Rattle.df_column.specs.Pools.{place_of, with_text, place_or_end}
-use Rattle.df_column.specs.Texts.{text_at, is_below, ArePlaces}
+use Rattle.df_column.specs.Texts.{pool_text, is_below, ArePlaces}
 use Rattle.df_column.proofs.Bools.{T-first, T-second, T-both}
 use Rattle.df_column.proofs.Pools.{IsGrown, put_there, put_grown, lt_from, lt_to}
 
-pub text_at_grown : (ts us : List (List ℕ)) (places : List (Option ℕ)) → IsGrown ts us → T (list_all (is_below (length ts)) places) → map (text_at us) places ≡ map (text_at ts) places
+pub text_at_grown : (ts us : List (List ℕ)) (places : List (Option ℕ)) → IsGrown ts us → T (list_all (is_below (length ts)) places) → map (pool_text us) places ≡ map (pool_text ts) places
 text_at_grown ts us [] g h = refl
 text_at_grown ts us (None ∷ places) g h = ap (λ r. None ∷ r) (text_at_grown ts us places g h)
 text_at_grown ts us (Some p ∷ places) g h =
@@ -22,17 +22,17 @@ below_grown ts us (None ∷ places) n g lt h = below_grown ts us places n g lt h
 below_grown ts us (Some p ∷ places) n g lt h =
     T-both _ _ (lt_to p (length us) (let q = lt_from p (length ts) (T-first _ _ h) in omega (arith, q, g.more))) (below_grown ts us places n g lt (T-second (nat_lt p (length ts)) _ h))
 
-pub map_push : (ts : List (List ℕ)) (places : List (Option ℕ)) (o : Option ℕ) → map (text_at ts) (places ++ o ∷ []) ≡ map (text_at ts) places ++ text_at ts o ∷ []
+pub map_push : (ts : List (List ℕ)) (places : List (Option ℕ)) (o : Option ℕ) → map (pool_text ts) (places ++ o ∷ []) ≡ map (pool_text ts) places ++ pool_text ts o ∷ []
 map_push ts [] o = refl
-map_push ts (p ∷ places) o = ap (λ r. text_at ts p ∷ r) (map_push ts places o)
+map_push ts (p ∷ places) o = ap (λ r. pool_text ts p ∷ r) (map_push ts places o)
 
 -- the whole step: a text is put and its place pushed
 pub text_at_put : (ts : List (List ℕ)) (t : List ℕ) (places : List (Option ℕ)) → T (list_all (is_below (length ts)) places)
-    → map (text_at (with_text (place_of t ts) ts t)) (places ++ Some (place_or_end (place_of t ts) ts) ∷ []) ≡ map (text_at ts) places ++ Some t ∷ []
+    → map (pool_text (with_text (place_of t ts) ts t)) (places ++ Some (place_or_end (place_of t ts) ts) ∷ []) ≡ map (pool_text ts) places ++ Some t ∷ []
 text_at_put ts t places h =
     let us = with_text (place_of t ts) ts t in
     let n = place_or_end (place_of t ts) ts in
-    map_push us places (Some n) ∙ ap (λ r. r ++ text_at us (Some n) ∷ []) (text_at_grown ts us places (put_grown ts t) h) ∙ ap (λ u. map (text_at ts) places ++ Some u ∷ []) (put_there ts t).here
+    map_push us places (Some n) ∙ ap (λ r. r ++ pool_text us (Some n) ∷ []) (text_at_grown ts us places (put_grown ts t) h) ∙ ap (λ u. map (pool_text ts) places ++ Some u ∷ []) (put_there ts t).here
 
 pub below_put : (ts : List (List ℕ)) (t : List ℕ) (places : List (Option ℕ)) → T (list_all (is_below (length ts)) places)
     → T (list_all (is_below (length (with_text (place_of t ts) ts t))) (places ++ Some (place_or_end (place_of t ts) ts) ∷ []))
@@ -46,7 +46,7 @@ place_below n [] i p h lt e = absurd (omega arith)
 place_below n (o ∷ places) zero p h lt e = lt_from p n (subst (λ o. T (is_below n o)) e (T-first (is_below n o) _ h))
 place_below n (o ∷ places) (suc i) p h lt e = place_below n places i p (T-second (is_below n o) _ h) (omega arith) e
 
-pub text_at_place : (ts : List (List ℕ)) (places : List (Option ℕ)) (i : ℕ) (d : Option (List ℕ)) → i < length places → get_or (map (text_at ts) places) i d ≡ text_at ts (get_or places i None)
+pub text_at_place : (ts : List (List ℕ)) (places : List (Option ℕ)) (i : ℕ) (d : Option (List ℕ)) → i < length places → get_or (map (pool_text ts) places) i d ≡ pool_text ts (get_or places i None)
 text_at_place ts [] i d lt = absurd (omega arith)
 text_at_place ts (o ∷ places) zero d lt = refl
 text_at_place ts (o ∷ places) (suc i) d lt = text_at_place ts places i d (omega arith)
@@ -57,7 +57,7 @@ length_more (p ∷ places) o = let e = length_more places o in omega (arith, e)
 
 -- a text, or a null, more
 pub places_put : (ts : List (List ℕ)) (t : List ℕ) (places : List (Option ℕ)) → ArePlaces ts places
-    → record { sound : ArePlaces (with_text (place_of t ts) ts t) (places ++ Some (place_or_end (place_of t ts) ts) ∷ []); texts : map (text_at (with_text (place_of t ts) ts t)) (places ++ Some (place_or_end (place_of t ts) ts) ∷ []) ≡ map (text_at ts) places ++ Some t ∷ [] }
+    → record { sound : ArePlaces (with_text (place_of t ts) ts t) (places ++ Some (place_or_end (place_of t ts) ts) ∷ []); texts : map (pool_text (with_text (place_of t ts) ts t)) (places ++ Some (place_or_end (place_of t ts) ts) ∷ []) ≡ map (pool_text ts) places ++ Some t ∷ [] }
 places_put ts t places h =
     let one = (put_grown ts t).one in
     let more = length_more places (Some (place_or_end (place_of t ts) ts)) in
@@ -67,7 +67,7 @@ below_null : (n : ℕ) (places : List (Option ℕ)) → T (list_all (is_below n)
 below_null n [] h = tt
 below_null n (p ∷ places) h = T-both _ _ (T-first (is_below n p) _ h) (below_null n places (T-second (is_below n p) _ h))
 
-pub places_null : (ts : List (List ℕ)) (places : List (Option ℕ)) → ArePlaces ts places → record { sound : ArePlaces ts (places ++ None ∷ []); texts : map (text_at ts) (places ++ None ∷ []) ≡ map (text_at ts) places ++ None ∷ [] }
+pub places_null : (ts : List (List ℕ)) (places : List (Option ℕ)) → ArePlaces ts places → record { sound : ArePlaces ts (places ++ None ∷ []); texts : map (pool_text ts) (places ++ None ∷ []) ≡ map (pool_text ts) places ++ None ∷ [] }
 places_null ts places h =
     let more = length_more places None in
     record { sound = record { below = below_null (length ts) places h.below; few = omega (arith, more, h.few) }; texts = map_push ts places None }

@@ -4,7 +4,7 @@ use Rattle.std.specs.Arc.{arc_value}
 use Rattle.std.specs.declared.sync.Arc.{Arc}
 use Rattle.df_value.specs.declared.cell.Cell.{Cell}
 use Rattle.df_value.specs.declared.cell.CellType.{CellType}
-use Rattle.df_column.specs.Columns.{cells_of, dtype_of}
+use Rattle.df_column.specs.Columns.{column_cells, dtype_of_column}
 use Rattle.df_column.specs.Rows.{are_even, tagged_rows}
 use Rattle.df_column.specs.declared.column.Column.{Column}
 use Rattle.df_column.specs.declared.tag.Tag.{Tag}
@@ -18,21 +18,21 @@ pub record BlockParts : Type 0 where
 pub record IsBlock (tags : List Tag) (columns : List Column) : Type 0 where
   pub some : 0 < length tags
   pub few : length tags ≤ 1024
-  pub even : T (are_even (length tags) (map cells_of columns))
+  pub even : T (are_even (length tags) (map column_cells columns))
 
 -- the rows of a block with their tags
 abbrev pub block_rows : BlockParts → List (Tag × List Cell)
-block_rows b = tagged_rows b.tags (map cells_of b.columns)
+block_rows b = tagged_rows b.tags (map column_cells b.columns)
 
 -- the rows of these blocks, in order
-abbrev pub rows_of : {S : Type 0} → List (Arc BlockParts S) → List (Tag × List Cell)
-rows_of [] = []
-rows_of (b ∷ bs) = block_rows (arc_value b) ++ rows_of bs
+abbrev pub rows_of_blocks : {S : Type 0} → List (Arc BlockParts S) → List (Tag × List Cell)
+rows_of_blocks [] = []
+rows_of_blocks (b ∷ bs) = block_rows (arc_value b) ++ rows_of_blocks bs
 
 -- each of these blocks has columns of these types
-abbrev pub AreOfTypes : {S : Type 0} → List CellType → List (Arc BlockParts S) → Type 0
-AreOfTypes dtypes [] = Unit {0}
-AreOfTypes dtypes (b ∷ bs) = (map dtype_of (arc_value b).columns ≡ dtypes) × AreOfTypes dtypes bs
+abbrev pub AreOfDtypes : {S : Type 0} → List CellType → List (Arc BlockParts S) → Type 0
+AreOfDtypes dtypes [] = Unit {0}
+AreOfDtypes dtypes (b ∷ bs) = (map dtype_of_column (arc_value b).columns ≡ dtypes) × AreOfDtypes dtypes bs
 
 -- how many rows these blocks have up to the end of each, where n rows stand before them
 abbrev pub ends_of : {S : Type 0} → ℕ → List (Arc BlockParts S) → List ℕ

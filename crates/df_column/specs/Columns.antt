@@ -8,17 +8,17 @@ use Rattle.df_column.specs.declared.column.Column.{Column}
 use Rattle.df_column.specs.declared.column.Column.TheVariants as column
 
 -- the cells of a column, in order
-abbrev pub cells_of : Column → List Cell
-cells_of (column.Int values) = map int_cell values
-cells_of (column.Wide values) = map wide_cell values
-cells_of (column.Text texts) = map text_cell texts
-cells_of (column.Bool values) = map bool_cell values
-cells_of (column.Frac values) = map frac_cell values
+abbrev pub column_cells : Column → List Cell
+column_cells (column.Int values) = map int_cell values
+column_cells (column.Wide values) = map wide_cell values
+column_cells (column.Text texts) = map text_cell texts
+column_cells (column.Bool values) = map bool_cell values
+column_cells (column.Frac values) = map frac_cell values
 
 -- what the cells of a column are
-abbrev pub dtype_of : Column → CellType
-dtype_of (column.Int values) = dtype.Int
-dtype_of (column.Wide values) = dtype.Wide
-dtype_of (column.Text texts) = dtype.Text
-dtype_of (column.Bool values) = dtype.Bool
-dtype_of (column.Frac values) = dtype.Frac
+abbrev pub dtype_of_column : Column → CellType
+dtype_of_column (column.Int values) = dtype.Int
+dtype_of_column (column.Wide values) = dtype.Wide
+dtype_of_column (column.Text texts) = dtype.Text
+dtype_of_column (column.Bool values) = dtype.Bool
+dtype_of_column (column.Frac values) = dtype.Frac

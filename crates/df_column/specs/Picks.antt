@@ -19,9 +19,9 @@ abbrev pub picked_cells : List Cell → ℕ → List Pick → List Cell
 picked_cells cells at picks = map (λ p. origin_cell cells at p.origin) picks
 
 -- all of the items, or none of them
-abbrev pub start_of : {X : Type 0} → Bool → List X → List X
-start_of true xs = xs
-start_of false xs = []
+abbrev pub all_or_none : {X : Type 0} → Bool → List X → List X
+all_or_none true xs = xs
+all_or_none false xs = []
 
 -- whether an old row is one of the first n
 abbrev pub is_within : ℕ → Origin → Bool

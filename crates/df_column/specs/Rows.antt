@@ -7,7 +7,7 @@ use Rattle.df_value.specs.Cells.{fits_dtype}
 use Rattle.df_value.specs.declared.cell.Cell.{Cell}
 use Rattle.df_value.specs.declared.cell.Cell.TheVariants as cell
 use Rattle.df_value.specs.declared.cell.CellType.{CellType}
-use Rattle.df_column.specs.Picks.{picked_cells, start_of}
+use Rattle.df_column.specs.Picks.{picked_cells, all_or_none}
 use Rattle.df_column.specs.declared.picks.Origin.{Origin}
 use Rattle.df_column.specs.declared.picks.Origin.TheVariants.{Old, New}
 use Rattle.df_column.specs.declared.picks.Pick.{Pick}
@@ -16,9 +16,9 @@ use Rattle.df_column.specs.declared.tag.Tag.{Tag}
 use Rattle.df_column.specs.Tags.{tag_cmp}
 
 -- the first cell of a column, null if there is none, and the cells after it
-abbrev pub first_cell : List Cell → Cell
-first_cell [] = cell.Null
-first_cell (c ∷ cs) = c
+abbrev pub head_cell : List Cell → Cell
+head_cell [] = cell.Null
+head_cell (c ∷ cs) = c
 
 abbrev pub later_cells : List Cell → List Cell
 later_cells [] = []
@@ -27,7 +27,7 @@ later_cells (c ∷ cs) = cs
 -- the rows with their tags: the first has the first cell of each column
 abbrev pub tagged_rows : List Tag → List (List Cell) → List (Tag × List Cell)
 tagged_rows [] columns = []
-tagged_rows (t ∷ ts) columns = (t, map first_cell columns) ∷ tagged_rows ts (map later_cells columns)
+tagged_rows (t ∷ ts) columns = (t, map head_cell columns) ∷ tagged_rows ts (map later_cells columns)
 
 -- the row at this index of columns with these cells
 abbrev pub row_at : List (List Cell) → ℕ → List Cell
@@ -63,7 +63,7 @@ AreRows dtypes picks = T (list_all (λ p. is_new_row dtypes p.origin) picks)
 abbrev pub picked_columns : Bool → ℕ → List (List Cell) → List Pick → List (List Cell)
 picked_columns whole at [] picks = []
 picked_columns whole at (c ∷ cs) picks =
-    (start_of whole c ++ picked_cells c at picks) ∷ picked_columns whole (at + 1) cs picks
+    (all_or_none whole c ++ picked_cells c at picks) ∷ picked_columns whole (at + 1) cs picks
 
 -- the tags rise
 abbrev pub AreRisingTags : List Tag → Type 0

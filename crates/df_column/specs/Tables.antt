@@ -34,12 +34,12 @@ table_code =
     (λ t. (t.schema, t.rows)) (λ p. record { schema = p.0; rows = p.1 }) (λ _. refl)
 
 -- the types of a schema's columns
-abbrev pub types_of : List (List ℕ × CellType) → List CellType
-types_of schema = map (λ c. c.1) schema
+abbrev pub dtypes_of : List (List ℕ × CellType) → List CellType
+dtypes_of schema = map (λ c. c.1) schema
 
 -- what an entry changes
-abbrev pub change_of : Entry → Tag × Change (List Cell)
-change_of e = (e.tag, record { old = e.old; new = e.new })
+abbrev pub entry_change : Entry → Tag × Change (List Cell)
+entry_change e = (e.tag, record { old = e.old; new = e.new })
 
 -- whether the new row, if there is one, fits the schema
 abbrev pub new_row_fits : List (List ℕ × CellType) → Option (List Cell) → Bool
@@ -47,17 +47,17 @@ new_row_fits schema None = true
 new_row_fits schema (Some row) = row_fits schema row
 
 -- the new rows of the entries fit the schema
-abbrev pub AreFitting : List (List ℕ × CellType) → List Entry → Type 0
-AreFitting schema entries = T (list_all (λ e. new_row_fits schema e.new) entries)
+abbrev pub NewRowsFit : List (List ℕ × CellType) → List Entry → Type 0
+NewRowsFit schema entries = T (list_all (λ e. new_row_fits schema e.new) entries)
 
 -- the table after the changes of these entries: at each tag that they name stands the new row, or nothing
 abbrev pub after_entries : TableParts → List Entry → TableParts
 after_entries t entries =
-    record { schema = t.schema; rows = applied t.rows (finite.from_sorted (map change_of entries)) }
+    record { schema = t.schema; rows = applied t.rows (finite.from_sorted (map entry_change entries)) }
 
 -- the entries name rising tags
 abbrev pub AreRising : List Entry → Type 0
-AreRising entries = T (finite.is_sorted tag_cmp (map change_of entries))
+AreRising entries = T (finite.is_sorted tag_cmp (map entry_change entries))
 
 -- how many of these entries stand before the tag, or all
 abbrev pub count_before : Option Tag → List Entry → ℕ

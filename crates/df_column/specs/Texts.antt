@@ -4,9 +4,9 @@ use Rattle.std.specs.List.{list_all}
 use Rattle.std.specs.Borrow.{Bor}
 
 -- the text at a place, or none for a null
-abbrev pub text_at : List (List ℕ) → Option ℕ → Option (List ℕ)
-text_at pool None = None
-text_at pool (Some p) = Some (slice_index_or pool p [])
+abbrev pub pool_text : List (List ℕ) → Option ℕ → Option (List ℕ)
+pool_text pool None = None
+pool_text pool (Some p) = Some (slice_index_or pool p [])
 
 -- whether a place lies below n, or is none
 abbrev pub is_below : ℕ → Option ℕ → Bool

@@ -3,8 +3,8 @@ ghost use Rattle.std.specs.Prelude.{◌≡◌, ◌<◌, ◌≤◌, ◌+◌, ◌+
 ghost use Rattle.df_value.specs.declared.cell.Cell.{Cell};
 ghost use Rattle.df_column.specs.Blocks.{IsBlock, block_rows};
 ghost use Rattle.df_column.specs.Changes.{IsHead};
-ghost use Rattle.df_column.specs.Columns.{cells_of, dtype_of};
-ghost use Rattle.df_column.specs.Picks.{AreWithin, picked_cells, start_of};
+ghost use Rattle.df_column.specs.Columns.{column_cells, dtype_of_column};
+ghost use Rattle.df_column.specs.Picks.{AreWithin, picked_cells, all_or_none};
 ghost use Rattle.df_column.specs.Rows as rows;
 ghost use Rattle.df_column.specs.Rows.{AreRows, are_even, row_at};
 ghost use Rattle.df_column.specs.declared.column.Column.{Column};
@@ -46,15 +46,15 @@ fn picked_column(
     picks: &[Pick<'_>],
 ) -> Result<Column, AllocError>
     requires at { at < length columns.now }
-    requires even { T (are_even (length tags.now) (map cells_of columns.now)) }
+    requires even { T (are_even (length tags.now) (map column_cells columns.now)) }
     requires within { AreWithin (length tags.now) picks.now }
-    requires rows { AreRows (map dtype_of columns.now) picks.now }
-    requires few { length (start_of whole tags.now) + length picks.now ≤ 1024 }
-    ensures cells { IfOk result (λ c. (d : Column) → cells_of c ≡
-        start_of whole (cells_of (slice_index_or columns.now at d))
-        ++ picked_cells (cells_of (slice_index_or columns.now at d)) at picks.now) }
-    ensures dtype { IfOk result (λ c. (d : Column) → dtype_of c ≡
-        dtype_of (slice_index_or columns.now at d)) }
+    requires rows { AreRows (map dtype_of_column columns.now) picks.now }
+    requires few { length (all_or_none whole tags.now) + length picks.now ≤ 1024 }
+    ensures cells { IfOk result (λ c. (d : Column) → column_cells c ≡
+        all_or_none whole (column_cells (slice_index_or columns.now at d))
+        ++ picked_cells (column_cells (slice_index_or columns.now at d)) at picks.now) }
+    ensures dtype { IfOk result (λ c. (d : Column) → dtype_of_column c ≡
+        dtype_of_column (slice_index_or columns.now at d)) }
 {
     columns[at].picked(alloc, whole, at, picks)
 }
@@ -67,13 +67,13 @@ fn picked_columns(
     whole: bool,
     picks: &[Pick<'_>],
 ) -> Result<Vec<Column>, AllocError>
-    requires even { T (are_even (length tags.now) (map cells_of columns.now)) }
+    requires even { T (are_even (length tags.now) (map column_cells columns.now)) }
     requires within { AreWithin (length tags.now) picks.now }
-    requires rows { AreRows (map dtype_of columns.now) picks.now }
-    requires few { length (start_of whole tags.now) + length picks.now ≤ 1024 }
-    ensures cells { IfOk result (λ v. map cells_of v.items ≡
-        rows.picked_columns whole 0 (map cells_of columns.now) picks.now) }
-    ensures dtypes { IfOk result (λ v. map dtype_of v.items ≡ map dtype_of columns.now) }
+    requires rows { AreRows (map dtype_of_column columns.now) picks.now }
+    requires few { length (all_or_none whole tags.now) + length picks.now ≤ 1024 }
+    ensures cells { IfOk result (λ v. map column_cells v.items ≡
+        rows.picked_columns whole 0 (map column_cells columns.now) picks.now) }
+    ensures dtypes { IfOk result (λ v. map dtype_of_column v.items ≡ map dtype_of_column columns.now) }
 {
     let mut out = Vec::with_capacity(alloc, columns.len())?;
     for at in 0..columns.len() {
@@ -90,8 +90,8 @@ fn picked_tags(
     whole: bool,
     picks: &[Pick<'_>],
 ) -> Result<Vec<Tag>, AllocError>
-    requires { length (start_of whole tags.now) + length picks.now ≤ 1024 }
-    ensures { IfOk result (λ v. v.items ≡ start_of whole tags.now ++ map (λ p. p.tag) picks.now) }
+    requires { length (all_or_none whole tags.now) + length picks.now ≤ 1024 }
+    ensures { IfOk result (λ v. v.items ≡ all_or_none whole tags.now ++ map (λ p. p.tag) picks.now) }
 {
     let mut out = start_tags(alloc, tags, whole, picks.len())?;
     for pick in picks {
@@ -102,8 +102,8 @@ fn picked_tags(
 
 /// These tags or none, with room for more.
 fn start_tags(alloc: Global, tags: &[Tag], whole: bool, more: usize) -> Result<Vec<Tag>, AllocError>
-    requires { length (start_of whole tags.now) + more ≤ 1024 }
-    ensures { IfOk result (λ v. v.items ≡ start_of whole tags.now) }
+    requires { length (all_or_none whole tags.now) + more ≤ 1024 }
+    ensures { IfOk result (λ v. v.items ≡ all_or_none whole tags.now) }
 {
     if whole {
         let mut out = Vec::with_capacity(alloc, tags.len() + more)?;
@@ -123,15 +123,15 @@ impl Block {
         whole: bool,
         picks: &[Pick<'_>],
     ) -> Result<Block, AllocError>
-        requires even { T (are_even (length tags.now) (map cells_of columns.now)) }
+        requires even { T (are_even (length tags.now) (map column_cells columns.now)) }
         requires within { AreWithin (length tags.now) picks.now }
-        requires rows { AreRows (map dtype_of columns.now) picks.now }
+        requires rows { AreRows (map dtype_of_column columns.now) picks.now }
         requires some { 0 < length picks.now }
-        requires few { length (start_of whole tags.now) + length picks.now ≤ 1024 }
+        requires few { length (all_or_none whole tags.now) + length picks.now ≤ 1024 }
         ensures rows { IfOk result (λ b. block_rows b ≡
-            start_of whole (rows.tagged_rows tags.now (map cells_of columns.now))
-            ++ rows.picked_rows (map cells_of columns.now) picks.now) }
-        ensures dtypes { IfOk result (λ b. map dtype_of b.columns ≡ map dtype_of columns.now) }
+            all_or_none whole (rows.tagged_rows tags.now (map column_cells columns.now))
+            ++ rows.picked_rows (map column_cells columns.now) picks.now) }
+        ensures dtypes { IfOk result (λ b. map dtype_of_column b.columns ≡ map dtype_of_column columns.now) }
     {
         let made = picked_columns(alloc, tags, columns, whole, picks);
         let (tags, columns) = both(picked_tags(alloc, tags, whole, picks), made)?;
@@ -150,7 +150,7 @@ impl Block {
     /// The columns.
     pub fn columns(&self) -> &[Column]
         ensures columns { result.now ≡ self.now.columns }
-        ensures even { T (are_even (length self.now.tags) (map cells_of self.now.columns)) }
+        ensures even { T (are_even (length self.now.tags) (map column_cells self.now.columns)) }
     {
         &self.columns
     }
@@ -165,7 +165,7 @@ impl Block {
     /// A copy of the row at this index.
     pub fn row(&self, alloc: Global, at: usize) -> Result<Row, AllocError>
         requires { at < length self.now.tags }
-        ensures { IfOk result (λ r. r ≡ row_at (map cells_of self.now.columns) at) }
+        ensures { IfOk result (λ r. r ≡ row_at (map column_cells self.now.columns) at) }
     {
         let columns = self.columns();
         let mut cells = Vec::with_capacity(alloc, columns.len())?;

@@ -5,14 +5,14 @@ ghost use Rattle.std.specs.FinMap as finite;
 ghost use Rattle.std.specs.List.{prefix_len};
 ghost use Rattle.std.specs.Ordering.{is_lt};
 ghost use Rattle.df_column.specs.BlockRows.{AddsFirst, AddsRows};
-ghost use Rattle.df_column.specs.Blocks.{AreOfTypes, block_rows, rows_of};
+ghost use Rattle.df_column.specs.Blocks.{AreOfDtypes, block_rows, rows_of_blocks};
 ghost use Rattle.df_column.specs.Changes.{IsNext, after_changes};
-ghost use Rattle.df_column.specs.Columns.{cells_of, dtype_of};
-ghost use Rattle.df_column.specs.Picks.{AreWithin, start_of};
+ghost use Rattle.df_column.specs.Columns.{column_cells, dtype_of_column};
+ghost use Rattle.df_column.specs.Picks.{AreWithin, all_or_none};
 ghost use Rattle.df_column.specs.Rows as rows;
 ghost use Rattle.df_column.specs.Rows.{AreNewRows, AreRows, are_even};
 ghost use Rattle.df_column.specs.Tables as tables;
-ghost use Rattle.df_column.specs.Tables.{AreRising, change_of};
+ghost use Rattle.df_column.specs.Tables.{AreRising, entry_change};
 ghost use Rattle.df_column.specs.Tags.{tag_cmp};
 ghost use Rattle.df_column.specs.declared.entry.Entry.{Entry};
 ghost use Rattle.df_column.specs.declared.tag.Tag.{Tag};
@@ -28,7 +28,7 @@ use std::sync::Arc;
 
 /// Adds the block itself.
 pub fn push_shared(out: &mut Vec<Arc<Block>>, block: &Arc<Block>) -> Result<(), AllocError>
-    ensures { OnOk result (AddsRows (map dtype_of (arc_value block.now).columns)
+    ensures { OnOk result (AddsRows (map dtype_of_column (arc_value block.now).columns)
         (block_rows (arc_value block.now)) out.old.items out.new.items) }
 {
     let block = Arc::try_clone(block)?;
@@ -45,14 +45,14 @@ pub fn push_picked(
     whole: bool,
     picks: &[Pick<'_>],
 ) -> Result<(), AllocError>
-    requires even { T (are_even (length tags.now) (map cells_of columns.now)) }
+    requires even { T (are_even (length tags.now) (map column_cells columns.now)) }
     requires within { AreWithin (length tags.now) picks.now }
-    requires rows { AreRows (map dtype_of columns.now) picks.now }
+    requires rows { AreRows (map dtype_of_column columns.now) picks.now }
     requires some { 0 < length picks.now }
-    requires few { length (start_of whole tags.now) + length picks.now ≤ 1024 }
-    ensures { OnOk result (AddsRows (map dtype_of columns.now)
-        (start_of whole (rows.tagged_rows tags.now (map cells_of columns.now))
-        ++ rows.picked_rows (map cells_of columns.now) picks.now) out.old.items out.new.items) }
+    requires few { length (all_or_none whole tags.now) + length picks.now ≤ 1024 }
+    ensures { OnOk result (AddsRows (map dtype_of_column columns.now)
+        (all_or_none whole (rows.tagged_rows tags.now (map column_cells columns.now))
+        ++ rows.picked_rows (map column_cells columns.now) picks.now) out.old.items out.new.items) }
 {
     let block = Block::picked(alloc, tags, columns, whole, picks)?;
     let block = Arc::new(alloc, block)?;
@@ -69,13 +69,13 @@ pub fn push_parts(
     picks: &[Pick<'_>],
     size: usize,
 ) -> Result<(), AllocError>
-    requires even { T (are_even (length tags.now) (map cells_of columns.now)) }
+    requires even { T (are_even (length tags.now) (map column_cells columns.now)) }
     requires within { AreWithin (length tags.now) picks.now }
-    requires rows { AreRows (map dtype_of columns.now) picks.now }
+    requires rows { AreRows (map dtype_of_column columns.now) picks.now }
     requires some { 0 < size }
     requires few { size ≤ 1024 }
-    ensures { OnOk result (AddsRows (map dtype_of columns.now)
-        (rows.picked_rows (map cells_of columns.now) picks.now) out.old.items out.new.items) }
+    ensures { OnOk result (AddsRows (map dtype_of_column columns.now)
+        (rows.picked_rows (map column_cells columns.now) picks.now) out.old.items out.new.items) }
 {
     let mut from = 0;
     while from < picks.len() {
@@ -118,11 +118,11 @@ fn push_grown(
     picks: &[Pick<'_>],
 ) -> Result<(), AllocError>
     requires within { AreWithin 0 picks.now }
-    requires rows { AreRows (map dtype_of (arc_value block.now).columns) picks.now }
+    requires rows { AreRows (map dtype_of_column (arc_value block.now).columns) picks.now }
     requires few { length (arc_value block.now).tags + length picks.now ≤ 1024 }
-    ensures { OnOk result (AddsRows (map dtype_of (arc_value block.now).columns)
+    ensures { OnOk result (AddsRows (map dtype_of_column (arc_value block.now).columns)
         (block_rows (arc_value block.now)
-        ++ rows.picked_rows (map cells_of (arc_value block.now).columns) picks.now)
+        ++ rows.picked_rows (map column_cells (arc_value block.now).columns) picks.now)
         out.old.items out.new.items) }
 {
     if picks.is_empty() {
@@ -141,10 +141,10 @@ fn push_filled(
     picks: &[Pick<'_>],
 ) -> Result<(), AllocError>
     requires within { AreWithin 0 picks.now }
-    requires rows { AreRows (map dtype_of (arc_value block.now).columns) picks.now }
-    ensures { OnOk result (AddsRows (map dtype_of (arc_value block.now).columns)
+    requires rows { AreRows (map dtype_of_column (arc_value block.now).columns) picks.now }
+    ensures { OnOk result (AddsRows (map dtype_of_column (arc_value block.now).columns)
         (block_rows (arc_value block.now)
-        ++ rows.picked_rows (map cells_of (arc_value block.now).columns) picks.now)
+        ++ rows.picked_rows (map column_cells (arc_value block.now).columns) picks.now)
         out.old.items out.new.items) }
 {
     let room = MOST_ROWS - block.tags().len();
@@ -162,10 +162,10 @@ fn push_behind(
     entries: &[Entry],
 ) -> Result<(), AllocError>
     requires entries { AreRising entries.now }
-    requires fits { AreNewRows (map dtype_of (arc_value block.now).columns) entries.now }
-    ensures { OnOk result (AddsRows (map dtype_of (arc_value block.now).columns)
+    requires fits { AreNewRows (map dtype_of_column (arc_value block.now).columns) entries.now }
+    ensures { OnOk result (AddsRows (map dtype_of_column (arc_value block.now).columns)
         (block_rows (arc_value block.now)
-        ++ after_changes tag_cmp [] (map change_of entries.now)) out.old.items out.new.items) }
+        ++ after_changes tag_cmp [] (map entry_change entries.now)) out.old.items out.new.items) }
 {
     let picks = merge(alloc, &[], entries)?;
     push_filled(alloc, out, block, &picks)?;
@@ -183,9 +183,9 @@ fn push_changed(
 ) -> Result<(), AllocError>
     requires rows { T (finite.is_sorted tag_cmp (block_rows (arc_value block.now))) }
     requires entries { AreRising entries.now }
-    requires fits { AreNewRows (map dtype_of (arc_value block.now).columns) entries.now }
-    ensures { OnOk result (AddsRows (map dtype_of (arc_value block.now).columns)
-        (after_changes tag_cmp (block_rows (arc_value block.now)) (map change_of entries.now))
+    requires fits { AreNewRows (map dtype_of_column (arc_value block.now).columns) entries.now }
+    ensures { OnOk result (AddsRows (map dtype_of_column (arc_value block.now).columns)
+        (after_changes tag_cmp (block_rows (arc_value block.now)) (map entry_change entries.now))
         out.old.items out.new.items) }
 {
     if entries.is_empty() {
@@ -222,7 +222,7 @@ fn count_before(entries: &[Entry], next: Option<Tag>) -> usize
 
 /// The first tag of these blocks.
 fn first_tag(blocks: &[Arc<Block>]) -> Option<Tag>
-    ensures { IsNext (rows_of blocks.now) result }
+    ensures { IsNext (rows_of_blocks blocks.now) result }
 {
     match blocks.first() {
         Some(block) => Some(block.first()),
@@ -239,14 +239,14 @@ fn push_first<'a>(
     entries: &'a [Entry],
 ) -> Result<&'a [Entry], AllocError>
     requires rows { T (finite.is_sorted tag_cmp (block_rows (arc_value block.now)
-        ++ rows_of later.now)) }
+        ++ rows_of_blocks later.now)) }
     requires entries { AreRising entries.now }
-    requires fits { AreNewRows (map dtype_of (arc_value block.now).columns) entries.now }
+    requires fits { AreNewRows (map dtype_of_column (arc_value block.now).columns) entries.now }
     ensures rising { IfOk result (λ rest. AreRising rest.now) }
     ensures fits { IfOk result (λ rest.
-        AreNewRows (map dtype_of (arc_value block.now).columns) rest.now) }
-    ensures adds { IfOk result (λ rest. AddsFirst (map dtype_of (arc_value block.now).columns)
-        (block_rows (arc_value block.now)) (rows_of later.now) entries.now rest.now
+        AreNewRows (map dtype_of_column (arc_value block.now).columns) rest.now) }
+    ensures adds { IfOk result (λ rest. AddsFirst (map dtype_of_column (arc_value block.now).columns)
+        (block_rows (arc_value block.now)) (rows_of_blocks later.now) entries.now rest.now
         out.old.items out.new.items) }
 {
     let (mine, others) = entries.split_at(count_before(entries, first_tag(later)));
@@ -262,14 +262,14 @@ pub fn changed_blocks(
     columns: &[Column],
     entries: &[Entry],
 ) -> Result<Vec<Arc<Block>>, AllocError>
-    requires rows { T (finite.is_sorted tag_cmp (rows_of blocks.now)) }
-    requires types { AreOfTypes (map dtype_of columns.now) blocks.now }
-    requires empty { T (are_even 0 (map cells_of columns.now)) }
+    requires rows { T (finite.is_sorted tag_cmp (rows_of_blocks blocks.now)) }
+    requires types { AreOfDtypes (map dtype_of_column columns.now) blocks.now }
+    requires empty { T (are_even 0 (map column_cells columns.now)) }
     requires entries { AreRising entries.now }
-    requires fits { AreNewRows (map dtype_of columns.now) entries.now }
-    ensures rows { IfOk result (λ v. rows_of v.items ≡
-        after_changes tag_cmp (rows_of blocks.now) (map change_of entries.now)) }
-    ensures types { IfOk result (λ v. AreOfTypes (map dtype_of columns.now) v.items) }
+    requires fits { AreNewRows (map dtype_of_column columns.now) entries.now }
+    ensures rows { IfOk result (λ v. rows_of_blocks v.items ≡
+        after_changes tag_cmp (rows_of_blocks blocks.now) (map entry_change entries.now)) }
+    ensures types { IfOk result (λ v. AreOfDtypes (map dtype_of_column columns.now) v.items) }
 {
     let mut out = Vec::with_capacity(alloc, blocks.len().saturating_add(1))?;
     let mut left = blocks;

@@ -1,8 +1,8 @@
 //! Columns of cells.
 ghost use Rattle.std.specs.Prelude.{◌≡◌, ◌<◌, ◌≤◌, ◌+◌, ◌++◌, [], IfOk, length, slice_index_or};
 ghost use Rattle.df_value.specs.declared.cell.Cell.{Cell};
-ghost use Rattle.df_column.specs.Columns.{cells_of, dtype_of};
-ghost use Rattle.df_column.specs.Picks.{AreFit, AreWithin, picked_cells, start_of};
+ghost use Rattle.df_column.specs.Columns.{column_cells, dtype_of_column};
+ghost use Rattle.df_column.specs.Picks.{AreFit, AreWithin, picked_cells, all_or_none};
 
 use crate::masked::Masked;
 use crate::picks::Pick;
@@ -23,7 +23,7 @@ pub enum Column {
 impl Column {
     /// What the cells are.
     pub fn dtype(&self) -> CellType
-        ensures { result ≡ dtype_of self.now }
+        ensures { result ≡ dtype_of_column self.now }
     {
         match self {
             Column::Int(_) => CellType::Int,
@@ -36,8 +36,8 @@ impl Column {
 
     /// A column of no cells.
     pub fn new(alloc: Global, dtype: CellType) -> Column
-        ensures cells { cells_of result ≡ [] }
-        ensures dtype { dtype_of result ≡ dtype }
+        ensures cells { column_cells result ≡ [] }
+        ensures dtype { dtype_of_column result ≡ dtype }
     {
         match dtype {
             CellType::Int => Column::Int(Masked::new(alloc)),
@@ -50,8 +50,8 @@ impl Column {
 
     /// A copy of the cell at this index.
     pub fn cell(&self, alloc: Global, at: usize) -> Result<Cell, AllocError>
-        requires { at < length (cells_of self.now) }
-        ensures { IfOk result (λ c. (d : Cell) → c ≡ slice_index_or (cells_of self.now) at d) }
+        requires { at < length (column_cells self.now) }
+        ensures { IfOk result (λ c. (d : Cell) → c ≡ slice_index_or (column_cells self.now) at d) }
     {
         match self {
             Column::Int(values) => Ok(values.cell(at)),
@@ -64,7 +64,7 @@ impl Column {
 
     /// The number of cells.
     pub fn len(&self) -> usize
-        ensures { result ≡ length (cells_of self.now) }
+        ensures { result ≡ length (column_cells self.now) }
     {
         match self {
             Column::Int(values) => values.len(),
@@ -84,12 +84,12 @@ impl Column {
         at: usize,
         picks: &[Pick<'_>],
     ) -> Result<Column, AllocError>
-        requires within { AreWithin (length (cells_of self.now)) picks.now }
-        requires fits { AreFit (dtype_of self.now) at picks.now }
-        requires few { length (start_of whole (cells_of self.now)) + length picks.now ≤ 1024 }
-        ensures cells { IfOk result (λ c. cells_of c ≡
-            start_of whole (cells_of self.now) ++ picked_cells (cells_of self.now) at picks.now) }
-        ensures dtype { IfOk result (λ c. dtype_of c ≡ dtype_of self.now) }
+        requires within { AreWithin (length (column_cells self.now)) picks.now }
+        requires fits { AreFit (dtype_of_column self.now) at picks.now }
+        requires few { length (all_or_none whole (column_cells self.now)) + length picks.now ≤ 1024 }
+        ensures cells { IfOk result (λ c. column_cells c ≡
+            all_or_none whole (column_cells self.now) ++ picked_cells (column_cells self.now) at picks.now) }
+        ensures dtype { IfOk result (λ c. dtype_of_column c ≡ dtype_of_column self.now) }
     {
         match self {
             Column::Int(values) => Ok(Column::Int(values.picked(alloc, whole, at, picks)?)),

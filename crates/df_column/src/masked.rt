@@ -2,7 +2,7 @@
 ghost use Rattle.std.specs.Prelude.{◌≡◌, ◌<◌, ◌≤◌, ◌++◌, ◌∷◌, [], T as Holds, length, map, slice_index_or, IfOk, OnOk, OnErr, Option, None, true};
 ghost use Rattle.df_value.specs.declared.cell.Cell.{Cell};
 ghost use Rattle.df_column.specs.Masks.{filled_mask, masked_values};
-ghost use Rattle.df_column.specs.Picks.{AreFit, AreWithin, is_fit, is_within, origin_cell, picked_cells, start_of};
+ghost use Rattle.df_column.specs.Picks.{AreFit, AreWithin, is_fit, is_within, origin_cell, picked_cells, all_or_none};
 
 use crate::picks::{Origin, Pick};
 use crate::values::CellValue;
@@ -104,7 +104,7 @@ impl<T: Copy> Masked<T> {
 
     /// These values or none, with room for more.
     pub(crate) fn start(&self, alloc: Global, whole: bool, more: usize) -> Result<Self, AllocError>
-        ensures { IfOk result (λ m. m ≡ start_of whole self.now) }
+        ensures { IfOk result (λ m. m ≡ all_or_none whole self.now) }
     {
         if whole {
             Ok(self.copy(alloc, more)?)
@@ -167,7 +167,7 @@ impl<T: CellValue> Masked<T> {
         requires within { AreWithin (length (map T.cell_of self.now)) picks.now }
         requires fits { AreFit T.dtype column picks.now }
         ensures { IfOk result (λ m. map T.cell_of m ≡
-            start_of whole (map T.cell_of self.now)
+            all_or_none whole (map T.cell_of self.now)
             ++ picked_cells (map T.cell_of self.now) column picks.now) }
     {
         let mut values = self.start(alloc, whole, picks.len())?;

@@ -8,7 +8,7 @@ ghost use Rattle.df_value.specs.declared.cell.CellType.{CellType};
 ghost use Rattle.df_column.specs.Changes.{Change, after_changes, one_at, rest_after};
 ghost use Rattle.df_column.specs.Picks.{AreWithin};
 ghost use Rattle.df_column.specs.Rows.{AreNewRows, AreRisingTags, AreRows, is_row_if_any, picked_rows, tagged_rows};
-ghost use Rattle.df_column.specs.Tables.{AreRising, change_of};
+ghost use Rattle.df_column.specs.Tables.{AreRising, entry_change};
 ghost use Rattle.df_column.specs.Tags.{tag_cmp};
 ghost use Rattle.df_column.specs.declared.tag.Tag.{Tag};
 
@@ -102,7 +102,7 @@ fn merge_entry<'a>(
         ++ after_changes tag_cmp (drop next (tagged_rows tags.now columns)) later ≡
         picked_rows columns out.old.items ++
         after_changes tag_cmp (drop at (tagged_rows tags.now columns))
-        (change_of entry.now ∷ later)) }
+        (entry_change entry.now ∷ later)) }
     ensures fits { OnOk result ((dtypes : List CellType) → T (is_row_if_any dtypes entry.now.new) →
         AreRows dtypes out.old.items → AreRows dtypes out.new.items) }
 {
@@ -124,7 +124,7 @@ pub fn merge<'a>(
     ensures within { IfOk result (λ picks. AreWithin (length tags.now) picks.items) }
     ensures rows { IfOk result (λ picks. (columns : List (List Cell)) →
         picked_rows columns picks.items ≡
-        after_changes tag_cmp (tagged_rows tags.now columns) (map change_of entries.now)) }
+        after_changes tag_cmp (tagged_rows tags.now columns) (map entry_change entries.now)) }
     ensures fits { IfOk result (λ picks. (dtypes : List CellType) →
         AreNewRows dtypes entries.now → AreRows dtypes picks.items) }
 {

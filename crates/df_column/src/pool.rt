@@ -29,7 +29,7 @@ impl Model for TextPool {
 }
 
 /// Where the part at this place begins.
-pub fn start_of(ends: &[usize], place: usize) -> usize
+pub fn start_of_part(ends: &[usize], place: usize) -> usize
     requires { place ≤ length ends.now }
     ensures { result ≡ pools.start_at 0 ends.now place }
 {
@@ -45,7 +45,7 @@ fn span(ends: &[usize], place: usize, len: usize) -> (usize, usize)
     ensures ordered { result.0 ≤ result.1 }
     ensures within { result.1 ≤ len }
 {
-    (start_of(ends, place), ends[place])
+    (start_of_part(ends, place), ends[place])
 }
 
 /// The bytes of the part at this place.

@@ -3,14 +3,14 @@ ghost use Rattle.std.specs.Prelude.{◌≡◌, ℕ, ◌<◌, ◌≤◌, T, List,
 ghost use Rattle.std.specs.FinMap as finite;
 ghost use Rattle.std.specs.List.Sorted.{IsNonDecreasing};
 ghost use Rattle.df_value.specs.declared.cell.Cell.{Cell};
-ghost use Rattle.df_column.specs.Blocks.{ends_of, rows_of};
+ghost use Rattle.df_column.specs.Blocks.{ends_of, rows_of_blocks};
 ghost use Rattle.df_column.specs.Places.{IsGap, IsPlace};
 ghost use Rattle.df_column.specs.TableBlocks.{IsEndCount, IsSpot, IsWindow};
 ghost use Rattle.df_column.specs.Tags.{tag_cmp};
 ghost use Rattle.df_column.specs.declared.tag.Tag.{Tag};
 
 use crate::block::Block;
-use crate::pool::start_of;
+use crate::pool::start_of_part;
 use crate::tag::Tag;
 use df_value::Row;
 use std::alloc::{AllocError, Global};
@@ -35,18 +35,18 @@ fn ends_up_to(ends: &[usize], at: usize) -> usize
 /// Where the row at this index of all rows stands.
 fn locate(blocks: &[Arc<Block>], ends: &[usize], at: usize) -> Spot
     requires ends { ends.now ≡ ends_of 0 blocks.now }
-    requires at { at < length (rows_of blocks.now) }
+    requires at { at < length (rows_of_blocks blocks.now) }
     ensures { IsSpot blocks.now at result.block result.row }
 {
     let block = ends_up_to(ends, at);
-    let row = at - start_of(ends, block);
+    let row = at - start_of_part(ends, block);
     Spot { block, row }
 }
 
 /// The number of rows.
 pub fn count(blocks: &[Arc<Block>], ends: &[usize]) -> usize
     requires { ends.now ≡ ends_of 0 blocks.now }
-    ensures { result ≡ length (rows_of blocks.now) }
+    ensures { result ≡ length (rows_of_blocks blocks.now) }
 {
     match ends.last() {
         Some(end) => *end,
@@ -57,8 +57,8 @@ pub fn count(blocks: &[Arc<Block>], ends: &[usize]) -> usize
 /// The tag of the row at this index.
 pub fn tag_at(blocks: &[Arc<Block>], ends: &[usize], at: usize) -> Tag
     requires ends { ends.now ≡ ends_of 0 blocks.now }
-    requires at { at < length (rows_of blocks.now) }
-    ensures { (d : Tag × List Cell) → result ≡ (slice_index_or (rows_of blocks.now) at d).0 }
+    requires at { at < length (rows_of_blocks blocks.now) }
+    ensures { (d : Tag × List Cell) → result ≡ (slice_index_or (rows_of_blocks blocks.now) at d).0 }
 {
     let spot = locate(blocks, ends, at);
     blocks[spot.block].tags()[spot.row]
@@ -72,9 +72,9 @@ pub fn row_at(
     at: usize,
 ) -> Result<Row, AllocError>
     requires ends { ends.now ≡ ends_of 0 blocks.now }
-    requires at { at < length (rows_of blocks.now) }
+    requires at { at < length (rows_of_blocks blocks.now) }
     ensures { IfOk result (λ r. (d : Tag × List Cell) → r ≡
-        (slice_index_or (rows_of blocks.now) at d).1) }
+        (slice_index_or (rows_of_blocks blocks.now) at d).1) }
 {
     let spot = locate(blocks, ends, at);
     let row = blocks[spot.block].row(alloc, spot.row)?;
@@ -90,10 +90,10 @@ pub fn search(
     high: usize,
 ) -> Result<usize, usize>
     requires ends { ends.now ≡ ends_of 0 blocks.now }
-    requires sorted { T (finite.is_sorted tag_cmp (rows_of blocks.now)) }
-    requires window { IsWindow (rows_of blocks.now) tag low high }
-    ensures found { IfOk result (IsPlace tag_cmp (rows_of blocks.now) tag) }
-    ensures absent { IfErr result (IsGap tag_cmp (rows_of blocks.now) tag) }
+    requires sorted { T (finite.is_sorted tag_cmp (rows_of_blocks blocks.now)) }
+    requires window { IsWindow (rows_of_blocks blocks.now) tag low high }
+    ensures found { IfOk result (IsPlace tag_cmp (rows_of_blocks blocks.now) tag) }
+    ensures absent { IfErr result (IsGap tag_cmp (rows_of_blocks blocks.now) tag) }
 {
     if low >= high {
         return Err(low);

@@ -6,12 +6,12 @@ ghost use Rattle.std.specs.List.{list_all};
 ghost use Rattle.df_value.specs.Rows.{row_fits, rows_fit};
 ghost use Rattle.df_value.specs.declared.cell.Cell.{Cell};
 ghost use Rattle.df_value.specs.declared.cell.CellType.{CellType};
-ghost use Rattle.df_column.specs.Blocks.{AreOfTypes, block_rows, ends_of, rows_of};
-ghost use Rattle.df_column.specs.Columns.{cells_of, dtype_of};
+ghost use Rattle.df_column.specs.Blocks.{AreOfDtypes, block_rows, ends_of, rows_of_blocks};
+ghost use Rattle.df_column.specs.Columns.{column_cells, dtype_of_column};
 ghost use Rattle.df_column.specs.Picks.{AreWithin};
 ghost use Rattle.df_column.specs.Places.{IsGap, IsPlace};
 ghost use Rattle.df_column.specs.Rows.{AreRows, are_even, picked_rows};
-ghost use Rattle.df_column.specs.Tables.{AreFitting, AreRising, after_entries, types_of};
+ghost use Rattle.df_column.specs.Tables.{NewRowsFit, AreRising, after_entries, dtypes_of};
 ghost use Rattle.df_column.specs.Tags.{tag_cmp};
 ghost use Rattle.df_column.specs.declared.tag.Tag.{Tag};
 
@@ -39,7 +39,7 @@ impl Model for Table {
     ghost use Rattle.std.specs.Arc.{arc_value};
     ghost use Rattle.std.specs.FinMap as finite;
     ghost use Rattle.df_column.specs.Tables.{TableParts, table_code};
-    ghost use Rattle.df_column.specs.Blocks.{rows_of};
+    ghost use Rattle.df_column.specs.Blocks.{rows_of_blocks};
     ghost use Rattle.df_column.specs.TableBlocks.{IsTable};
 
     ghost Value = { TableParts };
@@ -47,14 +47,14 @@ impl Model for Table {
     ghost coded = { table_code };
 
     ghost view = { λ t. record
-        { schema = arc_value t.schema; rows = finite.from_sorted (rows_of t.blocks.items) } };
+        { schema = arc_value t.schema; rows = finite.from_sorted (rows_of_blocks t.blocks.items) } };
 
     ghost invariant = { λ t. IsTable (arc_value t.schema) t.blocks.items t.ends.items };
 }
 
 /// How many rows stand up to the end of each block.
 fn block_ends(alloc: Global, blocks: &[Arc<Block>]) -> Result<Vec<usize>, AllocError>
-    requires { length (rows_of blocks.now) ≤ 2 ^ 60 }
+    requires { length (rows_of_blocks blocks.now) ≤ 2 ^ 60 }
     ensures { IfOk result (λ v. v.items ≡ ends_of 0 blocks.now) }
 {
     let mut ends = Vec::with_capacity(alloc, blocks.len())?;
@@ -68,10 +68,10 @@ fn block_ends(alloc: Global, blocks: &[Arc<Block>]) -> Result<Vec<usize>, AllocE
 
 /// The same blocks, shared.
 fn shared_blocks(alloc: Global, blocks: &[Arc<Block>]) -> Result<Vec<Arc<Block>>, AllocError>
-    requires { length (rows_of blocks.now) ≤ 2 ^ 60 }
-    ensures rows { IfOk result (λ v. rows_of v.items ≡ rows_of blocks.now) }
-    ensures types { IfOk result (λ v. (dtypes : List CellType) → AreOfTypes dtypes blocks.now →
-        AreOfTypes dtypes v.items) }
+    requires { length (rows_of_blocks blocks.now) ≤ 2 ^ 60 }
+    ensures rows { IfOk result (λ v. rows_of_blocks v.items ≡ rows_of_blocks blocks.now) }
+    ensures types { IfOk result (λ v. (dtypes : List CellType) → AreOfDtypes dtypes blocks.now →
+        AreOfDtypes dtypes v.items) }
 {
     let mut out = Vec::with_capacity(alloc, blocks.len())?;
     for block in blocks {
@@ -82,8 +82,8 @@ fn shared_blocks(alloc: Global, blocks: &[Arc<Block>]) -> Result<Vec<Arc<Block>>
 
 /// A column of no cells for each column of the schema.
 fn empty_columns(alloc: Global, schema: &Schema) -> Result<Vec<Column>, AllocError>
-    ensures types { IfOk result (λ v. map dtype_of v.items ≡ types_of schema.now) }
-    ensures even { IfOk result (λ v. T (are_even 0 (map cells_of v.items))) }
+    ensures types { IfOk result (λ v. map dtype_of_column v.items ≡ dtypes_of schema.now) }
+    ensures even { IfOk result (λ v. T (are_even 0 (map column_cells v.items))) }
 {
     let columns = schema.columns().as_slice();
     let mut out = Vec::with_capacity(alloc, columns.len())?;
@@ -99,11 +99,11 @@ fn from_blocks(
     schema: Arc<Schema>,
     blocks: Vec<Arc<Block>>,
 ) -> Result<Table, AllocError>
-    requires sorted { T (finite.is_sorted tag_cmp (rows_of blocks.items)) }
-    requires types { AreOfTypes (types_of (arc_value schema)) blocks.items }
-    requires few { length (rows_of blocks.items) ≤ 2 ^ 60 }
+    requires sorted { T (finite.is_sorted tag_cmp (rows_of_blocks blocks.items)) }
+    requires types { AreOfDtypes (dtypes_of (arc_value schema)) blocks.items }
+    requires few { length (rows_of_blocks blocks.items) ≤ 2 ^ 60 }
     ensures schema { IfOk result (λ t. t.schema ≡ arc_value schema) }
-    ensures rows { IfOk result (λ t. t.rows ≡ finite.from_sorted (rows_of blocks.items)) }
+    ensures rows { IfOk result (λ t. t.rows ≡ finite.from_sorted (rows_of_blocks blocks.items)) }
 {
     let ends = block_ends(alloc, &blocks)?;
     Ok(Table {
@@ -144,11 +144,11 @@ impl Table {
 
     /// The blocks.
     fn blocks(&self) -> &[Arc<Block>]
-        ensures rows { rows_of result.now ≡ finite.entries self.now.rows }
-        ensures value { finite.from_sorted (rows_of result.now) ≡ self.now.rows }
-        ensures sorted { T (finite.is_sorted tag_cmp (rows_of result.now)) }
-        ensures types { AreOfTypes (types_of self.now.schema) result.now }
-        ensures few { length (rows_of result.now) ≤ 2 ^ 60 }
+        ensures rows { rows_of_blocks result.now ≡ finite.entries self.now.rows }
+        ensures value { finite.from_sorted (rows_of_blocks result.now) ≡ self.now.rows }
+        ensures sorted { T (finite.is_sorted tag_cmp (rows_of_blocks result.now)) }
+        ensures types { AreOfDtypes (dtypes_of self.now.schema) result.now }
+        ensures few { length (rows_of_blocks result.now) ≤ 2 ^ 60 }
     {
         &self.blocks
     }
@@ -167,7 +167,7 @@ impl Table {
     /// without a change are shared with this table.
     pub fn edited(&self, alloc: Global, entries: &[Entry]) -> Result<Table, AllocError>
         requires rising { AreRising entries.now }
-        requires fits { AreFitting self.now.schema entries.now }
+        requires fits { NewRowsFit self.now.schema entries.now }
         requires few { finite.len (after_entries self.now entries.now).rows ≤ 2 ^ 60 }
         ensures { IfOk result (λ t. t ≡ after_entries self.now entries.now) }
     {
@@ -273,9 +273,9 @@ impl Table {
 /// The index of the row at this tag, or where it would stand.
 fn find_in(blocks: &[Arc<Block>], ends: &[usize], tag: Tag) -> Result<usize, usize>
     requires ends { ends.now ≡ ends_of 0 blocks.now }
-    requires sorted { T (finite.is_sorted tag_cmp (rows_of blocks.now)) }
-    ensures found { IfOk result (IsPlace tag_cmp (rows_of blocks.now) tag) }
-    ensures absent { IfErr result (IsGap tag_cmp (rows_of blocks.now) tag) }
+    requires sorted { T (finite.is_sorted tag_cmp (rows_of_blocks blocks.now)) }
+    ensures found { IfOk result (IsPlace tag_cmp (rows_of_blocks blocks.now) tag) }
+    ensures absent { IfErr result (IsGap tag_cmp (rows_of_blocks blocks.now) tag) }
 {
     spots::search(blocks, ends, tag, 0, spots::count(blocks, ends))
 }
@@ -314,8 +314,8 @@ fn blocks_of(
     rows: &[(Tag, Row)],
 ) -> Result<Vec<Arc<Block>>, AllocError>
     requires { T (list_all (λ r. row_fits schema.now r.1) rows.now) }
-    ensures rows { IfOk result (λ v. rows_of v.items ≡ rows.now) }
-    ensures types { IfOk result (λ v. AreOfTypes (types_of schema.now) v.items) }
+    ensures rows { IfOk result (λ v. rows_of_blocks v.items ≡ rows.now) }
+    ensures types { IfOk result (λ v. AreOfDtypes (dtypes_of schema.now) v.items) }
 {
     let columns = empty_columns(alloc, schema)?;
     let picks = new_picks(alloc, rows)?;
@@ -330,7 +330,7 @@ fn new_picks<'a>(alloc: Global, rows: &'a [(Tag, Row)]) -> Result<Vec<Pick<'a>>,
     ensures rows { IfOk result (λ v. (columns : List (List Cell)) → picked_rows columns v.items ≡
         rows.now) }
     ensures fits { IfOk result (λ v. (schema : List (List ℕ × CellType)) →
-        T (list_all (λ r. row_fits schema r.1) rows.now) → AreRows (types_of schema) v.items) }
+        T (list_all (λ r. row_fits schema r.1) rows.now) → AreRows (dtypes_of schema) v.items) }
 {
     let mut picks = Vec::with_capacity(alloc, rows.len())?;
     for row in rows {

@@ -3,8 +3,8 @@ ghost use Rattle.std.specs.Prelude.{◌≡◌, ◌<◌, ◌≤◌, ◌+◌, ◌+
 ghost use Rattle.df_value.specs.Cells.{fits_dtype};
 ghost use Rattle.df_value.specs.declared.cell.Cell.{Cell};
 ghost use Rattle.df_value.specs.declared.cell.CellType.TheVariants as dtype_as;
-ghost use Rattle.df_column.specs.Picks.{AreFit, AreWithin, is_fit, is_within, origin_cell, picked_cells, start_of};
-ghost use Rattle.df_column.specs.Texts.{ArePlaces, text_at, text_now};
+ghost use Rattle.df_column.specs.Picks.{AreFit, AreWithin, is_fit, is_within, origin_cell, picked_cells, all_or_none};
+ghost use Rattle.df_column.specs.Texts.{ArePlaces, pool_text, text_now};
 ghost use Rattle.df_column.specs.ValueCells.{text_cell};
 
 use crate::masked::Masked;
@@ -23,11 +23,11 @@ pub struct Texts {
 
 impl Model for Texts {
     ghost use Rattle.std.specs.Prelude.{List, ℕ, Option, map};
-    ghost use Rattle.df_column.specs.Texts.{text_at, ArePlaces};
+    ghost use Rattle.df_column.specs.Texts.{pool_text, ArePlaces};
 
     ghost Value = { List (Option (List ℕ)) };
 
-    ghost view = { λ t. map (text_at t.pool) t.places };
+    ghost view = { λ t. map (pool_text t.pool) t.places };
 
     ghost invariant = { λ t. ArePlaces t.pool t.places };
 }
@@ -42,8 +42,8 @@ fn push_text(
     requires few { length places.old < 1024 }
     ensures sound { OnOk result (ArePlaces pool.new places.new) }
     ensures len { OnOk result (length places.new ≡ length places.old + 1) }
-    ensures texts { OnOk result (map (text_at pool.new) places.new ≡
-        map (text_at pool.old) places.old ++ text_now text.entry ∷ []) }
+    ensures texts { OnOk result (map (pool_text pool.new) places.new ≡
+        map (pool_text pool.old) places.old ++ text_now text.entry ∷ []) }
 {
     match text {
         Some(text) => {
@@ -134,7 +134,7 @@ impl Texts {
 
     /// These texts or none, with room for more places.
     pub(crate) fn start(&self, alloc: Global, whole: bool, more: usize) -> Result<Texts, AllocError>
-        ensures { IfOk result (λ t. t ≡ start_of whole self.now) }
+        ensures { IfOk result (λ t. t ≡ all_or_none whole self.now) }
     {
         if whole {
             Ok(self.copy(alloc, more)?)
@@ -157,9 +157,9 @@ impl Texts {
     ) -> Result<Texts, AllocError>
         requires within { AreWithin (length (map text_cell self.now)) picks.now }
         requires fits { AreFit dtype_as.Text column picks.now }
-        requires few { length (start_of whole (map text_cell self.now)) + length picks.now ≤ 1024 }
+        requires few { length (all_or_none whole (map text_cell self.now)) + length picks.now ≤ 1024 }
         ensures { IfOk result (λ t. map text_cell t ≡
-            start_of whole (map text_cell self.now)
+            all_or_none whole (map text_cell self.now)
             ++ picked_cells (map text_cell self.now) column picks.now) }
     {
         let start = self.start(alloc, whole, picks.len())?;

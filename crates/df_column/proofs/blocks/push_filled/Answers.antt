@@ -1,7 +1,7 @@
 use Rattle.std.proofs.Common.{map}
 use Rattle.std.specs.Arc.{arc_value}
 use Rattle.df_column.specs.Blocks.{block_rows}
-use Rattle.df_column.specs.Columns.{cells_of, dtype_of}
+use Rattle.df_column.specs.Columns.{column_cells, dtype_of_column}
 use Rattle.df_column.proofs.BehindLemmas.{adds_parts, within_rest}
 use Rattle.df_column.proofs.blocks.push_filled.Goals as goal
 
@@ -11,5 +11,5 @@ push_parts-requires-clause-within c = within_rest _ _ c.args.picks.now _ c.split
 pub returns : goal.returns
 returns c =
     let made = rw (c.columns.ensures.columns, c.deref-3.ensures) at c.in_ok-push_parts.ensures in
-    adds_parts (map dtype_of (arc_value c.args.block.now).columns) (map cells_of (arc_value c.args.block.now).columns) (block_rows (arc_value c.args.block.now))
+    adds_parts (map dtype_of_column (arc_value c.args.block.now).columns) (map column_cells (arc_value c.args.block.now).columns) (block_rows (arc_value c.args.block.now))
     c.split_at.result.0.now c.split_at.result.1.now c.args.picks.now _ _ _ _ c.split_at.ensures.front c.split_at.ensures.back c.in_ok-push_grown.ensures made

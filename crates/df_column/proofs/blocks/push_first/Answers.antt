@@ -1,13 +1,13 @@
 use Rattle.std.proofs.Common.{append_assoc}
 use Rattle.std.specs.Arc.{arc_value}
-use Rattle.df_column.specs.Blocks.{block_rows, rows_of}
+use Rattle.df_column.specs.Blocks.{block_rows, rows_of_blocks}
 use Rattle.df_column.proofs.ChangeRuns.{sorted_first}
 use Rattle.df_column.proofs.TableChanges.{sorted_taken, sorted_dropped, first_run}
 use Rattle.df_column.proofs.TagOrder.{tag_total}
 use Rattle.df_column.proofs.blocks.push_first.Goals as goal
 
 pub push_changed-requires-clause-rows : goal.push_changed-requires-clause-rows
-push_changed-requires-clause-rows c = sorted_first tag_total (block_rows (arc_value c.args.block.now)) (rows_of c.args.later.now) c.requires.rows
+push_changed-requires-clause-rows c = sorted_first tag_total (block_rows (arc_value c.args.block.now)) (rows_of_blocks c.args.later.now) c.requires.rows
 
 pub push_changed-requires-clause-entries : goal.push_changed-requires-clause-entries
 push_changed-requires-clause-entries c = rw c.split_at.ensures.front (sorted_taken c.count_before.result c.args.entries.now c.requires.entries)
@@ -17,9 +17,9 @@ returns-clause-rising c = rw c.split_at.ensures.back (sorted_dropped c.count_bef
 
 pub returns-clause-adds : goal.returns-clause-adds
 returns-clause-adds c =
-    let run = first_run (block_rows (arc_value c.args.block.now)) (rows_of c.args.later.now) c.first_tag.result c.args.entries.now c.first_tag.ensures c.requires.rows c.requires.entries in
+    let run = first_run (block_rows (arc_value c.args.block.now)) (rows_of_blocks c.args.later.now) c.first_tag.result c.args.entries.now c.first_tag.ensures c.requires.rows c.requires.entries in
     let made = c.in_ok-push_changed.ensures in
     record {
-      rows = rw (made.rows, c.split_at.ensures.back, c.split_at.ensures.front, c.count_before.ensures.count, run) (append_assoc (rows_of c.args.out.now.items) _ _);
+      rows = rw (made.rows, c.split_at.ensures.back, c.split_at.ensures.front, c.count_before.ensures.count, run) (append_assoc (rows_of_blocks c.args.out.now.items) _ _);
       types = made.types;
     }

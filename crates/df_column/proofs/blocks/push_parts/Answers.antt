@@ -1,5 +1,5 @@
 use Rattle.std.proofs.Common.{arith, map}
-use Rattle.df_column.specs.Columns.{cells_of, dtype_of}
+use Rattle.df_column.specs.Columns.{column_cells, dtype_of_column}
 use Rattle.df_column.specs.Picks.{is_within}
 use Rattle.df_column.specs.Rows.{is_new_row}
 use Rattle.df_column.proofs.PartLemmas.{all_part, adds_part}
@@ -9,10 +9,10 @@ pub push_picked-requires-clause-within : goal.push_picked-requires-clause-within
 push_picked-requires-clause-within c = all_part (λ p. is_within _ p.origin) _ c.loop-from.from c.args.picks.now c.requires.within
 
 pub push_picked-requires-clause-rows : goal.push_picked-requires-clause-rows
-push_picked-requires-clause-rows c = all_part (λ p. is_new_row (map dtype_of c.args.columns.now) p.origin) _ c.loop-from.from c.args.picks.now c.requires.rows
+push_picked-requires-clause-rows c = all_part (λ p. is_new_row (map dtype_of_column c.args.columns.now) p.origin) _ c.loop-from.from c.args.picks.now c.requires.rows
 
 pub loop-from-preserved : goal.loop-from-preserved
 loop-from-preserved c = record {
   within = omega arith;
-  adds = adds_part (map dtype_of c.args.columns.now) (map cells_of c.args.columns.now) c.args.picks.now c.loop-from.from c.min.result _ _ _ _ (omega arith) c.loop-from.invariant.adds c.in_ok-push_picked.ensures;
+  adds = adds_part (map dtype_of_column c.args.columns.now) (map column_cells c.args.columns.now) c.args.picks.now c.loop-from.from c.min.result _ _ _ _ (omega arith) c.loop-from.invariant.adds c.in_ok-push_picked.ensures;
 }

@@ -1,6 +1,6 @@
 use Rattle.std.proofs.Common.{◌≤◌, ◌-◌, map, length, take}
 use Rattle.df_column.specs.BlockRows.{AddsRows}
-use Rattle.df_column.specs.Columns.{cells_of, dtype_of}
+use Rattle.df_column.specs.Columns.{column_cells, dtype_of_column}
 use Rattle.df_column.specs.Rows.{picked_rows}
 use Rattle.df_column.proofs.blocks.push_parts.Given as goal
 
@@ -8,7 +8,7 @@ abbrev pub invariant-loop-from : goal.invariant-loop-from
 invariant-loop-from l =
     record {
       within : l.from ≤ length l.picks;
-      adds : AddsRows (map dtype_of l.columns) (picked_rows (map cells_of l.columns) (take l.from l.picks)) l.initial.out.items l.out.items;
+      adds : AddsRows (map dtype_of_column l.columns) (picked_rows (map column_cells l.columns) (take l.from l.picks)) l.initial.out.items l.out.items;
     }
 
 abbrev pub decreases-loop-from : goal.decreases-loop-from

@@ -1,10 +1,10 @@
 use Rattle.std.proofs.Common.{ap, ◌∙◌, map}
 use Rattle.df_column.specs.Blocks.{block_rows}
-use Rattle.df_column.specs.Columns.{dtype_of}
+use Rattle.df_column.specs.Columns.{dtype_of_column}
 use Rattle.df_column.proofs.BlockRowLemmas.{adds_block}
 use Rattle.df_column.proofs.blocks.push_picked.Goals as goal
 
 pub returns : goal.returns
 returns c =
     let made = c.in_ok-block-2.ensures.ok in
-    adds_block _ _ _ _ c.in_ok-block-2.block c.in_ok-push.ensures.items (ap block_rows made ∙ c.in_ok-block.ensures.rows) (ap (λ b. map dtype_of b.columns) made ∙ c.in_ok-block.ensures.dtypes)
+    adds_block _ _ _ _ c.in_ok-block-2.block c.in_ok-push.ensures.items (ap block_rows made ∙ c.in_ok-block.ensures.rows) (ap (λ b. map dtype_of_column b.columns) made ∙ c.in_ok-block.ensures.dtypes)

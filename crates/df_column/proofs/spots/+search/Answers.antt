@@ -1,5 +1,5 @@
 use Rattle.std.proofs.Common.{sym, arith}
-use Rattle.df_column.specs.Blocks.{rows_of}
+use Rattle.df_column.specs.Blocks.{rows_of_blocks}
 use Rattle.df_column.proofs.SpotLemmas.{window_above, window_below}
 use Rattle.df_column.proofs.spots.+search.Goals as goal
 
@@ -10,7 +10,7 @@ search-requires t c = (
     c.requires.ends,
     (
       c.requires.sorted,
-      window_above (rows_of c.args.blocks.now) c.args.tag c.args.low c.args.high _ c.tag_at-found.result c.requires.sorted c.requires.window
+      window_above (rows_of_blocks c.args.blocks.now) c.args.tag c.args.low c.args.high _ c.tag_at-found.result c.requires.sorted c.requires.window
           (omega (arith, c.if-low-high.false)) (omega (arith, c.if-low-high.false)) c.tag_at-found.ensures (sym c.in-Less.ensures),
     ),
   ),
@@ -23,7 +23,7 @@ search-requires-in-Greater t c = (
     c.requires.ends,
     (
       c.requires.sorted,
-      window_below (rows_of c.args.blocks.now) c.args.tag c.args.low c.args.high _ c.tag_at-found.result c.requires.sorted c.requires.window
+      window_below (rows_of_blocks c.args.blocks.now) c.args.tag c.args.low c.args.high _ c.tag_at-found.result c.requires.sorted c.requires.window
           (omega (arith, c.if-low-high.false)) (omega (arith, c.if-low-high.false)) c.tag_at-found.ensures (sym c.in-Greater.ensures),
     ),
   ),

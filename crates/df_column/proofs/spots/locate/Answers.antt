@@ -8,10 +8,10 @@ ends_up_to-block-requires c = ends_rise c.args.blocks.now c.args.ends.now c.requ
 pub overflow_sub-row : goal.overflow_sub-row
 overflow_sub-row c =
     let found = spot_from_ends c.args.blocks.now c.args.ends.now c.args.at c.ends_up_to-block.result c.requires.ends c.requires.at c.ends_up_to-block.ensures in
-    let s = c.start_of.ensures in
+    let s = c.start_of_part.ensures in
     omega (arith, s, found.start)
 
 pub returns : goal.returns
 returns c =
     let found = spot_from_ends c.args.blocks.now c.args.ends.now c.args.at c.ends_up_to-block.result c.requires.ends c.requires.at c.ends_up_to-block.ensures in
-    rw c.start_of.ensures found.spot
+    rw c.start_of_part.ensures found.spot

@@ -1,10 +1,10 @@
 use Rattle.std.proofs.Common.{sym, ap, ◌∙◌, map}
-use Rattle.df_column.specs.Columns.{cells_of}
+use Rattle.df_column.specs.Columns.{column_cells}
 use Rattle.df_column.specs.Rows.{row_at}
 use Rattle.df_column.proofs.SpotLemmas.{at_spot}
 use Rattle.df_column.proofs.spots.row_at.Goals as goal
 
 pub returns : goal.returns
 returns c = λ d.
-    c.in_ok-row.ensures ∙ ap (λ b. row_at (map cells_of b.columns) c.locate-spot.result.row) c.deref.ensures
+    c.in_ok-row.ensures ∙ ap (λ b. row_at (map column_cells b.columns) c.locate-spot.result.row) c.deref.ensures
     ∙ ap (λ r. r.1) (sym (at_spot c.args.blocks.now c.args.at c.locate-spot.result.block c.locate-spot.result.row c.index-blocks-spot.result (record { first = 0; second = 0; third = 0 }) c.locate-spot.ensures c.index-blocks-spot.is d))

@@ -1,12 +1,12 @@
 use Rattle.std.proofs.Common.{◌≡◌, ◌++◌, List, drop}
 use Rattle.df_value.specs.declared.cell.CellType.{CellType}
-use Rattle.df_column.specs.Blocks.{AreOfTypes, rows_of}
+use Rattle.df_column.specs.Blocks.{AreOfDtypes, rows_of_blocks}
 use Rattle.df_column.proofs.table.shared_blocks.Given as goal
 
 abbrev pub invariant-loop-block : goal.invariant-loop-block
 invariant-loop-block l =
     record {
-      rows : rows_of l.out.items ++ rows_of (drop l.block-index l.blocks) ≡ rows_of l.blocks;
-      types : (dtypes : List CellType) → AreOfTypes dtypes l.blocks → AreOfTypes dtypes l.out.items;
-      left : (dtypes : List CellType) → AreOfTypes dtypes l.blocks → AreOfTypes dtypes (drop l.block-index l.blocks);
+      rows : rows_of_blocks l.out.items ++ rows_of_blocks (drop l.block-index l.blocks) ≡ rows_of_blocks l.blocks;
+      types : (dtypes : List CellType) → AreOfDtypes dtypes l.blocks → AreOfDtypes dtypes l.out.items;
+      left : (dtypes : List CellType) → AreOfDtypes dtypes l.blocks → AreOfDtypes dtypes (drop l.block-index l.blocks);
     }

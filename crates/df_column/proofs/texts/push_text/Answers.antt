@@ -1,5 +1,5 @@
 use Rattle.std.proofs.Common.{ap, ◌∙◌, sym, ◌++◌, ◌∷◌, [], arith, map}
-use Rattle.df_column.specs.Texts.{text_at, text_now}
+use Rattle.df_column.specs.Texts.{pool_text, text_now}
 use Rattle.df_column.proofs.TextPlaces.{places_put, place_small}
 use Rattle.df_column.proofs.texts.push_text.Goals as goal
 
@@ -17,4 +17,4 @@ returns-in_ok-push-in-Some-clause-sound c =
 pub returns-in_ok-push-in-Some-clause-texts : goal.returns-in_ok-push-in-Some-clause-texts
 returns-in_ok-push-in-Some-clause-texts c =
     rw (c.in_ok-push-in-Some.ensures, c.in_ok-place-in-Some.ensures.place, c.in_ok-place-in-Some.ensures.texts)
-    ((places_put c.args.pool.now c.in-Some.text.now c.args.places.now c.requires.sound).texts ∙ ap (λ o. map (text_at c.args.pool.now) c.args.places.now ++ text_now o ∷ []) (sym c.in-Some.is))
+    ((places_put c.args.pool.now c.in-Some.text.now c.args.places.now c.requires.sound).texts ∙ ap (λ o. map (pool_text c.args.pool.now) c.args.places.now ++ text_now o ∷ []) (sym c.in-Some.is))

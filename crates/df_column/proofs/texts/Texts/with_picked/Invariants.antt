@@ -1,7 +1,7 @@
 use Rattle.std.proofs.Common.{◌≡◌, ◌≤◌, ◌+◌, ◌++◌, map, drop, length}
 use Rattle.df_value.specs.declared.cell.CellType.TheVariants as dtype
 use Rattle.df_column.specs.Picks.{AreWithin, AreFit, picked_cells}
-use Rattle.df_column.specs.Texts.{ArePlaces, text_at}
+use Rattle.df_column.specs.Texts.{ArePlaces, pool_text}
 use Rattle.df_column.specs.ValueCells.{text_cell}
 use Rattle.df_column.proofs.texts.Texts.with_picked.Given as goal
 
@@ -12,6 +12,6 @@ invariant-loop-pick l =
       few : length l.places + length (drop l.pick-index l.picks) ≤ 1024;
       within : AreWithin (length l.old) (drop l.pick-index l.picks);
       fits : AreFit dtype.Text l.column (drop l.pick-index l.picks);
-      whole : map text_cell (map (text_at l.pool) l.places) ++ picked_cells (map text_cell l.old) l.column (drop l.pick-index l.picks)
-          ≡ map text_cell (map (text_at l.initial.pool) l.initial.places) ++ picked_cells (map text_cell l.old) l.column l.picks;
+      whole : map text_cell (map (pool_text l.pool) l.places) ++ picked_cells (map text_cell l.old) l.column (drop l.pick-index l.picks)
+          ≡ map text_cell (map (pool_text l.initial.pool) l.initial.places) ++ picked_cells (map text_cell l.old) l.column l.picks;
     }
