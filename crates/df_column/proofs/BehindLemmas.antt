@@ -25,7 +25,7 @@ use Rattle.df_column.proofs.Bools.{T-both, T-first, T-second, less_from_is_lt, i
 use Rattle.df_column.proofs.ChangeRuns.{after_changes-right, apart_at, sorted_from}
 use Rattle.df_column.proofs.PartLemmas.{all_drop}
 use Rattle.df_column.proofs.Pools.{lt_from}
-use Rattle.df_column.proofs.TagOrder.{tag_total}
+use Rattle.df_column.specs.TagOrder.{tag_total}
 
 -- picks of new rows alone are within any number of old rows
 within_one : (n : ℕ) (o : Origin) → T (is_within 0 o) → T (is_within n o)

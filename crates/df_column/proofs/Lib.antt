@@ -1,5 +1,4 @@
 pub mod Bools
-pub mod TagOrder
 pub mod Places
 pub mod Parts
 pub mod Pools

@@ -20,7 +20,7 @@ use Rattle.df_column.specs.declared.entry.Entry.{Entry}
 use Rattle.df_column.specs.declared.tag.Tag.{Tag}
 use Rattle.df_column.proofs.Bools.{T-both, T-first, T-second, true_from_T, equal_from_is_eq}
 use Rattle.df_column.proofs.Pools.{lt_to}
-use Rattle.df_column.proofs.TagOrder.{tag_total, tag_same}
+use Rattle.df_column.specs.TagOrder.{tag_total, tag_same}
 use Rattle.df_column.proofs.ChangeRuns.{merged_one, under_prefix, from_rest, sorted_second}
 use Rattle.df_column.proofs.RowLemmas.{tags_of_rows, row_in_rows, length_rows}
 

@@ -12,6 +12,7 @@ use Rattle.df_column.specs.Places.{IsGap, IsPlace}
 use Rattle.df_column.specs.Pools.{place_of, place_or_end, with_text, text_cmp, places_by_text, IsOrder, IsPlaceOf, IsPool, parts}
 use Rattle.df_column.proofs.Bools.{T-first, T-second, T-both}
 use Rattle.std.specs.Str.{IsUtf8, is_utf8}
+use Rattle.std.proofs.lemmas.List.Edits.{length-insert}
 use Rattle.std.proofs.lemmas.Str.{is_utf8-from_IsUtf8}
 use Rattle.df_column.proofs.Parts.{length-parts, rising-push, parts-push, all-push}
 use Rattle.df_column.proofs.Places.{put-gap, find-gap, find-place, mapped_at, mapped_length, placed_by}
@@ -99,7 +100,12 @@ order_push texts t order i h g =
     let es = places_by_text texts order in
     let grown = length_push texts t in
     let made = by_text_push texts t order i h.within ∙ sym (put-gap text_total text_same es t n i g) in
+    let f : ℕ → List ℕ × ℕ = λ p. (get_or texts p [], p) in
+    let l = mapped_length f order in
+    let inside : i ≤ length order = omega (arith, l, g.in_range) in
+    let longer = length-insert order i n inside in
     record {
+      whole = omega (arith, longer, h.whole, grown);
       within = subst (λ m. T (list_all (λ p. nat_lt p m) (insert order i n))) (sym grown) (all_insert (λ p. nat_lt p (n + 1)) order i n (lt_to n (n + 1) (omega arith)) (below_more n order h.within));
       sorted = subst (λ es. T (is_sorted text_cmp es)) (sym made) (is_sorted-put text_cmp text_total t n es h.sorted);
       finds = λ q.

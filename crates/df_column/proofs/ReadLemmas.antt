@@ -22,7 +22,7 @@ use Rattle.df_column.proofs.MergeLemmas.{all_last, drop_at, drop_past}
 use Rattle.df_column.proofs.Places.{find-gap, find-place}
 use Rattle.df_column.proofs.RowLemmas.{length_rows, row_in_rows}
 use Rattle.df_column.proofs.TableLemmas.{fits_types}
-use Rattle.df_column.proofs.TagOrder.{tag_total, tag_same}
+use Rattle.df_column.specs.TagOrder.{tag_total, tag_same}
 
 -- the rows of a table are the entries of its map
 pub entries_are : (rows es : List (Tag × List Cell)) (m : TaggedRows) → es ≡ rows → T (finite.is_sorted tag_cmp rows) → finite.from_sorted rows ≡ m → es ≡ finite.entries m

@@ -22,7 +22,7 @@ use Rattle.df_column.specs.Tags.{tag_cmp}
 use Rattle.df_column.specs.declared.tag.Tag.{Tag}
 use Rattle.df_column.proofs.Places.{rises_along}
 use Rattle.df_column.proofs.RowLemmas.{length_rows, row_in_rows}
-use Rattle.df_column.proofs.TagOrder.{tag_total, tag_same}
+use Rattle.df_column.specs.TagOrder.{tag_total, tag_same}
 
 get_front : {X : Type 0} (xs ys : List X) (i : ℕ) (d : X) → i < length xs → get_or (xs ++ ys) i d ≡ get_or xs i d
 get_front [] ys i d h = absurd (omega arith)

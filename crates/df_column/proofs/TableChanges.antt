@@ -15,7 +15,7 @@ use Rattle.df_column.specs.declared.entry.Entry.{Entry}
 use Rattle.df_column.specs.declared.tag.Tag.{Tag}
 use Rattle.df_column.proofs.ChangeRuns.{under_prefix, from_rest, sorted_second, sorted_first, sorted_apart, changes_runs, apart_at, apart_heads, sorted_from}
 use Rattle.df_column.proofs.Removal.{remove_is}
-use Rattle.df_column.proofs.TagOrder.{tag_total, tag_same}
+use Rattle.df_column.specs.TagOrder.{tag_total, tag_same}
 
 -- changes in order, cut at a tag
 halves : (n : ℕ) (es : List Entry) → map entry_change (take n es) ++ map entry_change (drop n es) ≡ map entry_change es

@@ -1,4 +1,5 @@
 pub mod Tags
+pub mod TagOrder
 pub mod Places
 pub mod Masks
 pub mod Pools

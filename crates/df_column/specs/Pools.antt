@@ -45,8 +45,10 @@ text_cmp = slice_cmp nat_cmp
 abbrev pub places_by_text : List (List ℕ) → List ℕ → List (List ℕ × ℕ)
 places_by_text texts order = map (λ p. (slice_index_or texts p [], p)) order
 
--- the order lists the places of these texts by rising text, and a look-up in it finds what a search of the texts does
+-- the order lists the places of these texts by rising text, each text's once, so that no two texts are equal; and a
+-- look-up in it finds what a search of the texts does
 pub record IsOrder (texts : List (List ℕ)) (order : List ℕ) : Type 0 where
+  pub whole : length order ≡ length texts
   pub within : T (list_all (λ p. nat_lt p (length texts)) order)
   pub sorted : T (is_sorted text_cmp (places_by_text texts order))
   pub finds : (t : List ℕ) → find text_cmp t (places_by_text texts order) ≡ place_of t texts

@@ -46,9 +46,13 @@ abbrev pub new_row_fits : List (List ℕ × CellType) → Option (List Cell) →
 new_row_fits schema None = true
 new_row_fits schema (Some row) = row_fits schema row
 
--- the new rows of the entries fit the schema
+-- whether the new rows of the entries fit the schema
+abbrev pub new_rows_fit : List (List ℕ × CellType) → List Entry → Bool
+new_rows_fit schema entries = list_all (λ e. new_row_fits schema e.new) entries
+
+-- they fit
 abbrev pub NewRowsFit : List (List ℕ × CellType) → List Entry → Type 0
-NewRowsFit schema entries = T (list_all (λ e. new_row_fits schema e.new) entries)
+NewRowsFit schema entries = T (new_rows_fit schema entries)
 
 -- the table after the changes of these entries: at each tag that they name stands the new row, or nothing
 abbrev pub after_entries : TableParts → List Entry → TableParts

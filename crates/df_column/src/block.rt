@@ -12,7 +12,7 @@ ghost use Rattle.df_column.specs.declared.column.Column.{Column};
 use crate::column::Column;
 use crate::picks::Pick;
 use crate::tag::Tag;
-use df_value::{List, Row, both};
+use df_value::{Row, both};
 use std::alloc::{AllocError, Global};
 use std::marker::Model;
 
@@ -172,6 +172,6 @@ impl Block {
         for column in columns {
             cells.push(column.cell(alloc, at)?)?;
         }
-        Ok(List::from_vec(cells))
+        Row::new(alloc, cells)
     }
 }

@@ -1,5 +1,5 @@
 //! Tables of tagged rows in shared blocks.
-ghost use Rattle.std.specs.Prelude.{◌≡◌, ◌↔◌, ℕ, ◌<◌, ◌≤◌, ◌++◌, ◌^◌, T, List, Some, None, IfErr, IfNone, IfOk, IfSome, IsTrue, OnOk, map, length, slice_index_or};
+ghost use Rattle.std.specs.Prelude.{◌≡◌, ◌↔◌, ℕ, ◌<◌, ◌≤◌, ◌++◌, ◌^◌, T, List, Some, None, IfErr, IfNone, IfOk, IfSome, IsTrue, OnOk, true, map, length, not, slice_index_or};
 ghost use Rattle.std.specs.Arc.{arc_value};
 ghost use Rattle.std.specs.FinMap as finite;
 ghost use Rattle.std.specs.List.{list_all};
@@ -11,7 +11,7 @@ ghost use Rattle.df_column.specs.Columns.{column_cells, dtype_of_column};
 ghost use Rattle.df_column.specs.Picks.{AreWithin};
 ghost use Rattle.df_column.specs.Places.{IsGap, IsPlace};
 ghost use Rattle.df_column.specs.Rows.{AreRows, are_even, picked_rows};
-ghost use Rattle.df_column.specs.Tables.{NewRowsFit, AreRising, after_entries, dtypes_of};
+ghost use Rattle.df_column.specs.Tables.{NewRowsFit, AreRising, after_entries, dtypes_of, new_row_fits, new_rows_fit};
 ghost use Rattle.df_column.specs.Tags.{tag_cmp};
 ghost use Rattle.df_column.specs.declared.tag.Tag.{Tag};
 
@@ -52,15 +52,22 @@ impl Model for Table {
     ghost invariant = { λ t. IsTable (arc_value t.schema) t.blocks.items t.ends.items };
 }
 
+/// The most rows of a table: more would take more memory than an allocator has.
+const MOST_ROWS_OF_TABLE: usize = 1 << 60;
+
 /// How many rows stand up to the end of each block.
 fn block_ends(alloc: Global, blocks: &[Arc<Block>]) -> Result<Vec<usize>, AllocError>
-    requires { length (rows_of_blocks blocks.now) ≤ 2 ^ 60 }
-    ensures { IfOk result (λ v. v.items ≡ ends_of 0 blocks.now) }
+    ensures ends { IfOk result (λ v. v.items ≡ ends_of 0 blocks.now) }
+    ensures few { IfOk result (λ _. length (rows_of_blocks blocks.now) ≤ 2 ^ 60) }
 {
     let mut ends = Vec::with_capacity(alloc, blocks.len())?;
     let mut end = 0;
     for block in blocks {
-        end += block.tags().len();
+        let rows = block.tags().len();
+        if rows > MOST_ROWS_OF_TABLE - end {
+            return Err(AllocError);
+        }
+        end += rows;
         ends.push(end)?;
     }
     Ok(ends)
@@ -68,7 +75,6 @@ fn block_ends(alloc: Global, blocks: &[Arc<Block>]) -> Result<Vec<usize>, AllocE
 
 /// The same blocks, shared.
 fn shared_blocks(alloc: Global, blocks: &[Arc<Block>]) -> Result<Vec<Arc<Block>>, AllocError>
-    requires { length (rows_of_blocks blocks.now) ≤ 2 ^ 60 }
     ensures rows { IfOk result (λ v. rows_of_blocks v.items ≡ rows_of_blocks blocks.now) }
     ensures types { IfOk result (λ v. (dtypes : List CellType) → AreOfDtypes dtypes blocks.now →
         AreOfDtypes dtypes v.items) }
@@ -101,7 +107,6 @@ fn from_blocks(
 ) -> Result<Table, AllocError>
     requires sorted { T (finite.is_sorted tag_cmp (rows_of_blocks blocks.items)) }
     requires types { AreOfDtypes (dtypes_of (arc_value schema)) blocks.items }
-    requires few { length (rows_of_blocks blocks.items) ≤ 2 ^ 60 }
     ensures schema { IfOk result (λ t. t.schema ≡ arc_value schema) }
     ensures rows { IfOk result (λ t. t.rows ≡ finite.from_sorted (rows_of_blocks blocks.items)) }
 {
@@ -163,12 +168,26 @@ impl Table {
         Ok(table)
     }
 
-    /// The table after the changes of these entries: at each tag that they name stands the new row, or nothing. Blocks
-    /// without a change are shared with this table.
+    /// The table after the changes of these entries: at each tag that they name stands the new row, or nothing. Where
+    /// a new row does not fit the schema, nothing changes. Blocks without a change are shared with this table.
     pub fn edited(&self, alloc: Global, entries: &[Entry]) -> Result<Table, AllocError>
         requires rising { AreRising entries.now }
+        ensures schema { IfOk result (λ t. t.schema ≡ self.now.schema) }
+        ensures changed { NewRowsFit self.now.schema entries.now
+            → IfOk result (λ t. t ≡ after_entries self.now entries.now) }
+        ensures unlike { not (new_rows_fit self.now.schema entries.now) ≡ true
+            → IfOk result (λ t. t ≡ self.now) }
+    {
+        if !are_fitting(self.schema(), entries) {
+            return self.share(alloc);
+        }
+        self.changed(alloc, entries)
+    }
+
+    /// The table after the changes of entries that fit.
+    fn changed(&self, alloc: Global, entries: &[Entry]) -> Result<Table, AllocError>
+        requires rising { AreRising entries.now }
         requires fits { NewRowsFit self.now.schema entries.now }
-        requires few { finite.len (after_entries self.now entries.now).rows ≤ 2 ^ 60 }
         ensures { IfOk result (λ t. t ≡ after_entries self.now entries.now) }
     {
         let columns = empty_columns(alloc, self.schema())?;
@@ -186,7 +205,6 @@ impl Table {
     ) -> Result<Table, AllocError>
         requires rising { T (finite.is_sorted tag_cmp rows.now) }
         requires fits { T (list_all (λ r. row_fits schema r.1) rows.now) }
-        requires few { length rows.now ≤ 2 ^ 60 }
         ensures schema { IfOk result (λ t. t.schema ≡ schema) }
         ensures rows { IfOk result (λ t. t.rows ≡ finite.from_sorted rows.now) }
     {
@@ -278,6 +296,22 @@ fn find_in(blocks: &[Arc<Block>], ends: &[usize], tag: Tag) -> Result<usize, usi
     ensures absent { IfErr result (IsGap tag_cmp (rows_of_blocks blocks.now) tag) }
 {
     spots::search(blocks, ends, tag, 0, spots::count(blocks, ends))
+}
+
+/// Whether the new row of each entry fits the schema.
+fn are_fitting(schema: &Schema, entries: &[Entry]) -> bool
+    ensures { result ≡ new_rows_fit schema.now entries.now }
+{
+    entries.iter().all(|entry| is_fitting(schema, entry))
+}
+
+fn is_fitting(schema: &Schema, entry: &Entry) -> bool
+    ensures { result ≡ new_row_fits schema.now entry.now.new }
+{
+    match &entry.new {
+        Some(row) => schema.fits(row),
+        None => true,
+    }
 }
 
 /// Adds copies of the block's rows.

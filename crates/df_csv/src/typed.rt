@@ -43,7 +43,7 @@ fn type_row(
         };
         cells.push(cell)?;
     }
-    Ok(TypedRow::Good(List::from_vec(cells)))
+    Ok(TypedRow::Good(Row::new(alloc, cells)?))
 }
 
 /// The rows of the `len` records behind the first `first`.

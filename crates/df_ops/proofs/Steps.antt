@@ -1,6 +1,6 @@
 -- One more turn of a loop that makes a list of another, item by item.
 use Rattle.std.proofs.Common.{◌≡◌, ℕ, ◌+◌, ◌<◌, ◌≤◌, ◌∙◌, List, [], ◌∷◌, ◌++◌, length, get_or, map, take, drop, ap, sym, append_assoc, refl, subst}
-use Rattle.std.specs.Prelude.{Result, Ok, IfOk}
+use Rattle.std.specs.Prelude.{Result, Ok, Err, IfOk}
 use Rattle.std.proofs.lemmas.List.{map_more, take_all, take_more, drop_more}
 
 -- the loop pushes f of the next item
@@ -28,6 +28,15 @@ pub all_done :
     {X B : Type 0} (f : List X → B) (xs : List X) (i : ℕ) (out made : B) →
     length xs ≤ i → out ≡ f (take i xs) → made ≡ out → made ≡ f xs
 all_done f xs i out made min_max so_far same = same ∙ (so_far ∙ ap f (take_all i xs min_max))
+
+-- what was made of it is what it was to be, where it was made
+pub answered : {A E : Type 0} (made : Result A E) (out wanted : A) → IfOk made (λ a. a ≡ out) → out ≡ wanted → IfOk made (λ a. a ≡ wanted)
+answered (Ok a) out wanted is same = is ∙ same
+answered (Err e) out wanted is same = tt
+
+pub lengths_of : {A E : Type 0} (made : Result (List A) E) (out : List A) (n : ℕ) → IfOk made (λ a. a ≡ out) → length out ≡ n → IfOk made (λ a. length a ≡ n)
+lengths_of (Ok a) out n is same = ap length is ∙ same
+lengths_of (Err e) out n is same = tt
 
 -- and has pushed others before
 pub mapped_behind :

@@ -8,7 +8,7 @@ use crate::aggregates::aggregate;
 use crate::groups::{group_of, keys_of};
 use crate::join_columns::column_indices;
 use crate::plain_table::{PlainTable, table_from};
-use df_value::{CellType, Duplicate, List, Row, Text, column_dtype, push_made};
+use df_value::{CellType, Duplicate, List, Row, Text, column_dtype, copies, push_made};
 use std::alloc::{AllocError, Global};
 
 /// The groups of a table, by the first appearance of their keys.
@@ -105,10 +105,10 @@ fn group_row(
         ≡ tables.group_row table.now.columns indices.now aggs.now table.now.rows key.now) }
 {
     let group = group_of(alloc, indices, table.rows.as_slice(), key)?;
-    let mut row = key.copy(alloc)?.into_vec();
+    let mut row = copies(alloc, key.as_slice())?;
     for agg in aggs {
         let cell = aggregate(alloc, table.columns.as_slice(), group.as_slice(), &agg.1);
         push_made(&mut row, cell)?;
     }
-    Ok(List::from_vec(row))
+    Row::new(alloc, row)
 }

@@ -6,7 +6,7 @@ ghost use Rattle.df_value.specs.Rows.{cell_at, row_eq};
 ghost use Rattle.df_ops.specs.Groups as groups;
 ghost use Rattle.df_ops.specs.Groups.{KeysStandFirst};
 
-use df_value::{Cell, Duplicate, List, Row, push_made};
+use df_value::{Cell, Duplicate, Row, push_made};
 use std::alloc::{AllocError, Global};
 
 /// The distinct keys of the rows, by first appearance: the cells at `indices`, null where an index
@@ -61,7 +61,7 @@ pub fn key_of(alloc: Global, indices: &[Option<usize>], row: &Row) -> Result<Row
     for index in indices {
         push_made(&mut key, copy_at(alloc, *index, row))?;
     }
-    Ok(List::from_vec(key))
+    Row::new(alloc, key)
 }
 
 /// A copy of the cell at an index, null where there is none.

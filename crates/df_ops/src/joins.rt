@@ -10,7 +10,7 @@ ghost use Rattle.df_ops.specs.Tables as tables;
 use crate::groups::key_of;
 use crate::join_columns::{JoinIndices, columns_of_join, join_indices_of};
 use crate::plain_table::{PlainTable, table_from};
-use df_value::{Cell, Duplicate, List, Row, Text, push_made};
+use df_value::{Cell, Duplicate, List, Row, Text, copies, push_made};
 use std::alloc::{AllocError, Global};
 
 /// Which left rows a join keeps.
@@ -268,11 +268,11 @@ fn each_beside(alloc: Global, left: &Row, rests: &[Row]) -> Result<Vec<Row>, All
 fn row_beside(alloc: Global, left: &Row, rest: &[Cell]) -> Result<Row, AllocError>
     ensures { IfOk result (λ row. row ≡ left.now ++ rest.now) }
 {
-    let mut row = left.copy(alloc)?.into_vec();
+    let mut row = copies(alloc, left.as_slice())?;
     for cell in rest {
         push_made(&mut row, cell.copy(alloc))?;
     }
-    Ok(List::from_vec(row))
+    Row::new(alloc, row)
 }
 
 // A null for each of these indices.

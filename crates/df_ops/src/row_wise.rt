@@ -148,7 +148,7 @@ pub fn select_row(
     for item in items {
         push_made(&mut cells, value(alloc, &item.1, columns, row))?;
     }
-    Ok(List::from_vec(cells))
+    Row::new(alloc, cells)
 }
 
 /// The table with the items' columns put among its own.
@@ -281,7 +281,7 @@ pub fn unnamed(alloc: Global, cells: &[(Text, Cell)]) -> Result<Row, AllocError>
     for cell in cells {
         push_made(&mut row, cell.1.copy(alloc))?;
     }
-    Ok(List::from_vec(row))
+    Row::new(alloc, row)
 }
 
 fn item_columns(

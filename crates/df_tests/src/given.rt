@@ -31,7 +31,7 @@ pub fn rows(alloc: Global, numbers: &[Option<i64>]) -> Result<List<Row>, AllocEr
             Some(number) => Cell::Int(*number),
             None => Cell::Null,
         };
-        rows.push(List::from_vec(vec![in alloc; cell]?))?;
+        rows.push(Row::new(alloc, vec![in alloc; cell]?)?)?;
     }
     Ok(List::from_vec(rows))
 }

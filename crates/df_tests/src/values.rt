@@ -38,7 +38,7 @@ fn a_row_is_copied(rt: HostRuntime) -> Result<(), Fail> {
         Cell::Bool(true),
         Cell::Frac(Frac::new(7, 2)),
     ]?;
-    let row: Row = List::from_vec(cells);
+    let row = Row::new(alloc, cells)?;
     let copy = row.copy(alloc)?;
     assert!(rt; row == copy);
     assert!(rt; row.get(1) != copy.get(2));
@@ -84,7 +84,7 @@ fn a_chunk_ends_with_the_last_number(rt: HostRuntime) -> Result<(), Fail> {
 fn the_rows_of_a_chunk_fit_its_schema(rt: HostRuntime) -> Result<(), Fail> {
     let alloc = rt.alloc();
     let mut rows = rows(alloc, &[Some(5)])?.into_vec();
-    rows.push(List::from_vec(vec![in alloc; Cell::Bool(true)]?))?;
+    rows.push(Row::new(alloc, vec![in alloc; Cell::Bool(true)]?)?)?;
     let refused = refused(alloc, 0, List::from_vec(rows))?;
     assert!(rt; refused.fault == ChunkFault::RowUnlike(1));
     Ok(())

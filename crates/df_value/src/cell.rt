@@ -1,9 +1,8 @@
-//! Cells and rows.
+//! Cells, and the types of columns.
 ghost use Rattle.std.specs.Prelude.{◌≡◌, IfOk, IsOk, IsTrue, not};
 ghost use Rattle.df_value.specs.Cells.{fits_dtype, is_text};
 
 use crate::frac::Frac;
-use crate::list::List;
 use crate::text::Text;
 use crate::traits::{Duplicate, Exact};
 use std::alloc::{AllocError, Global};
@@ -31,9 +30,6 @@ pub enum Cell {
     Bool(bool),
     Frac(Frac),
 }
-
-/// One row of a table.
-pub type Row = List<Cell>;
 
 impl Cell {
     /// Whether this cell may stand in a column of this type: it is null or of the type.

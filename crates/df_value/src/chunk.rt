@@ -3,9 +3,9 @@ ghost use Rattle.std.specs.Prelude.{◌≡◌, ◌≢◌, ◌↔◌, ◌+◌, �
 ghost use Rattle.df_value.specs.Rows.{row_fits, rows_fit};
 ghost use Rattle.df_value.specs.ChunkFaults.{chunk_fault};
 
-use crate::cell::Row;
 use crate::limits::{MOST_ROWS_OF_CHUNK, ROW_NUMBERS};
 use crate::list::List;
+use crate::row::Row;
 use crate::schema::Schema;
 use crate::traits::Duplicate;
 use std::alloc::Global;

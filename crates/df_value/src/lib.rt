@@ -13,22 +13,26 @@ mod list;
 mod names;
 mod ordering;
 mod results;
+mod row;
 mod schema;
+mod shared;
 mod source;
 mod text;
 mod traits;
 
-pub use cell::{Cell, CellType, Row};
+pub use cell::{Cell, CellType};
 pub use chunk::{BadCell, Chunk, ChunkFault, Piece, RefusedRows};
 pub use frac::Frac;
 pub use limits::{
     MOST_COLUMNS, MOST_FRAMES, MOST_ROWS_OF_CHUNK, MOST_ROWS_OF_FRAME, MOST_VIEWS, ROW_NUMBERS,
 };
-pub use list::List;
+pub use list::{List, copies};
 pub use names::{Named, first_doubled_name, has_name, index_of_name};
 pub use ordering::{compare, order};
 pub use results::{both, push_made, then_drop};
+pub use row::Row;
 pub use schema::{Schema, SchemaFault, column_dtype, column_index};
+pub use shared::Shared;
 pub use source::Source;
 pub use sqlite_items::Boxed;
 pub use text::Text;

@@ -68,12 +68,21 @@ impl<T> List<T> {
 
 impl<T: Duplicate> Duplicate for List<T> {
     fn copy(&self, alloc: Global) -> Result<List<T>, AllocError> {
-        let mut items = Vec::with_capacity(alloc, self.items.len())?;
-        for item in self.as_slice() {
-            items.push(item.copy(alloc)?)?;
-        }
-        Ok(List { items })
+        Ok(List {
+            items: copies(alloc, self.as_slice())?,
+        })
     }
+}
+
+/// Copies of these items.
+pub fn copies<T: Duplicate>(alloc: Global, items: &[T]) -> Result<Vec<T>, AllocError>
+    ensures { IfOk result (λ made. made.items ≡ items.now) }
+{
+    let mut made = Vec::with_capacity(alloc, items.len())?;
+    for item in items {
+        made.push(item.copy(alloc)?)?;
+    }
+    Ok(made)
 }
 
 impl<T: PartialEq> PartialEq for List<T> {

@@ -8,10 +8,11 @@ ghost use Rattle.df_value.specs.Schemas.{IsSchema, is_base_dtype};
 ghost use Rattle.df_value.specs.SchemaFaults.{schema_fault};
 ghost use Rattle.df_value.specs.Rows.{row_fits};
 
-use crate::cell::{Cell, CellType, Row};
+use crate::cell::{Cell, CellType};
 use crate::limits::MOST_COLUMNS;
 use crate::list::List;
 use crate::names::{first_doubled_name, index_of_name};
+use crate::row::Row;
 use crate::text::Text;
 use crate::traits::{Duplicate, Exact};
 use std::alloc::{AllocError, Global};

@@ -9,7 +9,7 @@ use Rattle.df_column.specs.Rows.{AreNewRows}
 use Rattle.df_column.specs.Tables.{entry_change}
 use Rattle.df_column.specs.Tags.{tag_cmp}
 use Rattle.df_column.proofs.ChangeRuns.{sorted_second}
-use Rattle.df_column.proofs.TagOrder.{tag_total}
+use Rattle.df_column.specs.TagOrder.{tag_total}
 use Rattle.df_column.proofs.blocks.changed_blocks.Goals as goal
 
 pub loop-block-preserved : goal.loop-block-preserved

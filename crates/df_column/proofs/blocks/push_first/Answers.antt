@@ -3,7 +3,7 @@ use Rattle.std.specs.Arc.{arc_value}
 use Rattle.df_column.specs.Blocks.{block_rows, rows_of_blocks}
 use Rattle.df_column.proofs.ChangeRuns.{sorted_first}
 use Rattle.df_column.proofs.TableChanges.{sorted_taken, sorted_dropped, first_run}
-use Rattle.df_column.proofs.TagOrder.{tag_total}
+use Rattle.df_column.specs.TagOrder.{tag_total}
 use Rattle.df_column.proofs.blocks.push_first.Goals as goal
 
 pub push_changed-requires-clause-rows : goal.push_changed-requires-clause-rows

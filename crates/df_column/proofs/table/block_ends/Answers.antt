@@ -8,7 +8,9 @@ loop-block-preserved c =
     let e = ends_step c.args.blocks.now c.loop-block.block-index c.loop-block.end b (omega arith) c.block-item.is in
     let n = count_step c.args.blocks.now c.loop-block.block-index b (omega arith) c.block-item.is in
     let l = c.loop-block.invariant.count in
-    rw (c.in_ok-push.ensures.items, c.tags.ensures.tags, c.deref.ensures) (record {
+    let room = rw (c.tags-rows.ensures.tags, c.deref.ensures) at c.if-rows-end.false in
+    rw (c.in_ok-push.ensures.items, c.tags-rows.ensures.tags, c.deref.ensures) (record {
       ends = append_assoc c.loop-block.ends.items _ _ ∙ ap (λ r. c.loop-block.ends.items ++ r) (sym e) ∙ c.loop-block.invariant.ends;
       count = omega (arith, n, l);
+      few = omega (arith, room, c.loop-block.invariant.few);
     })

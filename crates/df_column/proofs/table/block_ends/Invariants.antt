@@ -1,4 +1,4 @@
-use Rattle.std.proofs.Common.{◌≡◌, ◌+◌, ◌++◌, length, drop}
+use Rattle.std.proofs.Common.{◌≡◌, ◌+◌, ◌≤◌, ◌^◌, ◌++◌, length, drop}
 use Rattle.df_column.specs.Blocks.{ends_of, rows_of_blocks}
 use Rattle.df_column.proofs.table.block_ends.Given as goal
 
@@ -6,5 +6,6 @@ abbrev pub invariant-loop-block : goal.invariant-loop-block
 invariant-loop-block l =
     record {
       ends : l.ends.items ++ ends_of l.end (drop l.block-index l.blocks) ≡ ends_of 0 l.blocks;
+      few : l.end ≤ 2 ^ 60;
       count : l.end + length (rows_of_blocks (drop l.block-index l.blocks)) ≡ length (rows_of_blocks l.blocks);
     }

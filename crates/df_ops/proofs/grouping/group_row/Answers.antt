@@ -1,6 +1,6 @@
 use Rattle.df_ops.specs.Groups.{group_of}
-use Rattle.std.proofs.Common.{arith, ◌∙◌, ap, sym, append-nil, ◌++◌, map}
-use Rattle.df_ops.proofs.Steps.{mapped_behind, all_done, made_is}
+use Rattle.std.proofs.Common.{arith, refl, ◌∙◌, ap, sym, append-nil, ◌++◌, map}
+use Rattle.df_ops.proofs.Steps.{answered, mapped_behind, all_done, made_is}
 use Rattle.df_ops.specs.Tables.{aggregate_cell}
 use Rattle.df_ops.proofs.grouping.group_row.Goals as goal
 
@@ -13,14 +13,15 @@ loop-agg-preserved c =
     c.in_ok-push_made.ensures.2
 
 pub loop-agg-init : goal.loop-agg-init
-loop-agg-init c = c.into_vec-row.ensures ∙ (c.in_ok-copy.ensures ∙ sym (append-nil _))
+loop-agg-init c = c.in_ok-row.ensures ∙ (c.as_slice-2.ensures ∙ sym (append-nil _))
 
 pub returns : goal.returns
 returns c =
     let columns = c.args.table.now.columns in
     let key = c.args.key.now in
     let aggs = c.args.aggs.now in
-    all_done (λ taken. key ++ map (λ a. aggregate_cell columns c.in_ok-group.group.items a.1) taken) aggs _ _ _
-    c.loop-agg-test.false c.loop-agg.invariant c.from_vec.ensures
+    answered _ _ _ c.new.ensures
+    (all_done (λ taken. key ++ map (λ a. aggregate_cell columns c.in_ok-group.group.items a.1) taken) aggs _ _ _
+    c.loop-agg-test.false c.loop-agg.invariant refl
     ∙ ap (λ group. key ++ map (λ a. aggregate_cell columns group a.1) aggs)
-    (c.in_ok-group.ensures ∙ ap (λ rows. group_of c.args.indices.now rows key) c.as_slice.ensures)
+    (c.in_ok-group.ensures ∙ ap (λ rows. group_of c.args.indices.now rows key) c.as_slice.ensures))

@@ -1,6 +1,7 @@
+use Rattle.std.proofs.Common.{refl}
 use Rattle.df_value.specs.Rows.{cell_at}
 use Rattle.df_ops.specs.Groups.{key_of}
-use Rattle.df_ops.proofs.Steps.{made_is, mapped_at, all_done}
+use Rattle.df_ops.proofs.Steps.{answered, made_is, mapped_at, all_done}
 use Rattle.df_ops.proofs.groups.key_of.Goals as goal
 
 pub loop-index-preserved : goal.loop-index-preserved
@@ -11,4 +12,5 @@ loop-index-preserved c =
 
 pub returns : goal.returns
 returns c =
-    all_done (λ indices. key_of indices c.args.row.now) c.args.indices.now _ _ _ c.loop-index-test.false c.loop-index.invariant c.from_vec.ensures
+    answered _ _ _ c.new.ensures
+    (all_done (λ indices. key_of indices c.args.row.now) c.args.indices.now _ _ _ c.loop-index-test.false c.loop-index.invariant refl)

@@ -1,5 +1,5 @@
-use Rattle.std.proofs.Common.{arith, map}
-use Rattle.df_ops.proofs.Steps.{mapped_more, all_done, made_is}
+use Rattle.std.proofs.Common.{arith, map, refl}
+use Rattle.df_ops.proofs.Steps.{answered, mapped_more, all_done, made_is}
 use Rattle.df_ops.proofs.row_wise.unnamed.Goals as goal
 
 pub loop-cell-preserved : goal.loop-cell-preserved
@@ -7,4 +7,5 @@ loop-cell-preserved c = mapped_more _ _ _ _ _ _ _ (omega arith) c.cell-item.is c
 
 pub returns : goal.returns
 returns c =
-    all_done (map (λ v. v.1)) c.args.cells.now _ _ _ c.loop-cell-test.false c.loop-cell.invariant c.from_vec.ensures
+    answered _ _ _ c.new.ensures
+    (all_done (map (λ v. v.1)) c.args.cells.now _ _ _ c.loop-cell-test.false c.loop-cell.invariant refl)

@@ -1,4 +1,4 @@
--- Tags have a total order in which only equal tags tie.
+-- The order of tags is total, and only equal tags tie.
 use Rattle.std.proofs.Common.{◌≡◌, refl}
 use Rattle.std.specs.Ordering.{nat_cmp, ordering_then}
 use Rattle.std.specs.Cmp.{IsTotalOrder, then_total, on_total, nat_cmp_total}

@@ -1,0 +1,9 @@
+pub mod Differences
+pub mod Collected
+pub mod ChangeOf
+pub mod SameRows
+pub mod Notes
+pub mod Diff
+pub mod Deltas
+pub mod Work
+pub mod Inputs

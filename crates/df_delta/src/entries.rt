@@ -1,0 +1,81 @@
+//! The entries of a delta.
+ghost use Rattle.std.specs.Prelude.{◌≡◌, ◌↔◌, IfOk, IsTrue, OnOk, map};
+ghost use Rattle.std.specs.FinMap as finite;
+ghost use Rattle.std.specs.List.{list_all};
+ghost use Rattle.df_column.specs.Tables.{entry_change};
+ghost use Rattle.df_column.specs.Tags.{tag_cmp};
+ghost use Rattle.df_delta.specs.Collected.{collected_list};
+ghost use Rattle.df_delta.specs.Deltas.{has_row, is_delta, whole_change};
+ghost use Rattle.df_delta.specs.SameRows.{same_row, with_change};
+
+use df_column::{Entry, Table, Tag};
+use df_value::Row;
+use std::alloc::{AllocError, Global};
+
+/// Whether the entries are those of a delta.
+pub fn are_changes(entries: &[Entry]) -> bool
+    ensures { result ≡ is_delta entries.now }
+{
+    are_rising(entries) && entries.iter().all(has_some_row)
+}
+
+fn are_rising(entries: &[Entry]) -> bool
+    ensures { result ≡ finite.is_sorted tag_cmp (map entry_change entries.now) }
+{
+    for at in 1..entries.len() {
+        if entries[at - 1].tag >= entries[at].tag {
+            return false;
+        }
+    }
+    true
+}
+
+fn has_some_row(entry: &Entry) -> bool
+    ensures { result ≡ has_row entry.now }
+{
+    entry.old.is_some() || entry.new.is_some()
+}
+
+/// An entry for each row of the table, which comes.
+pub fn whole_entries(alloc: Global, table: &Table) -> Result<Vec<Entry>, AllocError>
+    ensures { IfOk result (λ made. map entry_change made.items
+        ≡ collected_list (λ _. whole_change) (finite.entries table.now.rows)) }
+{
+    let rows = table.tagged_rows(alloc)?;
+    let mut entries = Vec::with_capacity(alloc, rows.len())?;
+    for (tag, row) in rows {
+        entries.push(Entry {
+            tag,
+            old: None,
+            new: Some(row),
+        })?;
+    }
+    Ok(entries)
+}
+
+fn are_same(a: &Option<Row>, b: &Option<Row>) -> bool
+    ensures { result ≡ same_row a.now b.now }
+{
+    match (a, b) {
+        (Some(a), Some(b)) => a == b,
+        (None, None) => true,
+        _ => false,
+    }
+}
+
+/// Adds the change from `old` to `new` at the tag, unless the two are equal.
+pub fn push_change(
+    entries: &mut Vec<Entry>,
+    tag: Tag,
+    old: Option<Row>,
+    new: Option<Row>,
+) -> Result<(), AllocError>
+    ensures { OnOk result (map entry_change entries.new.items
+        ≡ with_change (map entry_change entries.old.items) tag old new) }
+{
+    if are_same(&old, &new) {
+        return Ok(());
+    }
+    entries.push(Entry { tag, old, new })?;
+    Ok(())
+}

@@ -1,0 +1,16 @@
+//! Deltas of tables, and what a live node promises.
+//!
+//! A [`Delta`] names rows of a table by their tags, each with what stood there and what stands there afterwards. A
+//! [`LiveNode`] is an operator that follows its input by deltas: [`prepare`](LiveNode::prepare) gives the delta of its
+//! output, and [`commit`](LiveNode::commit) puts in place what the prepare made. A [`TwoSidedNode`] follows two inputs.
+#![tactic(auto)]
+
+mod delta;
+mod entries;
+mod node;
+mod two_sided;
+
+pub use delta::{Delta, apply};
+pub use entries::push_change;
+pub use node::LiveNode;
+pub use two_sided::TwoSidedNode;
