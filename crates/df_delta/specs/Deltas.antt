@@ -40,8 +40,8 @@ pub record IsDelta (entries : List Entry) : Type 0 where
   pub rows : T (list_all has_row entries)
 
 -- a row that comes where none was
-abbrev pub whole_change : List Cell → Option (Change (List Cell))
-whole_change row = Some (record { old = None; new = Some row })
+abbrev pub coming : Tag × List Cell → Tag × Change (List Cell)
+coming row = (row.0, record { old = None; new = Some row.1 })
 
 -- all rows fit the schema
 pub record RowsFit (schema : List (List ℕ × CellType)) (rows : TaggedRows) : Type 0 where

@@ -1,11 +1,11 @@
 //! The entries of a delta.
-ghost use Rattle.std.specs.Prelude.{◌≡◌, ◌↔◌, IfOk, IsTrue, OnOk, map};
+ghost use Rattle.std.specs.Prelude.{◌≡◌, IfOk, OnOk, map};
 ghost use Rattle.std.specs.FinMap as finite;
 ghost use Rattle.std.specs.List.{list_all};
+ghost use Rattle.std.specs.Ordering.{is_lt};
 ghost use Rattle.df_column.specs.Tables.{entry_change};
 ghost use Rattle.df_column.specs.Tags.{tag_cmp};
-ghost use Rattle.df_delta.specs.Collected.{collected_list};
-ghost use Rattle.df_delta.specs.Deltas.{has_row, is_delta, whole_change};
+ghost use Rattle.df_delta.specs.Deltas.{coming, has_row, is_delta};
 ghost use Rattle.df_delta.specs.SameRows.{same_row, with_change};
 
 use df_column::{Entry, Table, Tag};
@@ -16,18 +16,30 @@ use std::alloc::{AllocError, Global};
 pub fn are_changes(entries: &[Entry]) -> bool
     ensures { result ≡ is_delta entries.now }
 {
-    are_rising(entries) && entries.iter().all(has_some_row)
+    are_rising(entries) && have_rows(entries)
+}
+
+fn have_rows(entries: &[Entry]) -> bool
+    ensures { result ≡ list_all has_row entries.now }
+{
+    entries.iter().all(|entry| has_some_row(entry))
 }
 
 fn are_rising(entries: &[Entry]) -> bool
     ensures { result ≡ finite.is_sorted tag_cmp (map entry_change entries.now) }
 {
     for at in 1..entries.len() {
-        if entries[at - 1].tag >= entries[at].tag {
+        if !is_before(&entries[at - 1], &entries[at]) {
             return false;
         }
     }
     true
+}
+
+fn is_before(a: &Entry, b: &Entry) -> bool
+    ensures { result ≡ is_lt (tag_cmp a.now.tag b.now.tag) }
+{
+    a.tag < b.tag
 }
 
 fn has_some_row(entry: &Entry) -> bool
@@ -39,7 +51,7 @@ fn has_some_row(entry: &Entry) -> bool
 /// An entry for each row of the table, which comes.
 pub fn whole_entries(alloc: Global, table: &Table) -> Result<Vec<Entry>, AllocError>
     ensures { IfOk result (λ made. map entry_change made.items
-        ≡ collected_list (λ _. whole_change) (finite.entries table.now.rows)) }
+        ≡ map coming (finite.entries table.now.rows)) }
 {
     let rows = table.tagged_rows(alloc)?;
     let mut entries = Vec::with_capacity(alloc, rows.len())?;

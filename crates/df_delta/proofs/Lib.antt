@@ -1,0 +1,10 @@
+pub mod Collected
+pub mod Changes
+pub mod ChangeOf
+pub mod Notes
+pub mod SameRows
+pub mod Diff
+pub mod Whole
+pub mod Loops
+pub mod Rising
+pub mod Fitting
