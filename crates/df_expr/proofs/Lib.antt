@@ -1,3 +1,4 @@
 pub mod Wrapping
 pub mod Sound
 pub mod Constant
+pub mod PhysicalIs

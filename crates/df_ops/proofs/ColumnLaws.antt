@@ -29,7 +29,7 @@ use Rattle.df_ops.specs.declared.windows.RollKind.{RollKind}
 use Rattle.df_ops.proofs.Beside.{Beside, with_columns-beside}
 use Rattle.df_ops.proofs.KeyOrder.{same_choice}
 use Rattle.df_ops.proofs.NamedColumnsFacts.{or_later, replaced_name}
-use Rattle.df_ops.proofs.RowWiseLaws.{cell_named, cell_of_found, has_item, item_names, kept_cell, named_names, not_true, second_of_two, OneName}
+use Rattle.df_ops.proofs.RowWiseLaws.{cell_named, cell_of_found, has_item, item_names, kept_cell, named_names, not_true, second_of_two, values, OneName}
 
 unlike : (b : Bool) → (b ≡ true → ⊥) → b ≡ false
 unlike true h = absurd (h refl)
@@ -93,7 +93,7 @@ put_cell :
     cell_at (column_index name (with_columns columns added)) (map (λ c. c.1) (with_columns (named_cells columns row) values)) ≡ v.1
 put_cell columns added row values fits names name v h =
     let own = named_cells columns row in
-    let all = with_columns-beside OneName (λ c v e. e) columns own (named_names columns row fits) added values names in
+    let all = with_columns-beside OneName (λ c v e. e) columns own (named_names columns row) added values names in
     ap (λ o. cell_at o (map (λ c. c.1) (with_columns own values))) (position_from-zero (λ c. bytes_eq c.0 name) (with_columns columns added))
     ∙ (cell_named name (with_columns columns added) (with_columns own values) all
     ∙ ap cell_of_found (found_at name own values v (has_column name own) refl h))
@@ -110,10 +110,6 @@ item_found :
     (columns : Columns) (row : List Cell) (name : List ℕ) (items : List (List ℕ × Expr)) (item : List ℕ × Expr) →
     first_of_name name items ≡ Some item → first_of_name name (map (item_cell columns row) items) ≡ Some (item_cell columns row item)
 item_found columns row name items item h = found_item columns row name items ∙ ap (option_map (item_cell columns row)) h
-
-values : (columns : Columns) (row : List Cell) (items : List (List ℕ × Expr)) → map (λ c. c.1) (map (item_cell columns row) items) ≡ select_row columns items row
-values columns row [] = refl
-values columns row (i ∷ items) = ap (λ r. value_of i.1 columns row ∷ r) (values columns row items)
 
 select_cell :
     (columns : Columns) (items : List (List ℕ × Expr)) (row : List Cell) (name : List ℕ) (item : List ℕ × Expr) → first_of_name name items ≡ Some item →
