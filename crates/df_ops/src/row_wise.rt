@@ -9,7 +9,7 @@ ghost use Rattle.df_expr.specs.Meters.{with_evals, CountsAtMost};
 ghost use Rattle.df_expr.specs.Physical.{physical_value, IsPhysical};
 ghost use Rattle.df_expr.specs.Value.{value_of};
 ghost use Rattle.df_ops.specs.Tables as tables;
-ghost use Rattle.df_ops.specs.TableColumns.{HasItemValues, KeepsOtherColumns};
+ghost use Rattle.df_ops.specs.TableColumns.{AppendsNewNames, HasItemValues, KeepsOtherColumns, KeepsOtherDtypes};
 ghost use Rattle.df_ops.specs.RowWise as row_wise;
 ghost use Rattle.df_ops.specs.RowWise.{item_column, ArePhysical, KeepsOthers};
 ghost use Rattle.df_ops.specs.Places as places_spec;
@@ -225,6 +225,8 @@ pub fn with_columns_table(
     items: &[(Text, Expr)],
 ) -> Result<PlainTable, AllocError>
     ensures value { IfOk result (λ t. t ≡ tables.with_columns_table table.now items.now) }
+    ensures names { IfOk result (AppendsNewNames table.now items.now) }
+    ensures dtypes { IfOk result (KeepsOtherDtypes table.now items.now) }
 
     // Over rows that fit, the items' columns have their values, and the others are as they were.
     ensures items { IsTrue (rows_fit table.now.columns table.now.rows)
