@@ -5,3 +5,5 @@ pub mod Value
 pub mod Lent
 pub mod Typing
 pub mod Operators
+pub mod Meters
+pub mod Physical

@@ -1,6 +1,6 @@
 -- The types of expressions, as the Polars Python reference types them where this project allows the
 -- operands, and the order in which a check finds faults.
-use Rattle.std.specs.Prelude.{◌≡◌, ◌+◌, ◌||◌, ℕ, Bool, true, false, List, Option, Some, None, Result, Ok, Err, max, nat_lt, if◌then◌else◌}
+use Rattle.std.specs.Prelude.{◌≡◌, ◌+◌, ◌||◌, ◌++◌, ℕ, Bool, true, false, List, [], ◌∷◌, Option, Some, None, Result, Ok, Err, max, nat_lt, if◌then◌else◌}
 use Rattle.df_value.specs.Outcomes.{then_next}
 use Rattle.df_value.specs.declared.cell.Cell.{Cell}
 use Rattle.df_value.specs.declared.cell.Cell.TheVariants as cell
@@ -117,6 +117,23 @@ names_column_step (Expr-F.FillNull a b) = a || b
 -- whether a column stands in an expression
 abbrev pub names_column : Expr → Bool
 names_column e = fold-Expr Bool names_column_step e
+
+abbrev pub columns_in_step : Expr-F (List (List ℕ)) → List (List ℕ)
+columns_in_step (Expr-F.Column name) = name ∷ []
+columns_in_step (Expr-F.Literal c k) = []
+columns_in_step (Expr-F.Arith op a b) = a ++ b
+columns_in_step (Expr-F.Compare op a b) = a ++ b
+columns_in_step (Expr-F.EqMissing a b) = a ++ b
+columns_in_step (Expr-F.And a b) = a ++ b
+columns_in_step (Expr-F.Or a b) = a ++ b
+columns_in_step (Expr-F.Not a) = a
+columns_in_step (Expr-F.IsNull a) = a
+columns_in_step (Expr-F.IsNotNull a) = a
+columns_in_step (Expr-F.FillNull a b) = a ++ b
+
+-- the names of the columns that stand in an expression, from left to right
+abbrev pub columns_in : Expr → List (List ℕ)
+columns_in e = fold-Expr (List (List ℕ)) columns_in_step e
 
 -- The call gave the answer that is wanted, or there was no memory for the name of a missing column.
 abbrev pub AnswersType : TypeResult → TypeResult → Type 0

@@ -40,21 +40,7 @@ pub fn eval(
     ensures free { IsTrue (not (is_text (value_of expr.now schema.now row.now))) → IsOk result }
 {
     meter.evals += 1;
-    value(alloc, expr, schema.columns().as_slice(), row)
-}
-
-/// As [`eval`], over columns that need not be a schema, and without a count: for the plain
-/// evaluation of whole tables, which counts no work.
-pub fn value(
-    alloc: Global,
-    expr: &Expr,
-    columns: &[(Text, CellType)],
-    row: &Row,
-) -> Result<Cell, AllocError>
-    ensures value { IfOk result (λ c. c ≡ value_of expr.now columns.now row.now) }
-    ensures free { IsTrue (not (is_text (value_of expr.now columns.now row.now))) → IsOk result }
-{
-    value_in(expr, columns, row).into_cell(alloc)
+    value_in(expr, schema.columns().as_slice(), row).into_cell(alloc)
 }
 
 // The value, lent where a row or a literal has it.
@@ -127,8 +113,8 @@ fn apply_binary<'a>(
     Value::Made(operator.apply(a.cell(), b.cell()))
 }
 
-// The cell at an index, null where there is none.
-fn cell_at(index: Option<usize>, row: &Row) -> Value<'_>
+/// The cell at an index, null where there is none.
+pub fn cell_at(index: Option<usize>, row: &Row) -> Value<'_>
     ensures { cell_of_value result ≡ rows.cell_at index row.now }
 {
     let Some(index) = index else {

@@ -63,10 +63,13 @@ pub fn eq_missing(a: &Cell, b: &Cell) -> bool
 }
 
 /// An operator of one operand.
-#[derive(Clone, Copy)]
+#[derive(Clone, Copy, Debug)]
 pub enum Unary {
+    /// The other truth.
     Not,
+    /// Whether the operand is null.
     IsNull,
+    /// Whether the operand is not null.
     IsNotNull,
 }
 
@@ -90,12 +93,17 @@ fn is_null(cell: &Cell) -> bool
 }
 
 /// An operator of two operands, both of which are evaluated.
-#[derive(Clone, Copy)]
+#[derive(Clone, Copy, Debug)]
 pub enum Binary {
+    /// Arithmetic on two Ints.
     Arith(ArithOp),
+    /// A comparison of two operands of one type.
     Compare(CompareOp),
+    /// As `==`, but null equals null.
     EqMissing,
+    /// Kleene's "and".
     And,
+    /// Kleene's "or".
     Or,
 }
 

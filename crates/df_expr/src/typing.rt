@@ -1,8 +1,8 @@
 //! The type of an expression.
-ghost use Rattle.std.specs.Prelude.{◌≡◌, ◌≤◌, ◌↔◌, false, IsTrue};
+ghost use Rattle.std.specs.Prelude.{◌≡◌, ◌≤◌, ◌↔◌, [], false, IsTrue};
 ghost use Rattle.df_value.specs.Schemas.{column_dtype};
 ghost use Rattle.df_expr.specs.Typing as typing;
-ghost use Rattle.df_expr.specs.Typing.{expr_levels, expr_check, AnswersType};
+ghost use Rattle.df_expr.specs.Typing.{columns_in, expr_levels, expr_check, AnswersType};
 ghost use Rattle.df_expr.specs.Value.{IsConstant};
 
 use crate::expr::Expr;
@@ -31,6 +31,7 @@ pub fn check(alloc: Global, expr: &Expr, schema: &Schema) -> Result<CellType, Ex
 /// Whether a column stands in an expression; if none does, its value is the same in every row.
 pub fn names_column(expr: &Expr) -> bool
     ensures value { result ≡ typing.names_column expr.now }
+    ensures columns { (typing.names_column expr.now ≡ false) ↔ (columns_in expr.now ≡ []) }
     ensures constant { typing.names_column expr.now ≡ false → IsConstant expr.now }
 {
     has_column_name(expr)

@@ -5,7 +5,7 @@ use Rattle.std.specs.List.{list_all, position_from, zip}
 use Rattle.std.specs.Str.{bytes_eq}
 use Rattle.std.proofs.lemmas.Bool.{false≢true}
 use Rattle.std.proofs.lemmas.Iterator.Adapters.{position_from-zero}
-use Rattle.std.proofs.lemmas.List.{length-map}
+use Rattle.std.proofs.lemmas.List.{length-map, map-append}
 use Rattle.std.proofs.lemmas.List.FromFn.{length-map-range_with_len}
 use Rattle.std.proofs.lemmas.Slice.Eq.{bytes_eq-Decides}
 use Rattle.df_value.specs.declared.cell.Cell.{Cell}
@@ -19,7 +19,7 @@ use Rattle.df_ops.specs.Aggregates.{cells_of}
 use Rattle.df_ops.specs.NamedColumns.{added_or_own, first_of_name, has_column, with_columns}
 use Rattle.df_ops.specs.Ranks.{dense_rank_of, distinct_at, ranks_of}
 use Rattle.df_ops.specs.RowWise.{item_cell, item_column, named_cells, select_row, with_columns_row, with_columns_schema, with_column_row}
-use Rattle.df_ops.specs.TableColumns.{column_of, HasItemValues, KeepsOtherColumns, PutsColumn}
+use Rattle.df_ops.specs.TableColumns.{column_of, AppendsNewNames, HasItemValues, KeepsOtherColumns, KeepsOtherDtypes, PutsColumn}
 use Rattle.df_ops.specs.Tables.{cum_sum_table, rank_table, rolling_table, select_table, with_column_table, with_columns_table}
 use Rattle.df_ops.specs.Windows.{cum_sum, cum_sum_at, rolling_cell, rolling_cells, window_of}
 use Rattle.df_ops.specs.declared.plain_table.PlainTable.{PlainTable}
@@ -28,8 +28,8 @@ use Rattle.df_ops.specs.declared.ranks.RankKind.TheVariants as rank
 use Rattle.df_ops.specs.declared.windows.RollKind.{RollKind}
 use Rattle.df_ops.proofs.Beside.{Beside, with_columns-beside}
 use Rattle.df_ops.proofs.KeyOrder.{same_choice}
-use Rattle.df_ops.proofs.NamedColumnsFacts.{or_later, replaced_name}
-use Rattle.df_ops.proofs.RowWiseLaws.{cell_named, cell_of_found, has_item, item_names, kept_cell, named_names, not_true, second_of_two, OneName}
+use Rattle.df_ops.proofs.NamedColumnsFacts.{kept_own, or_later, replaced_name}
+use Rattle.df_ops.proofs.RowWiseLaws.{cell_named, cell_of_found, has_item, item_names, kept_cell, named_names, not_true, second_of_two, values, OneName}
 
 unlike : (b : Bool) → (b ≡ true → ⊥) → b ≡ false
 unlike true h = absurd (h refl)
@@ -93,7 +93,7 @@ put_cell :
     cell_at (column_index name (with_columns columns added)) (map (λ c. c.1) (with_columns (named_cells columns row) values)) ≡ v.1
 put_cell columns added row values fits names name v h =
     let own = named_cells columns row in
-    let all = with_columns-beside OneName (λ c v e. e) columns own (named_names columns row fits) added values names in
+    let all = with_columns-beside OneName (λ c v e. e) columns own (named_names columns row) added values names in
     ap (λ o. cell_at o (map (λ c. c.1) (with_columns own values))) (position_from-zero (λ c. bytes_eq c.0 name) (with_columns columns added))
     ∙ (cell_named name (with_columns columns added) (with_columns own values) all
     ∙ ap cell_of_found (found_at name own values v (has_column name own) refl h))
@@ -110,10 +110,6 @@ item_found :
     (columns : Columns) (row : List Cell) (name : List ℕ) (items : List (List ℕ × Expr)) (item : List ℕ × Expr) →
     first_of_name name items ≡ Some item → first_of_name name (map (item_cell columns row) items) ≡ Some (item_cell columns row item)
 item_found columns row name items item h = found_item columns row name items ∙ ap (option_map (item_cell columns row)) h
-
-values : (columns : Columns) (row : List Cell) (items : List (List ℕ × Expr)) → map (λ c. c.1) (map (item_cell columns row) items) ≡ select_row columns items row
-values columns row [] = refl
-values columns row (i ∷ items) = ap (λ r. value_of i.1 columns row ∷ r) (values columns row items)
 
 select_cell :
     (columns : Columns) (items : List (List ℕ × Expr)) (row : List Cell) (name : List ℕ) (item : List ℕ × Expr) → first_of_name name items ≡ Some item →
@@ -247,3 +243,41 @@ unfolding rank_table
 rank_column t name k column fit =
     let index = column_index column t.columns in
     puts_column t name _ (ranks_of k index t.rows) fit (length-ranks k index t.rows)
+
+-- what is put in the place of a name has that name
+own_names : (added own : Columns) → map (λ c. c.0) (map (added_or_own added) own) ≡ map (λ c. c.0) own
+own_names added [] = refl
+own_names added (o ∷ own) = ap (λ n. n ∷ map (λ c. c.0) (map (added_or_own added) own)) (replaced_name added o) ∙ ap (λ ns. o.0 ∷ ns) (own_names added own)
+
+named_if :
+    {A B : Type 0} (b : Bool) (x : List ℕ × A) (y : List ℕ × B) (xs : List (List ℕ × A)) (ys : List (List ℕ × B)) → x.0 ≡ y.0 →
+    map (λ c. c.0) xs ≡ map (λ c. c.0) ys → map (λ c. c.0) (cond b (x ∷ xs) xs) ≡ map (λ c. c.0) (cond b (y ∷ ys) ys)
+named_if true x y xs ys e h = ap (λ n. n ∷ map (λ c. c.0) xs) e ∙ ap (λ ns. y.0 ∷ ns) h
+named_if false x y xs ys e h = h
+
+new_names :
+    (own columns : Columns) (items : List (List ℕ × Expr)) →
+    map (λ c. c.0) (filter (λ a. not (has_column a.0 own)) (map (item_column columns) items))
+    ≡ map (λ i. i.0) (filter (λ i. not (has_column i.0 own)) items)
+new_names own columns [] = refl
+new_names own columns (i ∷ items) = named_if (not (has_column i.0 own)) (item_column columns i) i _ _ refl (new_names own columns items)
+
+pub with_columns_names : (t : PlainTable) (items : List (List ℕ × Expr)) → AppendsNewNames t items (with_columns_table t items)
+unfolding with_columns_table with_columns
+with_columns_names t items =
+    let added = map (item_column t.columns) items in
+    map-append (λ c. c.0) (map (added_or_own added) t.columns) (filter (λ a. not (has_column a.0 t.columns)) added)
+    ∙ (ap (λ ns. ns ++ map (λ c. c.0) (filter (λ a. not (has_column a.0 t.columns)) added)) (own_names added t.columns)
+    ∙ ap (λ ns. map (λ c. c.0) t.columns ++ ns) (new_names t.columns t.columns items))
+
+item_named : (columns : Columns) (name : List ℕ) (items : List (List ℕ × Expr)) → has_column name (map (item_column columns) items) ≡ has_column name items
+item_named columns name [] = refl
+item_named columns name (i ∷ items) = ap (λ b. bytes_eq i.0 name || b) (item_named columns name items)
+
+pub with_columns_dtypes : (t : PlainTable) (items : List (List ℕ × Expr)) → KeepsOtherDtypes t items (with_columns_table t items)
+unfolding with_columns_table with_columns
+with_columns_dtypes t items name here other =
+    let added = map (item_column t.columns) items in
+    ap (option_map (λ c. c.1))
+    (kept_own name added t.columns (filter (λ a. not (has_column a.0 t.columns)) added)
+    (item_named t.columns name items ∙ not_true (has_column name items) other) here)

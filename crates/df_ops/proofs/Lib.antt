@@ -5,6 +5,8 @@ pub mod Beside
 pub mod NamedColumnsFacts
 pub mod RowWiseLaws
 pub mod FilterLaws
+pub mod PlacesFacts
+pub mod Counts
 pub mod Steps
 pub mod JoinLaws
 pub mod JoinCells

@@ -14,7 +14,7 @@ use Rattle.df_value.specs.CellOrder.{cell_cmp, cell_cmp_total}
 use Rattle.df_value.specs.Rows.{cell_at, row_eq}
 use Rattle.df_expr.specs.Value.{is_null}
 use Rattle.df_ops.specs.Groups.{distinct_after, key_of}
-use Rattle.df_ops.specs.Ranks.{dense_rank_of, distinct_at, is_non_null_key, is_smaller, dense_rank, rank_number, GreatestCounts, HasRank, RanksAgree, RanksRise, RanksWithin}
+use Rattle.df_ops.specs.Ranks.{dense_rank_of, distinct_at, is_non_null_key, is_smaller, dense_rank, rank_number, EachIsRanked, GreatestCounts, HasRank, RanksAgree, RanksRise, RanksWithin}
 use Rattle.df_value.specs.CellOrders.{exact, to_itself}
 use Rattle.df_value.specs.RowEq.{row_eq-Decides}
 use Rattle.df_value.specs.Choices.{either}
@@ -169,6 +169,28 @@ is_rank_of index rows r c n at same h =
 
 some_is : {X : Type 0} (x y : X) → Some x ≡ Some y → x ≡ y
 some_is x y h = cc
+
+-- where each cell that is not null has its number, and null has null, each cell is ranked
+pub each_ranked :
+    (number : Cell → ℕ) (index : Option ℕ) (rows : Rows) → ((c : Cell) → 1 ≤ number c) →
+    EachIsRanked index rows (map (λ r. cond (is_null (cell_at index r)) cell.Null (cell.Int (pos (number (cell_at index r))))) rows)
+each_ranked number index rows least i c h =
+    let value : Cell → Cell = λ c. cond (is_null c) cell.Null (cell.Int (pos (number c))) in
+    let f : List Cell → Cell = λ r. value (cell_at index r) in
+    ⊎_elim
+    (λ at.
+    let own : cell_at index at.0 ≡ c = some_is (cell_at index at.0) c (sym (ap (option_map (cell_at index)) at.2) ∙ h) in
+    let here : slice_get (map f rows) i ≡ Some (value c) = slice_get-map f rows i ∙ (ap (option_map f) at.2 ∙ ap (λ z. Some (value z)) own) in (
+      (λ e. here ∙ ap (λ b. Some (cond b cell.Null (cell.Int (pos (number c))))) e),
+      (λ e. (number c, (least c, here ∙ ap Some (number_of (is_null c) (number c) e)))),
+    ))
+    (λ past.
+    let none : None ≡ Some c = sym (ap (option_map (cell_at index)) past.1) ∙ h in
+    cc)
+    (slice_get_cases rows i).1
+
+pub dense_ranked : (index : Option ℕ) (rows : Rows) → EachIsRanked index rows (dense_rank index rows)
+dense_ranked index rows = each_ranked (rank_number (distinct_at index rows)) index rows (λ c. omega arith)
 
 ranked :
     (index : Option ℕ) (rows : Rows) (i : ℕ) (c : Cell) (n : ℕ) → HasRank index rows (dense_rank index rows) i c n → IsRankOf index rows c n

@@ -18,7 +18,7 @@ use Rattle.df_expr.specs.declared.expr.Expr.TheViews.{roll-Expr}
 use Rattle.df_expr.specs.Logic.{kleene_and}
 use Rattle.df_expr.specs.Value.{value_of, value_step, truth_of, cell_of}
 use Rattle.df_ops.specs.NamedColumns.{has_column, first_of_name, with_columns}
-use Rattle.df_ops.specs.RowWise.{is_true, keeps, filter_rows, item_column, item_cell, named_cells, with_columns_row, with_columns_schema, KeepsOthers}
+use Rattle.df_ops.specs.RowWise.{is_true, keeps, filter_rows, item_column, item_cell, named_cells, select_row, with_columns_row, with_columns_schema, KeepsOthers}
 use Rattle.df_ops.proofs.Beside.{Beside, has_beside, with_columns-beside}
 use Rattle.df_ops.proofs.NamedColumnsFacts.{kept_own}
 
@@ -128,11 +128,10 @@ pub second_of_two : (a b : Bool) → IsTrue (a && b) → IsTrue b
 second_of_two true b h = h
 second_of_two false b h = cc
 
-pub named_names : (columns : Columns) (row : List Cell) → IsTrue (row_fits columns row) → Beside OneName columns (named_cells columns row)
-named_names [] [] h = tt
-named_names [] (v ∷ row) h = tt
-named_names (c ∷ columns) [] h = cc
-named_names (c ∷ columns) (v ∷ row) h = (refl, named_names columns row (second_of_two (fits_dtype c.1 v) (row_fits columns row) h))
+pub named_names : (columns : Columns) (row : List Cell) → Beside OneName columns (named_cells columns row)
+named_names [] row = tt
+named_names (c ∷ columns) [] = (refl, named_names columns [])
+named_names (c ∷ columns) (v ∷ row) = (refl, named_names columns row)
 
 unnamed : (columns : Columns) (row : List Cell) → IsTrue (row_fits columns row) → map (λ c. c.1) (named_cells columns row) ≡ row
 unnamed [] [] h = refl
@@ -143,6 +142,11 @@ unnamed (c ∷ columns) (v ∷ row) h = ap (λ r. v ∷ r) (unnamed columns row 
 pub item_names : (columns : Columns) (row : List Cell) (items : List (List ℕ × Expr)) → Beside OneName (map (item_column columns) items) (map (item_cell columns row) items)
 item_names columns row [] = tt
 item_names columns row (i ∷ items) = (refl, item_names columns row items)
+
+-- the values of the items without their names
+pub values : (columns : Columns) (row : List Cell) (items : List (List ℕ × Expr)) → map (λ c. c.1) (map (item_cell columns row) items) ≡ select_row columns items row
+values columns row [] = refl
+values columns row (i ∷ items) = ap (λ r. value_of i.1 columns row ∷ r) (values columns row items)
 
 pub has_item : (columns : Columns) (row : List Cell) (name : List ℕ) (items : List (List ℕ × Expr)) → has_column name (map (item_cell columns row) items) ≡ has_column name items
 has_item columns row name [] = refl
@@ -162,7 +166,7 @@ unfolding with_columns
 kept_cell columns added row values fits beside name here none =
     let own = named_cells columns row in
     let test : List ℕ × CellType → Bool = λ c. bytes_eq c.0 name in
-    let names = named_names columns row fits in
+    let names = named_names columns row in
     let all = with_columns-beside OneName (λ c v e. e) columns own names added values beside in
     let some : has_column name own ≡ true = sym (has_beside OneName (λ c v e. e) name columns own names) ∙ here in
     let kept : first_of_name name (with_columns own values) ≡ first_of_name name own = kept_own name values own _ none some in

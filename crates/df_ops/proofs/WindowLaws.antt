@@ -1,15 +1,16 @@
 -- What joins rolling sums, cumulative sums and sums.
-use Rattle.std.proofs.Common.{◌≡◌, ℕ, ◌+◌, ◌<◌, ◌≤◌, ◌∙◌, Bool, true, false, cond, zero, suc, List, [], ◌∷◌, length, take, drop, map, refl, ap, sym, arith}
-use Rattle.std.specs.Prelude.{ℤ, IsTrue, not, ◌-◌, slice_get, unwrap_or, nat_lt}
+use Rattle.std.proofs.Common.{◌≡◌, ℕ, ◌+◌, ◌<◌, ◌≤◌, ◌∙◌, Bool, true, false, cond, zero, suc, List, [], ◌∷◌, ◌++◌, length, get_or, take, drop, map, refl, ap, sym, arith, zero-add}
+use Rattle.std.specs.Prelude.{ℤ, IsTrue, not, ◌-◌, Some, slice_get, unwrap_or, nat_lt}
 use Rattle.std.specs.List.{range_with_len}
 use Rattle.std.proofs.lemmas.Bool.Decides.{Decides-ltb}
-use Rattle.std.proofs.lemmas.List.{take_all}
-use Rattle.std.proofs.lemmas.List.FromFn.{map-range_with_len_more}
+use Rattle.std.proofs.lemmas.List.{take_all, take_more}
+use Rattle.std.proofs.lemmas.List.FromFn.{get_or-map-range_with_len, length-map-range_with_len, map-range_with_len_more}
+use Rattle.std.proofs.lemmas.Option.{slice_get_read, slice_get_within}
 use Rattle.df_value.specs.declared.cell.Cell.{Cell}
 use Rattle.df_value.specs.declared.cell.Cell.TheVariants as cell
 use Rattle.df_expr.specs.Value.{is_null}
 use Rattle.df_ops.specs.Aggregates.{count_of, non_null, sum_of, last_cell}
-use Rattle.df_ops.specs.Windows.{rolling_cell, cum_sum, cum_sum_at, window_of, EndsInSum, IsCumSum}
+use Rattle.df_ops.specs.Windows.{rolling_cell, cum_sum, cum_sum_at, window_of, AreSumsUpTo, EndsInSum, IsCumSum}
 use Rattle.df_ops.specs.declared.windows.RollKind.{RollKind}
 use Rattle.df_ops.specs.declared.windows.RollKind.TheVariants as roll
 use Rattle.df_ops.proofs.WindowFacts.{last_is}
@@ -62,6 +63,11 @@ sum_is_running k w m cells c e is_sum long one there =
     ∙ (ap (λ n. rolling_cell roll.Sum n (window_of w cells)) one
     ∙ sum_all w cells long (last_there (is_null (last_cell cells)) (sum_of cells) there)))
 
+get_of : (cells : List Cell) (i : ℕ) (c : Cell) → slice_get cells i ≡ Some c → get_or cells i c ≡ c
+get_of [] i c h = cc
+get_of (d ∷ cells) zero c h = cc
+get_of (d ∷ cells) (suc i) c h = get_of cells i c h
+
 last_running : (c : Cell) (cs : List Cell) → last_cell (cum_sum (c ∷ cs)) ≡ cum_sum_at (c ∷ cs)
 last_running c cs =
     let f : ℕ → Cell = λ i. cum_sum_at (take (i + 1) (c ∷ cs)) in
@@ -77,3 +83,29 @@ ends_in_sum [] sums e there = cc
 ends_in_sum (c ∷ cs) sums e there =
     let last : is_null (last_cell (c ∷ cs)) ≡ false = is_kept (is_null (last_cell (c ∷ cs))) there in
     ap last_cell e ∙ (last_running c cs ∙ ap (λ b. cond b cell.Null (cell.Wide (sum_of (c ∷ cs)))) last)
+
+sum_here : (b : Bool) (s : ℤ) → b ≡ true → cond {A = Cell} b cell.Null (cell.Wide s) ≡ cell.Null
+sum_here true s h = refl
+sum_here false s h = cc
+
+-- the cumulative sum at a cell is that of the cells up to it
+sum_at :
+    (cells : List Cell) (i : ℕ) (c : Cell) → slice_get cells i ≡ Some c →
+    slice_get (cum_sum cells) i ≡ Some (cond (is_null c) cell.Null (cell.Wide (sum_of (take (i + 1) cells))))
+sum_at cells i c h =
+    let f : ℕ → Cell = λ k. cum_sum_at (take (k + 1) cells) in
+    let lt : i < length cells = slice_get_within cells i c h in
+    let long : length (cum_sum cells) ≡ length cells = length-map-range_with_len f 0 (length cells) in
+    let read : slice_get (cum_sum cells) i ≡ Some (f i) =
+    slice_get_read (cum_sum cells) (length (cum_sum cells)) i (f i) refl (omega arith)
+    (sym (get_or-map-range_with_len f 0 (length cells) i i (f i) lt (zero-add i))) in
+    let here : get_or cells i c ≡ c = get_of cells i c h in
+    let last : last_cell (take (i + 1) cells) ≡ c = ap last_cell (take_more cells i c lt ∙ ap (λ d. take i cells ++ d ∷ []) here) ∙ last_is (take i cells) c in
+    read ∙ ap (λ d. Some (cond (is_null d) cell.Null (cell.Wide (sum_of (take (i + 1) cells))))) last
+
+pub sums_up_to : (cells sums : List Cell) → sums ≡ cum_sum cells → AreSumsUpTo cells sums
+sums_up_to cells sums e i c h =
+    let read = ap (λ xs. slice_get xs i) e ∙ sum_at cells i c h in (
+      (λ t. read ∙ ap Some (sum_here (is_null c) (sum_of (take (i + 1) cells)) t)),
+      (λ t. read ∙ ap (λ b. Some (cond b cell.Null (cell.Wide (sum_of (take (i + 1) cells))))) (is_kept (is_null c) t)),
+    )

@@ -9,3 +9,4 @@ pub mod Windows
 pub mod Ranks
 pub mod Tables
 pub mod TableColumns
+pub mod Places

@@ -1,6 +1,6 @@
 -- Dense ranks, as `rank` with the method "dense" of the Polars Python reference gives them: equal cells have one rank,
 -- and no rank is left out. That null has the rank null is this project's own choice.
-use Rattle.std.specs.Prelude.{◌≡◌, ◌≢◌, ◌<◌, ◌≤◌, ℕ, Bool, pos, ◌+◌, ◌&&◌, not, List, [], ◌∷◌, Option, Some, option_map, slice_get, filter, length, map, if◌then◌else◌}
+use Rattle.std.specs.Prelude.{◌≡◌, ◌≢◌, ◌<◌, ◌≤◌, IsTrue, ℕ, Bool, pos, ◌+◌, ◌&&◌, not, List, [], ◌∷◌, Option, Some, option_map, slice_get, filter, length, map, if◌then◌else◌}
 use Rattle.std.specs.Ordering.{is_lt}
 use Rattle.std.specs.declared.cmp.Ordering.TheVariants as ordering
 use Rattle.df_value.specs.declared.cell.Cell.{Cell}
@@ -44,6 +44,13 @@ ranks_of rank.Dense index rows = dense_rank index rows
 -- row i has this cell, and this rank
 abbrev pub HasRank : Option ℕ → List (List Cell) → List Cell → ℕ → Cell → ℕ → Type 0
 HasRank index rows ranks i c n = (option_map (cell_at index) (slice_get rows i) ≡ Some c) × (slice_get ranks i ≡ Some (cell.Int (pos n)))
+
+-- a cell that is not null has a rank, of at least 1, and null has the rank null
+abbrev pub EachIsRanked : Option ℕ → List (List Cell) → List Cell → Type 0
+EachIsRanked index rows ranks =
+    (i : ℕ) (c : Cell) → option_map (cell_at index) (slice_get rows i) ≡ Some c →
+    (IsTrue (is_null c) → slice_get ranks i ≡ Some cell.Null)
+    × (IsTrue (not (is_null c)) → (n : ℕ) × ((1 ≤ n) × (slice_get ranks i ≡ Some (cell.Int (pos n)))))
 
 -- rows with the same cell have the same rank
 abbrev pub RanksAgree : Option ℕ → List (List Cell) → List Cell → Type 0

@@ -10,7 +10,9 @@ use Rattle.df_value.specs.Rows.{cell_at}
 use Rattle.df_value.specs.Schemas.{column_index, column_dtype}
 use Rattle.df_expr.specs.declared.expr.Expr.{Expr, fold-Expr}
 use Rattle.df_expr.specs.declared.expr.Expr.TheOpen.{Expr-F}
+use Rattle.df_expr.specs.Physical.{physical_value}
 use Rattle.df_expr.specs.Value.{value_of}
+use Rattle.df_expr.specs.declared.physical.PhysicalExpr.{PhysicalExpr}
 use Rattle.df_ops.specs.NamedColumns.{has_column, with_columns}
 
 -- the type of one form, from the types of its operands
@@ -56,9 +58,15 @@ pub record IsFilter (Holds : List Cell → Type 0) (kept : List (List Cell) → 
 abbrev pub select_row : List (List ℕ × CellType) → List (List ℕ × Expr) → List Cell → List Cell
 select_row columns items row = map (λ i. value_of i.1 columns row) items
 
--- a row's cells under the names of their columns
+-- expressions with indices in place of names, whose values in every row are those of the items
+abbrev pub ArePhysical : List (List ℕ × CellType) → List (List ℕ × Expr) → List PhysicalExpr → Type 0
+ArePhysical columns items made = (row : List Cell) → map (λ p. physical_value p row) made ≡ select_row columns items row
+
+-- a row's cells under the names of their columns, null where the row has no cell for a column
 abbrev pub named_cells : List (List ℕ × CellType) → List Cell → List (List ℕ × Cell)
-named_cells columns row = map (λ p. (p.0.0, p.1)) (zip columns row)
+named_cells [] row = []
+named_cells (column ∷ columns) [] = (column.0, cell.Null) ∷ named_cells columns []
+named_cells (column ∷ columns) (c ∷ row) = (column.0, c) ∷ named_cells columns row
 
 -- a row in which the items' values are put among the cells as their columns are put among the columns
 unfoldable pub with_columns_row : List (List ℕ × CellType) → List (List ℕ × Expr) → List Cell → List Cell

@@ -1,7 +1,7 @@
 -- Rolling sums, minima and maxima with `window_size` and `min_samples`, not centred, and cumulative sums, as `rolling_sum`,
 -- `rolling_min`, `rolling_max` and `cum_sum` of the Polars Python reference have them: a window has the cells of its row
 -- and of those before it, as far as they exist. That sums are kept in 128 bits is this project's own choice.
-use Rattle.std.specs.Prelude.{◌≡◌, ◌≤◌, IsTrue, not, ℕ, ℤ, pos, negsuc, ◌+◌, ◌-◌, List, length, map, nat_lt, take, drop, if◌then◌else◌}
+use Rattle.std.specs.Prelude.{◌≡◌, ◌≤◌, IsTrue, not, Some, slice_get, ℕ, ℤ, pos, negsuc, ◌+◌, ◌-◌, List, length, map, nat_lt, take, drop, if◌then◌else◌}
 use Rattle.std.specs.List.{range_with_len}
 use Rattle.df_value.specs.declared.cell.Cell.{Cell}
 use Rattle.df_value.specs.declared.cell.Cell.TheVariants as cell
@@ -59,6 +59,13 @@ cum_sum cells = each_prefix cum_sum_at cells
 abbrev pub IsCumSum : RollKind → ℕ → ℕ → List Cell → Cell → Type 0
 IsCumSum kind w m cells c =
     kind ≡ roll.Sum → length cells ≤ w → m ≡ 1 → IsTrue (not (is_null (cum_sum_at cells))) → c ≡ cum_sum_at cells
+
+-- each cumulative sum is the sum of the cells up to its own cell, and null where that cell is null
+abbrev pub AreSumsUpTo : List Cell → List Cell → Type 0
+AreSumsUpTo cells sums =
+    (i : ℕ) (c : Cell) → slice_get cells i ≡ Some c →
+    (IsTrue (is_null c) → slice_get sums i ≡ Some cell.Null)
+    × (IsTrue (not (is_null c)) → slice_get sums i ≡ Some (cell.Wide (sum_of (take (i + 1) cells))))
 
 -- cumulative sums end in the sum, where the last cell is not null
 abbrev pub EndsInSum : List Cell → List Cell → Type 0

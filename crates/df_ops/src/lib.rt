@@ -15,6 +15,7 @@ mod joins;
 mod min_max;
 mod named_columns;
 mod one_column;
+mod places;
 mod plain_table;
 mod ranks;
 mod row_wise;
@@ -29,10 +30,12 @@ pub use join_columns::{JoinIndices, columns_of_join, join_indices_of};
 pub use joins::{How, join, join_row, join_rows};
 pub use min_max::{MinMax, min_and_max_of, min_or_max_of};
 pub use named_columns::with_columns;
+pub use places::{Origin, Place, places_of};
 pub use plain_table::PlainTable;
 pub use ranks::{RankKind, dense_rank, rank_table};
 pub use row_wise::{
-    filter_rows, filter_table, select_row, select_table, with_columns_row, with_columns_table,
+    filter_rows, filter_table, keeps, physical_items, select_row, select_table, with_columns_row,
+    with_columns_table,
 };
 pub use totals::group_sums;
 pub use windows::{

@@ -5,7 +5,7 @@ ghost use Rattle.df_value.specs.Schemas as schemas_spec;
 ghost use Rattle.df_ops.specs.TableColumns.{PutsColumn};
 ghost use Rattle.df_ops.specs.Tables as tables;
 ghost use Rattle.df_ops.specs.Ranks as ranks_spec;
-ghost use Rattle.df_ops.specs.Ranks.{dense_rank_of, ranks_of, GreatestCounts, RanksAgree, RanksRise, RanksWithin};
+ghost use Rattle.df_ops.specs.Ranks.{dense_rank_of, ranks_of, EachIsRanked, GreatestCounts, RanksAgree, RanksRise, RanksWithin};
 
 use crate::groups::keys_of;
 use crate::min_max::non_null_at;
@@ -75,6 +75,7 @@ pub fn dense_rank(
     rows: &[Row],
 ) -> Result<Vec<Cell>, AllocError>
     ensures value { IfOk result (λ cells. cells.items ≡ ranks_spec.dense_rank index rows.now) }
+    ensures ranked { IfOk result (λ cells. EachIsRanked index rows.now cells.items) }
     ensures agree { IfOk result (λ cells. RanksAgree index rows.now cells.items) }
     ensures rise { IfOk result (λ cells. RanksRise index rows.now cells.items) }
     ensures within { IfOk result (λ cells. RanksWithin index rows.now cells.items) }

@@ -1,19 +1,25 @@
 //! Operators that look at one row at a time: filter, select, with_columns.
-ghost use Rattle.std.specs.Prelude.{◌≡◌, ◌++◌, ◌∷◌, [], true, IfOk, IsTrue, OnOk, length, map};
+ghost use Rattle.std.specs.Prelude.{ℕ, List, ◌≡◌, ◌+◌, ◌<◌, ◌^◌, ◌++◌, ◌∷◌, [], true, IfOk, IsTrue, OnErr, OnOk, length, map};
 ghost use Rattle.df_value.specs.declared.cell.Cell.TheVariants as cell;
 ghost use Rattle.df_value.specs.Rows.{row_fits, rows_fit};
+ghost use Rattle.df_value.specs.Schemas.{Columns};
 ghost use Rattle.df_expr.specs.declared.expr.Expr.{Expr as AnyExpr};
 ghost use Rattle.df_expr.specs.declared.expr.Expr.TheVariants as expr;
+ghost use Rattle.df_expr.specs.Meters.{with_evals, CountsAtMost};
+ghost use Rattle.df_expr.specs.Physical.{physical_value, IsPhysical};
 ghost use Rattle.df_expr.specs.Value.{value_of};
 ghost use Rattle.df_ops.specs.Tables as tables;
-ghost use Rattle.df_ops.specs.TableColumns.{HasItemValues, KeepsOtherColumns};
+ghost use Rattle.df_ops.specs.TableColumns.{AppendsNewNames, HasItemValues, KeepsOtherColumns, KeepsOtherDtypes};
 ghost use Rattle.df_ops.specs.RowWise as row_wise;
-ghost use Rattle.df_ops.specs.RowWise.{item_column, item_cell, KeepsOthers};
+ghost use Rattle.df_ops.specs.RowWise.{item_column, ArePhysical, KeepsOthers};
+ghost use Rattle.df_ops.specs.Places as places_spec;
+ghost use Rattle.df_ops.specs.Places.{placed_cell};
 
 use crate::named_columns::with_columns;
+use crate::places::{Place, placed_row, places_of};
 use crate::plain_table::{PlainTable, table_from};
-use df_expr::{Expr, value};
-use df_value::{Cell, CellType, Duplicate, List, Row, Text, both, column_dtype, push_made};
+use df_expr::{Expr, Meter, PhysicalExpr};
+use df_value::{Cell, CellType, Duplicate, List, Row, Text, column_dtype, push_made, then_drop};
 use std::alloc::{AllocError, Global};
 
 /// The table with the rows whose predicate is true.
@@ -57,31 +63,55 @@ pub fn filter_rows(
         (λ row. value_of predicate.now columns.now row ≡ cell.Bool true)
         (row_wise.filter_rows columns.now predicate.now) }
 {
+    kept_rows(alloc, columns, predicate, rows)
+}
+
+fn kept_rows(
+    alloc: Global,
+    columns: &[(Text, CellType)],
+    predicate: &Expr,
+    rows: &[Row],
+) -> Result<List<Row>, AllocError>
+    ensures { IfOk result
+        (λ kept. kept ≡ row_wise.filter_rows columns.now predicate.now rows.now) }
+{
+    let physical = PhysicalExpr::new(alloc, predicate, columns)?;
+    let mut meter = Meter::new();
     let mut kept = Vec::new(alloc);
     for row in rows {
-        keep(alloc, &mut kept, columns, predicate, row)?;
+        keep(alloc, &mut kept, &physical, row, &mut meter)?;
     }
     Ok(List::from_vec(kept))
 }
 
 // Adds a copy of the row, if its predicate is true.
-#[tactic(auto, unfolding(crate::specs::RowWise::keeps))]
 fn keep(
     alloc: Global,
     kept: &mut Vec<Row>,
-    columns: &[(Text, CellType)],
-    predicate: &Expr,
+    predicate: &PhysicalExpr,
     row: &Row,
+    meter: &mut Meter,
 ) -> Result<(), AllocError>
-    ensures { OnOk result
-        (kept.new.items
-        ≡ kept.old.items ++ row_wise.filter_rows columns.now predicate.now (row.now ∷ [])) }
+    requires { meter.old.evals + 1 < 2 ^ 128 }
+    ensures value { (columns : Columns) (of : AnyExpr) → IsPhysical of columns predicate.now
+        → OnOk result
+        (kept.new.items ≡ kept.old.items ++ row_wise.filter_rows columns of (row.now ∷ [])) }
+    ensures counted { meter.new ≡ with_evals 1 meter.old }
 {
-    let cell = value(alloc, predicate, columns, row)?;
-    if is_true(&cell) {
+    if keeps(predicate, row, meter) {
         kept.push(row.copy(alloc)?)?;
     }
     Ok(())
+}
+
+/// Whether a filter keeps a row: its predicate is true. Counts one evaluation.
+pub fn keeps(predicate: &PhysicalExpr, row: &Row, meter: &mut Meter) -> bool
+    requires { meter.old.evals + 1 < 2 ^ 128 }
+    ensures value { (columns : Columns) (of : AnyExpr) → IsPhysical of columns predicate.now
+        → result ≡ row_wise.keeps columns of row.now }
+    ensures counted { meter.new ≡ with_evals 1 meter.old }
+{
+    is_true(predicate.eval(row, meter).cell())
 }
 
 fn is_true(cell: &Cell) -> bool
@@ -127,26 +157,63 @@ fn selected_rows(
     ensures { IfOk result
         (λ selected. selected ≡ map (row_wise.select_row columns.now items.now) rows.now) }
 {
+    let physical = physical_items(alloc, columns, items)?;
+    let mut meter = Meter::new();
     let mut selected = Vec::with_capacity(alloc, rows.len())?;
     for row in rows {
-        push_made(&mut selected, select_row(alloc, columns, items, row))?;
+        let made = select_row(alloc, physical.as_slice(), row, &mut meter);
+        push_made(&mut selected, made)?;
     }
     Ok(List::from_vec(selected))
 }
 
-/// The items' values in a row.
-pub fn select_row(
+/// The items' expressions over the rows of a table with these columns.
+pub fn physical_items(
     alloc: Global,
     columns: &[(Text, CellType)],
     items: &[(Text, Expr)],
+) -> Result<Vec<PhysicalExpr>, AllocError>
+    ensures { IfOk result (λ made. ArePhysical columns.now items.now made.items) }
+{
+    let mut made = Vec::with_capacity(alloc, items.len())?;
+    for item in items {
+        push_made(&mut made, PhysicalExpr::new(alloc, &item.1, columns))?;
+    }
+    Ok(made)
+}
+
+/// The items' values in a row. Counts one evaluation for each item.
+pub fn select_row(
+    alloc: Global,
+    items: &[PhysicalExpr],
     row: &Row,
+    meter: &mut Meter,
 ) -> Result<Row, AllocError>
-    ensures value { IfOk result (λ r. r ≡ row_wise.select_row columns.now items.now row.now) }
+    requires { meter.old.evals + length items.now < 2 ^ 128 }
+    ensures value { (columns : Columns) (of : List (List ℕ × AnyExpr))
+        → ArePhysical columns of items.now
+        → IfOk result (λ r. r ≡ row_wise.select_row columns of row.now) }
     ensures cells { IfOk result (λ r. length r ≡ length items.now) }
+    ensures counted { OnOk result (meter.new ≡ with_evals (length items.now) meter.old) }
+    ensures at_most { OnErr result (CountsAtMost (length items.now) meter.old meter.new) }
+{
+    item_values(alloc, items, row, meter)
+}
+
+fn item_values(
+    alloc: Global,
+    items: &[PhysicalExpr],
+    row: &Row,
+    meter: &mut Meter,
+) -> Result<Row, AllocError>
+    requires { meter.old.evals + length items.now < 2 ^ 128 }
+    ensures value { IfOk result (λ r. r ≡ map (λ p. physical_value p row.now) items.now) }
+    ensures counted { OnOk result (meter.new ≡ with_evals (length items.now) meter.old) }
+    ensures at_most { OnErr result (CountsAtMost (length items.now) meter.old meter.new) }
 {
     let mut cells = Vec::with_capacity(alloc, items.len())?;
     for item in items {
-        push_made(&mut cells, value(alloc, &item.1, columns, row))?;
+        push_made(&mut cells, item.eval(row, meter).into_cell(alloc))?;
     }
     Row::new(alloc, cells)
 }
@@ -158,6 +225,8 @@ pub fn with_columns_table(
     items: &[(Text, Expr)],
 ) -> Result<PlainTable, AllocError>
     ensures value { IfOk result (λ t. t ≡ tables.with_columns_table table.now items.now) }
+    ensures names { IfOk result (AppendsNewNames table.now items.now) }
+    ensures dtypes { IfOk result (KeepsOtherDtypes table.now items.now) }
 
     // Over rows that fit, the items' columns have their values, and the others are as they were.
     ensures items { IsTrue (rows_fit table.now.columns table.now.rows)
@@ -202,86 +271,60 @@ fn added_rows(
     ensures { IfOk result
         (λ added. added ≡ map (row_wise.with_columns_row columns.now items.now) rows.now) }
 {
+    let physical = physical_items(alloc, columns, items)?;
+    let places = places_of(alloc, columns, items)?;
+    let mut meter = Meter::new();
     let mut added = Vec::with_capacity(alloc, rows.len())?;
     for row in rows {
-        push_made(&mut added, with_columns_row(alloc, columns, items, row))?;
+        let places = places.as_slice();
+        let made = with_columns_row(alloc, places, physical.as_slice(), row, &mut meter);
+        push_made(&mut added, made)?;
     }
     Ok(List::from_vec(added))
 }
 
 /// The row with the items' values put among its cells: each in the place of the column of its name,
-/// and at the end where no column has it.
+/// and at the end where no column has it. Counts one evaluation for each item.
 pub fn with_columns_row(
     alloc: Global,
-    columns: &[(Text, CellType)],
-    items: &[(Text, Expr)],
+    places: &[Place],
+    items: &[PhysicalExpr],
     row: &Row,
+    meter: &mut Meter,
 ) -> Result<Row, AllocError>
-    ensures value { IfOk result (λ r. r ≡ row_wise.with_columns_row columns.now items.now row.now) }
+    requires { meter.old.evals + length items.now < 2 ^ 128 }
+    ensures value { (columns : Columns) (of : List (List ℕ × AnyExpr))
+        → ArePhysical columns of items.now → places.now ≡ places_spec.places_of columns of
+        → IfOk result (λ r. r ≡ row_wise.with_columns_row columns of row.now) }
 
     // The columns that no item names keep their cells.
-    ensures others { IsTrue (row_fits columns.now row.now)
-        → IfOk result (KeepsOthers columns.now items.now row.now) }
+    ensures others { (columns : Columns) (of : List (List ℕ × AnyExpr))
+        → ArePhysical columns of items.now → places.now ≡ places_spec.places_of columns of
+        → IsTrue (row_fits columns row.now) → IfOk result (KeepsOthers columns of row.now) }
+    ensures counted { OnOk result (meter.new ≡ with_evals (length items.now) meter.old) }
+    ensures at_most { OnErr result (CountsAtMost (length items.now) meter.old meter.new) }
 {
-    put_cells(alloc, columns, items, row)
+    put_values(alloc, places, items, row, meter)
 }
 
-#[tactic(auto, unfolding(crate::specs::RowWise::with_columns_row))]
-fn put_cells(
+fn put_values(
     alloc: Global,
-    columns: &[(Text, CellType)],
-    items: &[(Text, Expr)],
+    places: &[Place],
+    items: &[PhysicalExpr],
     row: &Row,
+    meter: &mut Meter,
 ) -> Result<Row, AllocError>
-    ensures { IfOk result (λ r. r ≡ row_wise.with_columns_row columns.now items.now row.now) }
+    requires { meter.old.evals + length items.now < 2 ^ 128 }
+    ensures value { IfOk result (λ r. r
+        ≡ map (placed_cell row.now (map (λ p. physical_value p row.now) items.now)) places.now) }
+    ensures counted { OnOk result (meter.new ≡ with_evals (length items.now) meter.old) }
+    ensures at_most { OnErr result (CountsAtMost (length items.now) meter.old meter.new) }
 {
-    let own = named_cells(alloc, columns, row.as_slice())?;
-    let values = item_cells(alloc, columns, items, row)?;
-    let cells = with_columns(alloc, own.as_slice(), values.as_slice())?;
-    unnamed(alloc, cells.as_slice())
-}
-
-/// Copies of a row's cells under the names of their columns.
-pub fn named_cells(
-    alloc: Global,
-    columns: &[(Text, CellType)],
-    cells: &[Cell],
-) -> Result<Vec<(Text, Cell)>, AllocError>
-    ensures { IfOk result (λ named. named.items ≡ row_wise.named_cells columns.now cells.now) }
-{
-    let mut named = Vec::with_capacity(alloc, columns.len())?;
-    for (column, cell) in columns.iter().zip(cells) {
-        push_made(&mut named, both(column.0.copy(alloc), cell.copy(alloc)))?;
-    }
-    Ok(named)
-}
-
-// The items' values in a row, under the items' names.
-fn item_cells(
-    alloc: Global,
-    columns: &[(Text, CellType)],
-    items: &[(Text, Expr)],
-    row: &Row,
-) -> Result<Vec<(Text, Cell)>, AllocError>
-    ensures { IfOk result (λ cells. cells.items ≡ map (item_cell columns.now row.now) items.now) }
-{
-    let mut cells = Vec::with_capacity(alloc, items.len())?;
-    for item in items {
-        let cell = value(alloc, &item.1, columns, row);
-        push_made(&mut cells, both(item.0.copy(alloc), cell))?;
-    }
-    Ok(cells)
-}
-
-/// Copies of the cells without their names.
-pub fn unnamed(alloc: Global, cells: &[(Text, Cell)]) -> Result<Row, AllocError>
-    ensures { IfOk result (λ row. row ≡ map (λ c. c.1) cells.now) }
-{
-    let mut row = Vec::with_capacity(alloc, cells.len())?;
-    for cell in cells {
-        push_made(&mut row, cell.1.copy(alloc))?;
-    }
-    Row::new(alloc, row)
+    let added = item_values(alloc, items, row, meter)?;
+    then_drop(
+        placed_row(alloc, places, row.as_slice(), added.as_slice()),
+        added,
+    )
 }
 
 fn item_columns(

@@ -6,7 +6,7 @@ ghost use Rattle.df_ops.specs.Tables as tables;
 ghost use Rattle.df_ops.specs.LoopStates.{cum_sum_after, cum_sum_cell};
 ghost use Rattle.df_ops.specs.TableColumns.{column_of, PutsColumn};
 ghost use Rattle.df_ops.specs.Windows as windows;
-ghost use Rattle.df_ops.specs.Windows.{rolling_cell, window_of, IsCumSum, EndsInSum};
+ghost use Rattle.df_ops.specs.Windows.{rolling_cell, window_of, AreSumsUpTo, IsCumSum, EndsInSum};
 
 use crate::aggregates::{count_of, min_or_max, next_sum, number_at, sum_of};
 use crate::min_max::{MinMax, non_null_at};
@@ -170,6 +170,7 @@ fn table_with_cum_sum(
 #[tactic(auto, using(crate::proofs::WindowFacts::running_is))]
 pub fn cum_sum(alloc: Global, index: Option<usize>, rows: &[Row]) -> Result<Vec<Cell>, AllocError>
     ensures value { IfOk result (λ cells. cells.items ≡ windows.cum_sum (cells_of index rows.now)) }
+    ensures each { IfOk result (λ cells. AreSumsUpTo (cells_of index rows.now) cells.items) }
     ensures last { IfOk result (λ cells. EndsInSum (cells_of index rows.now) cells.items) }
 {
     cum_sum_cells(alloc, index, rows)

@@ -42,4 +42,5 @@ loop-row-preserved c =
     zip_turn rows cells c.loop-row.yielded c.into_iter-row-iterator.result c.loop-row.row-iterator c.next.new.self c.next.result
     (cc) (cc) c.loop-row.yielded_by _ c.in-Some.is c.next.ensures.steps in
     zipped_more (with_column_row columns name) (with_column_rows columns name) (λ _ _ _ _. refl) rows cells (length c.loop-row.yielded) _ _ _ _ _ _ _
-    turn.0 turn.1 (turn.2 _) (turn.3 _) (length_push c.loop-row.yielded _) c.loop-row.invariant (made_is _ _ _ c.with_column_row.ensures c.in_ok-push_made.ensures.1) c.in_ok-push_made.ensures.2
+    turn.0 turn.1 (turn.2 _) (turn.3 _) (length_push c.loop-row.yielded _) c.loop-row.invariant
+    (made_is _ _ _ (c.with_column_row.ensures columns name c.args.dtype (c.as_slice.ensures.value ∙ c.in_ok-places.ensures)) c.in_ok-push_made.ensures.1) c.in_ok-push_made.ensures.2

@@ -1,0 +1,132 @@
+//! Expressions over the rows of one table, with indices in place of the names of its columns.
+ghost use Rattle.std.specs.Prelude.{◌≡◌, ◌+◌, ◌<◌, ◌^◌, IfOk};
+ghost use Rattle.df_expr.specs.Lent.{cell_of_value};
+ghost use Rattle.df_expr.specs.Meters.{with_evals};
+ghost use Rattle.df_expr.specs.Physical as physical;
+ghost use Rattle.df_expr.specs.Physical.{physical_value, IsPhysical};
+
+use crate::evaluation::cell_at;
+use crate::expr::Expr;
+use crate::lent::Value;
+use crate::meter::Meter;
+use crate::operators::{Binary, Unary};
+use df_value::{Boxed, Cell, CellType, Duplicate, Row, Text, column_index};
+use std::alloc::{AllocError, Global};
+
+/// An expression over the rows of a table, made once for all of them: its evaluation looks up no
+/// name.
+#[derive(Debug, Drop)]
+pub enum PhysicalExpr {
+    /// The cell at this index; null where the table has no such column.
+    Column(Option<usize>),
+    /// This cell in every row.
+    Literal(Cell),
+    /// An operator of one operand.
+    Unary(Unary, Boxed<PhysicalExpr>),
+    /// An operator of two operands.
+    Binary(Binary, Boxed<PhysicalExpr>, Boxed<PhysicalExpr>),
+    /// The first operand, or the second where the first is null.
+    FillNull(Boxed<PhysicalExpr>, Boxed<PhysicalExpr>),
+}
+
+impl PhysicalExpr {
+    /// The expression over the rows of a table with these columns. It owns its literals.
+    pub fn new(
+        alloc: Global,
+        expr: &Expr,
+        columns: &[(Text, CellType)],
+    ) -> Result<PhysicalExpr, AllocError>
+        ensures { IfOk result (IsPhysical expr.now columns.now) }
+    {
+        physical_of(alloc, expr, columns)
+    }
+
+    /// The value in a row, lent where the row or a literal has it. Counts one evaluation.
+    pub fn eval<'a>(&'a self, row: &'a Row, meter: &mut Meter) -> Value<'a>
+        requires { meter.old.evals + 1 < 2 ^ 128 }
+        ensures value { cell_of_value result ≡ physical_value self.now row.now }
+        ensures counted { meter.new ≡ with_evals 1 meter.old }
+    {
+        meter.evals += 1;
+        value_in(self, row)
+    }
+}
+
+#[cycle(resolving)]
+fn physical_of(
+    alloc: Global,
+    expr: &Expr,
+    columns: &[(Text, CellType)],
+) -> Result<PhysicalExpr, AllocError>
+    ensures { IfOk result (λ p. p ≡ physical.physical_of columns.now expr.now) }
+{
+    match expr {
+        Expr::Column(name) => Ok(PhysicalExpr::Column(column_index(name, columns))),
+        Expr::Literal(cell, _) => Ok(PhysicalExpr::Literal(cell.copy(alloc)?)),
+        Expr::Arith(op, a, b) => Ok(PhysicalExpr::Binary(
+            Binary::Arith(*op),
+            boxed(alloc, a, columns)?,
+            boxed(alloc, b, columns)?,
+        )),
+        Expr::Compare(op, a, b) => Ok(PhysicalExpr::Binary(
+            Binary::Compare(*op),
+            boxed(alloc, a, columns)?,
+            boxed(alloc, b, columns)?,
+        )),
+        Expr::EqMissing(a, b) => Ok(PhysicalExpr::Binary(
+            Binary::EqMissing,
+            boxed(alloc, a, columns)?,
+            boxed(alloc, b, columns)?,
+        )),
+        Expr::And(a, b) => Ok(PhysicalExpr::Binary(
+            Binary::And,
+            boxed(alloc, a, columns)?,
+            boxed(alloc, b, columns)?,
+        )),
+        Expr::Or(a, b) => Ok(PhysicalExpr::Binary(
+            Binary::Or,
+            boxed(alloc, a, columns)?,
+            boxed(alloc, b, columns)?,
+        )),
+        Expr::Not(a) => Ok(PhysicalExpr::Unary(Unary::Not, boxed(alloc, a, columns)?)),
+        Expr::IsNull(a) => Ok(PhysicalExpr::Unary(Unary::IsNull, boxed(alloc, a, columns)?)),
+        Expr::IsNotNull(a) => Ok(PhysicalExpr::Unary(Unary::IsNotNull, boxed(alloc, a, columns)?)),
+        Expr::FillNull(a, b) => Ok(PhysicalExpr::FillNull(
+            boxed(alloc, a, columns)?,
+            boxed(alloc, b, columns)?,
+        )),
+    }
+}
+
+#[cycle(resolving)]
+fn boxed(
+    alloc: Global,
+    expr: &Boxed<Expr>,
+    columns: &[(Text, CellType)],
+) -> Result<Boxed<PhysicalExpr>, AllocError>
+    ensures { IfOk result (λ p. p ≡ physical.physical_of columns.now expr.now) }
+{
+    Ok(Boxed::new(alloc, physical_of(alloc, expr.get(), columns)?)?)
+}
+
+fn value_in<'a>(expr: &'a PhysicalExpr, row: &'a Row) -> Value<'a>
+    ensures { cell_of_value result ≡ physical_value expr.now row.now }
+{
+    match expr {
+        PhysicalExpr::Column(index) => cell_at(*index, row),
+        PhysicalExpr::Literal(cell) => Value::Lent(cell),
+        PhysicalExpr::Unary(operator, a) => {
+            let a = value_in(a.get(), row);
+            Value::Made(operator.apply(a.cell()))
+        }
+        PhysicalExpr::Binary(operator, a, b) => {
+            let a = value_in(a.get(), row);
+            let b = value_in(b.get(), row);
+            Value::Made(operator.apply(a.cell(), b.cell()))
+        }
+        PhysicalExpr::FillNull(a, b) => match value_in(a.get(), row) {
+            Value::Lent(Cell::Null) | Value::Made(Cell::Null) => value_in(b.get(), row),
+            a => a,
+        },
+    }
+}
