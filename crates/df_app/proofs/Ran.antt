@@ -1,5 +1,5 @@
 -- What a run did, from what its document gave and what was then written.
-use Rattle.std.proofs.Common.{◌≡◌, ◌≤◌, ℕ, List, length, refl, ap, sym, subst, ◌∙◌}
+use Rattle.std.proofs.Common.{◌≡◌, ◌≢◌, ◌≤◌, ℕ, List, length, refl, ap, sym, subst, ◌∙◌}
 use Rattle.std.specs.Prelude.{Option, Some, None, IfSome, IfOk, IfErr, Result, Ok, Err, Bool, cond, ◌<◌}
 use Rattle.std.proofs.lemmas.Bool.{le-ltb, lt-ltb}
 use Rattle.std.specs.Io.KnownBytes.{Keeps}
@@ -68,8 +68,8 @@ fault_of_output b contents chunk f e = ap (output_opened chunk) e
 tells_csv :
     (b : List ℕ) (contents : Contents) (chunk : ℕ) (frame : List ℕ) (f : CsvFault) → length b ≤ 1048576 →
     (TellsOfBytes (fault.Csv frame f) → output_of b contents chunk ≡ Err (fault.Csv frame f)) →
-    ((name : List ℕ) → fault.Csv frame f ≡ fault.Csv name csv.ReadFault → MayFailFrom b contents chunk name) → IsFaultBefore b contents chunk (fault.Csv frame f)
-tells_csv b contents chunk frame csv.ReadFault few said unread = (few, unread frame refl)
+    ((name : List ℕ) → fault.Csv frame f ≡ fault.Csv name csv.ReadFault → output_of b contents chunk ≢ Err (fault.Csv name csv.ReadFault) → MayFailFrom b contents chunk name) → IsFaultBefore b contents chunk (fault.Csv frame f)
+tells_csv b contents chunk frame csv.ReadFault few said unread = λ other. (few, unread frame refl other)
 tells_csv b contents chunk frame csv.TooLarge few said unread = said ((λ e. cc), (λ n e. cc))
 tells_csv b contents chunk frame csv.NotText few said unread = said ((λ e. cc), (λ n e. cc))
 tells_csv b contents chunk frame (csv.BadRecord k) few said unread = said ((λ e. cc), (λ n e. cc))
@@ -80,7 +80,7 @@ tells_csv b contents chunk frame csv.Memory few said unread = said ((λ e. cc), 
 
 tells :
     (b : List ℕ) (contents : Contents) (chunk : ℕ) (f : RunFault) → length b ≤ 1048576 → ComesFromBytes f → (TellsOfBytes f → output_of b contents chunk ≡ Err f) →
-    ((name : List ℕ) → f ≡ fault.Csv name csv.ReadFault → MayFailFrom b contents chunk name) → IsFaultBefore b contents chunk f
+    ((name : List ℕ) → f ≡ fault.Csv name csv.ReadFault → output_of b contents chunk ≢ Err (fault.Csv name csv.ReadFault) → MayFailFrom b contents chunk name) → IsFaultBefore b contents chunk f
 tells b contents chunk (fault.Views f) few is said unread = said ((λ e. cc), (λ n e. cc))
 tells b contents chunk (fault.Plan view f) few is said unread = said ((λ e. cc), (λ n e. cc))
 tells b contents chunk (fault.Csv frame f) few is said unread = tells_csv b contents chunk frame f few said unread
@@ -93,7 +93,9 @@ opened_answer : (b : List ℕ) (contents : Contents) (chunk : ℕ) (r : Result O
     AnswersOrFails (MayFailFrom b contents chunk) (opened_from b contents chunk) r → IsOpening b contents chunk r
 opened_answer b contents chunk (Ok o) few answers = within b contents chunk few ∙ answers
 opened_answer b contents chunk (Err f) few answers =
-    tells b contents chunk f few answers.0 (λ other. fault_of_output b contents chunk f (within b contents chunk few ∙ answers.1 other)) answers.2
+    let gave : (g : RunFault) → opened_from b contents chunk ≡ Err g → output_of b contents chunk ≡ Err g =
+    λ g e. fault_of_output b contents chunk g (within b contents chunk few ∙ e) in
+    tells b contents chunk f few answers.0 (λ told. gave f (answers.1 told)) (λ name is other. answers.2 name is (λ e. other (gave (fault.Csv name csv.ReadFault) e)))
 
 -- what the bytes that were read gave
 pub opened_read :

@@ -1,11 +1,16 @@
 -- What is known where the file of a frame cannot be read.
-use Rattle.std.proofs.Common.{◌≡◌, ℕ, List, sym, subst}
+use Rattle.std.proofs.Common.{◌≡◌, ◌∙◌, ◌<◌, ℕ, suc, List, [], ◌∷◌, ◌++◌, length, get_or, drop, ap, inl, sym, subst}
+use Rattle.std.proofs.Math.Seq.{drop-cons}
 use Rattle.std.specs.Prelude.{IfOk, IsOkAnd, Result, Ok, Err}
+use Rattle.df_csv.specs.declared.fault.CsvFault.TheVariants as csv
+use Rattle.df_text.specs.declared.document.FrameSpec.{FrameSpec}
 use Rattle.df_text.specs.declared.document.Views.{Views}
 use Rattle.df_text.specs.declared.fault.ViewsFault.{ViewsFault}
 use Rattle.df_value.specs.Outcomes.{then_next}
-use Rattle.df_app.specs.Output.{AnswersOrFails, Contents, KnowsFilesOf, MayFailIn, of_document, opened_in}
+use Rattle.df_value.specs.declared.chunk.Piece.{Piece}
+use Rattle.df_app.specs.Output.{AnswersOrFails, AreKnown, Contents, IsKnown, IsRead, KnowsFilesOf, MayFail, MayFailIn, of_document, opened_in, pieces_in, results_after}
 use Rattle.df_app.specs.declared.fault.RunFault.{RunFault}
+use Rattle.df_app.specs.declared.fault.RunFault.TheVariants as fault
 use Rattle.df_app.specs.declared.opening.OpenedDocument.{OpenedDocument}
 
 -- an answer for a document that was read is one for its bytes
@@ -21,3 +26,35 @@ of_read (Err f) contents chunk document r e answers =
     λ knows.
     let no : ⊥ = cc in
     absurd no
+
+-- where a frame has no pieces, the frames have none, for the same reason
+fails_here :
+    (contents : Contents) (chunk : ℕ) (frames rest : List FrameSpec) (frame : FrameSpec) (out : List (List Piece)) (f : RunFault) →
+    results_after (pieces_in contents chunk) [] frames ≡ results_after (pieces_in contents chunk) out (frame ∷ rest) →
+    ((name : List ℕ) → MayFail contents chunk (frame ∷ rest) name → MayFail contents chunk frames name) →
+    AnswersOrFails {A = List Piece} (λ name. (frame.name ≡ name) × IsRead contents frame.source) (pieces_in contents chunk frame) (Err f) →
+    AnswersOrFails {A = List (List Piece)} (MayFail contents chunk frames) (results_after (pieces_in contents chunk) [] frames) (Err f)
+fails_here contents chunk frames rest frame out f same may answers =
+    let gave : (g : RunFault) → pieces_in contents chunk frame ≡ Err g → results_after (pieces_in contents chunk) [] frames ≡ Err g =
+    λ g e. same ∙ ap (λ r. then_next r (λ pieces. results_after (pieces_in contents chunk) (out ++ pieces ∷ []) rest)) e in (
+      answers.0,
+      (λ told. gave f (answers.1 told)),
+      (λ name is other. may name (inl (answers.2 name is (λ e. other (gave (fault.Csv name csv.ReadFault) e))))),
+    )
+
+-- the same of the frame at an index
+pub fails_at :
+    (contents now : Contents) (chunk : ℕ) (frames : List FrameSpec) (i : ℕ) (frame : FrameSpec) (out : List (List Piece)) (f : RunFault)
+    (r : Result (List (List Piece)) RunFault) → now ≡ contents → i < length frames → frame ≡ get_or frames i frame → r ≡ Err f →
+    (AreKnown contents frames → results_after (pieces_in contents chunk) [] frames ≡ results_after (pieces_in contents chunk) out (drop i frames)) →
+    (AreKnown contents frames → (name : List ℕ) → MayFail contents chunk (drop i frames) name → MayFail contents chunk frames name) →
+    (IsKnown now frame.source → AnswersOrFails {A = List Piece} (λ name. (frame.name ≡ name) × IsRead now frame.source) (pieces_in now chunk frame) (Err f)) →
+    AreKnown contents frames → AnswersOrFails {A = List (List Piece)} (MayFail contents chunk frames) (results_after (pieces_in contents chunk) [] frames) r
+fails_at contents now chunk frames i frame out f r same lt is err so_far may value known =
+    let split : drop i frames ≡ frame ∷ drop (suc i) frames = drop-cons frames i frame lt ∙ ap (λ x. x ∷ drop (suc i) frames) (sym is) in
+    let here : IsKnown contents frame.source = subst (λ (x : FrameSpec). IsKnown contents x.source) (sym is) (known i frame lt) in
+    let answers = subst (λ (x : Contents). IsKnown x frame.source → AnswersOrFails {A = List Piece} (λ name. (frame.name ≡ name) × IsRead x frame.source) (pieces_in x chunk frame) (Err f)) same value here in
+    let later = so_far known ∙ ap (results_after (pieces_in contents chunk) out) split in
+    let may_here = subst (λ (x : List FrameSpec). (name : List ℕ) → MayFail contents chunk x name → MayFail contents chunk frames name) split (may known) in
+    subst (λ (x : Result (List (List Piece)) RunFault). AnswersOrFails {A = List (List Piece)} (MayFail contents chunk frames) (results_after (pieces_in contents chunk) [] frames) x) (sym err)
+    (fails_here contents chunk frames (drop (suc i) frames) frame out f later may_here answers)

@@ -1,4 +1,5 @@
 pub mod CommandLine
+pub mod Files
 pub mod Output
 pub mod Ran
 pub mod Texts

@@ -1,6 +1,6 @@
 -- What a run of a view document writes: the tables of its views over its frames, and the chunks that were
 -- refused, or the first fault.
-use Rattle.std.specs.Prelude.{◌≡◌, ◌≢◌, ◌≤◌, ◌*◌, ◌⊎◌, ℕ, ⊤, MatchResult, Bool, true, false, List, [], ◌∷◌, ◌++◌, length, map, nat_lt, codes, decimal, option_map, unwrap_or, slice_get, flat_map, All, Option, Some, None, IsSome, IfOk, IsOk, IsOkAnd, Result, Ok, Err, if◌then◌else◌}
+use Rattle.std.specs.Prelude.{◌≡◌, ◌≢◌, ◌≤◌, ◌*◌, ◌⊎◌, ℕ, ⊤, MatchResult, List, [], ◌∷◌, ◌++◌, length, map, nat_lt, codes, decimal, option_map, unwrap_or, slice_get, flat_map, All, IfOk, IsOk, IsOkAnd, Result, Ok, Err, if◌then◌else◌}
 use Rattle.std.specs.List.{enumerate_from, join_by, list_all}
 use Rattle.df_value.specs.Outcomes.{then_next}
 use Rattle.df_value.specs.declared.cell.Cell.{Cell}
@@ -23,6 +23,9 @@ use Rattle.df_text.specs.declared.document.FrameSpec.{FrameSpec}
 use Rattle.df_text.specs.declared.document.ViewSpec.{ViewSpec}
 use Rattle.df_text.specs.declared.document.Views.{Views}
 use Rattle.df_text.specs.declared.fault.ViewsFault.{ViewsFault}
+use Rattle.df_app.specs.Files.{HasBytes, IsKnownState}
+use Rattle.df_app.specs.declared.files.FileState.{FileState}
+use Rattle.df_app.specs.declared.files.FileState.TheVariants as known
 use Rattle.df_app.specs.declared.fault.RunFault.{RunFault}
 use Rattle.df_app.specs.declared.fault.RunFault.TheVariants as fault
 use Rattle.df_app.specs.declared.outcome.Outcome.{Outcome}
@@ -50,14 +53,15 @@ of_plan view schemas (Err f) = Err (fault.Plan view.name f)
 abbrev pub plan_of : List Columns → ViewSpec → Result CheckedParts RunFault
 plan_of schemas view = of_plan view schemas (plan_check view.plan schemas)
 
--- the bytes of the file under each path, where there is one
+-- what is known of the file under each path
 abbrev pub Contents : Type 0
-Contents = List ℕ → Option (List ℕ)
+Contents = List ℕ → FileState
 
--- the records of a file; where there is none, it cannot be read
-abbrev pub records_of_file : Option (List ℕ) → Columns → Result Records CsvFault
-records_of_file None columns = Err csv.ReadFault
-records_of_file (Some bytes) columns = file_records bytes columns
+-- the records of a file; one that is absent cannot be read, and of an unknown one nothing is said
+abbrev pub records_of_file : FileState → Columns → Result Records CsvFault
+records_of_file known.Unknown columns = Err csv.ReadFault
+records_of_file known.Absent columns = Err csv.ReadFault
+records_of_file (known.Bytes bytes) columns = file_records bytes columns
 
 -- the records of a frame: those of the file under its path, or those of its own text
 abbrev pub records_in : Contents → FrameSource → Columns → Result Records CsvFault
@@ -145,31 +149,31 @@ output_made chunk o = record { text = text_from o.document o.plans o.pieces chun
 abbrev pub output_of : List ℕ → Contents → ℕ → Result Output RunFault
 output_of bytes contents chunk = then_next (opened_of bytes contents chunk) (λ o. Ok (output_made chunk o))
 
--- the bytes of the file that a frame names are known
+-- of the file that a frame names it is known whether it is there, and with which bytes
 abbrev pub IsKnown : Contents → FrameSource → Type 0
-IsKnown contents (source.Path path) = IsSome (contents path)
+IsKnown contents (source.Path path) = IsKnownState (contents path)
 IsKnown contents (source.Text text) = ⊤
 
 abbrev pub AreKnown : Contents → List FrameSpec → Type 0
 AreKnown contents frames = All (λ (f : FrameSpec). IsKnown contents f.source) frames
 
--- the bytes of each file that a document names are known, if its files are read at all
+-- each file that a document names is known, if its files are read at all
 abbrev pub KnowsFilesOf : Contents → Views → Type 0
 KnowsFilesOf contents document = IfOk (plans_of document) (λ plans. AreKnown contents document.frames)
 
 abbrev pub KnowsFiles : Contents → List ℕ → Type 0
 KnowsFiles contents bytes = length bytes ≤ most_bytes_of_document → IfOk (document_of bytes) (KnowsFilesOf contents)
 
--- a frame's records stand in a file, which may fail to open or to be read
-abbrev pub IsFile : FrameSource → Type 0
-IsFile (source.Path path) = ⊤
-IsFile (source.Text text) = ⊥
+-- a frame's records are those of a file that is there, of which a read may fail
+abbrev pub IsRead : Contents → FrameSource → Type 0
+IsRead contents (source.Path path) = HasBytes (contents path)
+IsRead contents (source.Text text) = ⊥
 
--- the frame of this name may be the first whose file cannot be read: those before it have their pieces
+-- the frame of this name may be the first of whose file a read fails: those before it have their pieces
 abbrev pub MayFail : Contents → ℕ → List FrameSpec → List ℕ → Type 0
 MayFail contents chunk [] name = ⊥
 MayFail contents chunk (f ∷ frames) name =
-    ((f.name ≡ name) × IsFile f.source) ⊎ (IsOk (pieces_in contents chunk f) × MayFail contents chunk frames name)
+    ((f.name ≡ name) × IsRead contents f.source) ⊎ (IsOk (pieces_in contents chunk f) × MayFail contents chunk frames name)
 
 -- and the plans of the document check
 abbrev pub MayFailIn : Views → Contents → ℕ → List ℕ → Type 0
@@ -177,6 +181,16 @@ MayFailIn document contents chunk name = IsOk (plans_of document) × MayFail con
 
 abbrev pub MayFailFrom : List ℕ → Contents → ℕ → List ℕ → Type 0
 MayFailFrom bytes contents chunk name = IsOkAnd (document_of bytes) (λ document. MayFailIn document contents chunk name)
+
+-- a fault of a frame's records, or want of memory
+abbrev pub ComesFromFrames : RunFault → Type 0
+ComesFromFrames (fault.Csv frame f) = ⊤
+ComesFromFrames fault.Memory = ⊤
+ComesFromFrames fault.ReadFault = ⊥
+ComesFromFrames fault.TooLarge = ⊥
+ComesFromFrames (fault.Views f) = ⊥
+ComesFromFrames (fault.Plan view f) = ⊥
+ComesFromFrames fault.Write = ⊥
 
 -- a fault that bytes can have which are not too many, or want of memory
 abbrev pub ComesFromBytes : RunFault → Type 0
@@ -188,17 +202,21 @@ ComesFromBytes fault.ReadFault = ⊥
 ComesFromBytes fault.TooLarge = ⊥
 ComesFromBytes fault.Write = ⊥
 
--- a fault that tells of the bytes: memory was not refused, and no file failed to open or to be read
+-- a fault that tells of the bytes: memory was not refused, and no frame's file cannot be read
 abbrev pub TellsOfBytes : RunFault → Type 0
 TellsOfBytes f = (f ≢ fault.Memory) × ((frame : List ℕ) → f ≢ fault.Csv frame csv.ReadFault)
 
--- The call answers what is wanted, unless it answers that memory was refused or that the file of a frame of which F holds
--- cannot be read.
-abbrev pub AnswersOrFails : {A : Type 0} → (List ℕ → Type 0) → Result A RunFault → Result A RunFault → Type 0
-AnswersOrFails F want result =
+-- The call answers what is wanted, unless it answers that memory was refused, or that the file of a frame cannot be read of
+-- which F holds.
+abbrev pub AnswersBut : {A : Type 0} → (List ℕ → Type 0) → Result A RunFault → Result A RunFault → Type 0
+AnswersBut F want result =
     MatchResult result (λ x. want ≡ Ok x)
     (λ f. ComesFromBytes f × (TellsOfBytes f → want ≡ Err f) × ((frame : List ℕ) → f ≡ fault.Csv frame csv.ReadFault → F frame))
 
+-- F holds of the frames of whose files a read may fail; that one cannot be read may also be what is wanted
+abbrev pub AnswersOrFails : {A : Type 0} → (List ℕ → Type 0) → Result A RunFault → Result A RunFault → Type 0
+AnswersOrFails F want result = AnswersBut (λ frame. want ≢ Err (fault.Csv frame csv.ReadFault) → F frame) want result
+
 -- the same of a call that reads no file
 abbrev pub AnswersOfBytes : {A : Type 0} → Result A RunFault → Result A RunFault → Type 0
-AnswersOfBytes want result = AnswersOrFails (λ frame. ⊥) want result
+AnswersOfBytes want result = AnswersBut (λ frame. ⊥) want result

@@ -1,5 +1,5 @@
--- What a run did, of a document and of files whose bytes are known, to a writer.
-use Rattle.std.specs.Prelude.{◌≡◌, ◌<◌, ◌≤◌, ℕ, List, ⊤, length, take, Option, Result, Ok, Err}
+-- What a run did, of a document and of files that are known, to a writer.
+use Rattle.std.specs.Prelude.{◌≡◌, ◌≢◌, ◌<◌, ◌≤◌, ℕ, List, ⊤, length, take, Option, Result, Ok, Err}
 use Rattle.std.specs.Io.KnownBytes.{Appends, Keeps}
 use Rattle.df_app.specs.declared.fault.RunFault.{RunFault}
 use Rattle.df_app.specs.declared.fault.RunFault.TheVariants as fault
@@ -10,11 +10,12 @@ use Rattle.df_app.specs.declared.opening.OpenedDocument.{OpenedDocument}
 use Rattle.df_app.specs.Output.{most_bytes_of_document, Contents, MayFailFrom, opened_of, output_of}
 
 -- What a fault says that comes before anything is written. But for a failed read of the document or of a file and for
--- want of memory, it is the fault that the bytes have in the place of an output; and a file that cannot be read is that
--- of a frame to which the run comes.
+-- want of memory, it is the fault that the bytes have in the place of an output. A file of which a read fails is there,
+-- and is that of a frame to which the run comes.
 abbrev pub IsFaultBefore : List ℕ → Contents → ℕ → RunFault → Type 0
 IsFaultBefore bytes contents chunk fault.ReadFault = ⊤
-IsFaultBefore bytes contents chunk (fault.Csv frame csv.ReadFault) = (length bytes ≤ most_bytes_of_document) × MayFailFrom bytes contents chunk frame
+IsFaultBefore bytes contents chunk (fault.Csv frame csv.ReadFault) =
+    output_of bytes contents chunk ≢ Err (fault.Csv frame csv.ReadFault) → (length bytes ≤ most_bytes_of_document) × MayFailFrom bytes contents chunk frame
 IsFaultBefore bytes contents chunk fault.Memory = ⊤
 IsFaultBefore bytes contents chunk fault.Write = ⊥
 IsFaultBefore bytes contents chunk f = output_of bytes contents chunk ≡ Err f
@@ -50,3 +51,13 @@ IsRunOn bytes contents chunk old new (Err f) = IsStop bytes contents chunk old n
 abbrev pub KeepsUnlessWrite : Option (List ℕ) → Option (List ℕ) → RunFault → Type 0
 KeepsUnlessWrite old new fault.Write = ⊤
 KeepsUnlessWrite old new f = Keeps old new
+
+-- at a fault of the document, of its views or of their plans the files are as they were: none was opened
+abbrev pub LeavesFiles : {F : Type 0} → F → F → RunFault → Type 0
+LeavesFiles old new fault.ReadFault = new ≡ old
+LeavesFiles old new fault.TooLarge = new ≡ old
+LeavesFiles old new (fault.Views f) = new ≡ old
+LeavesFiles old new (fault.Plan view f) = new ≡ old
+LeavesFiles old new (fault.Csv frame f) = ⊤
+LeavesFiles old new fault.Memory = ⊤
+LeavesFiles old new fault.Write = ⊤

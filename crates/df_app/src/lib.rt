@@ -20,7 +20,7 @@ mod running;
 pub use command_line::Words;
 pub use fault::RunFault;
 pub use fault_texts::{csv_text, fault_text};
-pub use files::Files;
+pub use files::{FileState, Files};
 pub use opening::{MOST_BYTES_OF_DOCUMENT, OpenedDocument, open_document};
 pub use outcome::Outcome;
 pub use reading_words::words;

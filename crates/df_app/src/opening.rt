@@ -1,9 +1,9 @@
 //! The opening of a document: its plans are checked, and its frames are read.
-ghost use Rattle.std.specs.Prelude.{◌≡◌, ◌≤◌, [], IfOk, IfSome, length};
+ghost use Rattle.std.specs.Prelude.{◌≡◌, ◌≤◌, [], IfErr, IfOk, IfSome, length};
 ghost use Rattle.df_value.specs.Limits.{most_rows_of_chunk};
 ghost use Rattle.df_text.specs.Document.{document_of};
 ghost use Rattle.df_app.specs.Output.{AnswersOfBytes, AnswersOrFails, KnowsFiles, KnowsFilesOf, MayFailFrom, MayFailIn, results_after, of_document, opened_from, opened_in, plan_of, plans_of, schemas_of};
-ghost use Rattle.df_app.specs.Ran.{IsOpening};
+ghost use Rattle.df_app.specs.Ran.{IsOpening, LeavesFiles};
 
 use crate::fault::RunFault;
 use crate::files::Files;
@@ -30,7 +30,8 @@ pub struct OpenedDocument {
 ///
 /// The document is read whole, at most 1,048,576 bytes; its plans are checked in the order of the
 /// views; its frames are read in their order and typed in pieces of `chunk` records, 1 to 65,536. A
-/// file that cannot be opened, or of which a read fails, is a `ReadFault` of its frame.
+/// file that cannot be opened, or of which a read fails, is a `ReadFault` of its frame. No file is
+/// opened before all plans are checked.
 pub fn open_document<V: Read, F: Files>(
     alloc: Global,
     reader: &mut V,
@@ -39,10 +40,11 @@ pub fn open_document<V: Read, F: Files>(
 ) -> Result<OpenedDocument, RunFault>
     requires some { 1 ≤ chunk }
     requires few { chunk ≤ most_rows_of_chunk }
-    ensures same { F.bytes_at files.new ≡ F.bytes_at files.old }
+    ensures same { F.file_at files.new ≡ F.file_at files.old }
     ensures value { IfSome (V.remaining reader.old)
-        (λ bytes. KnowsFiles (F.bytes_at files.old) bytes →
-        IsOpening bytes (F.bytes_at files.old) chunk result) }
+        (λ bytes. KnowsFiles (F.file_at files.old) bytes →
+        IsOpening bytes (F.file_at files.old) chunk result) }
+    ensures untouched { IfErr result (LeavesFiles files.old files.new) }
     ensures plans { IfOk result (λ o. length o.plans ≡ length o.document.views) }
     ensures pieces { IfOk result (λ o. length o.pieces ≡ length o.document.frames) }
 {
@@ -62,10 +64,11 @@ fn open_bytes<F: Files>(
 ) -> Result<OpenedDocument, RunFault>
     requires some { 1 ≤ chunk }
     requires few { chunk ≤ most_rows_of_chunk }
-    ensures same { F.bytes_at files.new ≡ F.bytes_at files.old }
-    ensures value { IfOk (document_of bytes.now) (KnowsFilesOf (F.bytes_at files.old)) →
-        AnswersOrFails (MayFailFrom bytes.now (F.bytes_at files.old) chunk)
-        (opened_from bytes.now (F.bytes_at files.old) chunk) result }
+    ensures same { F.file_at files.new ≡ F.file_at files.old }
+    ensures value { IfOk (document_of bytes.now) (KnowsFilesOf (F.file_at files.old)) →
+        AnswersOrFails (MayFailFrom bytes.now (F.file_at files.old) chunk)
+        (opened_from bytes.now (F.file_at files.old) chunk) result }
+    ensures untouched { IfErr result (LeavesFiles files.old files.new) }
     ensures plans { IfOk result (λ o. length o.plans ≡ length o.document.views) }
     ensures pieces { IfOk result (λ o. length o.pieces ≡ length o.document.frames) }
 {
@@ -83,10 +86,11 @@ fn open_views<F: Files>(
 ) -> Result<OpenedDocument, RunFault>
     requires some { 1 ≤ chunk }
     requires few { chunk ≤ most_rows_of_chunk }
-    ensures same { F.bytes_at files.new ≡ F.bytes_at files.old }
-    ensures value { KnowsFilesOf (F.bytes_at files.old) document →
-        AnswersOrFails (MayFailIn document (F.bytes_at files.old) chunk)
-        (opened_in document (F.bytes_at files.old) chunk) result }
+    ensures same { F.file_at files.new ≡ F.file_at files.old }
+    ensures value { KnowsFilesOf (F.file_at files.old) document →
+        AnswersOrFails (MayFailIn document (F.file_at files.old) chunk)
+        (opened_in document (F.file_at files.old) chunk) result }
+    ensures untouched { IfErr result (LeavesFiles files.old files.new) }
     ensures plans { IfOk result (λ o. length o.plans ≡ length o.document.views) }
     ensures pieces { IfOk result (λ o. length o.pieces ≡ length o.document.frames) }
 {

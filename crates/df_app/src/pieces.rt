@@ -1,12 +1,13 @@
 //! The frames of a document in pieces: chunks of rows, or bad cells.
-ghost use Rattle.std.specs.Prelude.{◌≡◌, ◌++◌, ◌≤◌, [], IfErr, IfOk, IfSome, OnOk, length, map};
+ghost use Rattle.std.specs.Prelude.{◌≡◌, ◌≢◌, ◌++◌, ◌≤◌, [], Err, IfErr, IfOk, OnOk, length, map};
 ghost use Rattle.df_value.specs.Limits.{most_rows_of_chunk};
 ghost use Rattle.std.specs.List.{list_all};
-ghost use Rattle.df_csv.specs.Records.{GivesRead, IsRecords, file_records};
+ghost use Rattle.df_csv.specs.Records.{GivesRead, IsRecords};
 ghost use Rattle.df_csv.specs.Typed.{pieces_of};
 ghost use Rattle.df_value.specs.Pieces as pieces_spec;
+ghost use Rattle.df_app.specs.Files.{IsKnownState};
 ghost use Rattle.df_app.specs.Output as output;
-ghost use Rattle.df_app.specs.Output.{AnswersOrFails, AreKnown, IsFile, IsKnown, MayFail, results_after, pieces_in, outcome_of, records_in};
+ghost use Rattle.df_app.specs.Output.{AnswersOrFails, AreKnown, ComesFromFrames, IsKnown, IsRead, MayFail, results_after, pieces_in, outcome_of, records_in, records_of_file};
 
 use crate::fault::RunFault;
 use crate::files::Files;
@@ -27,11 +28,12 @@ pub fn all_pieces<F: Files>(
 ) -> Result<List<List<Piece>>, RunFault>
     requires some { 1 ≤ chunk }
     requires few { chunk ≤ most_rows_of_chunk }
-    ensures same { F.bytes_at files.new ≡ F.bytes_at files.old }
-    ensures value { AreKnown (F.bytes_at files.old) frames.now →
-        AnswersOrFails (MayFail (F.bytes_at files.old) chunk frames.now)
-        (results_after (pieces_in (F.bytes_at files.old) chunk) [] frames.now) result }
+    ensures same { F.file_at files.new ≡ F.file_at files.old }
+    ensures value { AreKnown (F.file_at files.old) frames.now →
+        AnswersOrFails (MayFail (F.file_at files.old) chunk frames.now)
+        (results_after (pieces_in (F.file_at files.old) chunk) [] frames.now) result }
     ensures each { IfOk result (λ pieces. length pieces ≡ length frames.now) }
+    ensures of_frames { IfErr result ComesFromFrames }
 {
     let mut all = Vec::new(alloc);
     for frame in frames {
@@ -48,10 +50,12 @@ fn read_pieces<F: Files>(
 ) -> Result<List<Piece>, RunFault>
     requires some { 1 ≤ chunk }
     requires few { chunk ≤ most_rows_of_chunk }
-    ensures same { F.bytes_at files.new ≡ F.bytes_at files.old }
-    ensures value { IsKnown (F.bytes_at files.old) frame.now.source →
-        AnswersOrFails (λ name. (frame.now.name ≡ name) × IsFile frame.now.source)
-        (pieces_in (F.bytes_at files.old) chunk frame.now) result }
+    ensures same { F.file_at files.new ≡ F.file_at files.old }
+    ensures value { IsKnown (F.file_at files.old) frame.now.source →
+        AnswersOrFails (λ name. (frame.now.name ≡ name)
+        × IsRead (F.file_at files.old) frame.now.source)
+        (pieces_in (F.file_at files.old) chunk frame.now) result }
+    ensures of_frames { IfErr result ComesFromFrames }
 {
     match read_frame(alloc, files, frame) {
         Ok(records) => match pieces(alloc, &records, &frame.schema, chunk) {
@@ -71,11 +75,14 @@ fn read_frame<F: Files>(
     files: &mut F,
     frame: &FrameSpec,
 ) -> Result<Records, CsvFault>
-    ensures same { F.bytes_at files.new ≡ F.bytes_at files.old }
-    ensures value { IsKnown (F.bytes_at files.old) frame.now.source →
-        GivesRead result (records_in (F.bytes_at files.old) frame.now.source frame.now.schema) }
+    ensures same { F.file_at files.new ≡ F.file_at files.old }
+    ensures value { IsKnown (F.file_at files.old) frame.now.source →
+        GivesRead result (records_in (F.file_at files.old) frame.now.source frame.now.schema) }
     ensures sound { IfOk result (λ records. IsRecords (length frame.now.schema) records) }
-    ensures of_file { IfErr result (λ fault. fault ≡ CsvFault.ReadFault → IsFile frame.now.source) }
+    ensures unread { IfErr result (λ fault. fault ≡ CsvFault.ReadFault →
+        IsKnown (F.file_at files.old) frame.now.source →
+        records_in (F.file_at files.old) frame.now.source frame.now.schema ≢ Err fault →
+        IsRead (F.file_at files.old) frame.now.source) }
 {
     match &frame.source {
         FrameSource::Path(path) => read_file(alloc, files, path.as_str(), &frame.schema),
@@ -89,9 +96,9 @@ fn read_file<F: Files>(
     path: &str,
     schema: &Schema,
 ) -> Result<Records, CsvFault>
-    ensures same { F.bytes_at files.new ≡ F.bytes_at files.old }
-    ensures value { IfSome (F.bytes_at files.old path.now)
-        (λ bytes. GivesRead result (file_records bytes schema.now)) }
+    ensures same { F.file_at files.new ≡ F.file_at files.old }
+    ensures value { IsKnownState (F.file_at files.old path.now) →
+        GivesRead result (records_of_file (F.file_at files.old path.now) schema.now) }
     ensures sound { IfOk result (λ records. IsRecords (length schema.now) records) }
 {
     match files.open(path) {

@@ -3,7 +3,7 @@ ghost use Rattle.std.specs.Prelude.{◌≡◌, ◌≤◌, ℕ, IfErr, IfSome};
 ghost use Rattle.df_value.specs.Limits.{most_rows_of_chunk};
 ghost use Rattle.df_app.specs.ChunkSizes.{IsSameUnlessRefused};
 ghost use Rattle.df_app.specs.Output.{KnowsFiles, output_of};
-ghost use Rattle.df_app.specs.Ran.{IsOutput, KeepsUnlessWrite, IsRunOn, IsWriting};
+ghost use Rattle.df_app.specs.Ran.{IsOutput, KeepsUnlessWrite, IsRunOn, IsWriting, LeavesFiles};
 
 use crate::fault::RunFault;
 use crate::files::Files;
@@ -19,11 +19,12 @@ use std::io::{Read, Write};
 ///
 /// The document is read whole, at most 1,048,576 bytes; its plans are checked in the order of the
 /// views; its frames are read in their order and typed in chunks of `chunk` records, 1 to 65,536. A
-/// file that cannot be opened, or of which a read fails, is a `ReadFault` of its frame. A chunk
-/// with a bad cell does not enter its frame. Only then is anything written: the tables of the views
-/// in the document's order, then a line for each refused chunk. At a fault other than
-/// [`RunFault::Write`] nothing was written, at that one a prefix of the output. What is written
-/// does not depend on `workers`, 1 to 16; one thread does the work.
+/// file that cannot be opened, or of which a read fails, is a `ReadFault` of its frame. No file is
+/// opened before all plans are checked. A chunk with a bad cell does not enter its frame. Only then
+/// is anything written: the tables of the views in the document's order, then a line for each
+/// refused chunk. At a fault other than [`RunFault::Write`] nothing was written, at that one a
+/// prefix of the output. What is written does not depend on `workers`, 1 to 16; one thread does the
+/// work.
 pub fn run<V: Read, F: Files, W: Write>(
     alloc: Global,
     reader: &mut V,
@@ -37,18 +38,19 @@ pub fn run<V: Read, F: Files, W: Write>(
     requires some { 1 ≤ chunk }
     requires few { chunk ≤ most_rows_of_chunk }
     ensures ran { IfSome (V.remaining reader.old)
-        (λ bytes. KnowsFiles (F.bytes_at files.old) bytes →
-        IsRunOn bytes (F.bytes_at files.old) chunk (W.contents writer.old)
+        (λ bytes. KnowsFiles (F.file_at files.old) bytes →
+        IsRunOn bytes (F.file_at files.old) chunk (W.contents writer.old)
         (W.contents writer.new) result) }
     ensures nothing_else { IfErr result
         (KeepsUnlessWrite (W.contents writer.old) (W.contents writer.new)) }
-    ensures same { F.bytes_at files.new ≡ F.bytes_at files.old }
+    ensures same { F.file_at files.new ≡ F.file_at files.old }
+    ensures untouched { IfErr result (LeavesFiles files.old files.new) }
 
     // What a run with another size of chunks is to give is the same fault, or has the same outcome,
     // and the same text where no chunk is refused.
     ensures any_size { IfSome (V.remaining reader.old) (λ bytes. (size : ℕ) → 1 ≤ size →
-        IsSameUnlessRefused (output_of bytes (F.bytes_at files.old) chunk)
-        (output_of bytes (F.bytes_at files.old) size)) }
+        IsSameUnlessRefused (output_of bytes (F.file_at files.old) chunk)
+        (output_of bytes (F.file_at files.old) size)) }
 {
     match read_output(alloc, reader, files, chunk) {
         Ok(output) => write_output(writer, &output),
@@ -64,10 +66,11 @@ fn read_output<V: Read, F: Files>(
 ) -> Result<Output, RunFault>
     requires some { 1 ≤ chunk }
     requires few { chunk ≤ most_rows_of_chunk }
-    ensures same { F.bytes_at files.new ≡ F.bytes_at files.old }
+    ensures same { F.file_at files.new ≡ F.file_at files.old }
+    ensures untouched { IfErr result (LeavesFiles files.old files.new) }
     ensures value { IfSome (V.remaining reader.old)
-        (λ bytes. KnowsFiles (F.bytes_at files.old) bytes →
-        IsOutput bytes (F.bytes_at files.old) chunk result) }
+        (λ bytes. KnowsFiles (F.file_at files.old) bytes →
+        IsOutput bytes (F.file_at files.old) chunk result) }
 {
     match open_document(alloc, reader, files, chunk) {
         Ok(opened) => Ok(output(alloc, opened, chunk)?),

@@ -25,6 +25,15 @@ before_good n (one.Bad i) rest rows h = absurd (cc)
 before_good n (one.Good row) (all.Good others) rows h = (row, (others, (refl, (refl, cc))))
 before_good n (one.Good row) (all.Bad cell) rows h = absurd (cc)
 
+-- there are as many good rows as records
+pub good_length : (c : Columns) (n : ℕ) (xs : FieldRows) (rows : List (List Cell)) → rows_typed c n xs ≡ all.Good rows → length rows ≡ length xs
+good_length c n [] rows h =
+    let none : [] ≡ rows = cc in
+    ap length (sym none)
+good_length c n (x ∷ xs) rows h =
+    let p = before_good n (row_of c x) (rows_typed c (n + 1) xs) rows h in
+    ap length p.1.1.1.1 ∙ ap suc (good_length c (n + 1) xs p.1.0 p.1.1.1.0)
+
 -- good rows do not depend on the number of the first
 good_moved : (c : Columns) (n m : ℕ) (xs : FieldRows) (rows : List (List Cell)) → rows_typed c n xs ≡ all.Good rows → rows_typed c m xs ≡ all.Good rows
 good_moved c n m [] rows h = h

@@ -54,6 +54,10 @@ piece_of schema first records = piece_from schema first (rows_typed schema (firs
 abbrev pub piece_count : ℕ → ℕ → ℕ
 piece_count k records = div_ceil records k
 
+-- the number of the first row of piece n, of k records each
+abbrev pub piece_start : ℕ → ℕ → ℕ
+piece_start k n = n * k
+
 -- the pieces of k records, the last one perhaps shorter: piece n is of the records from n * k on
 abbrev pub pieces_of : List (List ℕ × CellType) → ℕ → List (List (List ℕ)) → List Piece
 pieces_of schema k records =

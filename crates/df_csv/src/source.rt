@@ -1,5 +1,5 @@
 //! The pieces of a CSV file as a source of chunks.
-ghost use Rattle.std.specs.Prelude.{◌≡◌, ◌≤◌, IsTrue, length};
+ghost use Rattle.std.specs.Prelude.{◌≡◌, ◌<◌, ◌≤◌, IsTrue, Some, length, slice_get};
 ghost use Rattle.df_value.specs.Limits.{most_rows_of_chunk};
 ghost use Rattle.df_value.specs.Schemas.{is_base};
 ghost use Rattle.df_csv.specs.Records.{IsRecords};
@@ -29,6 +29,10 @@ impl Model for CsvSource {
 }
 
 impl CsvSource {
+    ghost use Rattle.df_csv.specs.Sources.{chunks_of, records_in_piece};
+    ghost use Rattle.df_value.specs.Chunks.{ChunkParts};
+    ghost use Rattle.df_value.specs.declared.chunk.Piece.TheVariants.{Good};
+
     /// The source of these records, which are typed by the schema in pieces of `size`, 1 to 65,536.
     pub fn new(records: Records, schema: Schema, size: usize) -> CsvSource
         requires sound { IsRecords (length schema) records }
@@ -44,6 +48,17 @@ impl CsvSource {
             schema,
             size,
         }
+    }
+
+    /// How many records the chunk at this index is made of, which a good one has as its rows.
+    pub fn records_in(&self, n: u64) -> usize
+        requires { n < length (chunks_of self.now) }
+        ensures value { result ≡ records_in_piece self.now n }
+        ensures rows { (chunk : ChunkParts) → slice_get (chunks_of self.now) n ≡ Some (Good chunk)
+            → length chunk.rows ≡ result }
+    {
+        let first = n as usize * self.size;
+        self.size.min(self.records.len() - first)
     }
 }
 

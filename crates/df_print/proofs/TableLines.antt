@@ -4,7 +4,7 @@ use Rattle.std.specs.Prelude.{ℤ, pos, negsuc, decimal, ◌==◌}
 use Rattle.std.specs.Fmt.{digits, digits_onto, digit_glyph, signed_decimal}
 use Rattle.std.specs.List.{enumerate_from, join_by, list_all, range_with_len}
 use Rattle.std.proofs.Math.ListN.{get_or-map}
-use Rattle.std.proofs.lemmas.List.{length-map, length-replicate}
+use Rattle.std.proofs.lemmas.List.{get_or_default, length-map, length-replicate}
 use Rattle.std.proofs.lemmas.List.Elements.{All-cons, All-map}
 use Rattle.std.proofs.lemmas.List.Folds.{flat_map-map}
 use Rattle.std.proofs.lemmas.List.FromFn.{length-enumerate_from}
@@ -15,7 +15,7 @@ use Rattle.df_value.specs.Choices.{either}
 use Rattle.df_value.specs.declared.cell.Cell.{Cell}
 use Rattle.df_value.specs.declared.cell.Cell.TheVariants as cell
 use Rattle.df_value.specs.declared.cell.CellType.{CellType}
-use Rattle.df_print.specs.Printed.{cell_or_null, cell_text, column_texts, column_width, column_widths, escaped_text, header_texts, is_all_printable, is_left, padded, padded_texts, printed, printed_line, row_texts, title, width_of, AreUtf8, IsTableOfRows}
+use Rattle.df_print.specs.Printed.{cell_or_null, cell_text, column_texts, column_width, column_widths, escaped_text, header_texts, is_all_printable, is_left, padded, padded_texts, printed, printed_line, row_texts, title, width_of, AreUtf8, AreFields, IsLineOf, IsTableOf}
 use Rattle.df_print.proofs.ColumnFacts.{texts_below}
 use Rattle.df_print.proofs.EscapeFacts.{also, both_printable, escaped_printable, hex_printable, two_true}
 use Rattle.df_print.proofs.SpaceFacts.{spaces, spaces-IsAscii, spaces-printable, spaces-simple, space_joins_none, width-padded}
@@ -127,6 +127,21 @@ pads (c ∷ cs) [] ts e h = absurd (omega arith)
 pads (c ∷ cs) (w ∷ ws) [] e h = absurd h
 pads (c ∷ cs) (w ∷ ws) (t ∷ ts) e h =
     ((padded_utf8 (is_left c.1) w t h.0.0, width-padded (is_left c.1) w t h.0.0 h.0.1), pads cs ws ts (omega arith) h.1)
+
+-- padded texts are fields
+are_fields : (cs : Columns) (ws : List ℕ) (ts : Texts) → length ws ≡ length cs → AllFit ws ts → AreFields cs ws ts (padded_texts cs ws ts)
+unfolding padded_texts
+are_fields [] [] [] e h = tt
+are_fields [] [] (t ∷ ts) e h = absurd h
+are_fields [] (w ∷ ws) ts e h = absurd (omega arith)
+are_fields (c ∷ cs) [] ts e h = absurd (omega arith)
+are_fields (c ∷ cs) (w ∷ ws) [] e h = absurd h
+are_fields (c ∷ cs) (w ∷ ws) (t ∷ ts) e h =
+    ((w - width_of t, padded_is (is_left c.1) w t, width-padded (is_left c.1) w t h.0.0 h.0.1), are_fields cs ws ts (omega arith) h.1)
+  where
+    padded_is : (left : Bool) (w : ℕ) (t : List ℕ) → padded left w t ≡ cond left (t ++ spaces (w - width_of t)) (spaces (w - width_of t) ++ t)
+    padded_is true w t = refl
+    padded_is false w t = refl
 
 -- the texts of the columns from an index on are UTF-8
 abbrev Utf8From : ℕ → Columns → Rows → Type 0
@@ -273,6 +288,23 @@ line_wide cs rows ts h =
     let long : length ws ≡ length cs = length-map (enumerate_from 0 cs) _ ∙ length-enumerate_from 0 cs in
     width-joined ws (padded_texts cs ws ts) (pads cs ws ts long h)
 
+line_is : (cs : Columns) (rows : Rows) (ts : Texts) → AllFit (column_widths cs rows) ts → IsLineOf cs (column_widths cs rows) ts (line_of cs rows ts)
+line_is cs rows ts h =
+    let ws = column_widths cs rows in
+    let long : length ws ≡ length cs = length-map (enumerate_from 0 cs) _ ∙ length-enumerate_from 0 cs in
+    (padded_texts cs ws ts, are_fields cs ws ts long h, refl)
+
+row_is : (cs : Columns) (rows : Rows) (j : ℕ) → j < length rows → Utf8From 0 cs rows →
+    IsLineOf cs (column_widths cs rows) (row_texts (length cs) (get_or rows j [])) (get_or (map (row_line cs rows) rows) j [])
+unfolding row_line
+row_is cs rows j l h =
+    let f = row_line cs rows in
+    let at : get_or (map f rows) j (f []) ≡ f (get_or rows j []) = get_or-map f rows j [] in
+    let long = length-map rows f in
+    let same : get_or (map f rows) j [] ≡ get_or (map f rows) j (f []) = get_or_default (map f rows) j [] (f []) (omega arith) in
+    subst (IsLineOf cs (column_widths cs rows) (row_texts (length cs) (get_or rows j []))) (sym (same ∙ at))
+    (line_is cs rows (row_texts (length cs) (get_or rows j [])) (cells_fit 0 cs rows j [] l h))
+
 row_wide : (cs : Columns) (rows : Rows) (j : ℕ) (d : List Cell) → j < length rows → Utf8From 0 cs rows →
     width_of (row_line cs rows (get_or rows j d)) ≡ line_width (column_widths cs rows)
 unfolding row_line
@@ -290,7 +322,7 @@ names_printable cs rows =
     joined_printable (padded_texts cs (column_widths cs rows) (header_texts cs))
     (padded_all cs (column_widths cs rows) (header_texts cs) (mapped (λ c. escaped_text c.0) (λ c. escaped_printable c.0) cs))
 
-pub table_is : (name : List ℕ) (cs : Columns) (rows : Rows) → AreUtf8 cs rows → IsTableOfRows (length rows) (printed name cs rows)
+pub table_is : (name : List ℕ) (cs : Columns) (rows : Rows) → AreUtf8 cs rows → IsTableOf cs rows (printed name cs rows)
 table_is name cs rows utf8 =
     let all : Utf8From 0 cs rows = utf8_from 0 cs rows (λ i l d.
     let same : i ≡ 0 + i = omega arith in
@@ -299,6 +331,7 @@ table_is name cs rows utf8 =
     record {
       heading = heading_of name (length cs) (length rows);
       lines = line_of cs rows (header_texts cs) ∷ map f rows;
+      widths = column_widths cs rows;
       width = line_width (column_widths cs rows);
       made_of = made_of name cs rows;
       printable =
@@ -310,4 +343,8 @@ table_is name cs rows utf8 =
           All-cons (λ line. width_of line ≡ line_width (column_widths cs rows)) (line_of cs rows (header_texts cs)) (map f rows)
           (line_wide cs rows (header_texts cs) (names_fit 0 cs rows all))
           (All-map (λ line. width_of line ≡ line_width (column_widths cs rows)) f rows (λ j d l. row_wide cs rows j d l all));
+      names = line_is cs rows (header_texts cs) (names_fit 0 cs rows all);
+      each_row = λ i l.
+          subst (λ n. IsLineOf cs (column_widths cs rows) (row_texts (length cs) (get_or rows i [])) (get_or (line_of cs rows (header_texts cs) ∷ map f rows) n []))
+          (sym (add-one i)) (row_is cs rows i l all);
     }

@@ -1,6 +1,6 @@
 -- Printed tables: the lines of a table in columns. How wide a text is in a terminal the crate unicode_width says,
 -- by Unicode's East Asian Width (UAX 11), emoji sequences and combining characters.
-use Rattle.std.specs.Prelude.{◌≡◌, ◌+◌, ◌-◌, ◌==◌, ◌||◌, ◌&&◌, not, nat_le, IsTrue, IsUtf8, All, ◌<◌, slice_index_or, ◌/◌, ◌%◌, ℕ, Bool, true, false, nat_lt, max, List, [], ◌∷◌, ◌++◌, length, map, fold, slice_get, unwrap_or, replicate, codes, decimal, chars, encode_utf8, flat_map, if◌then◌else◌}
+use Rattle.std.specs.Prelude.{◌≡◌, ◌+◌, ◌-◌, ◌==◌, ◌||◌, ◌&&◌, not, nat_le, IsTrue, IsUtf8, All, ◌<◌, slice_index_or, ◌/◌, ◌%◌, ℕ, Bool, true, false, ⊤, nat_lt, max, List, [], ◌∷◌, ◌++◌, length, map, fold, slice_get, unwrap_or, replicate, codes, decimal, chars, encode_utf8, flat_map, if◌then◌else◌}
 use Rattle.std.specs.Fmt.{signed_decimal}
 use Rattle.std.specs.List.{enumerate_from, join_by, list_all, range_with_len}
 use Rattle.unicode_width.specs.Width.{str_width}
@@ -114,13 +114,32 @@ abbrev pub AreUtf8 : List (List ℕ × CellType) → List (List Cell) → Type 0
 AreUtf8 columns rows =
     (at : ℕ) → at < length columns → (d : List ℕ × CellType) → All IsUtf8 (column_texts at (slice_index_or columns at d).0 rows)
 
--- the printed table of so many rows: a title, and below it one line more than there are rows, all of one width; no line
--- holds an ASCII control character, and so none holds a newline
-pub record IsTableOfRows (rows : ℕ) (bytes : List ℕ) : Type 0 where
+-- a text with spaces beside it up to a width: behind it where it stands at the left, else before it
+abbrev pub Fills : Bool → ℕ → List ℕ → List ℕ → Type 0
+Fills left width text field =
+    (spaces : ℕ) × (field ≡ (if left then text ++ replicate spaces 32 else replicate spaces 32 ++ text)) × (width_of field ≡ width)
+
+-- fields of these columns and widths, each of the text at its place
+abbrev pub AreFields : List (List ℕ × CellType) → List ℕ → List (List ℕ) → List (List ℕ) → Type 0
+AreFields [] [] [] [] = ⊤
+AreFields (c ∷ columns) (w ∷ widths) (t ∷ texts) (f ∷ fields) = Fills (is_left c.1) w t f × AreFields columns widths texts fields
+AreFields columns widths texts fields = ⊥
+
+-- a line of such fields, with two spaces between each two
+abbrev pub IsLineOf : List (List ℕ × CellType) → List ℕ → List (List ℕ) → List ℕ → Type 0
+IsLineOf columns widths texts line =
+    (fields : List (List ℕ)) × AreFields columns widths texts fields × (line ≡ join_by (λ field. field) (codes "  ") fields)
+
+-- the printed table of these rows: a title, and below it a line of the names and one of each row in order, under the
+-- same widths; no line holds an ASCII control character, and so none holds a newline
+pub record IsTableOf (columns : List (List ℕ × CellType)) (rows : List (List Cell)) (bytes : List ℕ) : Type 0 where
   pub heading : List ℕ
   pub lines : List (List ℕ)
+  pub widths : List ℕ
   pub width : ℕ
   pub made_of : bytes ≡ flat_map (λ line. line ++ codes "\n") (heading ∷ lines)
   pub printable : IsTrue (list_all is_all_printable (heading ∷ lines))
-  pub count : length lines ≡ rows + 1
+  pub count : length lines ≡ length rows + 1
   pub one_width : All (λ line. width_of line ≡ width) lines
+  pub names : IsLineOf columns widths (header_texts columns) (slice_index_or lines 0 [])
+  pub each_row : (i : ℕ) → i < length rows → IsLineOf columns widths (row_texts (length columns) (slice_index_or rows i [])) (slice_index_or lines (i + 1) [])

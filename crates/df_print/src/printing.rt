@@ -1,6 +1,6 @@
 //! Printed tables.
 ghost use Rattle.std.specs.Prelude.{◌≡◌, ◌++◌, codes, length, map, vec_len, IfOk, OnOk, string_bytes};
-ghost use Rattle.df_print.specs.Printed.{AreUtf8, IsTableOfRows, column_widths, gap, header_texts, is_left, padded, printed, printed_line, row_texts, title};
+ghost use Rattle.df_print.specs.Printed.{AreUtf8, IsTableOf, column_widths, gap, header_texts, is_left, padded, printed, printed_line, row_texts, title};
 
 use crate::escapes::escape;
 use crate::widths::{column_width, print_cell_at};
@@ -22,7 +22,7 @@ pub fn print_table(
     rows: &[Row],
 ) -> Result<Vec<u8>, AllocError>
     ensures value { IfOk result (λ v. v.items ≡ printed name.now schema.now rows.now) }
-    ensures lines { IfOk result (λ v. IsTableOfRows (length rows.now) v.items) }
+    ensures lines { IfOk result (λ v. IsTableOf schema.now rows.now v.items) }
 {
     let columns = schema.columns().as_slice();
     let widths = print_widths(alloc, columns, rows)?;

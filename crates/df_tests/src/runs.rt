@@ -1,19 +1,23 @@
 //! A run over bytes in memory.
-ghost use Rattle.std.specs.Prelude.{find, option_map};
+ghost use Rattle.std.specs.Prelude.{find};
+ghost use Rattle.std.specs.Option.{option_map_or};
 ghost use Rattle.std.specs.Str.{bytes_eq};
+ghost use Rattle.df_app.specs.declared.files.FileState.TheVariants as known;
 
-use df_app::{Files, Outcome, run};
+use df_app::{Files, Outcome, RunFault, run};
+use df_csv::CsvFault;
+use df_value::Text;
 use std::test::Fail;
 
-/// Files in memory, each under its path.
+/// Files in memory, each under its path; there is no other file.
 #[derive(Drop)]
 struct HeldFiles<'a>(&'a [(&'a str, &'a [u8])]);
 
 impl<'a> Files for HeldFiles<'a> {
     type Reader = &'a [u8];
 
-    ghost bytes_at = { λ s path. option_map (λ f. f.1.now)
-        (find (λ f. bytes_eq f.0.now path) s.0.now) };
+    ghost file_at = { λ s path. option_map_or (λ f. known.Bytes f.1.now)
+        (find (λ f. bytes_eq f.0.now path) s.0.now) known.Absent };
 
     fn open(&mut self, path: &str) -> Option<&'a [u8]> {
         let file = self.0.iter().find(|file| file.0 == path)?;
@@ -35,5 +39,19 @@ fn a_run_over_memory(rt: HostRuntime) -> Result<(), Fail> {
     assert!(rt; outcome == Ok(Outcome::Refused));
     let want = "t (1 x 1)\nx\n7\n\nrefused t 0: record 2, column x\n";
     assert!(rt; output.as_slice() == want.as_bytes());
+    Ok(())
+}
+
+#[test]
+fn a_run_over_an_absent_file(rt: HostRuntime) -> Result<(), Fail> {
+    let alloc = rt.alloc();
+    let held: [(&str, &[u8]); 1] = [("u.csv", b"x\n")];
+    let mut files = HeldFiles(&held);
+    let mut input = DOCUMENT.as_bytes();
+    let mut output = Vec::new(alloc);
+    let outcome = run(alloc, &mut input, &mut files, 1, 2, &mut output);
+    let name = Text::from_str(alloc, "t")?;
+    assert!(rt; outcome == Err(RunFault::Csv(name, CsvFault::ReadFault)));
+    assert!(rt; output.is_empty());
     Ok(())
 }

@@ -35,6 +35,7 @@ fn a_file_is_a_source_of_chunks(rt: HostRuntime) -> Result<(), Fail> {
             let row = chunk.rows().get(0);
             assert!(rt; row.is_some_and(|row| row.get(0) == Some(&Cell::Int(7))));
             assert!(rt; source.start(0) == 0 && source.start(1) == 2);
+            assert!(rt; source.records_in(0) == 2 && source.records_in(1) == 1);
         }
         _ => assert!(rt; false),
     }

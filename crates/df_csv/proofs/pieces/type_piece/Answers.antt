@@ -1,6 +1,6 @@
 use Rattle.std.proofs.Common.{◌*◌, arith, sym, ap, ◌∙◌, Some}
 use Rattle.df_csv.specs.Typed.{piece_of}
-use Rattle.df_csv.specs.PieceStarts.{piece_at}
+use Rattle.df_csv.specs.PieceStarts.{piece_stands_there}
 use Rattle.df_csv.proofs.PieceFacts.{starts_within, take_left}
 use Rattle.df_csv.proofs.pieces.type_piece.Goals as goal
 
@@ -21,5 +21,5 @@ overflow_cast-first c =
 
 pub returns : goal.returns
 returns c =
-    piece_at c.args.schema.now c.args.k c.args.n c.args.records.now c.requires.within
+    piece_stands_there c.args.schema.now c.args.k c.args.n c.args.records.now c.requires.within
     ∙ ap Some (sym (c.in_ok-made.ensures ∙ ap (λ xs. piece_of c.args.schema.now (c.args.n * c.args.k) xs) (rw (c.min.ensures, c.len.ensures) (take_left c.args.k (c.args.n * c.args.k) c.args.records.now))))
