@@ -1,5 +1,5 @@
 -- What a catalogue's parts are after a change of one frame that is not refused: the parts of the state after it, and sound.
-use Rattle.std.proofs.Common.{◌≡◌, ℕ, ◌+◌, ◌<◌, ◌∙◌, List, [], ◌∷◌, map, length, refl, ap, sym, subst, arith, get_or}
+use Rattle.std.proofs.Common.{◌≡◌, ℕ, ◌+◌, ◌<◌, zero, suc, ◌∙◌, List, [], ◌∷◌, map, length, refl, ap, sym, subst, arith, get_or}
 use Rattle.std.specs.Prelude.{Option, Some, None, Result, option_map, slice_get, slice_index_or, slice_set}
 use Rattle.std.proofs.lemmas.Result.{on_err_weaker, on_ok_weaker}
 use Rattle.std.proofs.lemmas.List.{set-get_or}
@@ -11,21 +11,22 @@ use Rattle.df_value.specs.Chunks.{ChunkParts}
 use Rattle.df_catalogue.specs.declared.state.State.{State}
 use Rattle.df_catalogue.specs.declared.state.FrameState.{FrameState}
 use Rattle.df_catalogue.specs.declared.views.View.{View}
+use Rattle.df_catalogue.specs.declared.change.Change.TheVariants as change
 use Rattle.df_catalogue.specs.declared.frame_change.FrameChange.{FrameChange}
-use Rattle.df_catalogue.specs.declared.frame_change.FrameChange.TheVariants.{Append, Delete}
+use Rattle.df_catalogue.specs.declared.frame_change.FrameChange.TheVariants.{Append, Delete, Replace}
 use Rattle.df_catalogue.specs.declared.fault.CatalogueFault.{CatalogueFault}
 use Rattle.df_catalogue.specs.declared.fault.CatalogueFault.TheVariants as fault
 use Rattle.df_catalogue.specs.Changes.{accepted_rows, after, change_at, deleted_rows, refreshed_views, IsSound}
 use Rattle.df_catalogue.specs.Desks.{DeskParts, accepted_in, deleted_in, desk_after, desks_after}
-use Rattle.df_catalogue.specs.FrameChanges.{change_of, frame_after, FrameTakes}
+use Rattle.df_catalogue.specs.FrameChanges.{change_of, frame_after, FrameTakes, TakesNumbers}
 use Rattle.df_catalogue.specs.Frames.{IsNumbered}
 use Rattle.df_catalogue.specs.Parts.{state_of, IsCatalogue}
-use Rattle.df_catalogue.specs.Refusals.{refusal_of, append_refusal, delete_refusal, first_reason, doubled_number_after, first_not_live}
+use Rattle.df_catalogue.specs.Refusals.{refusal_of, append_refusal, delete_refusal, first_reason, doubled_number_after, first_not_live, numbers_refusal, replace_refusal}
 use Rattle.df_catalogue.specs.States.{value_over, IsLegal}
 use Rattle.df_catalogue.specs.Transitions.{IsTransitionOfDesk, IsTransitionOfDesks}
 use Rattle.df_catalogue.proofs.Counting.{accepted-few, deleted-few, deleted-more, sum-change}
 use Rattle.df_catalogue.proofs.FrameFacts.{accepted-more, numbered-at}
-use Rattle.df_catalogue.proofs.Legal.{append-accepted, legal-after}
+use Rattle.df_catalogue.proofs.Legal.{append-accepted, legal-after, replace-accepted}
 use Rattle.df_catalogue.proofs.StateFacts.{change-set, state-frames}
 
 abbrev Columns : Type 0
@@ -45,11 +46,21 @@ delete-there : (ns : List ℕ) (p : Option FrameState) → delete_refusal ns p �
 delete-there ns None h = cc
 delete-there ns (Some frame) h = (frame, refl)
 
+replace-there :
+    (rows : List (ℕ × List Cell)) (o : Option Columns) (p : Option FrameState) → replace_refusal rows o p ≡ None →
+    (schema : Columns) × (frame : FrameState) × (o ≡ Some schema) × (p ≡ Some frame)
+replace-there rows None p h = cc
+replace-there rows (Some schema) None h = cc
+replace-there rows (Some schema) (Some frame) h = (schema, frame, refl, refl)
+
 no-reason :
     (o p : Option ℕ) → first_reason (option_map fault.Doubled o ∷ option_map fault.NotLive p ∷ []) ≡ None → (o ≡ None) × (p ≡ None)
 no-reason (Some n) p h = cc
 no-reason None (Some n) h = cc
 no-reason None None h = (refl, refl)
+
+takes-numbers : (x : FrameState) (ns : List ℕ) → numbers_refusal ns x ≡ None → TakesNumbers x ns
+takes-numbers x ns h = no-reason (doubled_number_after [] ns) (first_not_live x ns) h
 
 -- what is known of the frame of a change that is not refused
 pub record IsChangeable (s : State) (f : ℕ) (c : FrameChange) (x : FrameState) : Type 0 where
@@ -77,7 +88,13 @@ changeable s f (Append chunk) x h free lent =
 changeable s f (Delete ns) x h free lent =
     let there = delete-there ns.now (slice_get s.frames f) free in
     changeable-at s f (Delete ns) x h lent (slice_get_within s.frames f there.0 there.1) (λ at.
-    no-reason (doubled_number_after [] ns.now) (first_not_live x ns.now) (ap (delete_refusal ns.now) (sym at) ∙ free))
+    takes-numbers x ns.now (ap (delete_refusal ns.now) (sym at) ∙ free))
+changeable s f (Replace rows) x h free lent =
+    let there = replace-there rows.now (slice_get s.schemas f) (slice_get s.frames f) free in
+    changeable-at s f (Replace rows) x h lent (slice_get_within s.frames f there.1 there.3) (λ at.
+    let known = replace-accepted rows.now there.0 x
+    (ap (λ o. replace_refusal rows.now o (Some x)) (sym there.2) ∙ (ap (replace_refusal rows.now (slice_get s.schemas f)) (sym at) ∙ free)) in
+    takes-numbers x (map (λ r. r.0) rows.now) known.1)
 
 -- the same where the state and the frame have other names
 pub free-of :
@@ -98,23 +115,39 @@ after-frame :
     after s (change_of f c) ≡ record { schemas = s.schemas; frames = frames; views = refreshed_views frames s.views }
 after-frame s f (Append chunk) = refl
 after-frame s f (Delete ns) = refl
+after-frame s f (Replace rows) = refl
 
 frame-accepted :
     (f : ℕ) (c : FrameChange) (x : FrameState) → length (frame_after x c).accepted ≡ length x.accepted + accepted_rows (change_of f c)
 frame-accepted f (Append chunk) x = accepted-more chunk.now x
 frame-accepted f (Delete ns) x = omega arith
+frame-accepted f (Replace rows) x = omega arith
 
 frame-deleted :
     (f : ℕ) (c : FrameChange) (x : FrameState) → IsNumbered x → FrameTakes x c →
     length (frame_after x c).deleted ≡ length x.deleted + deleted_rows (change_of f c)
 frame-deleted f (Append chunk) x sound takes = omega arith
 frame-deleted f (Delete ns) x sound takes = deleted-more x ns.now sound takes.0 takes.1
+frame-deleted f (Replace rows) x sound takes = omega arith
+
+-- new rows leave a desk as it is
+pub replace-desk : (d : DeskParts) (f : ℕ) (rows : List (ℕ × List Cell)) → desk_after d (change.Replace f rows) ≡ d
+replace-desk d f rows =
+    let accepted : d.accepted + 0 ≡ d.accepted = omega arith in
+    let deleted : d.deleted + 0 ≡ d.deleted = omega arith in
+    rw (accepted, deleted) refl
+
+kept : (desks : List DeskParts) (i f : ℕ) (rows : List (ℕ × List Cell)) → change_at i (λ d. desk_after d (change.Replace f rows)) desks ≡ desks
+kept [] i f rows = refl
+kept (d ∷ ds) zero f rows = ap (λ e. e ∷ ds) (replace-desk d f rows)
+kept (d ∷ ds) (suc i) f rows = ap (λ es. d ∷ es) (kept ds i f rows)
 
 -- the desks of all frames, of which that at the frame's index counts the rows
 desks-counted :
     (desks : List DeskParts) (f : ℕ) (c : FrameChange) → desks_after desks (change_of f c) ≡ change_at f (λ d. desk_after d (change_of f c)) desks
 desks-counted desks f (Append chunk) = refl
 desks-counted desks f (Delete ns) = refl
+desks-counted desks f (Replace rows) = sym (kept desks f f rows.now)
 
 pub desks-transition :
     {T : Type 0} (desks : List DeskParts) (f : ℕ) (none : DeskParts) (c : FrameChange) (r : Result T CatalogueFault) (new : DeskParts) →

@@ -6,6 +6,7 @@ pub mod ViewFacts
 pub mod Legal
 pub mod RowSearch
 pub mod NumberSetFacts
+pub mod PlaceFacts
 pub mod Refusing
 pub mod Counting
 pub mod RangeFacts

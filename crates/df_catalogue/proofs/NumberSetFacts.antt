@@ -1,5 +1,5 @@
 -- Sets that hold the numbers of a list, and the walk that finds the first number that is doubled.
-use Rattle.std.proofs.Common.{◌≡◌, ℕ, ◌+◌, ◌<◌, Bool, true, false, suc, cond, ◌∙◌, List, [], ◌∷◌, ◌++◌, filter, length, take, drop, get_or, refl, ap, sym, arith, add-one, drop-cons}
+use Rattle.std.proofs.Common.{◌≡◌, ℕ, ◌+◌, ◌<◌, Bool, true, false, suc, cond, ◌∙◌, List, [], ◌∷◌, ◌++◌, filter, map, length, take, drop, get_or, refl, ap, sym, arith, add-one, drop-cons}
 use Rattle.std.specs.Prelude.{◌==◌, ◌||◌, not, Some}
 use Rattle.std.specs.BTreeSet.{BTreeSet, contains, Updates}
 use Rattle.std.specs.BTreeMap.{is_at}
@@ -7,12 +7,13 @@ use Rattle.std.specs.Ordering.{nat_cmp, is_eq, MatchOrdering}
 use Rattle.std.specs.Cmp.{ranks}
 use Rattle.std.specs.declared.cmp.Ordering.TheVariants.{Less, Equal, Greater}
 use Rattle.std.proofs.lemmas.Bool.{eq-eqb, ne_eqb}
-use Rattle.std.proofs.lemmas.List.{take_more}
+use Rattle.std.specs.List.{list_any}
+use Rattle.std.proofs.lemmas.List.{get_or-map, length-map, take-map, take_more}
 use Rattle.df_catalogue.specs.Numbers.{has_number, IsSetOf}
 use Rattle.df_catalogue.specs.Refusals.{doubled_number_after}
 use Rattle.df_catalogue.proofs.Members.{has-append}
 
-equal-at : (k q : ℕ) → is_at (nat_cmp k) q ≡ (k == q)
+pub equal-at : (k q : ℕ) → is_at (nat_cmp k) q ≡ (k == q)
 equal-at k q =
     elim (nat_cmp k q) as (λ o. MatchOrdering o (k < q) (k ≡ q) (q < k) → is_eq o ≡ (k == q)) [
       | Less ↦ λ low. sym (ne_eqb k q (λ s. absurd (omega (arith, low, s))))
@@ -66,3 +67,22 @@ pub others-of :
     {T : Type 0} (set : BTreeSet ℕ) (ns : List ℕ) (rows : List (ℕ × T)) → IsSetOf set ns →
     filter (λ r. not (contains nat_cmp set r.0)) rows ≡ filter (λ r. not (has_number ns r.0)) rows
 others-of set ns rows h = λ i. filter (λ r. not (h r.0 i)) rows
+
+-- whether items have a number
+has-map : {T : Type 0} (number : T → ℕ) (xs : List T) (n : ℕ) → has_number (map number xs) n ≡ list_any (λ x. number x == n) xs
+has-map number [] n = refl
+has-map number (x ∷ xs) n = ap (λ b. (number x == n) || b) (has-map number xs n)
+
+-- the number of the item at a place
+pub number-at : {T : Type 0} (number : T → ℕ) (xs : List T) (i : ℕ) (x : T) (n : ℕ) → i < length xs → x ≡ get_or xs i x → n ≡ number x → n ≡ get_or (map number xs) i 0
+number-at number xs i x n within at is = is ∙ (ap number at ∙ sym (get_or-map number xs i x 0 within))
+
+pub place-within : {T : Type 0} (number : T → ℕ) (xs : List T) (i : ℕ) → i < length xs → i < length (map number xs)
+place-within number xs i h = let long = length-map xs number in omega (arith, h, long)
+
+-- whether one before it has that number
+pub earlier : {T : Type 0} (number : T → ℕ) (xs : List T) (i : ℕ) (x : T) (n : ℕ) (b : Bool) → i < length xs → x ≡ get_or xs i x → n ≡ number x →
+    b ≡ list_any (λ y. number y == n) (take i xs) → has_number (take i (map number xs)) (get_or (map number xs) i 0) ≡ b
+earlier number xs i x n b within at is found =
+    ap (has_number (take i (map number xs))) (sym (number-at number xs i x n within at is))
+    ∙ (ap (λ ns. has_number ns n) (take-map number i xs) ∙ (has-map number (take i xs) n ∙ sym found))

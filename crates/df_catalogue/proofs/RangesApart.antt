@@ -4,14 +4,14 @@ use Rattle.std.specs.Prelude.{◌&&◌, ◌||◌, nat_lt, nat_le, find, None}
 use Rattle.std.specs.List.{list_any, range_with_len}
 use Rattle.std.proofs.lemmas.Bool.{and_parts, and_from, cases_lt, le-leb, le-ltb, lt-ltb, ltb-true, ltb-false, true≢false}
 use Rattle.std.proofs.lemmas.List.Elements.{All-from_get_or, All-get_or}
-use Rattle.std.proofs.lemmas.List.Folds.{list_all-append, list_any_at}
+use Rattle.std.proofs.lemmas.List.Folds.{list_any_at}
 use Rattle.std.proofs.lemmas.List.Sums.{AllPass-from_list_all, list_all-from_AllPass}
 use Rattle.df_catalogue.specs.declared.ranges.RowRange.{RowRange}
-use Rattle.df_catalogue.specs.Numbers.{has_number}
-use Rattle.df_catalogue.specs.Ranges.{all_numbers, are_apart, are_below, are_below_from, begin_behind, lies_in, range_numbers, ranges_below}
+use Rattle.df_catalogue.specs.Numbers.{are_below, has_number}
+use Rattle.df_catalogue.specs.Ranges.{all_numbers, are_apart, are_below_from, begin_behind, lies_in, range_numbers, ranges_below}
 use Rattle.df_catalogue.proofs.Members.{all-from, all-to, find-none, has-filter}
 use Rattle.df_catalogue.proofs.RangeFacts.{numbers-below, ranges-have}
-use Rattle.df_catalogue.proofs.Rising.{block-has, has-block}
+use Rattle.df_catalogue.proofs.Rising.{below-both, block-below, block-has}
 
 -- what is known of the first of ranges that keep apart
 pub record IsFirstApart (r : RowRange) (rs : List RowRange) : Type 0 where
@@ -45,14 +45,6 @@ pub some-at : (rs : List RowRange) (j : ℕ) (d : RowRange) → are_apart rs ≡
 some-at [] j d h within = absurd (omega (arith, within))
 some-at (r ∷ rs) zero d h within = (first-apart r rs h).some
 some-at (r ∷ rs) (suc j) d h within = some-at rs j d (first-apart r rs h).rest (omega (arith, within))
-
--- the numbers of a block are below what is not below its end
-pub block-below : (first n k : ℕ) → first + n ≤ k → are_below k (range_with_len first n) ≡ true
-block-below first n k le =
-    all-from (λ m. nat_lt m k) (range_with_len first n) (λ m at. let h = has-block first n m at in lt-ltb m k (omega (arith, h.1, le)))
-
-pub below-both : (k : ℕ) (xs ys : List ℕ) → are_below k xs ≡ true → are_below k ys ≡ true → are_below k (xs ++ ys) ≡ true
-below-both k xs ys h g = list_all-append (λ n. nat_lt n k) xs ys ∙ and_from (are_below k xs) (are_below k ys) h g
 
 below-more : (j k : ℕ) (xs : List ℕ) → j ≤ k → are_below j xs ≡ true → are_below k xs ≡ true
 below-more j k xs le h =

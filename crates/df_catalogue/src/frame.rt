@@ -1,5 +1,5 @@
 //! One frame: its rows under their numbers, and the numbers that it accepted.
-ghost use Rattle.std.specs.Prelude.{◌≡◌, ◌≤◌, [], None, IfOk, false, length};
+ghost use Rattle.std.specs.Prelude.{◌≡◌, ◌≤◌, [], None, IfOk, false, length, map};
 ghost use Rattle.df_catalogue.specs.Frames as frames;
 ghost use Rattle.df_catalogue.specs.Frames.{IsNumbered, numbers_of, rows_of};
 ghost use Rattle.df_catalogue.specs.FrameChanges as frame_changes;
@@ -8,11 +8,11 @@ ghost use Rattle.df_catalogue.specs.States.{empty_frame};
 ghost use Rattle.df_catalogue.specs.Refusals as refusals;
 ghost use Rattle.df_catalogue.specs.Refusals.{doubled_number_after};
 
-use crate::copies::{
-    Numbered, copy_below, copy_from, copy_numbered, copy_numbers, copy_rows, copy_without,
-};
+use crate::copies::{copy_below, copy_from, copy_numbered, copy_numbers, copy_rows, copy_without};
 use crate::frame_change::FrameChange;
+use crate::numbered::{HasNumber, Numbered};
 use crate::ranges::Ranges;
+use crate::replacing::copy_replaced;
 use df_value::{Chunk, Duplicate, List, MOST_ROWS_OF_FRAME, Row};
 use std::alloc::{AllocError, Global};
 use std::marker::Model;
@@ -111,11 +111,14 @@ impl Frame {
     }
 
     /// The first number of the list of which there is no row.
-    pub fn first_not_live(&self, numbers: &[u32]) -> Option<u32>
+    pub fn first_not_live<N: HasNumber>(&self, items: &[N]) -> Option<u32>
         requires { IsNumbered self.now }
-        ensures { result ≡ refusals.first_not_live self.now numbers.now }
+        ensures { result ≡ refusals.first_not_live self.now (map N.number_of items.now) }
     {
-        numbers.iter().copied().find(|n| !self.has_row(*n))
+        items
+            .iter()
+            .map(|item| item.number())
+            .find(|n| !self.has_row(*n))
     }
 
     /// The frame after a change that nothing in it refuses.
@@ -127,6 +130,7 @@ impl Frame {
         match change {
             FrameChange::Append(chunk) => self.with_chunk(alloc, chunk),
             FrameChange::Delete(numbers) => self.without_rows(alloc, numbers),
+            FrameChange::Replace(rows) => self.with_replaced_rows(alloc, rows),
         }
     }
 
@@ -167,6 +171,21 @@ impl Frame {
             rows,
             accepted_rows: self.accepted_rows,
             deleted_rows: self.deleted_rows + numbers.len() as u64,
+        })
+    }
+
+    // The frame in which the new rows stand at their numbers.
+    fn with_replaced_rows(&self, alloc: Global, new_rows: &[Numbered]) -> Result<Frame, AllocError>
+        requires { IsNumbered self.now }
+        ensures { IfOk result (λ frame. frame ≡ frames.with_replaced_rows new_rows.now self.now) }
+    {
+        let accepted = self.accepted.copy(alloc)?;
+        let rows = copy_replaced(alloc, self.rows.as_slice(), new_rows)?;
+        Ok(Frame {
+            accepted,
+            rows,
+            accepted_rows: self.accepted_rows,
+            deleted_rows: self.deleted_rows,
         })
     }
 }

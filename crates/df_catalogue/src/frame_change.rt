@@ -1,6 +1,7 @@
 //! Changes of one frame's rows.
 ghost use Rattle.std.specs.Prelude.{◌≡◌, ℕ};
 
+use crate::numbered::Numbered;
 use df_value::Chunk;
 
 /// A change of one frame's rows. Which frame it is, the call says that makes the change.
@@ -10,6 +11,8 @@ pub enum FrameChange<'a> {
     Append(&'a Chunk),
     /// The rows of these numbers are taken out.
     Delete(&'a [u32]),
+    /// Each of these rows comes in the place of the row of its number.
+    Replace(&'a [Numbered]),
 }
 
 impl FrameChange<'_> {
@@ -24,7 +27,7 @@ impl FrameChange<'_> {
     {
         match self {
             FrameChange::Append(chunk) => chunk.rows().len() as u64,
-            FrameChange::Delete(_) => 0,
+            FrameChange::Delete(_) | FrameChange::Replace(_) => 0,
         }
     }
 
@@ -33,7 +36,7 @@ impl FrameChange<'_> {
         ensures { (f : ℕ) → result ≡ changes.deleted_rows (frame_changes.change_of f self.now) }
     {
         match self {
-            FrameChange::Append(_) => 0,
+            FrameChange::Append(_) | FrameChange::Replace(_) => 0,
             FrameChange::Delete(numbers) => numbers.len() as u64,
         }
     }

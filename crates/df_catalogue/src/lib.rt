@@ -1,5 +1,5 @@
-//! The catalogue: frames that accept chunks and deletions by row number, and registered views, each of which
-//! has at every moment the table of its plan over the frames.
+//! The catalogue: frames that accept chunks, and deletions and new rows by row number, and registered views,
+//! each of which has at every moment the table of its plan over the frames.
 //!
 //! A [`Catalogue`] is for one thread, and contracts see its [`State`]. A [`Desk`] is the right to make a
 //! [`Change`] of a frame. docs/ARCHITECTURE.md says where to add a change.
@@ -15,8 +15,10 @@ mod fault;
 mod frame;
 mod frame_change;
 mod number_sets;
+mod numbered;
 mod ranges;
 mod reading;
+mod replacing;
 mod replay;
 mod schemas;
 mod state;

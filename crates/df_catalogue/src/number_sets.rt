@@ -1,8 +1,10 @@
-//! Sets of the row numbers that a deletion lists. A look-up takes the logarithm of the set's size.
-ghost use Rattle.std.specs.Prelude.{◌≡◌, [], IfOk};
-ghost use Rattle.df_catalogue.specs.Numbers.{has_number, IsSetOf};
+//! Sets of the row numbers that a change lists. A look-up takes the logarithm of the set's size.
+ghost use Rattle.std.specs.Prelude.{◌≡◌, ◌==◌, [], IfOk, map};
+ghost use Rattle.std.specs.List.{list_any};
+ghost use Rattle.df_catalogue.specs.Numbers.{IsSetOf};
 ghost use Rattle.df_catalogue.specs.Refusals.{doubled_number_after};
 
+use crate::numbered::HasNumber;
 use std::alloc::{AllocError, Global};
 use std::collections::BTreeSet;
 
@@ -19,43 +21,44 @@ pub fn set_of(alloc: Global, numbers: &[u32]) -> Result<BTreeSet<u32>, AllocErro
 
 /// The first number that stands earlier in the list. Where memory is refused it is found without a
 /// set, in a time that grows with the square of the list's length.
-pub fn first_doubled_number(alloc: Global, numbers: &[u32]) -> Option<u32>
-    ensures { result ≡ doubled_number_after [] numbers.now }
+pub fn first_doubled_number<N: HasNumber>(alloc: Global, items: &[N]) -> Option<u32>
+    ensures { result ≡ doubled_number_after [] (map N.number_of items.now) }
 {
-    match first_in_set(alloc, numbers) {
+    match first_in_set(alloc, items) {
         Ok(found) => found,
-        Err(_) => first_in_list(numbers),
+        Err(_) => first_in_list(items),
     }
 }
 
 // The first number that is in the set of those before it.
-fn first_in_set(alloc: Global, numbers: &[u32]) -> Result<Option<u32>, AllocError>
-    ensures { IfOk result (λ found. found ≡ doubled_number_after [] numbers.now) }
+fn first_in_set<N: HasNumber>(alloc: Global, items: &[N]) -> Result<Option<u32>, AllocError>
+    ensures { IfOk result (λ found. found ≡ doubled_number_after [] (map N.number_of items.now)) }
 {
     let mut seen = BTreeSet::new(alloc);
-    for number in numbers {
-        if !seen.insert(*number)? {
-            return Ok(Some(*number));
+    for item in items {
+        let number = item.number();
+        if !seen.insert(number)? {
+            return Ok(Some(number));
         }
     }
     Ok(None)
 }
 
 // The first number that stands in the list before it.
-fn first_in_list(numbers: &[u32]) -> Option<u32>
-    ensures { result ≡ doubled_number_after [] numbers.now }
+fn first_in_list<N: HasNumber>(items: &[N]) -> Option<u32>
+    ensures { result ≡ doubled_number_after [] (map N.number_of items.now) }
 {
-    for i in 0..numbers.len() {
-        let number = numbers[i];
-        if stands_in(number, &numbers[..i]) {
+    for i in 0..items.len() {
+        let number = items[i].number();
+        if stands_in(number, &items[..i]) {
             return Some(number);
         }
     }
     None
 }
 
-fn stands_in(number: u32, numbers: &[u32]) -> bool
-    ensures { result ≡ has_number numbers.now number }
+fn stands_in<N: HasNumber>(number: u32, items: &[N]) -> bool
+    ensures { result ≡ list_any (λ item. N.number_of item == number) items.now }
 {
-    numbers.contains(&number)
+    items.iter().any(|item| item.number() == number)
 }

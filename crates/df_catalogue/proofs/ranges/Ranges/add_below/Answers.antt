@@ -1,5 +1,5 @@
 use Rattle.std.proofs.Common.{ap, nat_lt}
-use Rattle.df_catalogue.specs.Ranges.{are_below}
+use Rattle.df_catalogue.specs.Numbers.{are_below}
 use Rattle.df_catalogue.proofs.RangesApart.{earlier-of, some-of}
 use Rattle.df_catalogue.proofs.ranges.Ranges.add_below.Goals as goal
 
