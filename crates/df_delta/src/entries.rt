@@ -1,5 +1,5 @@
 //! The entries of a delta.
-ghost use Rattle.std.specs.Prelude.{◌≡◌, IfOk, OnOk, map};
+ghost use Rattle.std.specs.Prelude.{◌≡◌, IfOk, OnOk, T, map};
 ghost use Rattle.std.specs.FinMap as finite;
 ghost use Rattle.std.specs.List.{list_all};
 ghost use Rattle.std.specs.Ordering.{is_lt};
@@ -82,8 +82,10 @@ pub fn push_change(
     old: Option<Row>,
     new: Option<Row>,
 ) -> Result<(), AllocError>
-    ensures { OnOk result (map entry_change entries.new.items
+    ensures added { OnOk result (map entry_change entries.new.items
         ≡ with_change (map entry_change entries.old.items) tag old new) }
+    ensures rows { T (list_all has_row entries.old.items)
+        → OnOk result (T (list_all has_row entries.new.items)) }
 {
     if are_same(&old, &new) {
         return Ok(());

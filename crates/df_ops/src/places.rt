@@ -5,7 +5,7 @@ ghost use Rattle.df_ops.specs.Places as places_spec;
 ghost use Rattle.df_ops.specs.Places.{cells_from, placed_cell};
 
 use crate::named_columns::with_columns;
-use df_value::{Cell, Duplicate, List, Row, Text, push_made};
+use df_value::{Cell, Duplicate, Row, Text, push_made};
 use std::alloc::{AllocError, Global};
 
 /// Whether a cell is a row's own or an added one.

@@ -107,6 +107,7 @@ fn keep(
 /// Whether a filter keeps a row: its predicate is true. Counts one evaluation.
 pub fn keeps(predicate: &PhysicalExpr, row: &Row, meter: &mut Meter) -> bool
     requires { meter.old.evals + 1 < 2 ^ 128 }
+    ensures physical { result ≡ row_wise.is_true (physical_value predicate.now row.now) }
     ensures value { (columns : Columns) (of : AnyExpr) → IsPhysical of columns predicate.now
         → result ≡ row_wise.keeps columns of row.now }
     ensures counted { meter.new ≡ with_evals 1 meter.old }
@@ -193,6 +194,7 @@ pub fn select_row(
     ensures value { (columns : Columns) (of : List (List ℕ × AnyExpr))
         → ArePhysical columns of items.now
         → IfOk result (λ r. r ≡ row_wise.select_row columns of row.now) }
+    ensures physical { IfOk result (λ r. r ≡ map (λ p. physical_value p row.now) items.now) }
     ensures cells { IfOk result (λ r. length r ≡ length items.now) }
     ensures counted { OnOk result (meter.new ≡ with_evals (length items.now) meter.old) }
     ensures at_most { OnErr result (CountsAtMost (length items.now) meter.old meter.new) }
@@ -296,6 +298,9 @@ pub fn with_columns_row(
     ensures value { (columns : Columns) (of : List (List ℕ × AnyExpr))
         → ArePhysical columns of items.now → places.now ≡ places_spec.places_of columns of
         → IfOk result (λ r. r ≡ row_wise.with_columns_row columns of row.now) }
+
+    ensures physical { IfOk result (λ r. r
+        ≡ map (placed_cell row.now (map (λ p. physical_value p row.now) items.now)) places.now) }
 
     // The columns that no item names keep their cells.
     ensures others { (columns : Columns) (of : List (List ℕ × AnyExpr))

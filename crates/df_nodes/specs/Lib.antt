@@ -1,0 +1,2 @@
+pub mod RowOperators
+pub mod Outputs
