@@ -1,0 +1,2 @@
+pub mod SameOutputs
+pub mod RowCounts

@@ -25,11 +25,7 @@ pub struct LiveFilter {
 
 impl LiveFilter {
     /// The filter of rows of this schema by this predicate.
-    pub fn new(
-        alloc: Global,
-        schema: &Schema,
-        predicate: &Expr,
-    ) -> Result<LiveFilter, AllocError>
+    pub fn new(alloc: Global, schema: &Schema, predicate: &Expr) -> Result<LiveFilter, AllocError>
         ensures output { IfOk result (λ f. (t : TaggedRows) →
             row_wise_output f.operator t ≡ filtered schema.now predicate.now t) }
 
