@@ -160,10 +160,10 @@ def summed_up(table, output, column):
 
 
 def ranked(table, output, kind, column):
-    assert kind == "dense"
     cells = table[column][1]
     # Python compares texts by code points, which is the order of their UTF-8 bytes.
-    order = sorted({cell for cell in cells if cell is not None})
+    order = sorted(cell for cell in cells if cell is not None)
+    order = {"dense": sorted(set(order)), "min": order}[kind]
     return table | {output: ("Int", [None if cell is None else order.index(cell) + 1 for cell in cells])}
 
 

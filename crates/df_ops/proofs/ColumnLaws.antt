@@ -17,7 +17,7 @@ use Rattle.df_expr.specs.declared.expr.Expr.{Expr}
 use Rattle.df_expr.specs.Value.{value_of}
 use Rattle.df_ops.specs.Aggregates.{cells_of}
 use Rattle.df_ops.specs.NamedColumns.{added_or_own, first_of_name, has_column, with_columns}
-use Rattle.df_ops.specs.Ranks.{dense_rank_of, distinct_at, ranks_of}
+use Rattle.df_ops.specs.Ranks.{dense_rank_of, distinct_at, min_rank_of, ranks_of}
 use Rattle.df_ops.specs.RowWise.{item_cell, item_column, named_cells, select_row, with_columns_row, with_columns_schema, with_column_row}
 use Rattle.df_ops.specs.TableColumns.{column_of, AppendsNewNames, HasItemValues, KeepsOtherColumns, KeepsOtherDtypes, PutsColumn}
 use Rattle.df_ops.specs.Tables.{cum_sum_table, rank_table, rolling_table, select_table, with_column_table, with_columns_table}
@@ -235,6 +235,7 @@ cum_sum_column t name column fit =
 
 length-ranks : (k : RankKind) (index : Option ℕ) (rows : List (List Cell)) → length (ranks_of k index rows) ≡ length rows
 length-ranks rank.Dense index rows = length-map rows (λ r. dense_rank_of (distinct_at index rows) (cell_at index r))
+length-ranks rank.Min index rows = length-map rows (λ r. min_rank_of index rows (cell_at index r))
 
 pub rank_column :
     (t : PlainTable) (name : List ℕ) (k : RankKind) (column : List ℕ) → IsTrue (rows_fit t.columns t.rows) →

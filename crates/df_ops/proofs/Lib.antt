@@ -13,6 +13,7 @@ pub mod JoinCells
 pub mod WindowFacts
 pub mod WindowLaws
 pub mod RankLaws
+pub mod MinRankLaws
 pub mod Least
 pub mod MinMaxFacts
 pub mod GroupSums

@@ -14,7 +14,7 @@ use Rattle.df_value.specs.CellOrder.{cell_cmp, cell_cmp_total}
 use Rattle.df_value.specs.Rows.{cell_at, row_eq}
 use Rattle.df_expr.specs.Value.{is_null}
 use Rattle.df_ops.specs.Groups.{distinct_after, key_of}
-use Rattle.df_ops.specs.Ranks.{dense_rank_of, distinct_at, is_non_null_key, is_smaller, dense_rank, rank_number, EachIsRanked, GreatestCounts, HasRank, RanksAgree, RanksRise, RanksWithin}
+use Rattle.df_ops.specs.Ranks.{distinct_at, is_non_null_key, is_smaller, dense_rank, rank_number, EachIsRanked, GreatestCounts, HasRank, RanksAgree, RanksRise, RanksWithin}
 use Rattle.df_value.specs.CellOrders.{exact, to_itself}
 use Rattle.df_value.specs.RowEq.{row_eq-Decides}
 use Rattle.df_value.specs.Choices.{either}
@@ -61,15 +61,15 @@ filter_less p q f (y ∷ ys) zero x h e a b =
 filter_less p q f (y ∷ ys) (suc k) x h e a b =
     still_more (p y) (q y) (f y) y (filter p ys) (filter q ys) (filter_less p q f ys k x (omega arith) e a b)
 
-first_cell : (a b : Bool) → (a && b) ≡ true → a ≡ true
+pub first_cell : (a b : Bool) → (a && b) ≡ true → a ≡ true
 first_cell true b h = refl
 first_cell false b h = cc
 
-second_of : (a b : Bool) → (a && b) ≡ true → b ≡ true
+pub second_of : (a b : Bool) → (a && b) ≡ true → b ≡ true
 second_of true b h = h
 second_of false b h = cc
 
-both_of : (a b : Bool) → a ≡ true → b ≡ true → (a && b) ≡ true
+pub both_of : (a b : Bool) → a ≡ true → b ≡ true → (a && b) ≡ true
 both_of true b e h = h
 both_of false b e h = cc
 
@@ -77,7 +77,7 @@ and_false : (a : Bool) → (a && false) ≡ false
 and_false true = refl
 and_false false = refl
 
-smaller_too : (a b : Cell) → cell_cmp a b ≡ ordering.Less → (key : List Cell) → is_smaller a key ≡ true → is_smaller b key ≡ true
+pub smaller_too : (a b : Cell) → cell_cmp a b ≡ ordering.Less → (key : List Cell) → is_smaller a key ≡ true → is_smaller b key ≡ true
 smaller_too a b h key e =
     let k = cell_at (Some 0) key in
     both_of (not (is_null k)) (is_lt (cell_cmp k b)) (first_cell (not (is_null k)) (is_lt (cell_cmp k a)) e)
@@ -95,7 +95,7 @@ key_stands index rows r h =
     All-contains (λ r. Contains (distinct_at index rows) (key_of (index ∷ []) r)) rows r (each_row (index ∷ []) rows) h
 
 -- what holds of each row's key holds of each distinct one
-all_mapped :
+pub all_mapped :
     (P : List Cell → Type 0) (f : List Cell → List Cell) (rs : Rows) → ((r : List Cell) → Contains rs r → P (f r)) → AllByRecursion P (map f rs)
 all_mapped P f [] h = tt
 all_mapped P f (r ∷ rs) h = (h r (zero, omega arith, refl), all_mapped P f rs (λ s at. h s (suc at.0, omega arith, at.2)))
@@ -155,16 +155,20 @@ number_of : (b : Bool) (m : ℕ) → not b ≡ true → cond {A = Cell} b cell.N
 number_of true m h = cc
 number_of false m h = refl
 
+-- each cell that is not null with its number, and null with null
+abbrev pub ranks_by : (Cell → ℕ) → Option ℕ → Rows → List Cell
+ranks_by number index rows = map (λ r. cond (is_null (cell_at index r)) cell.Null (cell.Int (pos (number (cell_at index r))))) rows
+
 -- a row of this cell, which is not null, is there, and this is the cell's number
-abbrev IsRankOf : Option ℕ → Rows → Cell → ℕ → Type 0
-IsRankOf index rows c n =
-    (r : List Cell) × Contains rows r × (cell_at index r ≡ c) × (not (is_null c) ≡ true) × (rank_number (distinct_at index rows) c ≡ n)
+abbrev pub IsRankOf : (Cell → ℕ) → Option ℕ → Rows → Cell → ℕ → Type 0
+IsRankOf number index rows c n =
+    (r : List Cell) × Contains rows r × (cell_at index r ≡ c) × (not (is_null c) ≡ true) × (number c ≡ n)
 
 is_rank_of :
-    (index : Option ℕ) (rows : Rows) (r : List Cell) (c : Cell) (n : ℕ) → Contains rows r → cell_at index r ≡ c →
-    dense_rank_of (distinct_at index rows) c ≡ cell.Int (pos n) → IsRankOf index rows c n
-is_rank_of index rows r c n at same h =
-    let parts = not_null (is_null c) (rank_number (distinct_at index rows) c) n h in
+    (number : Cell → ℕ) (index : Option ℕ) (rows : Rows) (r : List Cell) (c : Cell) (n : ℕ) → Contains rows r → cell_at index r ≡ c →
+    cond (is_null c) cell.Null (cell.Int (pos (number c))) ≡ cell.Int (pos n) → IsRankOf number index rows c n
+is_rank_of number index rows r c n at same h =
+    let parts = not_null (is_null c) (number c) n h in
     (r, at, same, ap not parts.0, parts.1)
 
 some_is : {X : Type 0} (x y : X) → Some x ≡ Some y → x ≡ y
@@ -173,7 +177,7 @@ some_is x y h = cc
 -- where each cell that is not null has its number, and null has null, each cell is ranked
 pub each_ranked :
     (number : Cell → ℕ) (index : Option ℕ) (rows : Rows) → ((c : Cell) → 1 ≤ number c) →
-    EachIsRanked index rows (map (λ r. cond (is_null (cell_at index r)) cell.Null (cell.Int (pos (number (cell_at index r))))) rows)
+    EachIsRanked index rows (ranks_by number index rows)
 each_ranked number index rows least i c h =
     let value : Cell → Cell = λ c. cond (is_null c) cell.Null (cell.Int (pos (number c))) in
     let f : List Cell → Cell = λ r. value (cell_at index r) in
@@ -192,32 +196,44 @@ each_ranked number index rows least i c h =
 pub dense_ranked : (index : Option ℕ) (rows : Rows) → EachIsRanked index rows (dense_rank index rows)
 dense_ranked index rows = each_ranked (rank_number (distinct_at index rows)) index rows (λ c. omega arith)
 
-ranked :
-    (index : Option ℕ) (rows : Rows) (i : ℕ) (c : Cell) (n : ℕ) → HasRank index rows (dense_rank index rows) i c n → IsRankOf index rows c n
-ranked index rows i c n h =
-    let f : List Cell → Cell = λ r. dense_rank_of (distinct_at index rows) (cell_at index r) in
+pub numbered :
+    (number : Cell → ℕ) (index : Option ℕ) (rows : Rows) (i : ℕ) (c : Cell) (n : ℕ) → HasRank index rows (ranks_by number index rows) i c n →
+    IsRankOf number index rows c n
+numbered number index rows i c n h =
+    let value : Cell → Cell = λ c. cond (is_null c) cell.Null (cell.Int (pos (number c))) in
+    let f : List Cell → Cell = λ r. value (cell_at index r) in
     ⊎_elim
     (λ at.
     let own : cell_at index at.0 ≡ c = some_is (cell_at index at.0) c (sym (ap (option_map (cell_at index)) at.2) ∙ h.0) in
-    let number : f at.0 ≡ cell.Int (pos n) = some_is (f at.0) (cell.Int (pos n)) (sym (ap (option_map f) at.2) ∙ (sym (slice_get-map f rows i) ∙ h.1)) in
-    is_rank_of index rows at.0 c n (i, at.1, at.3) own
-    (subst (λ z. dense_rank_of (distinct_at index rows) z ≡ cell.Int (pos n)) own number))
+    let here : f at.0 ≡ cell.Int (pos n) = some_is (f at.0) (cell.Int (pos n)) (sym (ap (option_map f) at.2) ∙ (sym (slice_get-map f rows i) ∙ h.1)) in
+    is_rank_of number index rows at.0 c n (i, at.1, at.3) own (subst (λ z. value z ≡ cell.Int (pos n)) own here))
     (λ past.
     let none : None ≡ Some c = sym (ap (option_map (cell_at index)) past.1) ∙ h.0 in
     cc)
     (slice_get_cases rows i).1
 
 -- each row's cell that is not null has its rank
-has_rank :
-    (index : Option ℕ) (rows : Rows) (s : List Cell) (at : Contains rows s) → not (is_null (cell_at index s)) ≡ true →
-    HasRank index rows (dense_rank index rows) at.0 (cell_at index s) (rank_number (distinct_at index rows) (cell_at index s))
-has_rank index rows s at e =
-    let f : List Cell → Cell = λ r. dense_rank_of (distinct_at index rows) (cell_at index r) in
+pub has_number :
+    (number : Cell → ℕ) (index : Option ℕ) (rows : Rows) (s : List Cell) (at : Contains rows s) → not (is_null (cell_at index s)) ≡ true →
+    HasRank index rows (ranks_by number index rows) at.0 (cell_at index s) (number (cell_at index s))
+has_number number index rows s at e =
+    let value : Cell → Cell = λ c. cond (is_null c) cell.Null (cell.Int (pos (number c))) in
+    let f : List Cell → Cell = λ r. value (cell_at index r) in
     let c = cell_at index s in
     let read : slice_get rows at.0 ≡ Some s = slice_get_read rows (length rows) at.0 s refl at.1 (sym at.2) in (
       ap (option_map (cell_at index)) read,
-      slice_get-map f rows at.0 ∙ (ap (option_map f) read ∙ ap Some (number_of (is_null c) (rank_number (distinct_at index rows) c) e)),
+      slice_get-map f rows at.0 ∙ (ap (option_map f) read ∙ ap Some (number_of (is_null c) (number c) e)),
     )
+
+pub ranked :
+    (index : Option ℕ) (rows : Rows) (i : ℕ) (c : Cell) (n : ℕ) → HasRank index rows (dense_rank index rows) i c n →
+    IsRankOf (rank_number (distinct_at index rows)) index rows c n
+ranked index rows = numbered (rank_number (distinct_at index rows)) index rows
+
+has_rank :
+    (index : Option ℕ) (rows : Rows) (s : List Cell) (at : Contains rows s) → not (is_null (cell_at index s)) ≡ true →
+    HasRank index rows (dense_rank index rows) at.0 (cell_at index s) (rank_number (distinct_at index rows) (cell_at index s))
+has_rank index rows = has_number (rank_number (distinct_at index rows)) index rows
 
 cell_stands :
     (index : Option ℕ) (rows : Rows) (r : List Cell) (c : Cell) → Contains rows r → cell_at index r ≡ c → Contains (distinct_at index rows) (c ∷ [])

@@ -1,10 +1,12 @@
--- Dense ranks, as `rank` with the method "dense" of the Polars Python reference gives them: equal cells have one rank,
--- and no rank is left out. That null has the rank null is this project's own choice.
+-- Ranks, as `rank` with the methods "dense" and "min" of the Polars Python reference gives them: equal cells have one
+-- rank, after which dense ranks leave no rank out, and others as many as there are further equal cells. That null has the
+-- rank null is this project's own choice.
 use Rattle.std.specs.Prelude.{◌≡◌, ◌≢◌, ◌<◌, ◌≤◌, IsTrue, ℕ, Bool, pos, ◌+◌, ◌&&◌, not, List, [], ◌∷◌, Option, Some, option_map, slice_get, filter, length, map, if◌then◌else◌}
 use Rattle.std.specs.Ordering.{is_lt}
 use Rattle.std.specs.declared.cmp.Ordering.TheVariants as ordering
 use Rattle.df_value.specs.declared.cell.Cell.{Cell}
 use Rattle.df_value.specs.declared.cell.Cell.TheVariants as cell
+use Rattle.df_value.specs.CellEq.{cell_eq}
 use Rattle.df_value.specs.CellOrder.{cell_cmp}
 use Rattle.df_value.specs.Rows.{cell_at}
 use Rattle.df_expr.specs.Value.{is_null}
@@ -37,9 +39,26 @@ dense_rank_of distinct c =
 abbrev pub dense_rank : Option ℕ → List (List Cell) → List Cell
 dense_rank index rows = map (λ r. dense_rank_of (distinct_at index rows) (cell_at index r)) rows
 
+-- whether a cell is not null and smaller than c
+abbrev pub is_below : Cell → Cell → Bool
+is_below c d = not (is_null d) && is_lt (cell_cmp d c)
+
+-- how many rows have such a cell at an index
+abbrev pub count_below : Option ℕ → List (List Cell) → Cell → ℕ
+count_below index rows c = length (filter (λ r. is_below c (cell_at index r)) rows)
+
+-- 1 plus the number of smaller cells at an index that are not null; null for null
+abbrev pub min_rank_of : Option ℕ → List (List Cell) → Cell → Cell
+min_rank_of index rows c = if is_null c then cell.Null else cell.Int (pos (1 + count_below index rows c))
+
+-- these ranks of the cells at an index
+abbrev pub min_rank : Option ℕ → List (List Cell) → List Cell
+min_rank index rows = map (λ r. min_rank_of index rows (cell_at index r)) rows
+
 -- the ranks of this kind
 abbrev pub ranks_of : RankKind → Option ℕ → List (List Cell) → List Cell
 ranks_of rank.Dense index rows = dense_rank index rows
+ranks_of rank.Min index rows = min_rank index rows
 
 -- row i has this cell, and this rank
 abbrev pub HasRank : Option ℕ → List (List Cell) → List Cell → ℕ → Cell → ℕ → Type 0
@@ -74,3 +93,25 @@ GreatestCounts index rows ranks =
     (i : ℕ) (a : Cell) (n : ℕ) → HasRank index rows ranks i a n →
     ((j : ℕ) (b : Cell) (m : ℕ) → HasRank index rows ranks j b m → cell_cmp a b ≢ ordering.Less) →
     n ≡ length (filter is_non_null_key (distinct_at index rows))
+
+-- no rank is below the dense one
+abbrev pub AtLeastDense : Option ℕ → List (List Cell) → List Cell → Type 0
+AtLeastDense index rows ranks =
+    (i : ℕ) (c : Cell) (n m : ℕ) → HasRank index rows (dense_rank index rows) i c n → HasRank index rows ranks i c m → n ≤ m
+
+-- the least cell has the rank 1
+abbrev pub LeastIsOne : Option ℕ → List (List Cell) → List Cell → Type 0
+LeastIsOne index rows ranks =
+    (i : ℕ) (a : Cell) (n : ℕ) → HasRank index rows ranks i a n →
+    ((j : ℕ) (b : Cell) (m : ℕ) → HasRank index rows ranks j b m → cell_cmp b a ≢ ordering.Less) → n ≡ 1
+
+-- how many rows have this cell
+abbrev pub count_equal : Option ℕ → List (List Cell) → Cell → ℕ
+count_equal index rows c = length (filter (λ r. cell_eq (cell_at index r) c) rows)
+
+-- where no cell lies between two, the rank of the greater is that of the smaller plus the number of rows with the smaller
+abbrev pub NextAddsEqual : Option ℕ → List (List Cell) → List Cell → Type 0
+NextAddsEqual index rows ranks =
+    (i j : ℕ) (a b : Cell) (n m : ℕ) → HasRank index rows ranks i a n → HasRank index rows ranks j b m → cell_cmp a b ≡ ordering.Less →
+    ((k : ℕ) (c : Cell) (l : ℕ) → HasRank index rows ranks k c l → cell_cmp a c ≡ ordering.Less → cell_cmp c b ≢ ordering.Less) →
+    m ≡ n + count_equal index rows a

@@ -32,7 +32,7 @@ pub use min_max::{MinMax, min_and_max_of, min_or_max_of};
 pub use named_columns::with_columns;
 pub use places::{Origin, Place, places_of};
 pub use plain_table::PlainTable;
-pub use ranks::{RankKind, dense_rank, rank_table};
+pub use ranks::{RankKind, dense_rank, min_rank, rank_table};
 pub use row_wise::{
     filter_rows, filter_table, keeps, physical_items, select_row, select_table, with_columns_row,
     with_columns_table,

@@ -1,11 +1,11 @@
 //! Ranks.
-ghost use Rattle.std.specs.Prelude.{◌≡◌, ◌≤◌, ◌∷◌, [], IfOk, IsTrue, filter, length};
+ghost use Rattle.std.specs.Prelude.{◌≡◌, ◌≤◌, ◌∷◌, [], IfOk, IsTrue, length};
 ghost use Rattle.df_value.specs.Rows.{cell_at, rows_fit};
 ghost use Rattle.df_value.specs.Schemas as schemas_spec;
 ghost use Rattle.df_ops.specs.TableColumns.{PutsColumn};
 ghost use Rattle.df_ops.specs.Tables as tables;
 ghost use Rattle.df_ops.specs.Ranks as ranks_spec;
-ghost use Rattle.df_ops.specs.Ranks.{dense_rank_of, ranks_of, EachIsRanked, GreatestCounts, RanksAgree, RanksRise, RanksWithin};
+ghost use Rattle.df_ops.specs.Ranks.{min_rank_of, ranks_of, AtLeastDense, EachIsRanked, GreatestCounts, LeastIsOne, NextAddsEqual, RanksAgree, RanksRise, RanksWithin};
 
 use crate::groups::keys_of;
 use crate::min_max::non_null_at;
@@ -19,6 +19,8 @@ use std::alloc::{AllocError, Global};
 pub enum RankKind {
     /// Once, so that no rank is left out.
     Dense,
+    /// Each, so that the next greater cell has the rank that it would have if they were not equal.
+    Min,
 }
 
 /// The table with the ranks of a column put among its own.
@@ -65,10 +67,11 @@ fn ranks(
 {
     match kind {
         RankKind::Dense => dense_rank(alloc, index, rows),
+        RankKind::Min => min_rank(alloc, index, rows),
     }
 }
 
-/// The ranks of the cells at an index.
+/// The dense ranks of the cells at an index.
 pub fn dense_rank(
     alloc: Global,
     index: Option<usize>,
@@ -91,45 +94,71 @@ fn all_ranked(alloc: Global, index: Option<usize>, rows: &[Row]) -> Result<Vec<C
     let distinct = distinct.as_slice();
     let mut ranks = Vec::with_capacity(alloc, rows.len())?;
     for row in rows {
-        ranks.push(rank_at(distinct, index, row))?;
+        ranks.push(rank_among(Some(0), distinct, index, row))?;
     }
     Ok(ranks)
 }
 
-// The rank of a row's cell among distinct ones.
-fn rank_at(distinct: &[Row], index: Option<usize>, row: &Row) -> Cell
-    ensures { result ≡ dense_rank_of distinct.now (cell_at index row.now) }
+/// The least ranks of the cells at an index: 1 plus the number of smaller cells.
+pub fn min_rank(alloc: Global, index: Option<usize>, rows: &[Row]) -> Result<Vec<Cell>, AllocError>
+    ensures value { IfOk result (λ cells. cells.items ≡ ranks_spec.min_rank index rows.now) }
+    ensures ranked { IfOk result (λ cells. EachIsRanked index rows.now cells.items) }
+    ensures agree { IfOk result (λ cells. RanksAgree index rows.now cells.items) }
+    ensures at_least { IfOk result (λ cells. AtLeastDense index rows.now cells.items) }
+    ensures least { IfOk result (λ cells. LeastIsOne index rows.now cells.items) }
+    ensures next { IfOk result (λ cells. NextAddsEqual index rows.now cells.items) }
+{
+    all_min_ranked(alloc, index, rows)
+}
+
+fn all_min_ranked(
+    alloc: Global,
+    index: Option<usize>,
+    rows: &[Row],
+) -> Result<Vec<Cell>, AllocError>
+    ensures { IfOk result (λ cells. cells.items ≡ ranks_spec.min_rank index rows.now) }
+{
+    let mut ranks = Vec::with_capacity(alloc, rows.len())?;
+    for row in rows {
+        ranks.push(rank_among(index, rows, index, row))?;
+    }
+    Ok(ranks)
+}
+
+// The rank of a row's cell among the cells of others.
+fn rank_among(among: Option<usize>, others: &[Row], index: Option<usize>, row: &Row) -> Cell
+    ensures { result ≡ min_rank_of among others.now (cell_at index row.now) }
 {
     match non_null_at(index, row) {
-        Some(cell) => Cell::Int((count_smaller(distinct, cell) + 1) as i64),
+        Some(cell) => Cell::Int((count_below(among, others, cell) + 1) as i64),
         None => Cell::Null,
     }
 }
 
-// How many distinct cells are smaller and not null.
-fn count_smaller(distinct: &[Row], cell: &Cell) -> usize
-    ensures value { result ≡ length (filter (ranks_spec.is_smaller cell.now) distinct.now) }
-    ensures within { result ≤ length distinct.now }
+// How many cells at an index are smaller and not null.
+fn count_below(index: Option<usize>, rows: &[Row], cell: &Cell) -> usize
+    ensures value { result ≡ ranks_spec.count_below index rows.now cell.now }
+    ensures within { result ≤ length rows.now }
 {
     let mut count = 0;
-    for key in distinct {
-        count += one_if_smaller(key, cell);
+    for row in rows {
+        count += one_if_below(index, row, cell);
     }
     count
 }
 
-fn one_if_smaller(key: &Row, cell: &Cell) -> usize
-    ensures value { result ≡ length (filter (ranks_spec.is_smaller cell.now) (key.now ∷ [])) }
+fn one_if_below(index: Option<usize>, row: &Row, cell: &Cell) -> usize
+    ensures value { result ≡ ranks_spec.count_below index (row.now ∷ []) cell.now }
     ensures within { result ≤ 1 }
 {
-    if is_smaller(key, cell) { 1 } else { 0 }
+    if is_below(index, row, cell) { 1 } else { 0 }
 }
 
-// Whether the cell of a key of one column is not null and smaller.
-fn is_smaller(key: &Row, cell: &Cell) -> bool
-    ensures { result ≡ ranks_spec.is_smaller cell.now key.now }
+// Whether the cell at an index is not null and smaller.
+fn is_below(index: Option<usize>, row: &Row, cell: &Cell) -> bool
+    ensures { result ≡ ranks_spec.is_below cell.now (cell_at index row.now) }
 {
-    match non_null_at(Some(0), key) {
+    match non_null_at(index, row) {
         Some(own) => own.cmp(cell).is_lt(),
         None => false,
     }

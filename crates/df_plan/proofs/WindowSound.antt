@@ -21,7 +21,7 @@ use Rattle.df_ops.specs.Aggregates.{count_of, last_cell, sum_of}
 use Rattle.df_value.specs.Schemas.{Columns}
 use Rattle.df_plan.specs.ItemChecks.{CheckResult, DtypeResult, key_dtype}
 use Rattle.df_ops.specs.NamedColumns.{with_columns}
-use Rattle.df_ops.specs.Ranks.{dense_rank_of, distinct_at, ranks_of}
+use Rattle.df_ops.specs.Ranks.{dense_rank_of, distinct_at, min_rank_of, ranks_of}
 use Rattle.df_ops.specs.RowWise.{named_cells, with_column_row, with_column_rows}
 use Rattle.df_plan.specs.WindowChecks.{cum_sum_check, is_window, output_column_check, rank_check, rolling_check, int_column_dtype}
 use Rattle.df_ops.specs.Windows.{rolling_dtype}
@@ -110,8 +110,19 @@ each_dense_fits distinct place [] = refl
 each_dense_fits distinct place (r ∷ rows) =
     both_true (fits_dtype dtype.Int (dense_rank_of distinct (cell_at place r))) _ (dense_fits distinct (cell_at place r)) (each_dense_fits distinct place rows)
 
+min_fits : (place : Option ℕ) (others : Rows) (c : Cell) → IsTrue (fits_dtype dtype.Int (min_rank_of place others c))
+min_fits place others c = either (λ (c : Cell). IsTrue (fits_dtype dtype.Int c)) (is_null c) cell.Null _ refl refl
+
+each_min_fits : (among : Option ℕ) (others : Rows) (place : Option ℕ) (rows : Rows) →
+    IsTrue (list_all (fits_dtype dtype.Int) (map (λ r. min_rank_of among others (cell_at place r)) rows))
+each_min_fits among others place [] = refl
+each_min_fits among others place (r ∷ rows) =
+    both_true (fits_dtype dtype.Int (min_rank_of among others (cell_at place r))) _ (min_fits among others (cell_at place r))
+    (each_min_fits among others place rows)
+
 pub ranks_fit : (k : RankKind) (place : Option ℕ) (rows : Rows) → IsTrue (list_all (fits_dtype dtype.Int) (ranks_of k place rows))
 ranks_fit rank.Dense place rows = each_dense_fits (distinct_at place rows) place rows
+ranks_fit rank.Min place rows = each_min_fits place rows place rows
 
 -- the columns of a result into which this one was put
 abbrev pub IsPut : Columns → List ℕ → CellType → Columns → Type 0

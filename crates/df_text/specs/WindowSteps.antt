@@ -52,7 +52,10 @@ cum_sum_of at input ds =
 
 -- the kind of rank that a word names
 abbrev pub rank_of_word : Location → List ℕ → Result RankKind ViewsFault
-rank_of_word at w = if bytes_eq w (codes "dense") then Ok rank.Dense else Err (fault.Word at)
+rank_of_word at w =
+    if bytes_eq w (codes "dense") then Ok rank.Dense else
+    if bytes_eq w (codes "min") then Ok rank.Min else
+    Err (fault.Word at)
 
 -- an output, the kind of rank, and a column, read in this order: an unknown kind comes before a column that is no text
 abbrev pub rank_parts : Location → List Data → Result (List ℕ × RankKind × List ℕ) ViewsFault

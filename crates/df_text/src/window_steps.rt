@@ -153,6 +153,7 @@ fn rank_named(location: Location, word: &str) -> Result<RankKind, ViewsFault>
 {
     match word {
         "dense" => Ok(RankKind::Dense),
+        "min" => Ok(RankKind::Min),
         _ => Err(ViewsFault::Word(location)),
     }
 }
