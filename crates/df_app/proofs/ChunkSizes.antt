@@ -1,16 +1,16 @@
 -- The size of chunks does not matter where no cell is bad, and for no fault.
 use Rattle.std.proofs.Common.{◌≡◌, ◌∙◌, ◌<◌, ℕ, Bool, true, false, cond, List, [], ◌∷◌, ◌++◌, map, Result, Ok, Err, refl, ap, sym, arith}
-use Rattle.std.specs.Prelude.{⊤, ◌≤◌, ◌&&◌, ◌*◌, ◌+◌, codes, Option, Some, None, IfSome, flat_map, length, nat_lt}
+use Rattle.std.specs.Prelude.{⊤, ◌≤◌, ◌&&◌, ◌+◌, codes, Option, Some, None, IfSome, flat_map, length, nat_lt}
 use Rattle.std.specs.List.{enumerate_from, join_by, list_all}
 use Rattle.df_value.specs.declared.cell.Cell.{Cell}
 use Rattle.df_value.specs.declared.chunk.Piece.{Piece}
 use Rattle.df_value.specs.declared.chunk.Piece.TheVariants as made
 use Rattle.df_value.specs.Outcomes.{then_next}
-use Rattle.df_value.specs.Pieces.{is_good, rows_of_pieces}
+use Rattle.df_value.specs.Pieces.{is_good, refused_piece, rows_of_pieces}
 use Rattle.df_value.specs.Schemas.{Columns}
 use Rattle.df_csv.specs.GoodPieces.{same_pieces}
 use Rattle.df_csv.specs.Records.{FieldRows}
-use Rattle.df_csv.specs.Typed.{pieces_of}
+use Rattle.df_csv.specs.Typed.{piece_start, pieces_of}
 use Rattle.df_csv.specs.declared.fault.CsvFault.{CsvFault}
 use Rattle.df_plan.specs.CheckedParts.{CheckedParts}
 use Rattle.df_text.specs.Document.{document_of}
@@ -111,7 +111,7 @@ same_rows k l some others (p ∷ ps) (q ∷ qs) h good =
 
 -- chunks have no refused lines
 no_lines : (k : ℕ) (f : FrameSpec) (n : ℕ) (ps : List Piece) → list_all is_good ps ≡ true →
-    flat_map (λ (p : ℕ × Piece). refused_line f (p.0 * k) p.1) (enumerate_from n ps) ≡ []
+    flat_map (refused_line f) (flat_map (λ (p : ℕ × Piece). refused_piece (piece_start k p.0) p.1) (enumerate_from n ps)) ≡ []
 no_lines k f n [] h = refl
 no_lines k f n (made.Good chunk ∷ ps) h = no_lines k f (n + 1) ps h
 no_lines k f n (made.Bad cell ∷ ps) h = absurd (cc)

@@ -1,18 +1,18 @@
 -- What a run of a view document writes: the tables of its views over its frames, and the chunks that were
 -- refused, or the first fault.
-use Rattle.std.specs.Prelude.{◌≡◌, ◌≢◌, ◌≤◌, ◌*◌, ◌⊎◌, ℕ, ⊤, MatchResult, List, [], ◌∷◌, ◌++◌, length, map, nat_lt, codes, decimal, option_map, unwrap_or, slice_get, flat_map, All, IfOk, IsOk, IsOkAnd, Result, Ok, Err, if◌then◌else◌}
-use Rattle.std.specs.List.{enumerate_from, join_by, list_all}
+use Rattle.std.specs.Prelude.{◌≡◌, ◌≢◌, ◌≤◌, ◌⊎◌, ℕ, ⊤, MatchResult, List, [], ◌∷◌, ◌++◌, length, map, nat_lt, codes, decimal, option_map, unwrap_or, slice_get, flat_map, All, IfOk, IsOk, IsOkAnd, Result, Ok, Err, if◌then◌else◌}
+use Rattle.std.specs.List.{join_by, list_all}
 use Rattle.df_value.specs.Outcomes.{then_next}
 use Rattle.df_value.specs.declared.cell.Cell.{Cell}
+use Rattle.df_value.specs.declared.chunk.BadCell.{BadCell}
 use Rattle.df_value.specs.declared.chunk.Piece.{Piece}
-use Rattle.df_value.specs.declared.chunk.Piece.TheVariants as made
-use Rattle.df_value.specs.Pieces.{is_good, rows_of_pieces}
+use Rattle.df_value.specs.Pieces.{is_good, refused_pieces, rows_of_pieces}
 use Rattle.df_plan.specs.CheckedParts.{CheckedParts}
 use Rattle.df_value.specs.Schemas.{Columns}
 use Rattle.df_plan.specs.Checks.{CheckResult, plan_check}
 use Rattle.df_plan.specs.Meaning.{table_of}
 use Rattle.df_csv.specs.Records.{FieldRows as Records, file_records, records_of}
-use Rattle.df_csv.specs.Typed.{pieces_of}
+use Rattle.df_csv.specs.Typed.{piece_start, pieces_of}
 use Rattle.df_csv.specs.declared.fault.CsvFault.{CsvFault}
 use Rattle.df_csv.specs.declared.fault.CsvFault.TheVariants as csv
 use Rattle.df_print.specs.Printed.{printed, escaped_text}
@@ -83,16 +83,15 @@ printed_view frames view = printed view.0.name view.1.schema (table_of view.1.pl
 abbrev pub name_at : Columns → ℕ → List ℕ
 name_at columns at = unwrap_or (option_map (λ c. c.0) (slice_get columns at)) []
 
--- the line of a piece that was refused, by the number of its first row and its first bad cell
-abbrev pub refused_line : FrameSpec → ℕ → Piece → List ℕ
-refused_line frame first (made.Good chunk) = []
-refused_line frame first (made.Bad cell) =
-    codes "refused " ++ (escaped_text frame.name ++ (codes " " ++ (decimal first ++ (codes ": record "
-    ++ (decimal cell.number ++ (codes ", column " ++ (escaped_text (name_at frame.schema cell.column) ++ codes "\n")))))))
+-- the line of a piece that was refused: the number of its first row, and its bad cell
+abbrev pub refused_line : FrameSpec → ℕ × BadCell → List ℕ
+refused_line frame refused =
+    codes "refused " ++ (escaped_text frame.name ++ (codes " " ++ (decimal refused.0 ++ (codes ": record "
+    ++ (decimal refused.1.number ++ (codes ", column " ++ (escaped_text (name_at frame.schema refused.1.column) ++ codes "\n")))))))
 
--- the lines of a frame's refused pieces; piece n begins with row n * chunk
+-- the lines of a frame's refused pieces, of so many records each
 abbrev pub refused_in : ℕ → FrameSpec × List Piece → List ℕ
-refused_in chunk frame = flat_map (λ p. refused_line frame.0 (p.0 * chunk) p.1) (enumerate_from 0 frame.1)
+refused_in chunk frame = flat_map (refused_line frame.0) (refused_pieces (piece_start chunk) frame.1)
 
 -- Refused where a piece has a bad cell
 abbrev pub outcome_of : List (List Piece) → Outcome

@@ -1,8 +1,8 @@
 //! The lines of refused chunks.
-ghost use Rattle.std.specs.Prelude.{◌≡◌, ◌++◌, ◌*◌, IfOk, OnOk, flat_map, length, string_bytes};
+ghost use Rattle.std.specs.Prelude.{◌≡◌, ◌++◌, IfOk, OnOk, flat_map, length, string_bytes};
 ghost use Rattle.df_app.specs.Output as output;
 ghost use Rattle.df_app.specs.Output.{name_at, paired, refused_in};
-ghost use Rattle.df_value.specs.declared.chunk.Piece.TheVariants.{Bad};
+ghost use Rattle.df_value.specs.Pieces.{refused_piece};
 
 use df_text::{FrameSpec, escape};
 use df_value::{BadCell, List, Piece, Schema};
@@ -53,7 +53,8 @@ fn push_line(
     made: &Piece,
 ) -> Result<(), AllocError>
     ensures { OnOk result
-        (lines.new.items ≡ lines.old.items ++ output.refused_line frame.now first made.now) }
+        (lines.new.items ≡ lines.old.items
+        ++ flat_map (output.refused_line frame.now) (refused_piece first made.now)) }
 {
     match made {
         Piece::Good(_) => Ok(()),
@@ -71,7 +72,7 @@ fn refused_line(
     cell: BadCell,
 ) -> Result<String, AllocError>
     ensures { IfOk result
-        (λ line. string_bytes line ≡ output.refused_line frame.now first (Bad cell)) }
+        (λ line. string_bytes line ≡ output.refused_line frame.now (first, cell)) }
 {
     let frame_name = escape(alloc, frame.name.as_str())?;
     let column_name = escape(alloc, name_in(&frame.schema, cell.column))?;
