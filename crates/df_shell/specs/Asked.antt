@@ -1,9 +1,12 @@
 -- Changes that are asked for: which change of the catalogue each is, and why it is refused.
-use Rattle.std.specs.Prelude.{◌≡◌, ⊤, ℕ, List, Option, Some, None, Result, Ok, Err, option_map, slice_get, IsOk}
+use Rattle.std.specs.Prelude.{◌≡◌, ⊤, ℕ, List, Option, Some, None, Result, Ok, Err, map, option_map, slice_get, IsOk, IsTrue}
 use Rattle.df_value.specs.Names.{index_of_name}
+use Rattle.df_value.specs.declared.cell.Cell.{Cell}
+use Rattle.df_value.specs.declared.cell.CellType.{CellType}
 use Rattle.df_value.specs.Chunks.{ChunkParts, IsChunk}
+use Rattle.df_value.specs.Rows.{rows_fit}
 use Rattle.df_catalogue.specs.declared.change.Change.{Change}
-use Rattle.df_catalogue.specs.declared.change.Change.TheVariants.{Append, Delete, Register, DropView}
+use Rattle.df_catalogue.specs.declared.change.Change.TheVariants.{Append, Delete, Replace, Register, DropView}
 use Rattle.df_catalogue.specs.declared.fault.CatalogueFault.TheVariants as fault
 use Rattle.df_catalogue.specs.declared.state.State.{State}
 use Rattle.df_plan.specs.CheckedParts.{CheckedParts}
@@ -52,6 +55,14 @@ IsChunkOf d at first chunk =
     × (chunk.first ≡ first)
     × IsChunk chunk.schema chunk.first chunk.rows
 
+-- rows of the schema of the document's frame at this place, behind these numbers
+abbrev pub AreRowsOf : Definitions → ℕ → List ℕ → List (ℕ × List Cell) → Type 0
+AreRowsOf d at numbers rows =
+    (schema : List (List ℕ × CellType))
+    × (option_map (λ (f : FrameSpec). f.schema) (slice_get d.document.frames at) ≡ Some schema)
+    × (map (λ r. r.0) rows ≡ numbers)
+    × IsTrue (rows_fit schema (map (λ r. r.1) rows))
+
 -- What may be wrong with lines that were read, when they are to be a chunk.
 abbrev pub IsLineFault : Refusal → Type 0
 IsLineFault (refusal.Mistake m) = ⊥
@@ -70,11 +81,33 @@ IsRefusalOfAppend d s None first lines r = r ≡ refusal.Store fault.NoFrame
 IsRefusalOfAppend d s (Some at) first (Err f) r = r ≡ f
 IsRefusalOfAppend d s (Some at) first (Ok lines) r = IsRefusalOfLines d s at first r
 
--- The change that is asked for, with the lines that were read for it, or why they were not: an append is one only with lines.
+-- What may be wrong with lines that were read, when they are to be rows behind numbers: what may be wrong with a chunk of
+-- them, or that there are not as many.
+abbrev pub IsRowsFault : Refusal → Type 0
+IsRowsFault (refusal.Mistake m) = m ≡ mistake.OtherRowCount
+IsRowsFault r = IsLineFault r
+
+-- A refusal of lines that were read, at the frame at this place: they are no rows behind the numbers, or the catalogue refuses
+-- to put the rows that they are there.
+abbrev pub IsRefusalOfRows : Definitions → State → ℕ → List ℕ → Refusal → Type 0
+IsRefusalOfRows d s at numbers (refusal.Store f) = (rows : List (ℕ × List Cell)) × AreRowsOf d at numbers rows × IsRefusal s (Replace at rows) f
+IsRefusalOfRows d s at numbers r = IsRowsFault r
+
+-- A refusal to put rows at numbers of the frame at this place, with their lines, or why they were not read: `C11` where there
+-- is no frame; else that of the lines.
+abbrev pub IsRefusalOfReplace : {T : Type 0} → Definitions → State → Option ℕ → List ℕ → Result T Refusal → Refusal → Type 0
+IsRefusalOfReplace d s None numbers lines r = r ≡ refusal.Store fault.NoFrame
+IsRefusalOfReplace d s (Some at) numbers (Err f) r = r ≡ f
+IsRefusalOfReplace d s (Some at) numbers (Ok lines) r = IsRefusalOfRows d s at numbers r
+
+-- The change that is asked for, with the lines that were read for it, or why they were not: one that takes rows is one only
+-- with lines.
 abbrev pub IsAsked : {T : Type 0} → Definitions → AskedChange → Result T Refusal → Change → Type 0
 IsAsked d (asked.Append frame first) lines (Append at chunk) =
     IsOk lines × (frame_index_of d frame.now ≡ Some at) × IsChunkOf d at first chunk
 IsAsked d (asked.Delete frame numbers) lines (Delete at ns) = (frame_index_of d frame.now ≡ Some at) × (ns ≡ numbers)
+IsAsked d (asked.Replace frame numbers) lines (Replace at rows) =
+    IsOk lines × (frame_index_of d frame.now ≡ Some at) × AreRowsOf d at numbers rows
 IsAsked d (asked.Register view) lines (Register name plan) = (name ≡ view.now) × (plan_named d view.now ≡ Some plan)
 IsAsked d (asked.DropView view) lines (DropView name) = name ≡ view.now
 IsAsked d change lines _ = ⊥
@@ -87,5 +120,6 @@ IsMadeAsAsked d asked lines old new = (change : Change) × IsAsked d asked lines
 abbrev pub IsRefusalOfAsked : {T : Type 0} → Definitions → State → AskedChange → Result T Refusal → Refusal → Type 0
 IsRefusalOfAsked d s (asked.Append frame first) lines r = IsRefusalOfAppend d s (frame_index_of d frame.now) first lines r
 IsRefusalOfAsked d s (asked.Delete frame numbers) lines r = IsRefusalAtFrame s (λ at. Delete at numbers) (frame_index_of d frame.now) r
+IsRefusalOfAsked d s (asked.Replace frame numbers) lines r = IsRefusalOfReplace d s (frame_index_of d frame.now) numbers lines r
 IsRefusalOfAsked d s (asked.Register view) lines r = IsRefusalOfRegister s view.now (plan_named d view.now) r
 IsRefusalOfAsked d s (asked.DropView view) lines r = IsRefusalOfChange s (DropView view.now) r

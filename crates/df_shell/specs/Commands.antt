@@ -29,6 +29,8 @@ IsChangeOf words (asked.Append frame first) =
     × IsRowNumber first_word first × IsLineCount count_word count
 IsChangeOf words (asked.Delete frame numbers) =
     (number_words : List (List ℕ)) × (words ≡ codes "delete" ∷ frame.now ∷ number_words) × AllZip IsRowNumber number_words numbers
+IsChangeOf words (asked.Replace frame numbers) =
+    (number_words : List (List ℕ)) × (words ≡ codes "replace" ∷ frame.now ∷ number_words) × AllZip IsRowNumber number_words numbers
 IsChangeOf words (asked.Register view) = words ≡ codes "register" ∷ view.now ∷ []
 IsChangeOf words (asked.DropView view) = words ≡ codes "drop" ∷ view.now ∷ []
 

@@ -22,7 +22,8 @@ mistake_text mistake.NotRowNumber = codes "a row number is a whole number below 
 mistake_text mistake.NotCount = codes "COUNT is a whole number below 18446744073709551616"
 mistake_text mistake.NotText = codes "the line is not UTF-8"
 mistake_text mistake.LongLine = codes "a line has more than 1048576 bytes"
-mistake_text mistake.MissingLines = codes "the input ends before the lines of the append"
+mistake_text mistake.MissingLines = codes "the input ends before the lines of the command"
+mistake_text mistake.OtherRowCount = codes "not as many rows as numbers"
 mistake_text mistake.NoView = codes "the document has no such view"
 
 -- the code of a catalogue's fault, and the number that it is about
@@ -59,13 +60,14 @@ abbrev pub help_text : List ℕ
 help_text =
     codes "append FRAME FIRST COUNT   and COUNT lines of CSV: adds rows, numbered from FIRST\n"
     ++ (codes "delete FRAME NUMBER ..     takes the rows of these numbers out\n"
+    ++ (codes "replace FRAME NUMBER ..    and as many lines of CSV: puts each row in the place of that of its number\n"
     ++ (codes "register VIEW              adds the document's view of this name\n"
     ++ (codes "drop VIEW                  takes a view out\n"
     ++ (codes "show VIEW                  the table of a view\n"
     ++ (codes "rows FRAME                 the table of a frame, and the numbers of its rows\n"
     ++ (codes "books FRAME                how many rows were accepted and deleted, and how many there are\n"
     ++ (codes "views                      the names of the views\n"
-    ++ codes "help                       this list\n")))))))
+    ++ codes "help                       this list\n"))))))))
 
 -- the text of a refusal
 abbrev pub text_of : Refusal → List ℕ

@@ -5,7 +5,7 @@ ghost use Rattle.df_shell.specs.Answers.{IsAnswer, IsAnswerToLine, answer_text};
 ghost use Rattle.df_shell.specs.Asked.{IsMadeAsAsked, IsRefusalOfAsked};
 ghost use Rattle.df_shell.specs.Questions.{IsTold, fault_of_question, text_of_question};
 
-use crate::changing::{append, delete, drop_view, register};
+use crate::changing::{append, delete, drop_view, register, replace};
 use crate::command::{AskedChange, Command, Question, read_command};
 use crate::definitions::Definitions;
 use crate::reading::{books, rows, show, views};
@@ -30,6 +30,7 @@ pub enum Answer {
 const HELP: &str = "\
 append FRAME FIRST COUNT   and COUNT lines of CSV: adds rows, numbered from FIRST
 delete FRAME NUMBER ..     takes the rows of these numbers out
+replace FRAME NUMBER ..    and as many lines of CSV: puts each row in the place of that of its number
 register VIEW              adds the document's view of this name
 drop VIEW                  takes a view out
 show VIEW                  the table of a view
@@ -113,6 +114,9 @@ fn answer_change<Acc: Ledger, Del: Ledger>(
             append(alloc, definitions, store, frame, first, lines)
         }
         AskedChange::Delete(frame, numbers) => delete(alloc, definitions, store, frame, numbers),
+        AskedChange::Replace(frame, numbers) => {
+            replace(alloc, definitions, store, frame, numbers, lines)
+        }
         AskedChange::Register(view) => register(alloc, definitions, store, view),
         AskedChange::DropView(view) => drop_view(alloc, store, view),
     }

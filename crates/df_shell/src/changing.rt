@@ -1,14 +1,15 @@
 //! The commands that change the catalogue.
-ghost use Rattle.std.specs.Prelude.{◌≡◌, ℕ, Some, IfErr, IsOk, OnErr, OnOk};
+ghost use Rattle.std.specs.Prelude.{◌≡◌, ℕ, List as Seq, Some, IfErr, IsOk, OnErr, OnOk};
+ghost use Rattle.df_value.specs.declared.cell.Cell.{Cell};
 ghost use Rattle.df_value.specs.Chunks.{ChunkParts};
 ghost use Rattle.df_plan.specs.CheckedParts.{CheckedParts};
-ghost use Rattle.df_catalogue.specs.declared.change.Change.TheVariants.{Append, Delete, DropView, Register};
+ghost use Rattle.df_catalogue.specs.declared.change.Change.TheVariants.{Append, Delete, DropView, Register, Replace};
 ghost use Rattle.df_shell.specs.Changes.{IsMade};
-ghost use Rattle.df_shell.specs.Asked.{IsChunkOf, IsRefusalOfAppend, IsRefusalAtFrame, IsRefusalOfChange, IsRefusalOfRegister, frame_index_of, plan_named};
+ghost use Rattle.df_shell.specs.Asked.{AreRowsOf, IsChunkOf, IsRefusalOfAppend, IsRefusalAtFrame, IsRefusalOfChange, IsRefusalOfRegister, IsRefusalOfReplace, frame_index_of, plan_named};
 
 use crate::definitions::Definitions;
 use crate::refusal::{Mistake, Refusal};
-use crate::rows::read_chunk;
+use crate::rows::{read_chunk, read_rows};
 use crate::store::Store;
 use df_catalogue::{CatalogueFault, Change};
 use df_value::{Duplicate, List, Text};
@@ -66,6 +67,37 @@ pub fn delete<Acc: Ledger, Del: Ledger>(
         return Err(Refusal::Store(CatalogueFault::NoFrame));
     };
     Ok(store.make(alloc, Change::Delete(at, numbers))?)
+}
+
+/// Puts the rows of lines of CSV in the place of those of these numbers in a frame.
+///
+/// The first of these is answered: `C11` where no frame has the name; why the lines could not be
+/// read; why they are no rows behind the numbers (`read_rows`); the catalogue's refusal.
+pub fn replace<Acc: Ledger, Del: Ledger>(
+    alloc: Global,
+    definitions: &Definitions,
+    store: &mut Store<Acc, Del>,
+    frame: &str,
+    numbers: List<u32>,
+    lines: Result<Vec<u8>, Refusal>,
+) -> Result<(), Refusal>
+    ensures made { OnOk result
+        ((at : ℕ) × (rows : Seq (ℕ × Seq Cell)) × IsOk lines
+        × (frame_index_of definitions.now frame.now ≡ Some at)
+        × AreRowsOf definitions.now at numbers rows
+        × IsMade store.old.catalogue store.new.catalogue (Replace at rows)) }
+    ensures refused { IfErr result
+        (IsRefusalOfReplace definitions.now store.old.catalogue
+        (frame_index_of definitions.now frame.now) numbers lines) }
+    ensures same { OnErr result (store.new.catalogue ≡ store.old.catalogue) }
+{
+    let Some(at) = definitions.frame_index(frame) else {
+        return Err(Refusal::Store(CatalogueFault::NoFrame));
+    };
+    let schema = &definitions.document.frames.as_slice()[at].schema;
+    let lines = lines?;
+    let rows = read_rows(alloc, schema, numbers, lines.as_slice())?;
+    Ok(store.make(alloc, Change::Replace(at, rows))?)
 }
 
 /// Adds the document's view of this name last. A name of no such view is a mistake.

@@ -24,6 +24,8 @@ pub enum AskedChange<'a> {
     Append(&'a str, u32),
     /// Takes the rows of these numbers out of a frame.
     Delete(&'a str, List<u32>),
+    /// Puts rows in the place of those of these numbers.
+    Replace(&'a str, List<u32>),
     /// Adds the document's view of this name last.
     Register(&'a str),
     /// Takes the view of this name out.
@@ -61,6 +63,7 @@ fn command_of<'a>(alloc: Global, name: &str, arguments: &[&'a str]) -> Result<Co
     match name {
         "append" => Ok(Command::Change(read_append(arguments)?)),
         "delete" => Ok(Command::Change(read_delete(alloc, arguments)?)),
+        "replace" => Ok(Command::Change(read_replace(alloc, arguments)?)),
         "register" => Ok(Command::Change(AskedChange::Register(only(arguments)?))),
         "drop" => Ok(Command::Change(AskedChange::DropView(only(arguments)?))),
         "show" => Ok(Command::Question(Question::Show(only(arguments)?))),
@@ -92,6 +95,16 @@ fn read_delete<'a>(alloc: Global, arguments: &[&'a str]) -> Result<AskedChange<'
 {
     match arguments {
         [frame, numbers @ ..] => Ok(AskedChange::Delete(frame, row_numbers(alloc, numbers)?)),
+        [] => Err(Refusal::Mistake(Mistake::MissingWord)),
+    }
+}
+
+fn read_replace<'a>(alloc: Global, arguments: &[&'a str]) -> Result<AskedChange<'a>, Refusal>
+    ensures said { IfOk result (IsChangeOf (codes "replace" ∷ map (λ w. w.now) arguments.now)) }
+    ensures refused { IfErr result IsWordFault }
+{
+    match arguments {
+        [frame, numbers @ ..] => Ok(AskedChange::Replace(frame, row_numbers(alloc, numbers)?)),
         [] => Err(Refusal::Mistake(Mistake::MissingWord)),
     }
 }

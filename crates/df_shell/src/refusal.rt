@@ -17,14 +17,14 @@ pub enum Refusal {
     /// The catalogue refuses it.
     #[error("{0}")]
     Store(CatalogueFault),
-    /// The lines of an append are no records.
+    /// The lines of a command are no records.
     #[error("{0}")]
     Csv(CsvFault),
-    /// The first bad cell of an append: the number of its record, from 1, and the name of its
+    /// The first bad cell of these: the number of its record, from 1, and the name of its
     /// column.
     #[error("record {0}, column {1:?}")]
     Cell(u64, Text),
-    /// The rows of an append are no chunk.
+    /// The rows of a command are no chunk.
     #[error("{0}")]
     Chunk(ChunkFault),
     /// Memory was refused.
@@ -41,7 +41,7 @@ pub enum Mistake {
     MissingWord,
     #[error("a word too many")]
     ExtraWord,
-    /// The second word of an append, or a number of a deletion, is no number below 2^32.
+    /// The second word of an append, or a number of a list of them, is no number below 2^32.
     #[error("not a row number")]
     NotRowNumber,
     /// The last word of an append is no number below 2^64.
@@ -51,9 +51,12 @@ pub enum Mistake {
     NotText,
     #[error("a line of more than 1048576 bytes")]
     LongLine,
-    /// The input ends before the lines of an append do.
+    /// The input ends before the lines of a command do.
     #[error("lines are missing")]
     MissingLines,
+    /// The lines of CSV behind numbers are not as many rows.
+    #[error("another number of rows")]
+    OtherRowCount,
     /// The document has no view of this name.
     #[error("no such view")]
     NoView,

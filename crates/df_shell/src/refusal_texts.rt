@@ -39,7 +39,8 @@ fn mistake_text(mistake: Mistake) -> &'static str
         Mistake::NotCount => "COUNT is a whole number below 18446744073709551616",
         Mistake::NotText => "the line is not UTF-8",
         Mistake::LongLine => "a line has more than 1048576 bytes",
-        Mistake::MissingLines => "the input ends before the lines of the append",
+        Mistake::MissingLines => "the input ends before the lines of the command",
+        Mistake::OtherRowCount => "not as many rows as numbers",
         Mistake::NoView => "the document has no such view",
     }
 }

@@ -1,9 +1,12 @@
-//! The rows of an append: its lines as records of the frame, and those as a chunk.
-ghost use Rattle.std.specs.Prelude.{◌≡◌, IfErr, IfOk, length};
-ghost use Rattle.df_shell.specs.Asked.{IsLineFault};
+//! The rows of a command: its lines as records of the frame, and those as a chunk, or behind
+//! numbers.
+ghost use Rattle.std.specs.Prelude.{◌≡◌, IfErr, IfOk, IsTrue, length, map};
+ghost use Rattle.std.specs.List.{zip};
+ghost use Rattle.df_value.specs.Rows.{rows_fit};
+ghost use Rattle.df_shell.specs.Asked.{IsLineFault, IsRowsFault};
 ghost use Rattle.df_csv.specs.Records.{IsRecords};
 
-use crate::refusal::Refusal;
+use crate::refusal::{Mistake, Refusal};
 use df_text::{CsvFault, Records, count_pieces, parse_records, type_piece};
 use df_value::{
     BadCell, CellType, Chunk, ChunkFault, Duplicate, List, MOST_ROWS_OF_CHUNK, Piece, Row, Schema,
@@ -40,6 +43,44 @@ pub fn read_chunk(
         Ok(chunk) => Ok(chunk),
         Err(refused) => Err(Refusal::Chunk(refused.fault)),
     }
+}
+
+/// The rows that lines of CSV make, each behind the number at its place.
+///
+/// Refused are the lines that make no chunk (`read_chunk`), and those that are not as many rows as
+/// there are numbers.
+pub fn read_rows(
+    alloc: Global,
+    schema: &Schema,
+    numbers: List<u32>,
+    lines: &[u8],
+) -> Result<List<(u32, Row)>, Refusal>
+    ensures numbers { IfOk result (λ rows. map (λ r. r.0) rows ≡ numbers) }
+    ensures fitting { IfOk result (λ rows.
+        IsTrue (rows_fit schema.now (map (λ r. r.1) rows))) }
+    ensures refused { IfErr result IsRowsFault }
+{
+    let chunk = read_chunk(alloc, schema, 0, lines)?;
+    if chunk.rows().len() != numbers.len() {
+        return Err(Refusal::Mistake(Mistake::OtherRowCount));
+    }
+    Ok(with_numbers(alloc, numbers, chunk.into_rows())?)
+}
+
+// The rows, each behind the number at its place.
+fn with_numbers(
+    alloc: Global,
+    numbers: List<u32>,
+    rows: List<Row>,
+) -> Result<List<(u32, Row)>, AllocError>
+    ensures { IfOk result (λ numbered. numbered ≡ zip numbers rows) }
+{
+    let numbered = numbers
+        .into_vec()
+        .into_iter()
+        .zip(rows.into_vec())
+        .collect(alloc)?;
+    Ok(List::from_vec(numbered))
 }
 
 // More records than a file may have are more than a chunk may have.

@@ -3,11 +3,11 @@ ghost use Rattle.std.specs.Prelude.{◌≡◌};
 ghost use Rattle.df_catalogue.specs.Desks.{AreInOrder};
 ghost use Rattle.df_catalogue.specs.Ledgers as ledgers;
 
-use crate::given::{chunk, scan, schema};
+use crate::given::{chunk, row, rows, scan, schema};
 use crate::openings::{books, opened};
 use df_catalogue::{Catalogue, CatalogueFault, Change, Desk, PARTS_OF_LEDGER};
 use df_value::CellType::{Bool, Int};
-use df_value::{Chunk, List, Text};
+use df_value::{Cell, Chunk, List, Row, Text};
 use std::alloc::{AllocError, Global};
 use std::marker::Brand;
 use std::process::Abort;
@@ -21,6 +21,10 @@ enum Step {
     /// Of a chunk without rows, of another schema than the first frame's.
     AppendUnlike,
     Delete(usize, u32),
+    /// Puts a row of 9 at each of the numbers.
+    Replace(usize, &'static [u32]),
+    /// Of one row twice, of another schema than the first frame's.
+    ReplaceUnlike,
     Drop,
     Register,
 }
@@ -40,6 +44,8 @@ fn change(alloc: Global, step: Step) -> Result<Change, AllocError> {
             let numbers = vec![in alloc; number]?;
             Ok(Change::Delete(frame, List::from_vec(numbers)))
         }
+        Step::Replace(frame, numbers) => Ok(Change::Replace(frame, nines(alloc, numbers)?)),
+        Step::ReplaceUnlike => Ok(Change::Replace(0, unlike_rows(alloc)?)),
         Step::Drop => Ok(Change::DropView(Text::from_str(alloc, "v")?)),
         Step::Register => {
             let plan = scan(alloc, &[Int])?;
@@ -48,12 +54,34 @@ fn change(alloc: Global, step: Step) -> Result<Change, AllocError> {
     }
 }
 
+// A row of 9 behind each of the numbers.
+fn nines(alloc: Global, numbers: &[u32]) -> Result<List<(u32, Row)>, AllocError> {
+    let mut nines = Vec::with_capacity(alloc, numbers.len())?;
+    for number in numbers {
+        nines.push((*number, row(alloc, Some(9))?))?;
+    }
+    Ok(List::from_vec(nines))
+}
+
+// Number 1 twice, the second time with a row of another schema than the first frame's.
+fn unlike_rows(alloc: Global) -> Result<List<(u32, Row)>, AllocError> {
+    let mut unlike = nines(alloc, &[1])?.into_vec();
+    unlike.push((1, Row::new(alloc, vec![in alloc; Cell::Bool(true)]?)?))?;
+    Ok(List::from_vec(unlike))
+}
+
 // The changes and their answers.
-const STEPS: [(Step, Option<CatalogueFault>); 9] = [
+const STEPS: [(Step, Option<CatalogueFault>); 15] = [
     (Step::Append(0), None),
     (Step::AppendUnlike, Some(CatalogueFault::SchemaUnlike)),
     (Step::Delete(0, 5), Some(CatalogueFault::NotLive(5))),
     (Step::Delete(0, 0), None),
+    (Step::ReplaceUnlike, Some(CatalogueFault::SchemaUnlike)),
+    (Step::Replace(0, &[0, 0]), Some(CatalogueFault::Doubled(0))),
+    (Step::Replace(0, &[1, 0]), Some(CatalogueFault::NotLive(0))),
+    (Step::Replace(0, &[1]), None),
+    (Step::Replace(0, &[]), None),
+    (Step::Replace(9, &[1]), Some(CatalogueFault::NoFrame)),
     (Step::Append(9), Some(CatalogueFault::NoFrame)),
     (Step::Delete(9, 0), Some(CatalogueFault::NoFrame)),
     (Step::Drop, Some(CatalogueFault::NoView)),
@@ -106,6 +134,7 @@ fn replayed<Acc: Ledger, Del: Ledger, R: Abort>(
     let wanted = STEPS.iter().map(|step| &step.1);
     assert!(rt; answers.as_slice().iter().eq(wanted));
     assert!(rt; catalogue.frame_numbers(alloc, 0)?.as_slice() == [1].as_slice());
+    assert!(rt; catalogue.frame_rows(alloc, 0)? == rows(alloc, &[Some(9)])?);
     assert!(rt; books(&catalogue, 0) == [Some(2), Some(1), Some(1)]);
     again(rt, alloc, &mut catalogue, desks.as_mut_slice())?;
     let desk = desks.pop().ok_or("a desk")?;

@@ -2,7 +2,7 @@
 ghost use Rattle.std.specs.Prelude.{◌≡◌};
 ghost use Rattle.df_catalogue.specs.Ledgers as ledgers;
 
-use crate::given::chunk;
+use crate::given::{chunk, row};
 use crate::openings::{books, opened};
 use df_catalogue::{Catalogue, Desk, PARTS_OF_LEDGER};
 use df_value::CellType::Int;
@@ -27,7 +27,8 @@ fn parts_of<Acc: Ledger, Del: Ledger>(desk: &Desk<Acc, Del>) -> (usize, u64, u64
     (desk.frame(), desk.accepted(), desk.deleted(), desk.parts())
 }
 
-// Accepts three rows through the one desk and two through the other, which then deletes one.
+// Accepts three rows through the one desk and two through the other, which then deletes one of
+// those of the one. The one puts a row in the place of one of those of the other.
 fn work<Acc: Ledger, Del: Ledger>(
     alloc: Global,
     catalogue: &mut Catalogue<Acc, Del>,
@@ -38,6 +39,7 @@ fn work<Acc: Ledger, Del: Ledger>(
     catalogue.append(alloc, one, &chunk(alloc, 0, &numbers)?)?;
     catalogue.append(alloc, other, &chunk(alloc, 3, &numbers[..2])?)?;
     catalogue.delete(alloc, other, &[0])?;
+    catalogue.replace(alloc, one, &[(4, row(alloc, None)?)])?;
     // What contracts alone tell of books and shares: the calls take place.
     catalogue.audit(other);
     let _accepted = catalogue.accepted_book();

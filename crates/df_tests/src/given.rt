@@ -23,15 +23,20 @@ pub fn scan(alloc: Global, kinds: &[CellType]) -> Result<CheckedPlan, AllocError
     CheckedPlan::new(alloc, Plan::Scan(0), frames.as_slice()).map_err(|_| AllocError)
 }
 
+/// A row of this number, or null.
+pub fn row(alloc: Global, number: Option<i64>) -> Result<Row, AllocError> {
+    let cell = match number {
+        Some(number) => Cell::Int(number),
+        None => Cell::Null,
+    };
+    Row::new(alloc, vec![in alloc; cell]?)
+}
+
 /// Rows of these numbers, or null.
 pub fn rows(alloc: Global, numbers: &[Option<i64>]) -> Result<List<Row>, AllocError> {
     let mut rows = Vec::with_capacity(alloc, numbers.len())?;
     for number in numbers {
-        let cell = match number {
-            Some(number) => Cell::Int(*number),
-            None => Cell::Null,
-        };
-        rows.push(Row::new(alloc, vec![in alloc; cell]?)?)?;
+        rows.push(row(alloc, *number)?)?;
     }
     Ok(List::from_vec(rows))
 }

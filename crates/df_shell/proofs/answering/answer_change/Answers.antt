@@ -1,6 +1,6 @@
 use Rattle.std.proofs.Common.{refl}
 use Rattle.std.proofs.lemmas.Result.{on_ok_weaker}
-use Rattle.df_catalogue.specs.declared.change.Change.TheVariants.{Append, Delete, DropView, Register}
+use Rattle.df_catalogue.specs.declared.change.Change.TheVariants.{Append, Delete, DropView, Register, Replace}
 use Rattle.df_shell.proofs.answering.answer_change.Goals as goal
 
 -- the change that each of the commands makes
@@ -12,6 +12,10 @@ returns-in-Append-clause-made g c =
 pub returns-in-Delete-clause-made : goal.returns-in-Delete-clause-made
 returns-in-Delete-clause-made g c =
     on_ok_weaker c.delete.result (λ e. (Delete e.0 c.in-Delete.numbers, rw c.in-Delete.is (e.1, refl), e.2)) c.delete.ensures.made
+
+pub returns-in-Replace-clause-made : goal.returns-in-Replace-clause-made
+returns-in-Replace-clause-made g c =
+    on_ok_weaker c.replace.result (λ e. (Replace e.0 e.1, rw c.in-Replace.is (e.2, e.3, e.4), e.5)) c.replace.ensures.made
 
 pub returns-in-Register-clause-made : goal.returns-in-Register-clause-made
 returns-in-Register-clause-made g c =
