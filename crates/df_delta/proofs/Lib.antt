@@ -8,3 +8,4 @@ pub mod Whole
 pub mod Loops
 pub mod Rising
 pub mod Fitting
+pub mod Reached

@@ -2,6 +2,7 @@ pub mod Differences
 pub mod Collected
 pub mod ChangeOf
 pub mod SameRows
+pub mod Reached
 pub mod Notes
 pub mod Diff
 pub mod Deltas

@@ -5,11 +5,15 @@
 #![tactic(auto)]
 
 #[cfg(test)]
+mod blocks;
+#[cfg(test)]
 mod changes;
 #[cfg(test)]
 mod desks;
 #[cfg(test)]
 mod given;
+#[cfg(test)]
+mod nodes;
 #[cfg(test)]
 mod openings;
 #[cfg(test)]
