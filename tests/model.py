@@ -132,12 +132,12 @@ def grouped(table, keys, *aggregates):
     return result
 
 
-def joined(table, kind, keys, right):
+def joined(table, kind, keys, right, nulls_equal=None):
     assert kind == "left" and not (set(right) - set(keys)) & set(table)
     pairs = []
     for n in range(height(table)):
         key = [table[key][1][n] for key in keys]
-        matches = [m for m in range(height(right)) if None not in key and key == [right[k][1][m] for k in keys]]
+        matches = [m for m in range(height(right)) if (nulls_equal or None not in key) and key == [right[k][1][m] for k in keys]]
         pairs += [(n, m) for m in matches or [None]]
     rest = {name: column for name, column in right.items() if name not in keys}
     return taken(table, [n for n, _ in pairs]) | taken(rest, [m for _, m in pairs])
@@ -170,7 +170,7 @@ def ranked(table, output, kind, column):
 def stepped(table, step, frames):
     word, *items = step
     if word == "join":
-        return joined(table, items[0], items[1], frames[items[2]])
+        return joined(table, items[0], items[1], frames[items[2]], *items[3:])
     if word.startswith("rolling_"):
         return rolled(table, word, *items)
     steps = {"filter": filtered, "select": selected, "group_by": grouped, "cum_sum": summed_up, "rank": ranked}

@@ -11,7 +11,7 @@ use Rattle.df_value.specs.RowEq.{row_eq-Decides}
 use Rattle.df_value.specs.Rows.{row_eq}
 use Rattle.df_expr.specs.Value.{is_null}
 use Rattle.df_ops.specs.Groups.{key_of}
-use Rattle.df_ops.specs.Joins.{join_row, join_rows, keys_match, left_beside, matches_of, nulls_for, IsJoinOfRow, JoinsInOrder, Matches}
+use Rattle.df_ops.specs.Joins.{join_row, join_rows, keys_match, left_beside, matches_of, nulls_for, IsJoinOfRow, JoinsInOrder, Matches, SameWithoutNulls}
 use Rattle.df_ops.specs.declared.join_columns.JoinIndices.{JoinIndices}
 use Rattle.df_ops.specs.declared.joins.How.{How}
 use Rattle.df_ops.specs.declared.joins.How.TheVariants as how
@@ -45,25 +45,30 @@ all_not_null [] h k d l = absurd (omega arith)
 all_not_null (c ∷ cs) h zero d l = null_is c (both_false (is_null c) (list_any is_null cs) h).0
 all_not_null (c ∷ cs) h (suc k) d l = all_not_null cs (both_false (is_null c) (list_any is_null cs) h).1 k d (omega arith)
 
-matching : (s : JoinIndices) (l r : List Cell) → Matches s l r → keys_match (key_of s.left l) (key_of s.right r) ≡ true
-matching s l r h =
-    ap (λ b. b && not (list_any is_null (key_of s.left l))) ((row_eq-Decides (key_of s.right r) (key_of s.left l)).1 (sym h.0))
-    ∙ ap not (none_null (key_of s.left l) h.1)
+or_none : (n b : Bool) → (not n ≡ true → b ≡ false) → (n || not b) ≡ true
+or_none true b h = refl
+or_none false b h = ap not (h refl)
 
-two_parts : (a b : Bool) → (a && not b) ≡ true → (a ≡ true) × (b ≡ false)
-two_parts true true h = cc
-two_parts true false h = (refl, refl)
-two_parts false b h = cc
+matching : (s : JoinIndices) (l r : List Cell) → Matches s l r → keys_match s.nulls_equal (key_of s.left l) (key_of s.right r) ≡ true
+matching s l r h =
+    ap (λ b. b && (s.nulls_equal || not (list_any is_null (key_of s.left l)))) ((row_eq-Decides (key_of s.right r) (key_of s.left l)).1 (sym h.0))
+    ∙ or_none s.nulls_equal (list_any is_null (key_of s.left l)) (λ e. none_null (key_of s.left l) (h.1 e))
+
+two_parts : (a n b : Bool) → (a && (n || not b)) ≡ true → (a ≡ true) × (not n ≡ true → b ≡ false)
+two_parts true true b h = (refl, (λ e. cc))
+two_parts true false true h = cc
+two_parts true false false h = (refl, (λ e. refl))
+two_parts false n b h = cc
 
 unless : (b : Bool) → (b ≡ true → ⊥) → b ≡ false
 unless true h = absurd (h refl)
 unless false h = refl
 
-not_matching : (s : JoinIndices) (l r : List Cell) → ¬ (Matches s l r) → keys_match (key_of s.left l) (key_of s.right r) ≡ false
+not_matching : (s : JoinIndices) (l r : List Cell) → ¬ (Matches s l r) → keys_match s.nulls_equal (key_of s.left l) (key_of s.right r) ≡ false
 not_matching s l r none =
-    unless (keys_match (key_of s.left l) (key_of s.right r)) (λ e.
-    let parts = two_parts (row_eq (key_of s.right r) (key_of s.left l)) (list_any is_null (key_of s.left l)) e in
-    none (sym ((row_eq-Decides (key_of s.right r) (key_of s.left l)).0 parts.0), all_not_null (key_of s.left l) parts.1))
+    unless (keys_match s.nulls_equal (key_of s.left l) (key_of s.right r)) (λ e.
+    let parts = two_parts (row_eq (key_of s.right r) (key_of s.left l)) s.nulls_equal (list_any is_null (key_of s.left l)) e in
+    none (sym ((row_eq-Decides (key_of s.right r) (key_of s.left l)).0 parts.0), (λ n. all_not_null (key_of s.left l) (parts.1 n))))
 
 inner : (l nulls : List Cell) (rs : Rows) → left_beside how.Inner l nulls rs ≡ map (λ q. l ++ q) rs
 inner l nulls [] = refl
@@ -82,12 +87,12 @@ all_nulls [] = refl
 all_nulls (i ∷ is) = ap (λ (cs : List Cell). cell.Null ∷ cs) (all_nulls is)
 
 rests : JoinIndices → List Cell → Rows → Rows
-rests s l rights = map (key_of s.rest) (matches_of s.right (key_of s.left l) rights)
+rests s l rights = map (key_of s.rest) (matches_of s.nulls_equal s.right (key_of s.left l) rights)
 
 rests-append : (s : JoinIndices) (l : List Cell) (xs ys : Rows) → rests s l (xs ++ ys) ≡ rests s l xs ++ rests s l ys
 unfolding rests
 rests-append s l xs ys =
-    ap (map (key_of s.rest)) (filter-append (λ r. keys_match (key_of s.left l) (key_of s.right r)) xs ys) ∙ map-append (key_of s.rest) _ _
+    ap (map (key_of s.rest)) (filter-append (λ r. keys_match s.nulls_equal (key_of s.left l) (key_of s.right r)) xs ys) ∙ map-append (key_of s.rest) _ _
 
 pub is_join_of_row : (s : JoinIndices) (l : List Cell) → IsJoinOfRow s l (λ h rights. join_row h s rights l)
 unfolding join_row rests
@@ -110,3 +115,10 @@ joins_in_order h s rights = record {
   of_one = λ l. append-nil (join_row h s rights l);
   of_parts = flat_map-append (join_row h s rights);
 }
+
+pub same_without_nulls : (s : JoinIndices) (rights : Rows) (l : List Cell) → SameWithoutNulls s rights l
+same_without_nulls s rights l none =
+    let key = key_of s.left l in
+    let same : (r : List Cell) → keys_match true key (key_of s.right r) ≡ keys_match false key (key_of s.right r) =
+    λ r. ap (λ b. row_eq (key_of s.right r) key && not b) (sym (none_null key none)) in
+    ap (λ (p : List Cell → Bool). filter p rights) (λ i. λ r. same r i)

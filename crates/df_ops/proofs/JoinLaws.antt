@@ -28,7 +28,7 @@ put_count how.Left l nulls (r ∷ rs) =
 pub row_count : (h : How) (s : JoinIndices) (rights : Rows) (l : List Cell) → length (join_row h s rights l) ≡ join_count h (match_count s rights l)
 unfolding join_row
 row_count h s rights l =
-    let matches = matches_of s.right (key_of s.left l) rights in
+    let matches = matches_of s.nulls_equal s.right (key_of s.left l) rights in
     put_count h l (nulls_for s.rest) (map (key_of s.rest) matches) ∙ ap (join_count h) (length-map matches (key_of s.rest))
 
 put_some : (h : How) (l nulls : List Cell) (rs : Rows) → h ≡ how.Left → 0 < length (left_beside h l nulls rs)
@@ -39,7 +39,7 @@ put_some how.Left l nulls (r ∷ rs) e = omega arith
 -- a left join keeps the row
 pub row_kept : (h : How) (s : JoinIndices) (rights : Rows) (l : List Cell) → h ≡ how.Left → 0 < length (join_row h s rights l)
 unfolding join_row
-row_kept h s rights l e = put_some h l (nulls_for s.rest) (map (key_of s.rest) (matches_of s.right (key_of s.left l) rights)) e
+row_kept h s rights l e = put_some h l (nulls_for s.rest) (map (key_of s.rest) (matches_of s.nulls_equal s.right (key_of s.left l) rights)) e
 
 pub rows_count :
     (h : How) (s : JoinIndices) (lefts rights : Rows) →
@@ -61,7 +61,7 @@ put_begins how.Left l nulls (r ∷ rs) = each_begins l (r ∷ rs)
 -- each row that a left row gives begins with it
 pub row_begins : (h : How) (s : JoinIndices) (rights : Rows) (l : List Cell) → All (λ r. take (length l) r ≡ l) (join_row h s rights l)
 unfolding join_row
-row_begins h s rights l = put_begins h l (nulls_for s.rest) (map (key_of s.rest) (matches_of s.right (key_of s.left l) rights))
+row_begins h s rights l = put_begins h l (nulls_for s.rest) (map (key_of s.rest) (matches_of s.nulls_equal s.right (key_of s.left l) rights))
 
 -- a filter that keeps a row
 alike :
@@ -92,11 +92,11 @@ put_none f l nulls p (r ∷ rs) h = gone f l nulls (p r) r (filter p rs) (list_a
 
 row_alike : (s : JoinIndices) (rights : Rows) (l : List Cell) → has_match s rights l ≡ true → join_row how.Inner s rights l ≡ join_row how.Left s rights l
 unfolding join_row
-row_alike s rights l h = put_alike (key_of s.rest) l (nulls_for s.rest) (λ r. keys_match (key_of s.left l) (key_of s.right r)) rights h
+row_alike s rights l h = put_alike (key_of s.rest) l (nulls_for s.rest) (λ r. keys_match s.nulls_equal (key_of s.left l) (key_of s.right r)) rights h
 
 row_none : (s : JoinIndices) (rights : Rows) (l : List Cell) → has_match s rights l ≡ false → join_row how.Inner s rights l ≡ []
 unfolding join_row
-row_none s rights l h = put_none (key_of s.rest) l (nulls_for s.rest) (λ r. keys_match (key_of s.left l) (key_of s.right r)) rights h
+row_none s rights l h = put_none (key_of s.rest) l (nulls_for s.rest) (λ r. keys_match s.nulls_equal (key_of s.left l) (key_of s.right r)) rights h
 
 -- an inner join is the left join of those left rows that have a match
 pub inner_is_left :

@@ -10,6 +10,7 @@ pub mod Counts
 pub mod Steps
 pub mod JoinLaws
 pub mod JoinCells
+pub mod SelfJoin
 pub mod WindowFacts
 pub mod WindowLaws
 pub mod RankLaws

@@ -1,6 +1,6 @@
 -- The table that each operator gives of the whole table of its input: `filter`, `select`, `with_columns`, `join`, rolling
 -- windows, `cum_sum`, `rank`, and `group_by` with `maintain_order=True` of the Polars Python reference.
-use Rattle.std.specs.Prelude.{ℕ, pos, List, [], ◌∷◌, ◌++◌, Option, Some, None, length, map, unwrap_or}
+use Rattle.std.specs.Prelude.{ℕ, Bool, pos, List, [], ◌∷◌, ◌++◌, Option, Some, None, length, map, unwrap_or}
 use Rattle.df_value.specs.declared.cell.Cell.{Cell}
 use Rattle.df_value.specs.declared.cell.Cell.TheVariants as cell
 use Rattle.df_value.specs.declared.cell.CellType.{CellType}
@@ -83,10 +83,10 @@ unfoldable pub with_columns_table : PlainTable → List (List ℕ × Expr) → P
 with_columns_table t items = record { columns = with_columns_schema t.columns items; rows = map (with_columns_row t.columns items) t.rows }
 
 -- the rows of two tables whose keys match
-unfoldable pub join_table : PlainTable → PlainTable → How → List (List ℕ) → PlainTable
-join_table left right h keys = record {
+unfoldable pub join_table : PlainTable → PlainTable → How → List (List ℕ) → Bool → PlainTable
+join_table left right h keys nulls_equal = record {
   columns = columns_of_join left.columns right.columns keys;
-  rows = join_rows h (join_indices_of left.columns right.columns keys) left.rows right.rows;
+  rows = join_rows h (join_indices_of left.columns right.columns keys nulls_equal) left.rows right.rows;
 }
 
 -- a column of further cells, one for each row, put among a table's columns: in the place of the one of its name, else last

@@ -8,12 +8,13 @@ use df_value::{CellType, Duplicate, List, Text, column_index, has_name};
 use std::alloc::{AllocError, Global};
 
 /// The column indices of the keys on the left and on the right, and those of the right columns that
-/// are no keys.
+/// are no keys; and whether null keys match.
 #[derive(Debug, Drop)]
 pub struct JoinIndices {
     pub left: List<Option<usize>>,
     pub right: List<Option<usize>>,
     pub rest: List<Option<usize>>,
+    pub nulls_equal: bool,
 }
 
 /// The column indices that a join of tables of these columns reads.
@@ -22,13 +23,20 @@ pub fn join_indices_of(
     left: &[(Text, CellType)],
     right: &[(Text, CellType)],
     keys: &[Text],
+    nulls_equal: bool,
 ) -> Result<JoinIndices, AllocError>
-    ensures { IfOk result (λ s. s ≡ joins.join_indices_of left.now right.now keys.now) }
+    ensures { IfOk result
+        (λ s. s ≡ joins.join_indices_of left.now right.now keys.now nulls_equal) }
 {
     let rest = rest_indices(alloc, right, keys)?;
     let left = column_indices(alloc, left, keys)?;
     let right = column_indices(alloc, right, keys)?;
-    Ok(JoinIndices { left, right, rest })
+    Ok(JoinIndices {
+        left,
+        right,
+        rest,
+        nulls_equal,
+    })
 }
 
 /// The indices of the columns of these names.

@@ -3,7 +3,7 @@ ghost use Rattle.std.specs.Prelude.{◌≡◌, ◌<◌, ◌++◌, ◌∷◌, [],
 ghost use Rattle.std.specs.List.{list_any, sum_by};
 ghost use Rattle.df_expr.specs.Value as value_spec;
 ghost use Rattle.df_ops.specs.Joins as joins;
-ghost use Rattle.df_ops.specs.Joins.{has_match, join_count, match_count, IsJoinOfRow};
+ghost use Rattle.df_ops.specs.Joins.{has_match, join_count, match_count, IsJoinOfRow, JoinsItself, SameWithoutNulls};
 ghost use Rattle.df_ops.specs.Groups as groups_spec;
 ghost use Rattle.df_ops.specs.Tables as tables;
 
@@ -22,7 +22,7 @@ pub enum How {
     Left,
 }
 
-/// The join of two tables.
+/// The join of two tables. Null keys match null keys where nulls are equal, else nothing.
 #[tactic(auto, unfolding(crate::specs::Tables::join_table))]
 pub fn join(
     alloc: Global,
@@ -30,11 +30,16 @@ pub fn join(
     right: &PlainTable,
     how: How,
     keys: &[Text],
+    nulls_equal: bool,
 ) -> Result<PlainTable, AllocError>
-    ensures { IfOk result (λ t. t ≡ tables.join_table left.now right.now how keys.now) }
+    ensures { IfOk result
+        (λ t. t ≡ tables.join_table left.now right.now how keys.now nulls_equal) }
 {
     let columns = columns_of_join(alloc, &left.columns, right.columns.as_slice(), keys);
-    table_from(columns, rows_of_join(alloc, left, right, how, keys))
+    table_from(
+        columns,
+        rows_of_join(alloc, left, right, how, keys, nulls_equal),
+    )
 }
 
 fn rows_of_join(
@@ -43,16 +48,19 @@ fn rows_of_join(
     right: &PlainTable,
     how: How,
     keys: &[Text],
+    nulls_equal: bool,
 ) -> Result<List<Row>, AllocError>
     ensures { IfOk result (λ rows. rows
         ≡ joins.join_rows how
-        (joins.join_indices_of left.now.columns right.now.columns keys.now) left.now.rows right.now.rows) }
+        (joins.join_indices_of left.now.columns right.now.columns keys.now nulls_equal)
+        left.now.rows right.now.rows) }
 {
     let join_indices = join_indices_of(
         alloc,
         left.columns.as_slice(),
         right.columns.as_slice(),
         keys,
+        nulls_equal,
     )?;
     join_rows(
         alloc,
@@ -83,6 +91,9 @@ pub fn join_rows(
     ensures inner_is_left { joins.join_rows How.Inner join_indices.now lefts.now rights.now
         ≡ joins.join_rows How.Left join_indices.now
         (filter (has_match join_indices.now rights.now) lefts.now) rights.now }
+
+    // Rows that are joined with themselves, where nulls are equal, are each beside themselves.
+    ensures itself { JoinsItself how join_indices.now lefts.now }
 
     // The rows of each left row stand in left order.
     ensures left_order { joins.JoinsInOrder how join_indices.now rights.now }
@@ -148,6 +159,9 @@ pub fn join_row(
     // And goes on with the cells of a match, or in a left join with nulls where there is none.
     ensures right_cells { IsJoinOfRow join_indices.now left.now
         (λ h rows. joins.join_row h join_indices.now rows left.now) }
+
+    // A row without a null in its key has the same matches whether nulls are equal or not.
+    ensures no_nulls { SameWithoutNulls join_indices.now rights.now left.now }
 {
     matched_row(alloc, how, join_indices, left, rights)
 }
@@ -166,6 +180,7 @@ fn matched_row(
     let key = key_of(alloc, join_indices.left.as_slice(), left)?;
     let rests = matched_rests(
         alloc,
+        join_indices.nulls_equal,
         join_indices.right.as_slice(),
         join_indices.rest.as_slice(),
         &key,
@@ -183,6 +198,7 @@ fn matched_row(
 // Of the right rows whose key matches, the cells at the indices `rest`.
 fn matched_rests(
     alloc: Global,
+    nulls_equal: bool,
     indices: &[Option<usize>],
     rest: &[Option<usize>],
     key: &Row,
@@ -190,11 +206,12 @@ fn matched_rests(
 ) -> Result<Vec<Row>, AllocError>
     ensures { IfOk result
         (λ rests. rests.items
-        ≡ map (groups_spec.key_of rest.now) (joins.matches_of indices.now key.now rights.now)) }
+        ≡ map (groups_spec.key_of rest.now)
+        (joins.matches_of nulls_equal indices.now key.now rights.now)) }
 {
     let mut rests = Vec::new(alloc);
     for right in rights {
-        add_rest(alloc, &mut rests, indices, rest, key, right)?;
+        add_rest(alloc, &mut rests, nulls_equal, indices, rest, key, right)?;
     }
     Ok(rests)
 }
@@ -203,6 +220,7 @@ fn matched_rests(
 fn add_rest(
     alloc: Global,
     rests: &mut Vec<Row>,
+    nulls_equal: bool,
     indices: &[Option<usize>],
     rest: &[Option<usize>],
     key: &Row,
@@ -211,20 +229,20 @@ fn add_rest(
     ensures { OnOk result (rests.new.items
         ≡ rests.old.items
         ++ map (groups_spec.key_of rest.now)
-        (joins.matches_of indices.now key.now (right.now ∷ []))) }
+        (joins.matches_of nulls_equal indices.now key.now (right.now ∷ []))) }
 {
     let own = key_of(alloc, indices, right)?;
-    if keys_match(key, &own) {
+    if keys_match(nulls_equal, key, &own) {
         rests.push(key_of(alloc, rest, right)?)?;
     }
     Ok(())
 }
 
-// Whether two keys match: they are the same, and no cell of them is null.
-fn keys_match(left: &Row, right: &Row) -> bool
-    ensures { result ≡ joins.keys_match left.now right.now }
+// Whether two keys match: they are the same, and unless nulls are equal no cell of them is null.
+fn keys_match(nulls_equal: bool, left: &Row, right: &Row) -> bool
+    ensures { result ≡ joins.keys_match nulls_equal left.now right.now }
 {
-    *right == *left && !has_null(left.as_slice())
+    *right == *left && (nulls_equal || !has_null(left.as_slice()))
 }
 
 fn has_null(cells: &[Cell]) -> bool

@@ -178,17 +178,17 @@ after_apart seen (x ∷ xs) ys h =
     subst (λ (s : Columns). Apart s ys) joined (after_apart (seen ++ x ∷ []) xs ys (head_apart seen x (xs ++ ys) h).1)
 
 pub joined_fits :
-    (h : How) (ls rs : Columns) (keys : List (List ℕ)) (lefts rights : Rows) → doubled_column_after [] (columns_of_join ls rs keys) ≡ None →
+    (h : How) (ls rs : Columns) (keys : List (List ℕ)) (nulls_equal : Bool) (lefts rights : Rows) → doubled_column_after [] (columns_of_join ls rs keys) ≡ None →
     IsTrue (rows_fit ls lefts) → IsTrue (rows_fit rs rights) →
-    IsTrue (rows_fit (columns_of_join ls rs keys) (join_rows h (join_indices_of ls rs keys) lefts rights))
+    IsTrue (rows_fit (columns_of_join ls rs keys) (join_rows h (join_indices_of ls rs keys nulls_equal) lefts rights))
 unfolding join_row
-joined_fits h ls rs keys lefts rights apart left_fit right_fit =
+joined_fits h ls rs keys nulls_equal lefts rights apart left_fit right_fit =
     let os = columns_without_keys keys rs in
     let columns = map (right_column ls) os in
-    let s = join_indices_of ls rs keys in
+    let s = join_indices_of ls rs keys nulls_equal in
     let found = each_found ls keys ls rs (after_apart [] ls columns apart) in
     flat_map_all (row_fits ls) (row_fits (ls ++ columns)) (join_row h s rights)
-    (λ l fits. put_fit h ls columns l (nulls_for s.rest) (map (key_of s.rest) (matches_of s.right (key_of s.left l) rights)) fits (nulls_fit ls rs os)
-    (map_all (row_fits rs) (row_fits columns) (key_of s.rest) (λ r k. rest_fits ls rs r k os found) (matches_of s.right (key_of s.left l) rights)
-    (filter_all (row_fits rs) (λ r. keys_match (key_of s.left l) (key_of s.right r)) rights right_fit)))
+    (λ l fits. put_fit h ls columns l (nulls_for s.rest) (map (key_of s.rest) (matches_of s.nulls_equal s.right (key_of s.left l) rights)) fits (nulls_fit ls rs os)
+    (map_all (row_fits rs) (row_fits columns) (key_of s.rest) (λ r k. rest_fits ls rs r k os found) (matches_of s.nulls_equal s.right (key_of s.left l) rights)
+    (filter_all (row_fits rs) (λ r. keys_match s.nulls_equal (key_of s.left l) (key_of s.right r)) rights right_fit)))
     lefts left_fit

@@ -165,10 +165,10 @@ with_has_rows c t items of_input cs h =
     (is, subst (λ (columns : Columns). IsTrue (rows_fit columns (map (with_columns_row t.columns items) t.rows))) is rows)
 
 join_has_rows :
-    (c d : CheckResult) (t u : PlainTable) (how : How) (keys : List (List ℕ)) → HasRows c t → HasRows d u →
-    HasRows (then_next c (λ ls. then_next d (λ rs. join_check ls rs keys))) (join_table t u how keys)
+    (c d : CheckResult) (t u : PlainTable) (how : How) (keys : List (List ℕ)) (nulls_equal : Bool) → HasRows c t → HasRows d u →
+    HasRows (then_next c (λ ls. then_next d (λ rs. join_check ls rs keys))) (join_table t u how keys nulls_equal)
 unfolding join_table
-join_has_rows c d t u how keys of_left of_right cs h =
+join_has_rows c d t u how keys nulls_equal of_left of_right cs h =
     let first = then_ok c (λ ls. then_next d (λ rs. join_check ls rs keys)) cs h in
     let second = then_ok d (λ rs. join_check first.0 rs keys) cs first.1.1 in
     let l = of_left first.0 first.1.0 in
@@ -180,8 +180,8 @@ join_has_rows c d t u how keys of_left of_right cs h =
     let apart : doubled_column_after [] (columns_of_join t.columns u.columns keys) ≡ None = ap (λ (o : Columns). doubled_column_after [] o) same ∙ found.1 in
     let left_fit = subst (λ (columns : Columns). IsTrue (rows_fit columns t.rows)) (sym l.0) l.1 in
     let right_fit = subst (λ (columns : Columns). IsTrue (rows_fit columns u.rows)) (sym r.0) r.1 in
-    let rows = joined_fits how t.columns u.columns keys t.rows u.rows apart left_fit right_fit in
-    (is, subst (λ (columns : Columns). IsTrue (rows_fit columns (join_rows how (join_indices_of t.columns u.columns keys) t.rows u.rows))) is rows)
+    let rows = joined_fits how t.columns u.columns keys nulls_equal t.rows u.rows apart left_fit right_fit in
+    (is, subst (λ (columns : Columns). IsTrue (rows_fit columns (join_rows how (join_indices_of t.columns u.columns keys nulls_equal) t.rows u.rows))) is rows)
 
 -- a column is put among those of a table, its cells having the column's type where the node's check finds what it wants
 put_has_rows :
@@ -270,9 +270,9 @@ step schemas frames fit (Plan-F.WithColumns a items) =
 step schemas frames fit (Plan-F.GroupBy a keys aggs) =
     rw (fold-roll-Plan CheckResult (check_step schemas), fold-roll-Plan PlainTable (table_step schemas frames))
     (group_has_rows (columns_of a.0 schemas) (table_of a.0 schemas frames) keys aggs a.1)
-step schemas frames fit (Plan-F.Join a b how keys) =
+step schemas frames fit (Plan-F.Join a b how keys nulls_equal) =
     rw (fold-roll-Plan CheckResult (check_step schemas), fold-roll-Plan PlainTable (table_step schemas frames))
-    (join_has_rows (columns_of a.0 schemas) (columns_of b.0 schemas) (table_of a.0 schemas frames) (table_of b.0 schemas frames) how keys a.1 b.1)
+    (join_has_rows (columns_of a.0 schemas) (columns_of b.0 schemas) (table_of a.0 schemas frames) (table_of b.0 schemas frames) how keys nulls_equal a.1 b.1)
 step schemas frames fit (Plan-F.Rolling a name k column w m) =
     rw (fold-roll-Plan CheckResult (check_step schemas), fold-roll-Plan PlainTable (table_step schemas frames))
     (roll_has_rows (columns_of a.0 schemas) (table_of a.0 schemas frames) name k column w m a.1)

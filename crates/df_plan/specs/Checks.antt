@@ -54,7 +54,7 @@ check_step frames (Plan-F.Filter input p) = then_next input (λ columns. filter_
 check_step frames (Plan-F.Select input items) = then_next input (λ columns. select_check columns items)
 check_step frames (Plan-F.WithColumns input items) = then_next input (λ columns. with_columns_check columns items)
 check_step frames (Plan-F.GroupBy input keys aggs) = then_next input (λ columns. group_by_check columns keys aggs)
-check_step frames (Plan-F.Join left right h keys) =
+check_step frames (Plan-F.Join left right h keys nulls_equal) =
     then_next left (λ ls. then_next right (λ rs. join_check ls rs keys))
 check_step frames (Plan-F.Rolling input output k column w m) =
     then_next input (λ columns. rolling_check columns output k column w m)

@@ -54,7 +54,7 @@ fn is_within(plan: &Plan, most: u32) -> bool
         Plan::Rolling(input, _, _, _, _, _) | Plan::Rank(input, _, _, _) => {
             is_within(input.get(), most - 1)
         }
-        Plan::Join(left, right, _, _) => {
+        Plan::Join(left, right, _, _, _) => {
             is_within(left.get(), most - 1) && is_within(right.get(), most - 1)
         }
     }
@@ -74,7 +74,7 @@ fn scans_left(plan: &Plan, most: u32) -> Option<u32>
         Plan::Rolling(input, _, _, _, _, _) | Plan::Rank(input, _, _, _) => {
             scans_left(input.get(), most)
         }
-        Plan::Join(left, right, _, _) => {
+        Plan::Join(left, right, _, _, _) => {
             let rest = scans_left(left.get(), most)?;
             scans_left(right.get(), rest)
         }
@@ -105,7 +105,7 @@ pub fn schema_of(alloc: Global, plan: &Plan, frames: &[Schema]) -> Result<Schema
             let checked = check_groups(alloc, &columns, keys.as_slice(), aggs.as_slice());
             then_drop(checked, columns)
         }
-        Plan::Join(left, right, _, keys) => {
+        Plan::Join(left, right, _, keys, _) => {
             let left = schema_of(alloc, left.get(), frames)?;
             let right = schema_of(alloc, right.get(), frames);
             check_inputs(alloc, left, right, keys.as_slice())

@@ -66,10 +66,10 @@ fn table_of_plan(
                 input,
             )
         }
-        Plan::Join(left, right, how, keys) => {
+        Plan::Join(left, right, how, keys, nulls_equal) => {
             let left = table_of_plan(alloc, left.get(), schemas, frames);
             let (left, right) = both(left, table_of_plan(alloc, right.get(), schemas, frames))?;
-            let table = join(alloc, &left, &right, *how, keys.as_slice());
+            let table = join(alloc, &left, &right, *how, keys.as_slice(), *nulls_equal);
             then_drop(table, (left, right))
         }
         Plan::Rolling(input, output, kind, column, w, m) => {

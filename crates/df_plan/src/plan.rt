@@ -25,10 +25,11 @@ pub enum Plan {
     /// null in keys.
     GroupBy(Boxed<Plan>, List<Text>, List<(Text, Agg)>),
     /// Each row of the first input beside each row of the second that has the same cells in the key
-    /// columns, none of them null: in the first's order, and for one of its rows in the second's.
+    /// columns, in the first's order, and for one of its rows in the second's. Last, whether a null
+    /// in a key equals null; else it matches nothing.
     /// The second's columns come last, without its keys; a name that stands in the first gets the
     /// suffix `_right`.
-    Join(Boxed<Plan>, Boxed<Plan>, How, List<Text>),
+    Join(Boxed<Plan>, Boxed<Plan>, How, List<Text>, bool),
     /// The input, and put among its columns as `WithColumns` puts them one of this name: of the
     /// cells of an Int column in a row and those before it, at most as many as the first number
     /// says, the sum, least or greatest; null where fewer than the second number are not null.
@@ -91,10 +92,10 @@ impl Duplicate for Plan {
                 let (input, (keys, aggs)) = both(copy_of(alloc, input), lists)?;
                 Ok(Plan::GroupBy(input, keys, aggs))
             }
-            Plan::Join(left, right, how, keys) => {
+            Plan::Join(left, right, how, keys, nulls_equal) => {
                 let inputs = both(copy_of(alloc, left), copy_of(alloc, right));
                 let ((left, right), keys) = both(inputs, keys.copy(alloc))?;
-                Ok(Plan::Join(left, right, *how, keys))
+                Ok(Plan::Join(left, right, *how, keys, *nulls_equal))
             }
             Plan::Rolling(input, output, kind, column, w, m) => {
                 let (input, (output, column)) = copy_of_window(alloc, input, output, column)?;
@@ -153,10 +154,11 @@ fn same_plan(a: &Plan, b: &Plan) -> bool
             matches!(b, Plan::GroupBy(y, other_keys, other_aggs)
                 if same_plan(x.get(), y.get()) && same(keys, other_keys) && same(aggs, other_aggs))
         }
-        Plan::Join(x, z, how, keys) => {
-            matches!(b, Plan::Join(y, w, other_how, other_keys)
+        Plan::Join(x, z, how, keys, nulls_equal) => {
+            matches!(b, Plan::Join(y, w, other_how, other_keys, other_nulls_equal)
                 if same_plan(x.get(), y.get()) && same_plan(z.get(), w.get())
-                    && *how == *other_how && same(keys, other_keys))
+                    && *how == *other_how && same(keys, other_keys)
+                    && *nulls_equal == *other_nulls_equal)
         }
         Plan::Rolling(x, output, kind, column, w, m) => {
             matches!(b, Plan::Rolling(y, other, other_kind, other_column, other_w, other_m)

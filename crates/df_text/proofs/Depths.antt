@@ -7,9 +7,9 @@ use Rattle.toml.specs.View.{items_of, view}
 use Rattle.toml.specs.declared.value.Value.{Value}
 use Rattle.df_text.specs.declared.document.Location.{Location}
 use Rattle.df_text.specs.declared.view_steps.StepWord.{StepWord}
-use Rattle.df_text.specs.Tree.{text_in, array_in, first_in, triple_in}
+use Rattle.df_text.specs.Tree.{text_in, array_in, first_in}
 use Rattle.df_text.specs.Sources.{array_or_none}
-use Rattle.df_text.specs.Steps.{step_of_word, step_in}
+use Rattle.df_text.specs.Steps.{join_items, step_of_word, step_in}
 use Rattle.df_text.proofs.ReadFacts.{then_gives, given}
 use Rattle.df_text.proofs.StepFacts.{items_of-list}
 
@@ -42,16 +42,19 @@ inside_step at d =
 pub step_deeper : (at : Location) (d : Data) (word : StepWord) (ds : List Data) → step_in at d ≡ Ok (word, ds) → items_depth (items_of ds) < depth d
 step_deeper at d word ds is = given (λ (s : StepWord × List Data). items_depth (items_of s.1) < depth d) (step_in at d) (word, ds) (inside_step at d) is
 
-third_within : (at : Location) (ds : List Data) → IfOk (triple_in at ds) (λ t. depth t.2 ≤ items_depth (items_of ds))
-third_within at [] = tt
-third_within at (x ∷ []) = tt
-third_within at (x ∷ y ∷ []) = tt
-third_within at (x ∷ y ∷ z ∷ []) = omega arith
-third_within at (x ∷ y ∷ z ∷ w ∷ ds) = tt
+right_within : (at : Location) (ds : List Data) → IfOk (join_items at ds) (λ t. depth t.2 ≤ items_depth (items_of ds))
+right_within at [] = tt
+right_within at (x ∷ []) = tt
+right_within at (x ∷ y ∷ []) = tt
+right_within at (x ∷ y ∷ z ∷ []) = omega arith
+right_within at (x ∷ y ∷ z ∷ w ∷ []) = omega arith
+right_within at (x ∷ y ∷ z ∷ w ∷ v ∷ ds) = tt
 
--- the third of three items
-pub third_no_deeper : (at : Location) (ds : List Data) (a b c : Data) → triple_in at ds ≡ Ok (a, b, c) → depth c ≤ items_depth (items_of ds)
-third_no_deeper at ds a b c is = given (λ (t : Data × Data × Data). depth t.2 ≤ items_depth (items_of ds)) (triple_in at ds) (a, b, c) (third_within at ds) is
+-- the right side among the items of a join
+pub right_no_deeper :
+    (at : Location) (ds : List Data) (a b c : Data) (rest : List Data) → join_items at ds ≡ Ok (a, b, c, rest) → depth c ≤ items_depth (items_of ds)
+right_no_deeper at ds a b c rest is =
+    given (λ (t : Data × Data × Data × List Data). depth t.2 ≤ items_depth (items_of ds)) (join_items at ds) (a, b, c, rest) (right_within at ds) is
 
 member_within : (o : Ordering) (e d : Data) (n : ℕ) (found : Option Data) → (found ≡ Some d → depth d ≤ n) → match_ordering o found (Some e) found ≡ Some d → depth d ≤ max (depth e) n
 member_within Less e d n found h is = let m = h is in omega (arith, m)

@@ -39,7 +39,7 @@ use Rattle.df_text.specs.RowWiseSteps.{item_of}
 use Rattle.df_text.specs.AggregateItems.{aggregate_item_of}
 use Rattle.df_text.specs.WindowSteps.{names_in, rank_parts, rolling_of, window_parts}
 use Rattle.df_text.specs.Sources.{found_frame, frame_named, only_source_at}
-use Rattle.df_text.specs.Steps.{step_of_word, kind_and_keys, steps_after, step_of, applied_step, side_of, steps_at, all_steps}
+use Rattle.df_text.specs.Steps.{step_of_word, kind_and_keys, nulls_equal_of, steps_after, step_of, applied_step, side_of, steps_at, all_steps}
 use Rattle.df_text.specs.Scans.{scans_below}
 use Rattle.df_text.specs.Document.{IsDocument, at_most, document_of, entries_of_view, new_view_name, tables_at, top_tables_of, view_of, view_specs_of}
 use Rattle.df_text.proofs.ReadFacts.{then_gives, if_gives, given, all_give, each_give, length_gives}
@@ -97,11 +97,13 @@ scans-CumSum n p output column = search (rules, the_lemmas)
 scans-Rank : (n : ℕ) (p : Plan) (output : List ℕ) (kind : RankKind) (column : List ℕ) → scans_below n (Rank p output kind column) ≡ scans_below n p
 scans-Rank n p output kind column = search (rules, the_lemmas)
 
-scans-both : (n : ℕ) (left right : Plan) (how : How) (keys : List (List ℕ)) → scans_below n (Join left right how keys) ≡ (scans_below n left && scans_below n right)
-scans-both n left right how keys = search (rules, the_lemmas)
+scans-both : (n : ℕ) (left right : Plan) (how : How) (keys : List (List ℕ)) (equal : Bool) → scans_below n (Join left right how keys equal) ≡ (scans_below n left && scans_below n right)
+scans-both n left right how keys equal = search (rules, the_lemmas)
 
-scans-Join : (n : ℕ) (left right : Plan) (how : How) (keys : List (List ℕ)) → scans_below n left ≡ true → scans_below n right ≡ true → scans_below n (Join left right how keys) ≡ true
-scans-Join n left right how keys g h = both_true _ _ _ (scans-both n left right how keys) g h
+scans-Join :
+    (n : ℕ) (left right : Plan) (how : How) (keys : List (List ℕ)) (equal : Bool) → scans_below n left ≡ true → scans_below n right ≡ true →
+    scans_below n (Join left right how keys equal) ≡ true
+scans-Join n left right how keys equal g h = both_true _ _ _ (scans-both n left right how keys equal) g h
 
 scans-Scan : (n i : ℕ) → scans_below n (Scan i) ≡ nat_lt i n
 scans-Scan n i = search (rules, the_lemmas)
@@ -168,11 +170,15 @@ mutual
       then_gives _ (rank_parts at (list_of ds)) _ (λ r _. scans-Rank (length frames) input r.0 r.1 r.2 ∙ h)
   applied_scans at frames step_word.Join input (item kind (item keys (item right no_items))) h =
       then_gives _ (kind_and_keys at kind keys) _ (λ how _. then_gives _ (side_of at frames right) _ (λ p is.
-      scans-Join (length frames) input p how.0 how.1 h (given (Reads frames) (side_of at frames right) p (side_scans at frames right) is)))
+      scans-Join (length frames) input p how.0 how.1 false h (given (Reads frames) (side_of at frames right) p (side_scans at frames right) is)))
   applied_scans at frames step_word.Join input no_items h = tt
   applied_scans at frames step_word.Join input (item a no_items) h = tt
   applied_scans at frames step_word.Join input (item a (item b no_items)) h = tt
-  applied_scans at frames step_word.Join input (item a (item b (item c (item d ds)))) h = tt
+  applied_scans at frames step_word.Join input (item kind (item keys (item right (item word no_items)))) h =
+      then_gives _ (kind_and_keys at kind keys) _ (λ how _. then_gives _ (side_of at frames right) _ (λ p is.
+      then_gives _ (nulls_equal_of at (word ∷ [])) _ (λ equal _.
+      scans-Join (length frames) input p how.0 how.1 equal h (given (Reads frames) (side_of at frames right) p (side_scans at frames right) is))))
+  applied_scans at frames step_word.Join input (item a (item b (item c (item d (item e ds))))) h = tt
 
   side_scans : (at : Location) (frames : List FrameSpec) (d : Data) → IfOk (side_of at frames d) (Reads frames)
   side_scans at frames (string name) = then_gives _ (frame_named at name frames) _ (λ i is. named_scans at frames name i is)

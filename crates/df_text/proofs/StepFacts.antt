@@ -11,10 +11,10 @@ use Rattle.df_text.specs.declared.view_steps.StepWord.{StepWord}
 use Rattle.df_text.specs.declared.view_steps.StepWord.TheVariants as step_word
 use Rattle.df_text.specs.declared.fault.ViewsFault.{ViewsFault}
 use Rattle.df_value.specs.Outcomes.{then_next}
-use Rattle.df_text.specs.Tree.{text_in, array_in, triple_in, list_of}
+use Rattle.df_text.specs.Tree.{text_in, array_in, list_of}
 use Rattle.df_text.specs.Sources.{array_or_none}
 use Rattle.df_text.proofs.TreeFacts.{list_of-items}
-use Rattle.df_text.specs.Steps.{step_of_word, kind_and_keys, step_in, steps_after, step_of, applied_step, side_of, steps_at, all_steps}
+use Rattle.df_text.specs.Steps.{step_of_word, kind_and_keys, join_items, nulls_equal_of, step_in, steps_after, step_of, applied_step, side_of, steps_at, all_steps}
 
 -- the list of some items, as items
 pub items_of-list : (ds : Items) → items_of (list_of ds) ≡ ds
@@ -46,15 +46,17 @@ step_by_word at frames input (boolean b) = refl
 step_by_word at frames input (datetime t) = refl
 step_by_word at frames input (table ms) = refl
 
--- a join has three items
+-- a join has three items, or four
 pub join_by_items : (at : Location) (frames : List FrameSpec) (input : Plan) (ds : List Data)
     → applied_step at frames step_word.Join input (items_of ds)
-    ≡ then_next (triple_in at ds) (λ t. then_next (kind_and_keys at t.0 t.1) (λ h. then_next (side_of at frames t.2) (λ p. Ok (Join input p h.0 h.1))))
+    ≡ then_next (join_items at ds) (λ t. then_next (kind_and_keys at t.0 t.1) (λ h. then_next (side_of at frames t.2) (λ p.
+    then_next (nulls_equal_of at t.3) (λ n. Ok (Join input p h.0 h.1 n)))))
 join_by_items at frames input [] = refl
 join_by_items at frames input (a ∷ []) = refl
 join_by_items at frames input (a ∷ b ∷ []) = refl
 join_by_items at frames input (a ∷ b ∷ c ∷ []) = refl
-join_by_items at frames input (a ∷ b ∷ c ∷ d ∷ ds) = refl
+join_by_items at frames input (a ∷ b ∷ c ∷ d ∷ []) = refl
+join_by_items at frames input (a ∷ b ∷ c ∷ d ∷ e ∷ ds) = refl
 
 steps_of_array : (at : Location) (frames : List FrameSpec) (input : Plan) (d : Data)
     → all_steps at frames input d ≡ then_next (array_in at d) (λ ds. steps_after at frames input (items_of ds))

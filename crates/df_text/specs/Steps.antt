@@ -1,6 +1,6 @@
 -- The steps of a view: each is an array that begins with a word. They are applied in order to a plan. A join reads one
 -- more plan, its right side, which can have steps of its own.
-use Rattle.std.specs.Prelude.{ℕ, List, codes, Result, Ok, Err, if◌then◌else◌}
+use Rattle.std.specs.Prelude.{ℕ, Bool, true, false, List, [], ◌∷◌, codes, Result, Ok, Err, if◌then◌else◌}
 use Rattle.std.specs.Ordering.{nat_cmp, match_ordering}
 use Rattle.std.specs.Cmp.Lexicographic.{slice_cmp}
 use Rattle.std.specs.Str.{bytes_eq}
@@ -59,6 +59,21 @@ kind_and_keys at kind keys =
     then_next (text_in at kind) (λ w. then_next (kind_of_word at w) (λ h.
     then_next (array_in at keys) (λ ks. then_next (read_each (text_in at) ks) (λ names. Ok (h, names)))))
 
+-- the items of a join: its kind, its keys and its right side, and after these perhaps one more
+abbrev pub join_items : Location → List Data → Result (Data × Data × Data × List Data) ViewsFault
+join_items at (kind ∷ keys ∷ right ∷ []) = Ok (kind, keys, right, [])
+join_items at (kind ∷ keys ∷ right ∷ word ∷ []) = Ok (kind, keys, right, word ∷ [])
+join_items at _ = Err (fault.Shape at)
+
+-- the word after the right side says that nulls are equal
+abbrev pub nulls_equal_of_word : Location → List ℕ → Result Bool ViewsFault
+nulls_equal_of_word at w = if bytes_eq w (codes "nulls_equal") then Ok true else Err (fault.Word at)
+
+-- whether nulls are equal: not where there is no such word
+abbrev pub nulls_equal_of : Location → List Data → Result Bool ViewsFault
+nulls_equal_of at [] = Ok false
+nulls_equal_of at (d ∷ ds) = then_next (text_in at d) (nulls_equal_of_word at)
+
 -- the step that a value names, with the items after its word as a list (as `step_of` reads it)
 abbrev pub step_in : Location → Data → Result (StepWord × List Data) ViewsFault
 step_in at d =
@@ -87,7 +102,10 @@ abbrev mutual
   applied_step at frames step_word.CumSum input ds = cum_sum_of at input (list_of ds)
   applied_step at frames step_word.Rank input ds = rank_of at input (list_of ds)
   applied_step at frames step_word.Join input (item kind (item keys (item right no_items))) =
-      then_next (kind_and_keys at kind keys) (λ h. then_next (side_of at frames right) (λ p. Ok (plan.Join input p h.0 h.1)))
+      then_next (kind_and_keys at kind keys) (λ h. then_next (side_of at frames right) (λ p. Ok (plan.Join input p h.0 h.1 false)))
+  applied_step at frames step_word.Join input (item kind (item keys (item right (item word no_items)))) =
+      then_next (kind_and_keys at kind keys) (λ h. then_next (side_of at frames right) (λ p.
+      then_next (nulls_equal_of at (word ∷ [])) (λ n. Ok (plan.Join input p h.0 h.1 n))))
   applied_step at frames step_word.Join input _ = Err (fault.Shape at)
 
   -- the plan of a right side: a frame's name, or a table that begins with a frame

@@ -2,18 +2,18 @@
 ghost use Rattle.std.specs.Prelude.{◌≡◌, MatchResult, Ok, Err, map, codes};
 ghost use Rattle.toml.specs.View.{items_of, table_view, view};
 ghost use Rattle.df_text.specs.declared.view_steps.StepWord.TheVariants.{Join};
-ghost use Rattle.df_value.specs.Outcomes.{Answers};
+ghost use Rattle.df_value.specs.Outcomes.{then_next, Answers};
 ghost use Rattle.df_text.specs.Reading.{read_each};
 ghost use Rattle.df_text.specs.Tree as tree_spec;
 ghost use Rattle.df_text.specs.Steps as steps_spec;
-ghost use Rattle.df_text.specs.Steps.{step_of_word, group_by_of, kind_of_word, steps_after, step_of, applied_step, side_of, steps_at};
+ghost use Rattle.df_text.specs.Steps.{step_of_word, group_by_of, kind_of_word, nulls_equal_of, nulls_equal_of_word, steps_after, step_of, applied_step, side_of, steps_at};
 
 use crate::aggregates::read_aggregates;
 use crate::document::{FrameSpec, Location};
 use crate::fault::ViewsFault;
 use crate::from_tables::{array_or_none, frame_of_name, only_source_in};
 use crate::row_wise_steps::{filter, select, with_columns};
-use crate::tree::{array_in, first_in, text_in, triple_in};
+use crate::tree::{array_in, first_in, text_in};
 use crate::window_steps::{cum_sum, rank, rolling};
 use df_plan::{How, Plan, RollKind};
 use df_value::{Boxed, List, Text};
@@ -129,7 +129,7 @@ fn apply(
     }
 }
 
-/// Joins: a kind, an array of key names, and the right side.
+/// Joins: a kind, an array of key names, the right side, and perhaps the word that null keys match.
 #[cycle(steps)]
 fn join(
     alloc: Global,
@@ -142,13 +142,70 @@ fn join(
         (applied_step location frames.now Join input (items_of (map view items.now))) result }
 {
     let input = Boxed::new(alloc, input)?;
-    let (kind, keys, right) = triple_in(location, items)?;
+    let (kind, keys, right, rest) = join_items(location, items)?;
     match kind_and_keys(alloc, location, kind, keys) {
         Ok((how, keys)) => match read_right(alloc, location, frames, right) {
-            Ok(right) => Ok(Plan::Join(input, right, how, keys)),
+            Ok(right) => joined(location, input, right, how, keys, rest),
             Err(fault) => Err(fault),
         },
         Err(fault) => Err(fault),
+    }
+}
+
+/// The kind, the keys and the right side of a join, and the item after them, if there is one.
+fn join_items(
+    location: Location,
+    items: &[Value],
+) -> Result<(&Value, &Value, &Value, &[Value]), ViewsFault>
+    ensures { MatchResult result
+        (λ t. steps_spec.join_items location (map view items.now)
+        ≡ Ok (view t.0.now, view t.1.now, view t.2.now, map view t.3.now))
+        (λ f. steps_spec.join_items location (map view items.now) ≡ Err f) }
+{
+    match items {
+        [kind, keys, right] => Ok((kind, keys, right, &[])),
+        [kind, keys, right, rest @ ..] if rest.len() == 1 => Ok((kind, keys, right, rest)),
+        _ => Err(ViewsFault::Shape(location)),
+    }
+}
+
+/// The join of these parts, and of the word after them, if there is one.
+fn joined(
+    location: Location,
+    left: Boxed<Plan>,
+    right: Boxed<Plan>,
+    how: How,
+    keys: List<Text>,
+    rest: &[Value],
+) -> Result<Plan, ViewsFault>
+    ensures { result ≡ then_next (nulls_equal_of location (map view rest.now))
+        (λ equal. Ok (Plan.Join left right how keys equal)) }
+{
+    match nulls_equal_in(location, rest) {
+        Ok(nulls_equal) => Ok(Plan::Join(left, right, how, keys, nulls_equal)),
+        Err(fault) => {
+            drop((left, right, keys));
+            Err(fault)
+        }
+    }
+}
+
+/// Whether null keys match: where a word says so.
+fn nulls_equal_in(location: Location, rest: &[Value]) -> Result<bool, ViewsFault>
+    ensures { result ≡ nulls_equal_of location (map view rest.now) }
+{
+    match rest {
+        [word, ..] => nulls_equal_named(location, text_in(location, word)?),
+        [] => Ok(false),
+    }
+}
+
+fn nulls_equal_named(location: Location, word: &str) -> Result<bool, ViewsFault>
+    ensures { result ≡ nulls_equal_of_word location word.now }
+{
+    match word {
+        "nulls_equal" => Ok(true),
+        _ => Err(ViewsFault::Word(location)),
     }
 }
 

@@ -46,12 +46,12 @@ struct ViewEntries<'a> {
 /// `["with_columns", [output, expression], ..]`, `["group_by", [key, ..], [output, "len"], [output,
 /// "sum", column], ..]`, `["rolling_sum", output, column, rows, least]` (also `rolling_min`,
 /// `rolling_max`; a missing `least` is `rows`), `["cum_sum", output, column]`, `["rank", output,
-/// "dense", column]` (also `min`) and `["join", kind, [key, ..], right]`, where the kind is `inner` or `left`,
-/// and the right side a frame's name or a table with the keys `from` and perhaps `steps`, as a view
-/// has them: its steps, too, may join. An expression is an integer, a Boolean or a text, which
-/// stands for itself; `["col", name]`; `["null", type]`; one of `~`, `is_null`, `is_not_null`
-/// before an expression; or one of `+`, `-`, `*`, `==`, `!=`, `<`, `<=`, `>`, `>=`, `&`, `|`,
-/// `eq_missing`, `fill_null` before two.
+/// "dense", column]` (also `min`) and `["join", kind, [key, ..], right]`, where the kind is `inner`
+/// or `left`, and the right side a frame's name or a table with the keys `from` and perhaps `steps`,
+/// as a view has them: its steps, too, may join. After the right side `"nulls_equal"` may stand. An
+/// expression is an integer, a Boolean or a text, which stands for itself; `["col", name]`;
+/// `["null", type]`; one of `~`, `is_null`, `is_not_null` before an expression; or one of `+`, `-`,
+/// `*`, `==`, `!=`, `<`, `<=`, `>`, `>=`, `&`, `|`, `eq_missing`, `fill_null` before two.
 ///
 /// Answered is the first fault in this order: `NotToml`; of the top `Shape`, `TooManyFrames` above
 /// 8, `TooManyViews` above 32; frame by frame `Shape` of its keys (also of both or none of `path`

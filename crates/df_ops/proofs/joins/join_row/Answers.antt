@@ -1,6 +1,6 @@
 use Rattle.std.proofs.lemmas.Result.{IfOk-weaker}
 use Rattle.df_ops.proofs.JoinLaws.{row_begins, row_count, row_kept}
-use Rattle.df_ops.proofs.JoinCells.{is_join_of_row}
+use Rattle.df_ops.proofs.JoinCells.{is_join_of_row, same_without_nulls}
 use Rattle.df_ops.proofs.joins.join_row.Goals as goal
 
 pub returns-clause-count : goal.returns-clause-count
@@ -20,3 +20,6 @@ returns-clause-begins c =
 
 pub returns-clause-right_cells : goal.returns-clause-right_cells
 returns-clause-right_cells c = is_join_of_row c.args.join_indices.now c.args.left.now
+
+pub returns-clause-no_nulls : goal.returns-clause-no_nulls
+returns-clause-no_nulls c = same_without_nulls c.args.join_indices.now c.args.rights.now c.args.left.now

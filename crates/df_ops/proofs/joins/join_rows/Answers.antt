@@ -1,6 +1,7 @@
 use Rattle.std.proofs.lemmas.Result.{IfOk-weaker}
 use Rattle.df_ops.proofs.JoinLaws.{inner_is_left, rows_count}
 use Rattle.df_ops.proofs.JoinCells.{joins_in_order}
+use Rattle.df_ops.proofs.SelfJoin.{joins_itself}
 use Rattle.df_ops.proofs.joins.join_rows.Goals as goal
 
 pub returns-clause-count : goal.returns-clause-count
@@ -13,3 +14,6 @@ returns-clause-inner_is_left c = inner_is_left c.args.join_indices.now c.args.ri
 
 pub returns-clause-left_order : goal.returns-clause-left_order
 returns-clause-left_order c = joins_in_order c.args.how c.args.join_indices.now c.args.rights.now
+
+pub returns-clause-itself : goal.returns-clause-itself
+returns-clause-itself c = joins_itself c.args.how c.args.join_indices.now c.args.lefts.now

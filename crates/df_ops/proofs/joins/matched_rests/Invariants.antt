@@ -5,4 +5,4 @@ use Rattle.df_ops.proofs.joins.matched_rests.Given as goal
 
 abbrev pub invariant-loop-right : goal.invariant-loop-right
 invariant-loop-right l =
-    l.rests.items ≡ map (key_of l.rest) (matches_of l.indices l.key (take l.right-index l.rights))
+    l.rests.items ≡ map (key_of l.rest) (matches_of l.nulls_equal l.indices l.key (take l.right-index l.rights))

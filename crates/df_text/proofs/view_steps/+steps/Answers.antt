@@ -1,9 +1,13 @@
-use Rattle.std.proofs.Common.{map, codes, arith, refl}
+use Rattle.std.proofs.Common.{◌≡◌, ◌∙◌, map, codes, arith, refl, sym, ap, Result, Ok, Err}
+use Rattle.df_value.specs.Outcomes.{then_next, Answers}
+use Rattle.df_plan.specs.declared.plan.Plan.{Plan, Join}
+use Rattle.df_text.specs.declared.fault.ViewsFault.{ViewsFault}
+use Rattle.df_text.specs.declared.fault.ViewsFault.TheVariants as fault
 use Rattle.toml.specs.View.{table_view, view}
 use Rattle.df_text.specs.RowWiseSteps.{filter_of, select_of, with_columns_of}
-use Rattle.df_text.specs.Steps.{group_by_of}
+use Rattle.df_text.specs.Steps.{group_by_of, nulls_equal_of}
 use Rattle.df_text.specs.WindowSteps.{rolling_of, cum_sum_of, rank_of}
-use Rattle.df_text.proofs.Depths.{array_at_no_deeper, item_no_deeper, step_deeper, third_no_deeper}
+use Rattle.df_text.proofs.Depths.{array_at_no_deeper, item_no_deeper, step_deeper, right_no_deeper}
 use Rattle.df_text.proofs.StepFacts.{join_by_items, plain_step, step_by_word, steps_by_key}
 use Rattle.df_text.proofs.view_steps.+steps.Goals as goal
 
@@ -49,12 +53,20 @@ apply_steps-apply_step-requires t c =
 
 pub join-read_right-requires : goal.join-read_right-requires
 join-read_right-requires t c =
-    let no_deeper = third_no_deeper c.args.location (map view c.args.items.now) _ _ _ c.in_ok-kind.ensures in
+    let no_deeper = right_no_deeper c.args.location (map view c.args.items.now) _ _ _ _ c.in_ok-kind.ensures in
     (omega (arith, no_deeper, c.decreases), tt)
+
+-- what is given is the answer
+given_answer : (want r : Result Plan ViewsFault) → r ≡ want → Answers fault.Memory want r
+given_answer want (Ok p) e = sym e
+given_answer want (Err f) e = λ _. sym e
 
 pub join-returns-in-Ok-read_right : goal.join-returns-in-Ok-read_right
 join-returns-in-Ok-read_right t c =
-    rw (join_by_items c.args.location c.args.frames.now c.args.input (map view c.args.items.now), c.in_ok-kind.ensures, c.in-Ok.ensures, c.in-Ok-read_right.ensures, c.in_ok-input.ensures) refl
+    let equal = nulls_equal_of c.args.location (map view c.in_ok-kind.rest.now) in
+    rw (join_by_items c.args.location c.args.frames.now c.args.input (map view c.args.items.now), c.in_ok-kind.ensures, c.in-Ok.ensures, c.in-Ok-read_right.ensures)
+    (given_answer _ _ (c.joined.ensures
+    ∙ ap (λ (p : Plan). then_next equal (λ n. Ok (Join p c.in-Ok-read_right.right c.in-Ok.how c.in-Ok.keys n))) c.in_ok-input.ensures))
 
 pub join-returns-in-Err-read_right : goal.join-returns-in-Err-read_right
 join-returns-in-Err-read_right t c given =
