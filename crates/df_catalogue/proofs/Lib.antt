@@ -11,6 +11,7 @@ pub mod Refusing
 pub mod Counting
 pub mod RangeFacts
 pub mod RangesApart
+pub mod RangeSearch
 pub mod StateFacts
 pub mod RunFacts
 pub mod PartFacts

@@ -8,9 +8,9 @@ use Rattle.std.proofs.lemmas.List.Folds.{list_any_at}
 use Rattle.std.proofs.lemmas.List.Sums.{AllPass-from_list_all, list_all-from_AllPass}
 use Rattle.df_catalogue.specs.declared.ranges.RowRange.{RowRange}
 use Rattle.df_catalogue.specs.Numbers.{are_below, has_number}
-use Rattle.df_catalogue.specs.Ranges.{all_numbers, are_apart, are_below_from, begin_behind, lies_in, range_numbers, ranges_below}
+use Rattle.df_catalogue.specs.Ranges.{all_numbers, are_apart, are_below_from, begin_behind, range_numbers, ranges_below}
 use Rattle.df_catalogue.proofs.Members.{all-from, all-to, find-none, has-filter}
-use Rattle.df_catalogue.proofs.RangeFacts.{numbers-below, ranges-have}
+use Rattle.df_catalogue.proofs.RangeFacts.{lies_in, numbers-below, ranges-have}
 use Rattle.df_catalogue.proofs.Rising.{below-both, block-below, block-has}
 
 -- what is known of the first of ranges that keep apart
@@ -19,7 +19,7 @@ pub record IsFirstApart (r : RowRange) (rs : List RowRange) : Type 0 where
   pub behind : begin_behind (r.first + r.len) rs ≡ true
   pub rest : are_apart rs ≡ true
 
-first-apart : (r : RowRange) (rs : List RowRange) → are_apart (r ∷ rs) ≡ true → IsFirstApart r rs
+pub first-apart : (r : RowRange) (rs : List RowRange) → are_apart (r ∷ rs) ≡ true → IsFirstApart r rs
 first-apart r rs h =
     let parts = and_parts (nat_lt 0 r.len) (begin_behind (r.first + r.len) rs && are_apart rs) h in
     let later = and_parts (begin_behind (r.first + r.len) rs) (are_apart rs) parts.1 in

@@ -1,11 +1,10 @@
 -- Transitions of a state and of desks, by what was answered.
 use Rattle.std.proofs.Common.{◌≡◌, false, ◌∙◌, sym, refl}
-use Rattle.std.specs.Prelude.{Some, None, Result, Ok, Err}
+use Rattle.std.specs.Prelude.{Some, None, Ok, Err}
 use Rattle.std.proofs.lemmas.Bool.{false≢true}
 use Rattle.df_catalogue.specs.declared.state.State.{State}
 use Rattle.df_catalogue.specs.declared.change.Change.{Change}
 use Rattle.df_catalogue.specs.declared.fault.CatalogueFault.{CatalogueFault}
-use Rattle.df_catalogue.specs.declared.fault.CatalogueFault.TheVariants as fault
 use Rattle.df_catalogue.specs.Answers.{RefusedBy, takes_memory}
 use Rattle.df_catalogue.specs.Changes.{after}
 use Rattle.df_catalogue.specs.Refusals.{refusal_of}
