@@ -1,6 +1,5 @@
 //! A run over bytes in memory.
-ghost use Rattle.std.specs.Prelude.{find};
-ghost use Rattle.std.specs.Option.{option_map_or};
+ghost use Rattle.std.specs.Prelude.{if◌then◌else◌};
 ghost use Rattle.std.specs.Str.{bytes_eq};
 ghost use Rattle.df_app.specs.declared.files.FileState.TheVariants as known;
 
@@ -9,19 +8,25 @@ use df_csv::CsvFault;
 use df_value::Text;
 use std::test::Fail;
 
-/// Files in memory, each under its path; there is no other file.
+/// One file in memory, under its path; there is no other.
 #[derive(Drop)]
-struct HeldFiles<'a>(&'a [(&'a str, &'a [u8])]);
+struct HeldFile<'a> {
+    path: &'a str,
+    bytes: &'a [u8],
+}
 
-impl<'a> Files for HeldFiles<'a> {
+impl<'a> Files for HeldFile<'a> {
     type Reader = &'a [u8];
 
-    ghost file_at = { λ s path. option_map_or (λ f. known.Bytes f.1.now)
-        (find (λ f. bytes_eq f.0.now path) s.0.now) known.Absent };
+    ghost file_at = { λ s path. if bytes_eq s.path.now path then known.Bytes s.bytes.now
+        else known.Absent };
 
     fn open(&mut self, path: &str) -> Option<&'a [u8]> {
-        let file = self.0.iter().find(|file| file.0 == path)?;
-        Some(file.1)
+        if self.path == path {
+            Some(self.bytes)
+        } else {
+            None
+        }
     }
 }
 
@@ -31,8 +36,10 @@ const DOCUMENT: &str =
 #[test]
 fn a_run_over_memory(rt: HostRuntime) -> Result<(), Fail> {
     let alloc = rt.alloc();
-    let held: [(&str, &[u8]); 2] = [("u.csv", b"x\n"), ("t.csv", b"x\n5\n12x\n7\n")];
-    let mut files = HeldFiles(&held);
+    let mut files = HeldFile {
+        path: "t.csv",
+        bytes: b"x\n5\n12x\n7\n",
+    };
     let mut input = DOCUMENT.as_bytes();
     let mut output = Vec::new(alloc);
     let outcome = run(alloc, &mut input, &mut files, 1, 2, &mut output);
@@ -45,8 +52,10 @@ fn a_run_over_memory(rt: HostRuntime) -> Result<(), Fail> {
 #[test]
 fn a_run_over_an_absent_file(rt: HostRuntime) -> Result<(), Fail> {
     let alloc = rt.alloc();
-    let held: [(&str, &[u8]); 1] = [("u.csv", b"x\n")];
-    let mut files = HeldFiles(&held);
+    let mut files = HeldFile {
+        path: "u.csv",
+        bytes: b"x\n",
+    };
     let mut input = DOCUMENT.as_bytes();
     let mut output = Vec::new(alloc);
     let outcome = run(alloc, &mut input, &mut files, 1, 2, &mut output);
