@@ -11,7 +11,7 @@ use Rattle.df_value.specs.RowEq.{row_eq-Decides}
 use Rattle.df_value.specs.Rows.{row_eq}
 use Rattle.df_expr.specs.Value.{is_null}
 use Rattle.df_ops.specs.Groups.{key_of}
-use Rattle.df_ops.specs.Joins.{join_row, join_rows, keys_match, left_beside, matches_of, nulls_for, IsJoinOfRow, JoinsInOrder, Matches, SameWithoutNulls}
+use Rattle.df_ops.specs.Joins.{join_row, keys_match, left_beside, matches_of, nulls_for, IsJoinOfRow, JoinsInOrder, Matches, SameWithoutNulls}
 use Rattle.df_ops.specs.declared.join_columns.JoinIndices.{JoinIndices}
 use Rattle.df_ops.specs.declared.joins.How.{How}
 use Rattle.df_ops.specs.declared.joins.How.TheVariants as how

@@ -1,6 +1,6 @@
 -- Least ranks: none is below the dense one, the least cell has the rank 1, and each next cell's counts the equal ones.
-use Rattle.std.proofs.Common.{◌≡◌, ◌≢◌, ℕ, ◌+◌, ◌<◌, ◌≤◌, ◌∙◌, Bool, true, false, cond, zero, suc, List, [], ◌∷◌, ◌++◌, length, map, filter, refl, ap, sym, arith, add-zero, Contains, Option}
-use Rattle.std.specs.Prelude.{Some, not, pos, ◌&&◌, ◌||◌}
+use Rattle.std.proofs.Common.{◌≡◌, ◌≢◌, ℕ, ◌+◌, ◌≤◌, ◌∙◌, Bool, true, false, cond, zero, suc, List, [], ◌∷◌, ◌++◌, length, map, filter, refl, ap, sym, arith, add-zero, Contains, Option}
+use Rattle.std.specs.Prelude.{not, ◌&&◌}
 use Rattle.std.specs.List.{list_any}
 use Rattle.std.specs.Ordering.{is_lt, ordering_reverse}
 use Rattle.std.specs.declared.cmp.Ordering.{Ordering}
@@ -9,7 +9,6 @@ use Rattle.std.proofs.lemmas.Bool.{false≢true}
 use Rattle.std.proofs.lemmas.List.{length-append}
 use Rattle.std.proofs.lemmas.List.Elements.{filter-append}
 use Rattle.df_value.specs.declared.cell.Cell.{Cell}
-use Rattle.df_value.specs.declared.cell.Cell.TheVariants as cell
 use Rattle.df_value.specs.CellEq.{cell_eq, cell_eq-Decides}
 use Rattle.df_value.specs.CellOrder.{cell_cmp, cell_cmp_total}
 use Rattle.df_value.specs.CellOrders.{exact, to_itself}
@@ -17,7 +16,7 @@ use Rattle.df_value.specs.Choices.{either}
 use Rattle.df_value.specs.Rows.{cell_at, row_eq}
 use Rattle.df_expr.specs.Value.{is_null}
 use Rattle.df_ops.specs.Groups.{distinct_after, key_of}
-use Rattle.df_ops.specs.Ranks.{count_below, count_equal, dense_rank, distinct_at, is_below, is_smaller, min_rank, AtLeastDense, EachIsRanked, HasRank, LeastIsOne, NextAddsEqual, RanksAgree}
+use Rattle.df_ops.specs.Ranks.{count_below, count_equal, is_below, is_smaller, min_rank, AtLeastDense, EachIsRanked, HasRank, LeastIsOne, NextAddsEqual, RanksAgree}
 use Rattle.df_ops.proofs.MinMaxFacts.{less}
 use Rattle.df_ops.proofs.RankLaws.{both_of, each_ranked, first_cell, has_number, numbered, ranked, second_of, IsRankOf}
 

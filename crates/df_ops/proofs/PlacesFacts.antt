@@ -1,5 +1,5 @@
 -- The cells at the places of a row, among whose cells others are put, are the cells of that row.
-use Rattle.std.proofs.Common.{◌≡◌, ℕ, zero, suc, ◌+◌, ◌<◌, ◌∙◌, List, [], ◌∷◌, length, map, refl, ap, sym, arith, subst, add-zero, zero-add}
+use Rattle.std.proofs.Common.{◌≡◌, ℕ, zero, suc, ◌+◌, ◌<◌, ◌∙◌, List, [], ◌∷◌, length, map, refl, ap, sym, arith, add-zero, zero-add}
 use Rattle.std.specs.Prelude.{Some}
 use Rattle.std.specs.List.{enumerate_from}
 use Rattle.df_value.specs.declared.cell.Cell.{Cell}
@@ -7,7 +7,6 @@ use Rattle.df_value.specs.declared.cell.CellType.{CellType}
 use Rattle.df_value.specs.Rows.{cell_at}
 use Rattle.df_value.specs.Schemas.{Columns}
 use Rattle.df_expr.specs.declared.expr.Expr.{Expr}
-use Rattle.df_expr.specs.Value.{value_of}
 use Rattle.df_ops.specs.NamedColumns.{with_columns}
 use Rattle.df_ops.specs.Places.{cells_from, numbered, placed_cell, places_of}
 use Rattle.df_ops.specs.RowWise.{item_cell, named_cells, select_row, with_columns_row, with_column_row}

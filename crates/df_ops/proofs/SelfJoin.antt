@@ -1,12 +1,10 @@
 -- Rows that are joined with themselves, where nulls are equal, are each beside themselves.
 use Rattle.std.proofs.Common.{◌≡◌, ℕ, ◌<◌, ◌∙◌, Bool, true, false, cond, zero, suc, List, [], ◌∷◌, ◌++◌, length, get_or, map, filter, refl, ap, sym, subst, arith, Contains}
-use Rattle.std.specs.Prelude.{IsTrue, ◌&&◌, ◌||◌, not}
-use Rattle.std.specs.List.{flat_map, list_any}
+use Rattle.std.specs.Prelude.{◌&&◌}
+use Rattle.std.specs.List.{flat_map}
 use Rattle.std.proofs.lemmas.List.Elements.{Contains-append_left, Contains-append_right}
 use Rattle.df_value.specs.declared.cell.Cell.{Cell}
 use Rattle.df_value.specs.RowEq.{row_eq-Decides}
-use Rattle.df_value.specs.Rows.{row_eq}
-use Rattle.df_expr.specs.Value.{is_null}
 use Rattle.df_ops.specs.Groups.{key_of}
 use Rattle.df_ops.specs.Joins.{join_row, keys_match, left_beside, matches_of, nulls_for, JoinsItself}
 use Rattle.df_ops.specs.declared.join_columns.JoinIndices.{JoinIndices}

@@ -1,8 +1,8 @@
-use Rattle.std.proofs.Common.{◌∙◌, map, arith, ap, [], ◌∷◌, subst, refl}
+use Rattle.std.proofs.Common.{◌∙◌, map, arith, ap, [], ◌∷◌, refl}
 use Rattle.std.proofs.lemmas.List.{map-append}
 use Rattle.df_expr.specs.Physical.{physical_value, IsPhysical}
 use Rattle.df_expr.specs.Value.{value_of}
-use Rattle.df_ops.specs.RowWise.{select_row, ArePhysical}
+use Rattle.df_ops.specs.RowWise.{select_row}
 use Rattle.df_ops.proofs.Steps.{mapped_more, all_done, made_has}
 use Rattle.df_ops.proofs.row_wise.physical_items.Goals as goal
 

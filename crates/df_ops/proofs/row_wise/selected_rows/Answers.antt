@@ -1,6 +1,6 @@
-use Rattle.std.proofs.Common.{◌∙◌, ◌≡◌, length, map, ap, sym, subst, arith}
+use Rattle.std.proofs.Common.{◌∙◌, length, map, ap, sym, subst}
 use Rattle.df_expr.specs.Meters.{with_evals}
-use Rattle.df_ops.proofs.Counts.{row_more, room}
+use Rattle.df_ops.proofs.Counts.{row_more}
 use Rattle.df_ops.proofs.Steps.{mapped_more, all_done, made_is, made_has}
 use Rattle.df_ops.specs.RowWise.{select_row, ArePhysical}
 use Rattle.df_ops.proofs.row_wise.selected_rows.Goals as goal
