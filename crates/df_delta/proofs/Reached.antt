@@ -21,7 +21,6 @@ use Rattle.df_delta.proofs.Changes.{IsChange, diff_from_changes}
 use Rattle.df_delta.proofs.Collected.{find-collected, is_sorted-collected}
 use Rattle.df_delta.proofs.SameRows.{same_row_yes, same_row_no}
 
-
 module _ (t u : TaggedRows) where
   abbrev change : Tag → Bool → Option (Change (List Cell))
   change q b = change_of same_row (finite.get t q) (finite.get u q)

@@ -92,8 +92,8 @@ impl Delta {
     }
 }
 
-/// The table after these changes: at each tag that they name stands the new row, or nothing. Blocks without a change
-/// are shared with this table.
+/// The table after these changes: at each tag that they name stands the new row, or nothing. It shares the blocks
+/// without a change, which no clause says.
 ///
 /// The schema is asked of the rows that it gives: where one of them does not fit, the call promises no more than that
 /// the schema stays.

@@ -15,12 +15,12 @@ use std::alloc::AllocError;
 ///
 /// A change comes in two steps. `prepare` makes the delta of the output and all that the change needs, and leaves the
 /// node over the input that it stands over, whether it succeeds or is refused memory. `commit` puts what was made in
-/// place, takes no memory and cannot fail. What was prepared and is dropped changes nothing.
+/// place and cannot fail; it is to take no memory. What was prepared and is dropped changes nothing.
 pub trait LiveNode {
     /// What a prepare makes and a commit puts in place.
     type Staged: Drop;
 
-    /// The operator takes this input: its rows fit, and they are not too many.
+    /// The operator takes this input, as one whose rows fit and are not too many.
     ghost Takes: { Self → TaggedRows → Type 0 };
 
     /// The node stands over this input.
@@ -48,6 +48,7 @@ pub trait LiveNode {
         meter: &mut Meter,
     ) -> Result<(Self::Staged, Delta), AllocError>
         requires counts { IsBelow (plus meter.old (budget self.old)) (2 ^ 128) }
+        ensures grows { IsWithin meter.old meter.new }
         ensures within { IsWithin meter.new (plus meter.old (budget self.old)) }
         ensures meter { (t : TaggedRows) → MayFollow (IsOver self.old) (Takes self.old) t delta.now
             → IsWithin meter.new (plus meter.old (allowed self.old t (applied t delta.now))) }

@@ -46,6 +46,7 @@ pub trait TwoSidedNode {
         meter: &mut Meter,
     ) -> Result<(Self::Staged, Delta), AllocError>
         requires counts { IsBelow (plus meter.old (budget self.old)) (2 ^ 128) }
+        ensures grows { IsWithin meter.old meter.new }
         ensures within { IsWithin meter.new (plus meter.old (budget self.old)) }
         ensures meter { (l r : TaggedRows)
             → MayFollowBoth (IsOver self.old) (Takes self.old) l left.now r right.now

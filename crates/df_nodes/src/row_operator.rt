@@ -20,7 +20,7 @@ pub enum RowOperator {
 }
 
 impl RowOperator {
-    /// What is made of this row, if anything. Counts the evaluations.
+    /// What is made of this row, if anything. Counts each evaluation, at most those of the operator.
     pub fn apply(
         &self,
         alloc: Global,
@@ -29,6 +29,7 @@ impl RowOperator {
     ) -> Result<Option<Row>, AllocError>
         requires { meter.old.evals + evaluations_of self.now < 2 ^ 128 }
         ensures value { IfOk result (λ r. r ≡ result_of self.now row.now) }
+        ensures grows { IsWithin meter.old meter.new }
         ensures counted { IsWithin meter.new
             (plus meter.old (evaluations (evaluations_of self.now))) }
     {
@@ -53,6 +54,7 @@ impl RowOperator {
     ) -> Result<Option<Row>, AllocError>
         requires { meter.old.evals + evaluations_of self.now < 2 ^ 128 }
         ensures value { IfOk result (λ r. r ≡ result_of_row self.now row.now) }
+        ensures grows { IsWithin meter.old meter.new }
         ensures counted { IsWithin meter.new
             (plus meter.old (evaluations (evaluations_of self.now))) }
     {
@@ -71,6 +73,7 @@ fn kept(
 ) -> Result<Option<Row>, AllocError>
     requires { meter.old.evals + 1 < 2 ^ 128 }
     ensures value { IfOk result (λ r. r ≡ result_of (RowOperator.Filter predicate.now) row.now) }
+    ensures grows { IsWithin meter.old meter.new }
     ensures counted { IsWithin meter.new (plus meter.old (evaluations 1)) }
 {
     if keeps(predicate, row, meter) {

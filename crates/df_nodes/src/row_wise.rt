@@ -27,6 +27,7 @@ pub fn row_wise_changes(
     ensures diff { IfOk result (λ r. (t : TaggedRows) → Fits t delta.now
         → IsDiff (row_wise_output operator.now t)
         (row_wise_output operator.now (applied t delta.now)) r) }
+    ensures grows { IsWithin meter.old meter.new }
     ensures within { IsWithin meter.new
         (plus meter.old (evaluations (2 ^ 65 * evaluations_of operator.now))) }
     ensures meter { IsWithin meter.new

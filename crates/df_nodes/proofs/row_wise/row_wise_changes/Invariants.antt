@@ -19,5 +19,6 @@ invariant-loop-entry l =
       whole : map entry_change l.entry-items ≡ finite.entries l.delta;
       short : length l.entry-items ≡ finite.len l.delta;
       rows : T (list_all has_row l.entries.items);
+      grows : IsWithin l.fn.meter l.meter;
       counted : IsWithin l.meter (plus l.fn.meter (evaluations (2 * l.entry-index * evaluations_of l.operator)));
     }
