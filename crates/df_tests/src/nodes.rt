@@ -40,22 +40,36 @@ fn number(n: i64) -> Expr {
     Expr::Literal(Cell::Int(n), CellType::Int)
 }
 
+// Two rows that come, at these tags.
+fn two(alloc: Global, first: u64, second: u64) -> Result<Vec<Entry>, AllocError> {
+    let mut entries = Vec::new(alloc);
+    for at in [first, second] {
+        entries.push(entry(at, None, Some(row(alloc, Some(7))?)))?;
+    }
+    Ok(entries)
+}
+
+// Whether these entries make no delta, and come back.
+fn come_back(entries: Vec<Entry>) -> bool {
+    match Delta::new(entries) {
+        Ok(_) => false,
+        Err(back) => !back.is_empty(),
+    }
+}
+
 #[test]
-fn entries_that_make_no_delta_come_back(rt: HostRuntime) -> Result<(), Fail> {
+fn entries_whose_tags_do_not_rise_come_back(rt: HostRuntime) -> Result<(), Fail> {
     let alloc = rt.alloc();
-    let seven = row(alloc, Some(7))?;
-    let falling = vec![in alloc;
-        entry(2, None, Some(row(alloc, Some(7))?)),
-        entry(1, None, Some(row(alloc, Some(7))?)),
-    ]?;
-    let twice = vec![in alloc;
-        entry(1, None, Some(row(alloc, Some(7))?)),
-        entry(1, Some(seven), None),
-    ]?;
-    let neither = vec![in alloc; entry(1, None, None)]?;
-    assert!(rt; Delta::new(falling).is_err());
-    assert!(rt; Delta::new(twice).is_err());
-    assert!(rt; matches!(Delta::new(neither), Err(back) if back.len() == 1));
+    assert!(rt; come_back(two(alloc, 2, 1)?));
+    assert!(rt; come_back(two(alloc, 1, 1)?));
+    assert!(rt; !come_back(two(alloc, 1, 2)?));
+    Ok(())
+}
+
+#[test]
+fn an_entry_of_no_row_comes_back(rt: HostRuntime) -> Result<(), Fail> {
+    let entries = vec![in rt.alloc(); entry(1, None, None)]?;
+    assert!(rt; come_back(entries));
     Ok(())
 }
 
