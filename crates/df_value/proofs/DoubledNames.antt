@@ -1,4 +1,4 @@
--- Names of which none is told as doubled are distinct, and one that is stands twice.
+-- Names of which none is told as doubled are distinct, and one that is told is the first that stands twice.
 use Rattle.std.proofs.Common.{◌≡◌, ℕ, ◌∙◌, Bool, true, false, arith, cond, List, [], ◌∷◌, ◌++◌, map, refl, ap, sym, subst, append_assoc, append-nil}
 use Rattle.std.specs.Prelude.{Option, Some, None, IfSome, ◌||◌}
 use Rattle.std.specs.Borrow.{Bor}
@@ -10,7 +10,7 @@ use Rattle.std.proofs.lemmas.Bool.Decides.{Decides-like, same_from_decides}
 use Rattle.std.proofs.lemmas.List.{map-append}
 use Rattle.std.proofs.lemmas.Map.Keys.{IsDistinct-from_apart, IsDistinct-push}
 use Rattle.std.proofs.lemmas.Slice.Eq.{bytes_eq-Decides}
-use Rattle.df_value.specs.Names.{doubled_name_after, distinct-head, has_name, AreDistinct, StandsTwice}
+use Rattle.df_value.specs.Names.{doubled_name_after, distinct-head, has_name, AreDistinct, IsFirstDoubled}
 
 bytes_eq-equivalence : IsEquivalence bytes_eq
 bytes_eq-equivalence = record {
@@ -27,20 +27,29 @@ turned {T} name_of name (s ∷ ss) =
     ap (λ b. b || list_any (bytes_eq name) (map name_of ss)) (bytes_eq-equivalence.symm name (name_of s))
     ∙ ap (λ b. bytes_eq (name_of s) name || b) (turned name_of name ss)
 
+-- names seen and a new one are distinct
+distinct_more :
+    {T : Type 0} (name_of : T → List ℕ) (seen : List T) (x : T) → has_name name_of (name_of x) seen ≡ false → IsDistinct bytes_eq (map name_of seen) →
+    IsDistinct bytes_eq (map name_of (seen ++ x ∷ []))
+distinct_more name_of seen x new k =
+    subst (IsDistinct bytes_eq) (sym (map-append name_of seen (x ∷ [])))
+    (IsDistinct-push bytes_eq-equivalence (map name_of seen) (name_of x) k (turned name_of (name_of x) seen ∙ new))
+
+no_names : IsDistinct bytes_eq []
+no_names = IsDistinct-from_apart bytes_eq [] (λ i j d k l. absurd (omega arith))
+
 distinct_from :
     {T : Type 0} (name_of : T → List ℕ) (seen xs : List T) → AreDistinct name_of seen xs → IsDistinct bytes_eq (map name_of seen) →
     IsDistinct bytes_eq (map name_of (seen ++ xs))
 distinct_from name_of seen [] h k = subst (λ l. IsDistinct bytes_eq (map name_of l)) (sym (append-nil seen)) k
 distinct_from {T} name_of seen (x ∷ xs) h k =
     let head = distinct-head name_of seen x xs h in
-    let more : IsDistinct bytes_eq (map name_of (seen ++ x ∷ [])) =
-    subst (IsDistinct bytes_eq) (sym (map-append name_of seen (x ∷ [])))
-    (IsDistinct-push bytes_eq-equivalence (map name_of seen) (name_of x) k (turned name_of (name_of x) seen ∙ head.0)) in
+    let more = distinct_more name_of seen x head.0 k in
     subst (λ l. IsDistinct bytes_eq (map name_of l)) (append_assoc seen (x ∷ []) xs) (distinct_from name_of (seen ++ x ∷ []) xs head.1 more)
 
 pub is_distinct :
     {T : Type 0} (name_of : T → List ℕ) (xs : List T) → doubled_name_after name_of [] xs ≡ None → IsDistinct bytes_eq (map name_of xs)
-is_distinct name_of xs h = distinct_from name_of [] xs h (IsDistinct-from_apart bytes_eq [] (λ i j d k l. absurd (omega arith)))
+is_distinct name_of xs h = distinct_from name_of [] xs h no_names
 
 -- a name that is found among items stands at a place
 abbrev Stands : List ℕ → List (List ℕ) → Type 0
@@ -67,26 +76,30 @@ told :
 told true own name later h here there = here refl (cc)
 told false own name later h here there = there refl h
 
-twice_from :
-    {T : Type 0} (name_of : T → List ℕ) (seen xs : List T) (name : List ℕ) → doubled_name_after name_of seen xs ≡ Some name →
-    StandsTwice name (map name_of (seen ++ xs))
-twice_from name_of seen [] name h = cc
-twice_from {T} name_of seen (x ∷ xs) name h =
+first_from :
+    {T : Type 0} (name_of : T → List ℕ) (seen xs : List T) (name : List ℕ) → doubled_name_after name_of seen xs ≡ Some name → IsDistinct bytes_eq (map name_of seen) →
+    IsFirstDoubled name (map name_of (seen ++ xs))
+first_from name_of seen [] name h k = cc
+first_from {T} name_of seen (x ∷ xs) name h k =
     told (has_name name_of (name_of x) seen) (name_of x) name (doubled_name_after name_of (seen ++ x ∷ []) xs) h
     (λ e same. let at = stands name_of (name_of x) seen e in
-    subst (λ n. StandsTwice n (map name_of (seen ++ x ∷ xs))) same (
+    subst (λ n. IsFirstDoubled n (map name_of (seen ++ x ∷ xs))) same (
       at.0,
       at.1,
       map name_of xs,
-      map-append name_of seen (x ∷ xs)
-          ∙ (ap (λ ns. ns ++ name_of x ∷ map name_of xs) at.2 ∙ append_assoc at.0 (name_of x ∷ at.1) (name_of x ∷ map name_of xs)),
+      (
+        map-append name_of seen (x ∷ xs)
+            ∙ (ap (λ ns. ns ++ name_of x ∷ map name_of xs) at.2 ∙ append_assoc at.0 (name_of x ∷ at.1) (name_of x ∷ map name_of xs)),
+        subst (IsDistinct bytes_eq) at.2 k,
+      ),
     ))
-    (λ e later. subst (λ l. StandsTwice name (map name_of l)) (append_assoc seen (x ∷ []) xs) (twice_from name_of (seen ++ x ∷ []) xs name later))
+    (λ e later. subst (λ l. IsFirstDoubled name (map name_of l)) (append_assoc seen (x ∷ []) xs)
+    (first_from name_of (seen ++ x ∷ []) xs name later (distinct_more name_of seen x e k)))
 
-pub stands_twice :
+pub is_first_doubled :
     {T : Type 0} (name_of : T → List ℕ) (xs : List T) (name : List ℕ) → doubled_name_after name_of [] xs ≡ Some name →
-    StandsTwice name (map name_of xs)
-stands_twice name_of xs name h = twice_from name_of [] xs name h
+    IsFirstDoubled name (map name_of xs)
+is_first_doubled name_of xs name h = first_from name_of [] xs name h no_names
 
 -- of a reference that is lent, what is behind it
 pub none_copied : {T : Type 0} (o : Option (Bor T)) (d : Option T) → IsNone o → option_copied o ≡ d → d ≡ None

@@ -1,7 +1,7 @@
 -- Lists of items that have names, as columns, keys, frames and views. The first argument gives an item's name.
 use Rattle.std.proofs.Common.{cond, refl, subst, sym, append_assoc, append-nil}
 use Rattle.std.specs.Prelude.{◌≡◌, ℕ, Bool, true, false, List, [], ◌∷◌, ◌++◌, Option, Some, None, position, if◌then◌else◌}
-use Rattle.std.specs.List.{list_any}
+use Rattle.std.specs.List.{list_any, IsDistinct}
 use Rattle.std.specs.Str.{bytes_eq}
 
 -- whether an item has this name
@@ -22,10 +22,11 @@ doubled_name_after name_of seen (x ∷ xs) =
 abbrev pub AreDistinct : {T : Type 0} → (T → List ℕ) → List T → List T → Type 0
 AreDistinct name_of seen xs = doubled_name_after name_of seen xs ≡ None
 
--- a name stands at two places of a list of names
-abbrev pub StandsTwice : List ℕ → List (List ℕ) → Type 0
-StandsTwice name names =
-    (before between after : List (List ℕ)) × (names ≡ before ++ name ∷ (between ++ name ∷ after))
+-- a name stands at two places of a list of names, and no name stands twice before the second of them
+abbrev pub IsFirstDoubled : List ℕ → List (List ℕ) → Type 0
+IsFirstDoubled name names =
+    (before between after : List (List ℕ))
+    × ((names ≡ before ++ name ∷ (between ++ name ∷ after)) × IsDistinct bytes_eq (before ++ name ∷ between))
 
 not_doubled : (b : Bool) (name : List ℕ) (later : Option (List ℕ)) → cond b (Some name) later ≡ None → (b ≡ false) × (later ≡ None)
 not_doubled true name later h = cc

@@ -4,7 +4,7 @@ ghost use Rattle.std.specs.List.{IsDistinct};
 ghost use Rattle.std.specs.Option.{IsNone, option_copied};
 ghost use Rattle.std.specs.Str.{bytes_eq};
 ghost use Rattle.df_value.specs.Names as names;
-ghost use Rattle.df_value.specs.Names.{StandsTwice};
+ghost use Rattle.df_value.specs.Names.{IsFirstDoubled};
 
 use crate::text::Text;
 
@@ -52,7 +52,7 @@ pub fn index_of_name<N: Named>(items: &[N], name: &str) -> Option<usize>
 pub fn first_doubled_name<N: Named>(items: &[N]) -> Option<&Text>
     ensures value { option_copied result ≡ names.doubled_name_after N.name_of [] items.now }
     ensures distinct { IsNone result → IsDistinct bytes_eq (map N.name_of items.now) }
-    ensures twice { IfSome result (λ name. StandsTwice name.now (map N.name_of items.now)) }
+    ensures first { IfSome result (λ name. IsFirstDoubled name.now (map N.name_of items.now)) }
 {
     first_standing_earlier(items)
 }
