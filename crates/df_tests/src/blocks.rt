@@ -39,6 +39,15 @@ fn tag(n: u64) -> Tag {
     }
 }
 
+// The tag between that of this number and the next.
+fn between(n: u64) -> Tag {
+    Tag {
+        first: n.saturating_mul(2).saturating_add(1),
+        second: 0,
+        third: 0,
+    }
+}
+
 fn rows(alloc: Global, len: u64) -> Result<Vec<Row>, AllocError> {
     let mut rows = Vec::new(alloc);
     for n in 0..len {
@@ -87,81 +96,94 @@ fn a_tag_between_two_is_not_found(rt: HostRuntime) -> Result<(), Fail> {
     for n in [0, 1023, 1024, 2047, 2048] {
         assert!(rt; table.find(tag(n)) == Some(n as usize));
     }
-    for first in [1, 2047, 2049, 4097] {
-        let between = Tag {
-            first,
-            second: 0,
-            third: 0,
-        };
-        assert!(rt; table.find(between) == None);
+    for n in [0, 1023, 1024, 2048] {
+        assert!(rt; table.find(between(n)) == None);
     }
     Ok(())
 }
 
-// The row at the end of the first block goes, the first one of the second block is replaced, one comes between the two
-// and one at the end.
+// A change by its tag: which row stood there and which comes, by their numbers.
+type Edit = (Tag, Option<u64>, Option<u64>);
+
+fn row_of(alloc: Global, number: Option<u64>) -> Result<Option<Row>, AllocError> {
+    match number {
+        Some(number) => Ok(Some(row(alloc, number)?)),
+        None => Ok(None),
+    }
+}
+
+fn entry(alloc: Global, edit: &Edit) -> Result<Entry, AllocError> {
+    let old = row_of(alloc, edit.1)?;
+    let new = row_of(alloc, edit.2)?;
+    Ok(Entry {
+        tag: edit.0,
+        old,
+        new,
+    })
+}
+
+fn edited(alloc: Global, table: &Table, edits: &[Edit]) -> Result<Table, AllocError> {
+    let mut entries = Vec::new(alloc);
+    for edit in edits {
+        entries.push(entry(alloc, edit)?)?;
+    }
+    changed(alloc, table, entries)
+}
+
+fn has_rows(alloc: Global, table: &Table, rows: &[Row]) -> Result<bool, AllocError> {
+    let read = table.rows(alloc)?;
+    Ok(read.as_slice() == rows)
+}
+
+// The rows of these numbers, after the first 1,023.
+fn rows_after(alloc: Global, numbers: &[u64]) -> Result<Vec<Row>, AllocError> {
+    let mut rows = rows(alloc, 1023)?;
+    for number in numbers {
+        rows.push(row(alloc, *number)?)?;
+    }
+    Ok(rows)
+}
+
+// The row at the end of the first block goes, one comes between the two blocks, the first one of the second block is
+// replaced, and one comes at the end.
 #[test]
 fn changes_at_the_ends_of_blocks(rt: HostRuntime) -> Result<(), Fail> {
     let alloc = rt.alloc();
-    let before = rows(alloc, 2049)?;
-    let before_table = table(alloc, &before)?;
-    let entries = vec![in alloc;
-        Entry {
-            tag: tag(1023),
-            old: Some(row(alloc, 1023)?),
-            new: None
-        },
-        Entry {
-            tag: Tag {
-                first: 2047,
-                second: 0,
-                third: 0
-            },
-            old: None,
-            new: Some(row(alloc, 5)?)
-        },
-        Entry {
-            tag: tag(1024),
-            old: Some(row(alloc, 1024)?),
-            new: Some(row(alloc, 7)?)
-        },
-        Entry {
-            tag: tag(2049),
-            old: None,
-            new: Some(row(alloc, 2049)?)
-        },
-    ]?;
-    let after = changed(alloc, &before_table, entries)?;
-    let mut want = rows(alloc, 1023)?;
-    want.push(row(alloc, 5)?)?;
-    want.push(row(alloc, 7)?)?;
-    for n in 1025..2050 {
-        want.push(row(alloc, n)?)?;
-    }
-    assert!(rt; after.rows(alloc)?.as_slice() == want.as_slice());
-    assert!(rt; before_table.rows(alloc)?.as_slice() == before.as_slice());
+    let before = rows(alloc, 1026)?;
+    let table = table(alloc, &before)?;
+    let edits = [
+        (tag(1023), Some(1023), None),
+        (between(1023), None, Some(5)),
+        (tag(1024), Some(1024), Some(7)),
+        (tag(1026), None, Some(1026)),
+    ];
+    let after = edited(alloc, &table, &edits)?;
+    let want = rows_after(alloc, &[5, 7, 1025, 1026])?;
+    assert!(rt; has_rows(alloc, &after, &want)?);
+    assert!(rt; has_rows(alloc, &table, &before)?);
     Ok(())
+}
+
+fn unlike(alloc: Global) -> Result<Entry, AllocError> {
+    let cells = vec![in alloc; Cell::Null, Cell::Bool(true)]?;
+    let row = Row::new(alloc, cells)?;
+    Ok(Entry {
+        tag: tag(5),
+        old: None,
+        new: Some(row),
+    })
 }
 
 #[test]
 fn a_row_that_does_not_fit_changes_nothing(rt: HostRuntime) -> Result<(), Fail> {
     let alloc = rt.alloc();
-    let table = table(alloc, &rows(alloc, 2)?)?;
-    let unlike = Row::new(alloc, vec![in alloc; Cell::Null, Cell::Bool(true)]?)?;
-    let entries = vec![in alloc;
-        Entry {
-            tag: tag(0),
-            old: Some(row(alloc, 0)?),
-            new: None
-        },
-        Entry {
-            tag: tag(5),
-            old: None,
-            new: Some(unlike)
-        },
-    ]?;
+    let before = rows(alloc, 2)?;
+    let table = table(alloc, &before)?;
+    let mut entries = Vec::new(alloc);
+    entries.push(entry(alloc, &(tag(0), Some(0), None))?)?;
+    entries.push(unlike(alloc)?)?;
     let after = changed(alloc, &table, entries)?;
-    assert!(rt; after.rows(alloc)?.as_slice() == table.rows(alloc)?.as_slice());
+    assert!(rt; has_rows(alloc, &after, &before)?);
     Ok(())
 }
 

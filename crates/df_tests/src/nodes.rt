@@ -1,5 +1,6 @@
 //! Deltas, and live nodes under them.
-ghost use Rattle.std.specs.Prelude.{◌≡◌, IfOk};
+ghost use Rattle.std.specs.Prelude.{◌≡◌, ◌^◌, IfOk};
+ghost use Rattle.df_delta.specs.Work.{IsBelow};
 ghost use Rattle.df_nodes.specs.RowOperators.{evaluations_of};
 
 use crate::given::{row, schema};
@@ -30,6 +31,13 @@ fn entry(first: u64, old: Option<Row>, new: Option<Row>) -> Entry {
 // The delta of one change at the tag 1.
 fn change(alloc: Global, old: Option<Row>, new: Option<Row>) -> Result<Delta, AllocError> {
     Delta::new(vec![in alloc; entry(1, old, new)]?).map_err(|_| AllocError)
+}
+
+// The delta of a row at the tag 1 that gives way to another, by their numbers.
+fn replaced(alloc: Global, old: Option<i64>, new: Option<i64>) -> Result<Delta, AllocError> {
+    let old = row(alloc, old)?;
+    let new = row(alloc, new)?;
+    change(alloc, Some(old), Some(new))
 }
 
 fn x(alloc: Global) -> Result<Expr, AllocError> {
@@ -73,6 +81,17 @@ fn an_entry_of_no_row_comes_back(rt: HostRuntime) -> Result<(), Fail> {
     Ok(())
 }
 
+// The node after this delta, the delta that it told, and the work that it counted.
+fn after<N: LiveNode + Drop>(mut node: N, delta: Delta) -> Result<(N, Delta, Meter), AllocError>
+    requires { IsBelow (N.budget node) (2 ^ 128) }
+    ensures { IfOk result (λ r. N.budget r.0 ≡ N.budget node) }
+{
+    let mut meter = Meter::new();
+    let (staged, out) = node.prepare(&delta, &mut meter)?;
+    node.commit(staged);
+    Ok((node, out, meter))
+}
+
 // The rows whose number is above 1.
 fn filter(alloc: Global) -> Result<LiveFilter, AllocError>
     ensures { IfOk result (λ f. evaluations_of f.operator ≡ 1) }
@@ -82,50 +101,42 @@ fn filter(alloc: Global) -> Result<LiveFilter, AllocError>
     LiveFilter::new(alloc, &schema(alloc, CellType::Int)?, &above)
 }
 
+// What the filter tells of a row that gives way to another, and how many evaluations it counts.
+fn filtered(alloc: Global, old: Option<i64>, new: Option<i64>) -> Result<(Delta, u128), AllocError> {
+    let (_, out, meter) = after(filter(alloc)?, replaced(alloc, old, new)?)?;
+    Ok((out, meter.evals))
+}
+
 #[test]
 fn a_filter_is_silent_of_rows_that_it_drops(rt: HostRuntime) -> Result<(), Fail> {
-    let alloc = rt.alloc();
-    let mut filter = filter(alloc)?;
-    let mut meter = Meter::new();
-    let dropped = change(alloc, Some(row(alloc, Some(1))?), Some(row(alloc, None)?))?;
-    let (staged, out) = filter.prepare(&dropped, &mut meter)?;
-    filter.commit(staged);
-    assert!(rt; out.len() == 0 && meter.evals == 2);
+    let (out, evals) = filtered(rt.alloc(), Some(1), None)?;
+    assert!(rt; out.len() == 0 && evals == 2);
     Ok(())
 }
 
 #[test]
 fn a_filter_lets_a_row_in(rt: HostRuntime) -> Result<(), Fail> {
-    let alloc = rt.alloc();
-    let mut filter = filter(alloc)?;
-    let mut meter = Meter::new();
-    let kept = change(
-        alloc,
-        Some(row(alloc, Some(1))?),
-        Some(row(alloc, Some(2))?),
-    )?;
-    let (staged, out) = filter.prepare(&kept, &mut meter)?;
-    filter.commit(staged);
+    let (out, _) = filtered(rt.alloc(), Some(1), Some(2))?;
     let comes = matches!(out.entries(), [e] if e.old.is_none() && e.new.is_some());
     assert!(rt; comes);
     Ok(())
 }
 
+// The column y of x * 0.
+fn select(alloc: Global) -> Result<LiveMap, AllocError>
+    ensures { IfOk result (λ m. evaluations_of m.operator ≡ 1) }
+{
+    let zero = Boxed::new(alloc, number(0))?;
+    let product = Expr::Arith(ArithOp::Mul, Boxed::new(alloc, x(alloc)?)?, zero);
+    let items = [(Text::from_str(alloc, "y")?, product)];
+    let made = LiveMap::select(alloc, &schema(alloc, CellType::Int)?, &items)?;
+    Ok(made)
+}
+
 #[test]
 fn a_select_is_silent_where_its_values_stay(rt: HostRuntime) -> Result<(), Fail> {
     let alloc = rt.alloc();
-    let zero = Boxed::new(alloc, number(0))?;
-    let nothing = Expr::Arith(ArithOp::Mul, Boxed::new(alloc, x(alloc)?)?, zero);
-    let items = [(Text::from_str(alloc, "y")?, nothing)];
-    let mut select = LiveMap::select(alloc, &schema(alloc, CellType::Int)?, &items)?;
-    let mut meter = Meter::new();
-    let other = change(
-        alloc,
-        Some(row(alloc, Some(3))?),
-        Some(row(alloc, Some(4))?),
-    )?;
-    let (staged, out) = select.prepare(&other, &mut meter)?;
-    select.commit(staged);
+    let (_, out, meter) = after(select(alloc)?, replaced(alloc, Some(3), Some(4))?)?;
     assert!(rt; out.len() == 0 && meter.evals == 2);
     Ok(())
 }
