@@ -4,19 +4,13 @@ use Rattle.std.proofs.Math.Nat.{mul-le-mul_right}
 use Rattle.df_expr.specs.declared.meter.Meter.{Meter}
 use Rattle.df_delta.specs.Work.{IsBelow, IsWithin, evaluations, plus}
 
--- there is room for the first row of the next entry, and for the second
-pub room : (i n k e0 e : ℕ) → i < n → n < 2 ^ 64 → e0 + 2 ^ 65 * k < 2 ^ 128 → e ≤ e0 + 2 * i * k → e + k < 2 ^ 128
-room i n k e0 e h l below so_far = let most : (2 * i + 1) * k ≤ 2 ^ 65 * k = mul-le-mul_right k (omega arith) in omega arith
+-- after i entries there is room for the next one
+pub room : (i n k e0 e : ℕ) → i < n → n < 2 ^ 64 → e0 + 2 ^ 65 * k < 2 ^ 128 → e ≤ e0 + 2 * i * k → e + 2 * k < 2 ^ 128
+room i n k e0 e h l below so_far = let most : (2 * i + 2) * k ≤ 2 ^ 65 * k = mul-le-mul_right k (omega arith) in omega arith
 
-pub room_again : (i n k e0 e : ℕ) → i < n → n < 2 ^ 64 → e0 + 2 ^ 65 * k < 2 ^ 128 → e ≤ e0 + 2 * i * k + k → e + k < 2 ^ 128
-room_again i n k e0 e h l below so_far = let most : (2 * i + 2) * k ≤ 2 ^ 65 * k = mul-le-mul_right k (omega arith) in omega arith
-
--- after i entries, the first row of the next one, and both
-pub first_row : (i k : ℕ) (m0 m new : Meter) → IsWithin m (plus m0 (evaluations (2 * i * k))) → IsWithin new (plus m (evaluations k)) → IsWithin new (plus m0 (evaluations (2 * i * k + k)))
-first_row i k m0 m new h g = (omega (arith, h.0, g.0), omega (arith, h.1, g.1), omega (arith, h.2, g.2), omega (arith, h.3, g.3))
-
-pub both_rows : (i k : ℕ) (m0 m new : Meter) → IsWithin m (plus m0 (evaluations (2 * i * k + k))) → IsWithin new (plus m (evaluations k)) → IsWithin new (plus m0 (evaluations (2 * (i + 1) * k)))
-both_rows i k m0 m new h g = (omega (arith, h.0, g.0), omega (arith, h.1, g.1), omega (arith, h.2, g.2), omega (arith, h.3, g.3))
+-- and what it counts
+pub entry_more : (i k : ℕ) (m0 m new : Meter) → IsWithin m (plus m0 (evaluations (2 * i * k))) → IsWithin new (plus m (evaluations (2 * k))) → IsWithin new (plus m0 (evaluations (2 * (i + 1) * k)))
+entry_more i k m0 m new h g = (omega (arith, h.0, g.0), omega (arith, h.1, g.1), omega (arith, h.2, g.2), omega (arith, h.3, g.3))
 
 -- fewer entries count less
 pub fewer : (a b k : ℕ) (m0 m : Meter) → a ≤ b → IsWithin m (plus m0 (evaluations (a * k))) → IsWithin m (plus m0 (evaluations (b * k)))

@@ -5,8 +5,12 @@ use Rattle.df_value.specs.declared.cell.Cell.{Cell}
 use Rattle.df_expr.specs.Physical.{physical_value}
 use Rattle.df_ops.specs.Places.{placed_cell}
 use Rattle.df_ops.specs.RowWise.{is_true}
+use Rattle.df_column.specs.Changes.{Change}
 use Rattle.df_column.specs.Tables.{TaggedRows}
-use Rattle.df_delta.specs.Collected.{collected}
+use Rattle.df_column.specs.declared.tag.Tag.{Tag}
+use Rattle.df_delta.specs.ChangeOf.{row_wise_change}
+use Rattle.df_delta.specs.Collected.{collected, collected_list}
+use Rattle.df_delta.specs.SameRows.{same_row}
 use Rattle.df_nodes.specs.declared.row_operator.RowOperator.{RowOperator}
 use Rattle.df_nodes.specs.declared.row_operator.RowOperator.TheVariants as operator
 
@@ -29,3 +33,7 @@ evaluations_of (operator.WithColumns places items) = length items
 -- what is made of each row, at its tag
 abbrev pub row_wise_output : RowOperator → TaggedRows → TaggedRows
 row_wise_output op t = collected (λ _. result_of op) t
+
+-- what is made of these changes, one by one
+abbrev pub row_wise_made : RowOperator → List (Tag × Change (List Cell)) → List (Tag × Change (List Cell))
+row_wise_made op changes = collected_list (λ _. row_wise_change same_row (result_of op)) changes

@@ -3,17 +3,14 @@ use Rattle.std.specs.Prelude.{T}
 use Rattle.std.specs.List.{list_all}
 use Rattle.std.specs.FinMap as finite
 use Rattle.df_column.specs.Tables.{entry_change}
-use Rattle.df_delta.specs.ChangeOf.{row_wise_change}
-use Rattle.df_delta.specs.Collected.{collected_list}
 use Rattle.df_delta.specs.Deltas.{has_row}
-use Rattle.df_delta.specs.SameRows.{same_row}
 use Rattle.df_delta.specs.Work.{evaluations, plus, IsWithin}
-use Rattle.df_nodes.specs.RowOperators.{evaluations_of, result_of}
+use Rattle.df_nodes.specs.RowOperators.{evaluations_of, row_wise_made}
 use Rattle.df_nodes.proofs.row_wise.row_wise_changes.Given as goal
 
 abbrev pub invariant-loop-entry : goal.invariant-loop-entry
 invariant-loop-entry l =
-    let made = collected_list (λ _. row_wise_change same_row (result_of l.operator)) in
+    let made = row_wise_made l.operator in
     record {
       done : map entry_change l.entries.items ++ made (map entry_change (drop l.entry-index l.entry-items)) ≡ made (map entry_change l.entry-items);
       whole : map entry_change l.entry-items ≡ finite.entries l.delta;
