@@ -62,12 +62,6 @@ doubled-here ns i within there =
     ap (doubled_number_after (take i ns)) (drop-cons ns i 0 within)
     ∙ ap (λ b. cond b (Some (get_or ns i 0)) (doubled_number_after (take i ns ++ get_or ns i 0 ∷ []) (drop (suc i) ns))) there
 
--- the rows whose numbers are not in the set
-pub others-of :
-    {T : Type 0} (set : BTreeSet ℕ) (ns : List ℕ) (rows : List (ℕ × T)) → IsSetOf set ns →
-    filter (λ r. not (contains nat_cmp set r.0)) rows ≡ filter (λ r. not (has_number ns r.0)) rows
-others-of set ns rows h = λ i. filter (λ r. not (h r.0 i)) rows
-
 -- whether items have a number
 has-map : {T : Type 0} (number : T → ℕ) (xs : List T) (n : ℕ) → has_number (map number xs) n ≡ list_any (λ x. number x == n) xs
 has-map number [] n = refl

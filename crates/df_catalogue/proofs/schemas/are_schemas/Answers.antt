@@ -1,0 +1,26 @@
+use Rattle.std.proofs.Common.{◌≡◌, ℕ, ◌+◌, ◌<◌, ◌≤◌, ◌∙◌, Bool, true, false, zero, suc, List, [], ◌∷◌, length, drop, get_or, refl, ap, sym, arith, add-one, drop-cons}
+use Rattle.std.specs.Prelude.{◌&&◌}
+use Rattle.std.specs.Cmp.Lexicographic.{unequal}
+use Rattle.std.proofs.Math.ListN.{drop_of_length-le}
+use Rattle.std.proofs.lemmas.List.{length-map}
+use Rattle.df_value.specs.declared.cell.CellType.{CellType}
+use Rattle.df_catalogue.specs.FrameParts.{schemas_of}
+use Rattle.df_catalogue.specs.Schemas.{schema_eq, schemas_eq}
+use Rattle.df_catalogue.proofs.FrameChangeFacts.{lent-map}
+use Rattle.df_catalogue.proofs.schemas.are_schemas.Goals as goal
+
+abbrev Columns : Type 0
+Columns = List (List ℕ × CellType)
+
+first-from : (xs : List Columns) (i : ℕ) (x : Columns) → i < length xs → x ≡ get_or xs i x → drop i xs ≡ x ∷ drop (i + 1) xs
+first-from xs i x within at = drop-cons xs i x within ∙ (ap (λ y. y ∷ drop (suc i) xs) (sym at) ∙ ap (λ k. x ∷ drop k xs) (sym (add-one i)))
+
+-- lists of schemas are the same from an index on where two schemas are and the lists from the next on
+one-more :
+    (xs ys : List Columns) (i : ℕ) (x y : Columns) → i < length xs → i < length ys → x ≡ get_or xs i x → y ≡ get_or ys i y →
+    schemas_eq (drop i xs) (drop i ys) ≡ (schema_eq x y && schemas_eq (drop (i + 1) xs) (drop (i + 1) ys))
+one-more xs ys i x y within inside at there =
+    ap (λ ss. schemas_eq ss (drop i ys)) (first-from xs i x within at) ∙ ap (schemas_eq (x ∷ drop (i + 1) xs)) (first-from ys i y inside there)
+
+ended : (xs ys : List Columns) (i : ℕ) → length xs ≤ i → length ys ≤ i → schemas_eq (drop i xs) (drop i ys) ≡ true
+ended xs ys i h k = ap (λ ss. schemas_eq ss (drop i ys)) (drop_of_length-le xs h) ∙ ap (schemas_eq []) (drop_of_length-le ys k)
