@@ -16,7 +16,7 @@ loop-i-init g c =
       rising = c.new-new_rows.ensures.ordered;
       at = λ q.
           ap (lookup (is_at (tag_cmp q))) c.new-new_rows.ensures.empty
-          ∙ sym (ap (λ rest. finite.find {X = Option (List Cell)} tag_cmp q (map at_tag (map (λ item. (g.N.HasNumber.number_of item, g.N.NewRow.row_of item)) rest))) (drop_of_length-le items (omega (arith, c.len.ensures))));
+          ∙ sym (ap (λ rest. finite.find {X = Option (List Cell)} tag_cmp q (map at_tag (map (λ item. (g.N.HasNumber.number_of item, g.N.NewRow.row_of item)) rest))) (drop_of_length-le items (omega arith)));
     }
 
 pub loop-i-preserved : goal.loop-i-preserved

@@ -24,3 +24,33 @@ one-more xs ys i x y within inside at there =
 
 ended : (xs ys : List Columns) (i : ℕ) → length xs ≤ i → length ys ≤ i → schemas_eq (drop i xs) (drop i ys) ≡ true
 ended xs ys i h k = ap (λ ss. schemas_eq ss (drop i ys)) (drop_of_length-le xs h) ∙ ap (schemas_eq []) (drop_of_length-le ys k)
+
+pub returns-then-not-schema_eq : goal.returns-then-not-schema_eq
+returns-then-not-schema_eq c =
+    let xs = c.args.schemas.now in
+    let frames = c.args.frames.now in
+    let i = c.loop-i.i in
+    let same = length-map frames (λ f. f.schema) in
+    let inside : i < length (schemas_of frames) = omega (arith, same, c.loop-i-test.true) in
+    let within : i < length xs = omega (arith, c.loop-i.invariant.0, c.loop-i-test.true) in
+    let unlike : schema_eq c.index-schemas-i.result c.index-frames-i.result.schema ≡ false =
+    ap (schema_eq c.index-schemas-i.result) (sym c.schema.ensures) ∙ (sym c.schema_eq.ensures ∙ c.if-not-schema_eq.true) in
+    sym (c.loop-i.invariant.1
+    ∙ (one-more xs (schemas_of frames) i c.index-schemas-i.result c.index-frames-i.result.schema within inside c.index-schemas-i.is (lent-map (λ f. f.schema) frames i c.index-frames-i.result c.index-frames-i.is)
+    ∙ ap (λ b. b && schemas_eq (drop (i + 1) xs) (drop (i + 1) (schemas_of frames))) unlike))
+
+pub loop-i-preserved : goal.loop-i-preserved
+loop-i-preserved c =
+    let xs = c.args.schemas.now in
+    let frames = c.args.frames.now in
+    let i = c.loop-i.i in
+    let same = length-map frames (λ f. f.schema) in
+    let inside : i < length (schemas_of frames) = omega (arith, same, c.loop-i-test.true) in
+    let within : i < length xs = omega (arith, c.loop-i.invariant.0, c.loop-i-test.true) in
+    let alike : schema_eq c.index-schemas-i.result c.index-frames-i.result.schema ≡ true =
+    ap (schema_eq c.index-schemas-i.result) (sym c.schema.ensures) ∙ (sym c.schema_eq.ensures ∙ c.if-not-schema_eq.false) in (
+      c.loop-i.invariant.0,
+      c.loop-i.invariant.1
+      ∙ (one-more xs (schemas_of frames) i c.index-schemas-i.result c.index-frames-i.result.schema within inside c.index-schemas-i.is (lent-map (λ f. f.schema) frames i c.index-frames-i.result c.index-frames-i.is)
+      ∙ ap (λ b. b && schemas_eq (drop (i + 1) xs) (drop (i + 1) (schemas_of frames))) alike),
+    )
