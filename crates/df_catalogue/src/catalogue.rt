@@ -49,7 +49,7 @@ impl<Acc: Ledger, Del: Ledger> Model for Catalogue<Acc, Del> {
 
     ghost invariant = { λ c.
         IsCatalogue (state_of (schemas_of c.frames.items) (states_of c.frames.items)
-            c.views.items c.tables.items)
+        c.views.items c.tables.items)
         (length c.views.items) (length c.tables.items) c.accepted.total c.deleted.total
         (c.accepted_of_no_desk.parts, c.accepted_of_no_desk.amount)
         (c.deleted_of_no_desk.parts, c.deleted_of_no_desk.amount) };

@@ -37,7 +37,9 @@ impl Model for Frame {
     ghost Value = { FrameParts };
 
     ghost view = { λ f. record {
-        schema = f.table.schema; state = frame_state f.accepted (numbered_rows f.table.rows) } };
+      schema = f.table.schema;
+      state = frame_state f.accepted (numbered_rows f.table.rows);
+    } };
 
     ghost invariant = { λ f. IsTabled f.accepted f.table.rows f.accepted_rows f.deleted_rows };
 }
@@ -194,8 +196,7 @@ impl Frame {
     {
         match change {
             FrameChange::Append(chunk) => {
-                self.accepted
-                    .with(alloc, chunk.first(), chunk.rows().len())
+                self.accepted.with(alloc, chunk.first(), chunk.rows().len())
             }
             FrameChange::Delete(_) | FrameChange::Replace(_) => self.accepted.copy(alloc),
         }

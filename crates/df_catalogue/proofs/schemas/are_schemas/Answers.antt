@@ -51,6 +51,6 @@ loop-i-preserved c =
     ap (schema_eq c.index-schemas-i.result) (sym c.schema.ensures) ∙ (sym c.schema_eq.ensures ∙ c.if-not-schema_eq.false) in (
       c.loop-i.invariant.0,
       c.loop-i.invariant.1
-      ∙ (one-more xs (schemas_of frames) i c.index-schemas-i.result c.index-frames-i.result.schema within inside c.index-schemas-i.is (lent-map (λ f. f.schema) frames i c.index-frames-i.result c.index-frames-i.is)
-      ∙ ap (λ b. b && schemas_eq (drop (i + 1) xs) (drop (i + 1) (schemas_of frames))) alike),
+          ∙ (one-more xs (schemas_of frames) i c.index-schemas-i.result c.index-frames-i.result.schema within inside c.index-schemas-i.is (lent-map (λ f. f.schema) frames i c.index-frames-i.result c.index-frames-i.is)
+          ∙ ap (λ b. b && schemas_eq (drop (i + 1) xs) (drop (i + 1) (schemas_of frames))) alike),
     )
