@@ -2,7 +2,7 @@
 -- numbers.
 use Rattle.std.proofs.Common.{◌≡◌, ℕ, ◌+◌, ◌<◌, Bool, true, false, suc, cond, List, [], ◌∷◌, ◌++◌, map, length, drop, get_or, refl, sym, ap, subst, ◌∙◌, add-one, drop-cons}
 use Rattle.std.specs.Prelude.{T, Option, None, Some, option_map, unwrap_or}
-use Rattle.std.specs.BTreeMap.{BTreeMap, IsOrdered, Updates, is_at, keys}
+use Rattle.std.specs.BTreeMap.{BTreeMap, IsOrdered, Updates, is_at}
 use Rattle.std.specs.Cmp.{eq_by_cmp_equiv}
 use Rattle.std.specs.FinMap as finite
 use Rattle.std.specs.FinMap.Entries.{below_all}

@@ -19,7 +19,7 @@ use Rattle.df_delta.specs.Deltas.{RowsFit}
 use Rattle.df_delta.specs.Differences.{IsDiff}
 use Rattle.df_catalogue.specs.FrameParts.{frame_state}
 use Rattle.df_catalogue.specs.FrameTables.{IsTabled, at_tag, coming_row, numbered_row, numbered_rows, row_tag, set_rows, tagged_rows_of}
-use Rattle.df_catalogue.specs.Frames.{chunk_numbers, has_row, numbers_of, rows_of, with_chunk, with_replaced_rows, without_rows, IsNumbered}
+use Rattle.df_catalogue.specs.Frames.{has_row, numbers_of, rows_of, with_chunk, with_replaced_rows, without_rows, IsNumbered}
 use Rattle.df_catalogue.specs.Numbers.{has_number, is_rising}
 use Rattle.df_catalogue.specs.Refusals.{first_not_live, first_taken}
 use Rattle.df_catalogue.specs.States.{empty_frame}

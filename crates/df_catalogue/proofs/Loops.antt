@@ -1,5 +1,5 @@
 -- The step of a loop over the elements of a list that pushes what one of them gives.
-use Rattle.std.proofs.Common.{◌≡◌, ℕ, ◌+◌, ◌<◌, ◌∙◌, Bool, List, [], ◌∷◌, ◌++◌, map, take, filter, length, get_or, ap, sym, append_assoc}
+use Rattle.std.proofs.Common.{◌≡◌, ℕ, ◌+◌, ◌<◌, ◌∙◌, List, [], ◌∷◌, ◌++◌, map, take, length, get_or, ap, sym}
 use Rattle.std.proofs.lemmas.List.{map_more}
 
 pub mapped-more :

@@ -1,6 +1,6 @@
 -- Sets that hold the numbers of a list, and the walk that finds the first number that is doubled.
-use Rattle.std.proofs.Common.{◌≡◌, ℕ, ◌+◌, ◌<◌, Bool, true, false, suc, cond, ◌∙◌, List, [], ◌∷◌, ◌++◌, filter, map, length, take, drop, get_or, refl, ap, sym, arith, add-one, drop-cons}
-use Rattle.std.specs.Prelude.{◌==◌, ◌||◌, not, Some}
+use Rattle.std.proofs.Common.{◌≡◌, ℕ, ◌+◌, ◌<◌, Bool, true, false, suc, cond, ◌∙◌, List, [], ◌∷◌, ◌++◌, map, length, take, drop, get_or, refl, ap, sym, arith, add-one, drop-cons}
+use Rattle.std.specs.Prelude.{◌==◌, ◌||◌, Some}
 use Rattle.std.specs.BTreeSet.{BTreeSet, contains, Updates}
 use Rattle.std.specs.BTreeMap.{is_at}
 use Rattle.std.specs.Ordering.{nat_cmp, is_eq, MatchOrdering}

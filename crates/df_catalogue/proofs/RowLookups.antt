@@ -1,6 +1,6 @@
 -- What stands at a tag after rows are put among others, are taken out, or come in the place of others.
 use Rattle.std.proofs.Common.{◌≡◌, ℕ, Bool, true, false, cond, List, [], ◌∷◌, ◌++◌, map, filter, refl, sym, ap, ◌∙◌}
-use Rattle.std.specs.Prelude.{not, ◌==◌, ◌||◌, nat_lt, Option, None, Some, find, option_map, unwrap_or}
+use Rattle.std.specs.Prelude.{not, ◌==◌, ◌||◌, nat_lt, Option, None, Some, option_map, unwrap_or}
 use Rattle.std.specs.FinMap as finite
 use Rattle.std.specs.List.{list_any}
 use Rattle.std.proofs.lemmas.Bool.{or_parts}

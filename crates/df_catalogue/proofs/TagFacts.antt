@@ -1,5 +1,5 @@
 -- Row tags rise as the numbers do, and a tag is that of one number at most.
-use Rattle.std.proofs.Common.{◌≡◌, ℕ, ◌+◌, ◌<◌, Bool, true, false, List, [], ◌∷◌, map, refl, sym, ap, subst, ◌∙◌, arith}
+use Rattle.std.proofs.Common.{◌≡◌, ℕ, ◌+◌, ◌<◌, Bool, true, List, [], ◌∷◌, map, sym, ap, subst, ◌∙◌, arith}
 use Rattle.std.specs.Prelude.{T, ◌==◌, nat_lt}
 use Rattle.std.specs.Cmp.{both_ways, ranks, tied_itself}
 use Rattle.std.specs.FinMap as finite

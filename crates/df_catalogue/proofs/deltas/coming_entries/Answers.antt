@@ -1,8 +1,7 @@
-use Rattle.std.proofs.Common.{◌≡◌, ◌+◌, ◌∙◌, ◌++◌, ◌∷◌, [], map, take, ap, sym}
+use Rattle.std.proofs.Common.{◌+◌, ◌∙◌, ◌++◌, ◌∷◌, [], map, take, ap, sym}
 use Rattle.std.specs.Prelude.{None, Some}
 use Rattle.std.specs.List.{enumerate_from}
 use Rattle.std.proofs.lemmas.List.{map-append}
-use Rattle.df_value.specs.declared.cell.Cell.{Cell}
 use Rattle.df_catalogue.specs.FrameTables.{coming_row}
 use Rattle.df_catalogue.proofs.FrameFacts.{enumerated-more}
 use Rattle.df_catalogue.proofs.deltas.coming_entries.Goals as goal

@@ -1,6 +1,5 @@
 use Rattle.std.proofs.Common.{◌≡◌, map}
 use Rattle.std.specs.Prelude.{T}
-use Rattle.std.specs.FinMap as finite
 use Rattle.std.specs.List.{list_all}
 use Rattle.df_column.specs.Tables.{entry_change}
 use Rattle.df_delta.specs.Deltas.{has_row}

@@ -1,4 +1,4 @@
-use Rattle.std.proofs.Common.{◌≡◌, ℕ, ◌+◌, ◌-◌, ◌<◌, ◌∙◌, List, map, drop, length, ap, subst, sym, arith}
+use Rattle.std.proofs.Common.{◌≡◌, ◌+◌, ◌-◌, ◌<◌, ◌∙◌, List, map, drop, length, ap, subst, sym, arith}
 use Rattle.std.specs.Prelude.{Option}
 use Rattle.std.specs.BTreeMap.{is_at}
 use Rattle.std.specs.FinMap as finite
