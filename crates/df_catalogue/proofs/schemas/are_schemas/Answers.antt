@@ -1,6 +1,5 @@
-use Rattle.std.proofs.Common.{◌≡◌, ℕ, ◌+◌, ◌<◌, ◌≤◌, ◌∙◌, true, false, suc, List, [], ◌∷◌, length, drop, get_or, ap, sym, arith, add-one, drop-cons}
+use Rattle.std.proofs.Common.{◌≡◌, ℕ, ◌+◌, ◌<◌, ◌∙◌, true, false, suc, List, [], ◌∷◌, length, drop, get_or, ap, sym, arith, add-one, drop-cons}
 use Rattle.std.specs.Prelude.{◌&&◌}
-use Rattle.std.proofs.Math.ListN.{drop_of_length-le}
 use Rattle.std.proofs.lemmas.List.{length-map}
 use Rattle.df_value.specs.declared.cell.CellType.{CellType}
 use Rattle.df_catalogue.specs.FrameParts.{schemas_of}
@@ -20,9 +19,6 @@ one-more :
     schemas_eq (drop i xs) (drop i ys) ≡ (schema_eq x y && schemas_eq (drop (i + 1) xs) (drop (i + 1) ys))
 one-more xs ys i x y within inside at there =
     ap (λ ss. schemas_eq ss (drop i ys)) (first-from xs i x within at) ∙ ap (schemas_eq (x ∷ drop (i + 1) xs)) (first-from ys i y inside there)
-
-ended : (xs ys : List Columns) (i : ℕ) → length xs ≤ i → length ys ≤ i → schemas_eq (drop i xs) (drop i ys) ≡ true
-ended xs ys i h k = ap (λ ss. schemas_eq ss (drop i ys)) (drop_of_length-le xs h) ∙ ap (schemas_eq []) (drop_of_length-le ys k)
 
 pub returns-then-not-schema_eq : goal.returns-then-not-schema_eq
 returns-then-not-schema_eq c =
