@@ -1,13 +1,15 @@
 -- What a catalogue's parts are after a change of one frame that is not refused: the parts of the state after it, and sound.
 use Rattle.std.proofs.Common.{◌≡◌, ℕ, ◌+◌, ◌<◌, zero, suc, ◌∙◌, List, [], ◌∷◌, map, length, refl, ap, sym, subst, arith, get_or}
-use Rattle.std.specs.Prelude.{Option, Some, None, Result, option_map, slice_get, slice_index_or, slice_set}
+use Rattle.std.specs.Prelude.{IsTrue, Option, Some, None, Result, option_map, slice_get, slice_index_or, slice_set}
+use Rattle.std.specs.List.{AllZip}
 use Rattle.std.proofs.lemmas.Result.{on_err_weaker, on_ok_weaker}
 use Rattle.std.proofs.lemmas.List.{set-get_or}
 use Rattle.std.proofs.lemmas.Option.{slice_get_read, slice_get_within}
-use Rattle.std.proofs.lemmas.List.{length-map}
+use Rattle.std.proofs.lemmas.List.{length-map, map-set}
 use Rattle.df_value.specs.declared.cell.Cell.{Cell}
 use Rattle.df_value.specs.declared.cell.CellType.{CellType}
 use Rattle.df_value.specs.Chunks.{ChunkParts}
+use Rattle.df_value.specs.Rows.{rows_fit}
 use Rattle.df_catalogue.specs.declared.state.State.{State}
 use Rattle.df_catalogue.specs.declared.state.FrameState.{FrameState}
 use Rattle.df_catalogue.specs.declared.views.View.{View}
@@ -19,13 +21,14 @@ use Rattle.df_catalogue.specs.declared.fault.CatalogueFault.TheVariants as fault
 use Rattle.df_catalogue.specs.Changes.{accepted_rows, after, change_at, deleted_rows, refreshed_views, IsSound}
 use Rattle.df_catalogue.specs.Desks.{DeskParts, accepted_in, deleted_in, desk_after, desks_after}
 use Rattle.df_catalogue.specs.FrameChanges.{change_of, frame_after, FrameTakes, TakesNumbers}
-use Rattle.df_catalogue.specs.Frames.{IsNumbered}
+use Rattle.df_catalogue.specs.FrameParts.{FrameParts, schemas_of, states_of}
+use Rattle.df_catalogue.specs.Frames.{rows_of, IsFrame, IsNumbered}
 use Rattle.df_catalogue.specs.Parts.{state_of, IsCatalogue}
 use Rattle.df_catalogue.specs.Refusals.{refusal_of, append_refusal, delete_refusal, first_reason, doubled_number_after, first_not_live, numbers_refusal, replace_refusal}
 use Rattle.df_catalogue.specs.States.{value_over, IsLegal}
 use Rattle.df_catalogue.specs.Transitions.{IsTransitionOfDesk, IsTransitionOfDesks}
 use Rattle.df_catalogue.proofs.Counting.{accepted-few, deleted-few, deleted-more, sum-change}
-use Rattle.df_catalogue.proofs.FrameFacts.{accepted-more, numbered-at}
+use Rattle.df_catalogue.proofs.FrameFacts.{accepted-more, numbered-at, numbered-with_chunk, numbered-with_replaced_rows, numbered-without_rows}
 use Rattle.df_catalogue.proofs.Legal.{append-accepted, legal-after, replace-accepted}
 use Rattle.df_catalogue.proofs.StateFacts.{change-set, state-frames}
 
@@ -102,11 +105,25 @@ pub free-of :
 free-of s t f g c same place free =
     subst (λ u. refusal_of u (change_of f c) ≡ None) (sym same) (subst (λ i. refusal_of t (change_of i c) ≡ None) (sym place) free)
 
+-- what is lent of a list's item is lent of what the list is mapped to
+pub lent-map : {X Y : Type 0} (g : X → Y) (xs : List X) (i : ℕ) (x : X) → x ≡ get_or xs i x → g x ≡ get_or (map g xs) i (g x)
+lent-map g [] i x e = refl
+lent-map g (y ∷ ys) zero x e = ap g e
+lent-map g (y ∷ ys) (suc i) x e = lent-map g ys i x e
+
 pub changeable-of :
-    (s t : State) (f g : ℕ) (c : FrameChange) (x : FrameState) → s ≡ t → f ≡ g → IsLegal s → refusal_of t (change_of g c) ≡ None →
-    x ≡ get_or s.frames f x → IsChangeable s f c x
-changeable-of s t f g c x same place h free lent =
-    changeable s f c x h (free-of s t f g c same place free) lent
+    (frames : List FrameParts) (views : List View) (tables : List Rows) (t : State) (f g : ℕ) (c : FrameChange) (x : FrameParts) →
+    state_of (schemas_of frames) (states_of frames) views tables ≡ t → f ≡ g → IsLegal (state_of (schemas_of frames) (states_of frames) views tables) →
+    refusal_of t (change_of g c) ≡ None → x ≡ get_or frames f x → IsChangeable (state_of (schemas_of frames) (states_of frames) views tables) f c x.state
+changeable-of frames views tables t f g c x same place h free lent =
+    changeable (state_of (schemas_of frames) (states_of frames) views tables) f c x.state h (free-of _ t f g c same place free)
+    (lent-map (λ y. y.state) frames f x lent)
+
+-- a frame is sound after it
+pub numbered-after : (f : ℕ) (c : FrameChange) (x : FrameState) → IsSound (change_of f c) → IsNumbered x → FrameTakes x c → IsNumbered (frame_after x c)
+numbered-after f (Append chunk) x sound h takes = numbered-with_chunk chunk.now x h sound.numbered takes.0 takes.1
+numbered-after f (Delete ns) x sound h takes = numbered-without_rows ns.now x h
+numbered-after f (Replace rows) x sound h takes = numbered-with_replaced_rows rows.now x h
 
 -- what it makes of a state
 after-frame :
@@ -117,13 +134,35 @@ after-frame s f (Append chunk) = refl
 after-frame s f (Delete ns) = refl
 after-frame s f (Replace rows) = refl
 
-frame-accepted :
+sound-after :
+    (frames : List FrameParts) (f : ℕ) (change : FrameState → FrameState) (x : FrameParts) → AllZip IsFrame (schemas_of frames) (change_at f change (states_of frames)) →
+    x ≡ get_or frames f x → f < length frames → IsFrame x.schema (change x.state)
+sound-after [] f change x h lent within = absurd (omega (arith, within))
+sound-after (y ∷ ys) zero change x h lent within = subst (λ z. IsFrame z.schema (change z.state)) (sym lent) h.0
+sound-after (y ∷ ys) (suc f) change x h lent within = sound-after ys f change x h.1 lent (omega (arith, within))
+
+-- and its rows fit its schema
+pub fits-after :
+    (frames : List FrameParts) (views : List View) (tables : List Rows) (f : ℕ) (c : FrameChange) (x : FrameParts) →
+    IsLegal (state_of (schemas_of frames) (states_of frames) views tables) → IsSound (change_of f c) →
+    refusal_of (state_of (schemas_of frames) (states_of frames) views tables) (change_of f c) ≡ None →
+    IsChangeable (state_of (schemas_of frames) (states_of frames) views tables) f c x.state → x ≡ get_or frames f x →
+    IsTrue (rows_fit x.schema (rows_of (frame_after x.state c)))
+fits-after frames views tables f c x h sound free known lent =
+    let s : State = state_of (schemas_of frames) (states_of frames) views tables in
+    let legal : IsLegal (after s (change_of f c)) = legal-after s (change_of f c) h sound free in
+    let within : f < length frames = let long = length-map frames (λ y. y.state) in omega (arith, long, known.within) in
+    let sound-frames : AllZip IsFrame (schemas_of frames) (change_at f (λ y. frame_after y c) (states_of frames)) =
+    subst (λ (t : State). AllZip IsFrame t.schemas t.frames) (after-frame s f c) legal.frames in
+    (sound-after frames f (λ y. frame_after y c) x sound-frames lent within).fitting
+
+pub frame-accepted :
     (f : ℕ) (c : FrameChange) (x : FrameState) → length (frame_after x c).accepted ≡ length x.accepted + accepted_rows (change_of f c)
 frame-accepted f (Append chunk) x = accepted-more chunk.now x
 frame-accepted f (Delete ns) x = omega arith
 frame-accepted f (Replace rows) x = omega arith
 
-frame-deleted :
+pub frame-deleted :
     (f : ℕ) (c : FrameChange) (x : FrameState) → IsNumbered x → FrameTakes x c →
     length (frame_after x c).deleted ≡ length x.deleted + deleted_rows (change_of f c)
 frame-deleted f (Append chunk) x sound takes = omega arith
@@ -228,3 +267,32 @@ frame-changed schemas frames views tables now f c x changed accepted deleted mor
         deleted_of_no_desk = h.deleted_of_no_desk;
       },
     )
+
+-- the parts with schemas and states of these frames
+abbrev pub IsChangedParts : List Columns → List FrameState → List View → List Rows → State → (accepted deleted : ℕ) (of_accepted of_deleted : ℕ × ℕ) → Type 0
+IsChangedParts schemas frames views tables s accepted deleted of_accepted of_deleted =
+    (state_of schemas frames views tables ≡ s)
+    × IsCatalogue (state_of schemas frames views tables) (length views) (length tables) accepted deleted of_accepted of_deleted
+
+-- the same of the frames with their schemas, where that of the changed one stays
+pub parts-changed :
+    (frames : List FrameParts) (views : List View) (tables now : List Rows) (f : ℕ) (c : FrameChange) (x changed : FrameParts)
+    (accepted deleted more_accepted more_deleted : ℕ) (of_accepted of_deleted : ℕ × ℕ) →
+    IsCatalogue (state_of (schemas_of frames) (states_of frames) views tables) (length views) (length tables) accepted deleted of_accepted of_deleted →
+    IsSound (change_of f c) → refusal_of (state_of (schemas_of frames) (states_of frames) views tables) (change_of f c) ≡ None →
+    IsChangeable (state_of (schemas_of frames) (states_of frames) views tables) f c x.state → x ≡ get_or frames f x →
+    changed.schema ≡ x.schema → changed.state ≡ frame_after x.state c →
+    now ≡ map (λ v. value_over (states_of (slice_set frames f changed)) v.plan) views →
+    more_accepted ≡ accepted + accepted_rows (change_of f c) → more_deleted ≡ deleted + deleted_rows (change_of f c) →
+    IsChangedParts (schemas_of (slice_set frames f changed)) (states_of (slice_set frames f changed)) views now
+    (after (state_of (schemas_of frames) (states_of frames) views tables) (change_of f c)) more_accepted more_deleted of_accepted of_deleted
+parts-changed frames views tables now f c x changed accepted deleted more_accepted more_deleted of_accepted of_deleted h sound free known lent same is new counted gone =
+    let s : State = state_of (schemas_of frames) (states_of frames) views tables in
+    let schemas : schemas_of (slice_set frames f changed) ≡ schemas_of frames =
+    map-set (λ y. y.schema) frames f changed
+    ∙ (ap (slice_set (schemas_of frames) f) (same ∙ lent-map (λ y. y.schema) frames f x lent) ∙ set-get_or (schemas_of frames) f x.schema) in
+    let states : states_of (slice_set frames f changed) ≡ slice_set (states_of frames) f changed.state = map-set (λ y. y.state) frames f changed in
+    let new' : now ≡ map (λ v. value_over (slice_set (states_of frames) f changed.state) v.plan) views = rw (← states) new in
+    let made = frame-changed (schemas_of frames) (states_of frames) views tables now f c x.state changed.state accepted deleted more_accepted more_deleted of_accepted of_deleted h sound free known is new' counted gone in
+    subst (λ ss. IsChangedParts ss (states_of (slice_set frames f changed)) views now (after s (change_of f c)) more_accepted more_deleted of_accepted of_deleted) (sym schemas)
+    (subst (λ fs. IsChangedParts (schemas_of frames) fs views now (after s (change_of f c)) more_accepted more_deleted of_accepted of_deleted) (sym states) made)

@@ -2,11 +2,13 @@ pub mod Loops
 pub mod Members
 pub mod Rising
 pub mod FrameFacts
+pub mod TagFacts
+pub mod RowLookups
+pub mod DeltaFacts
 pub mod ViewFacts
 pub mod Legal
-pub mod RowSearch
 pub mod NumberSetFacts
-pub mod PlaceFacts
+pub mod FrameTableFacts
 pub mod Refusing
 pub mod Counting
 pub mod RangeFacts

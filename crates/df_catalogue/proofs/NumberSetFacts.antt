@@ -1,6 +1,6 @@
 -- Sets that hold the numbers of a list, and the walk that finds the first number that is doubled.
-use Rattle.std.proofs.Common.{◌≡◌, ℕ, ◌+◌, ◌<◌, Bool, true, false, suc, cond, ◌∙◌, List, [], ◌∷◌, ◌++◌, filter, map, length, take, drop, get_or, refl, ap, sym, arith, add-one, drop-cons}
-use Rattle.std.specs.Prelude.{◌==◌, ◌||◌, not, Some}
+use Rattle.std.proofs.Common.{◌≡◌, ℕ, ◌+◌, ◌<◌, Bool, true, false, suc, cond, ◌∙◌, List, [], ◌∷◌, ◌++◌, map, length, take, drop, get_or, refl, ap, sym, arith, add-one, drop-cons}
+use Rattle.std.specs.Prelude.{◌==◌, ◌||◌, Some}
 use Rattle.std.specs.BTreeSet.{BTreeSet, contains, Updates}
 use Rattle.std.specs.BTreeMap.{is_at}
 use Rattle.std.specs.Ordering.{nat_cmp, is_eq, MatchOrdering}
@@ -61,12 +61,6 @@ pub doubled-here :
 doubled-here ns i within there =
     ap (doubled_number_after (take i ns)) (drop-cons ns i 0 within)
     ∙ ap (λ b. cond b (Some (get_or ns i 0)) (doubled_number_after (take i ns ++ get_or ns i 0 ∷ []) (drop (suc i) ns))) there
-
--- the rows whose numbers are not in the set
-pub others-of :
-    {T : Type 0} (set : BTreeSet ℕ) (ns : List ℕ) (rows : List (ℕ × T)) → IsSetOf set ns →
-    filter (λ r. not (contains nat_cmp set r.0)) rows ≡ filter (λ r. not (has_number ns r.0)) rows
-others-of set ns rows h = λ i. filter (λ r. not (h r.0 i)) rows
 
 -- whether items have a number
 has-map : {T : Type 0} (number : T → ℕ) (xs : List T) (n : ℕ) → has_number (map number xs) n ≡ list_any (λ x. number x == n) xs

@@ -1,10 +1,11 @@
 //! The catalogue: frames, views and books.
-ghost use Rattle.std.specs.Prelude.{◌≡◌, ◌≢◌, ◌≤◌, ◌*◌, None, Some, IfErr, IfOk, OnOk, MatchResult, length, replicate};
+ghost use Rattle.std.specs.Prelude.{◌≡◌, ◌≢◌, ◌≤◌, ◌*◌, None, Some, IfErr, IfOk, OnOk, MatchResult, length, map};
 ghost use Rattle.df_catalogue.specs.New as new_spec;
 ghost use Rattle.df_catalogue.specs.Desks as desks_spec;
 ghost use Rattle.df_catalogue.specs.Ledgers as ledgers;
 ghost use Rattle.df_value.specs.Limits as limits;
-ghost use Rattle.df_catalogue.specs.States.{empty_frame, opening_of, IsLegal};
+ghost use Rattle.df_catalogue.specs.FrameParts.{empty_parts};
+ghost use Rattle.df_catalogue.specs.States.{opening_of, IsLegal};
 
 use crate::desk::{Desk, audit_all};
 use crate::fault::NewFault;
@@ -22,7 +23,6 @@ use std::sync::ledger::{Blank, Book, Ledger, Share};
 /// catalogue has another type.
 #[derive(Drop)]
 pub struct Catalogue<Acc: Ledger, Del: Ledger> {
-    pub(crate) schemas: List<Schema>,
     pub(crate) frames: Vec<Frame>,
     pub(crate) views: Vec<View>,
     pub(crate) tables: Vec<List<Row>>,
@@ -35,6 +35,7 @@ pub struct Catalogue<Acc: Ledger, Del: Ledger> {
 impl<Acc: Ledger, Del: Ledger> Model for Catalogue<Acc, Del> {
     ghost use Rattle.std.specs.Prelude.{length};
     ghost use Rattle.df_catalogue.specs.declared.state.State.{State};
+    ghost use Rattle.df_catalogue.specs.FrameParts.{schemas_of, states_of};
     ghost use Rattle.df_catalogue.specs.Parts.{IsCatalogue, state_of};
     ghost use Rattle.std.specs.Coded.{codes};
     ghost use Rattle.df_plan.specs.contracts.plan.Plan as plan_type;
@@ -43,10 +44,12 @@ impl<Acc: Ledger, Del: Ledger> Model for Catalogue<Acc, Del> {
 
     ghost coded = { Prim.hlevel (codes, plan_type.the_row.coded) };
 
-    ghost view = { λ c. state_of c.schemas c.frames.items c.views.items c.tables.items };
+    ghost view = { λ c. state_of (schemas_of c.frames.items) (states_of c.frames.items)
+        c.views.items c.tables.items };
 
     ghost invariant = { λ c.
-        IsCatalogue (state_of c.schemas c.frames.items c.views.items c.tables.items)
+        IsCatalogue (state_of (schemas_of c.frames.items) (states_of c.frames.items)
+        c.views.items c.tables.items)
         (length c.views.items) (length c.tables.items) c.accepted.total c.deleted.total
         (c.accepted_of_no_desk.parts, c.accepted_of_no_desk.amount)
         (c.deleted_of_no_desk.parts, c.deleted_of_no_desk.amount) };
@@ -82,17 +85,17 @@ impl<Acc: Ledger, Del: Ledger> Catalogue<Acc, Del> {
             fault ≡ NewFault.Memory → new_spec.new_fault schemas ≡ None) }
     {
         check_schemas(schemas.as_slice())?;
-        let frames = empty_frames(alloc, schemas.len())?;
+        let count = schemas.len();
+        let frames = empty_frames(alloc, schemas)?;
         let (accepted, mut accepted_of_no_desk) = accepted.open::<Acc>();
         let (deleted, mut deleted_of_no_desk) = deleted.open::<Del>();
         let desks = open_desks(
             alloc,
-            schemas.len(),
+            count,
             &mut accepted_of_no_desk,
             &mut deleted_of_no_desk,
         )?;
         let catalogue = Catalogue {
-            schemas,
             frames,
             views: Vec::new(alloc),
             tables: Vec::new(alloc),
@@ -169,12 +172,12 @@ fn check_schemas(schemas: &[Schema]) -> Result<(), NewFault>
     }
 }
 
-fn empty_frames(alloc: Global, count: usize) -> Result<Vec<Frame>, AllocError>
-    ensures { IfOk result (λ frames. frames.items ≡ replicate count empty_frame) }
+fn empty_frames(alloc: Global, schemas: List<Schema>) -> Result<Vec<Frame>, AllocError>
+    ensures { IfOk result (λ frames. frames.items ≡ map empty_parts schemas) }
 {
-    let mut frames = Vec::with_capacity(alloc, count)?;
-    for _i in 0..count {
-        frames.push(Frame::new(alloc))?;
+    let mut frames = Vec::with_capacity(alloc, schemas.len())?;
+    for schema in schemas.into_vec() {
+        frames.push(Frame::new(alloc, schema)?)?;
     }
     Ok(frames)
 }

@@ -1,93 +1,123 @@
 //! One frame: its rows under their numbers, and the numbers that it accepted.
-ghost use Rattle.std.specs.Prelude.{◌≡◌, ◌≤◌, [], None, IfOk, false, length, map};
+ghost use Rattle.std.specs.Prelude.{◌≡◌, ◌≤◌, ◌<◌, IfOk, IsTrue, length, map, slice_index};
+ghost use Rattle.df_catalogue.specs.FrameChanges as frame_changes;
+ghost use Rattle.df_catalogue.specs.FrameParts.{empty_parts};
+ghost use Rattle.df_catalogue.specs.FrameTables.{tagged_rows_of};
 ghost use Rattle.df_catalogue.specs.Frames as frames;
 ghost use Rattle.df_catalogue.specs.Frames.{IsNumbered, numbers_of, rows_of};
-ghost use Rattle.df_catalogue.specs.FrameChanges as frame_changes;
-ghost use Rattle.df_value.specs.Limits as limits;
-ghost use Rattle.df_catalogue.specs.States.{empty_frame};
 ghost use Rattle.df_catalogue.specs.Refusals as refusals;
-ghost use Rattle.df_catalogue.specs.Refusals.{doubled_number_after};
+ghost use Rattle.df_delta.specs.Differences.{IsDiff};
+ghost use Rattle.df_value.specs.Limits as limits;
+ghost use Rattle.df_value.specs.Rows.{rows_fit};
 
-use crate::copies::{copy_below, copy_from, copy_numbered, copy_numbers, copy_rows, copy_without};
+use crate::deltas::{delta_at, delta_of_rows, row_tag};
 use crate::frame_change::FrameChange;
-use crate::numbered::{HasNumber, Numbered};
+use crate::numbered::HasNumber;
 use crate::ranges::Ranges;
-use crate::replacing::copy_replaced;
-use df_value::{Chunk, Duplicate, List, MOST_ROWS_OF_FRAME, Row};
+use df_column::Table;
+use df_delta::{Delta, apply};
+use df_value::{Chunk, Duplicate, List, MOST_ROWS_OF_FRAME, Row, Schema};
 use std::alloc::{AllocError, Global};
 use std::marker::Model;
 
-/// Rows by rising number, the numbers that were accepted, and how many were accepted and deleted.
+/// A table of the rows by rising number, the numbers that were accepted, and how many were accepted
+/// and deleted.
 #[derive(Drop)]
 pub struct Frame {
     accepted: Ranges,
-    rows: Vec<Numbered>,
+    table: Table,
     accepted_rows: u64,
     deleted_rows: u64,
 }
 
 impl Model for Frame {
-    ghost use Rattle.df_catalogue.specs.declared.state.FrameState.{FrameState};
-    ghost use Rattle.df_catalogue.specs.FrameParts.{IsCounted, frame_state};
+    ghost use Rattle.df_catalogue.specs.FrameParts.{FrameParts, frame_state};
+    ghost use Rattle.df_catalogue.specs.FrameTables.{IsTabled, numbered_rows};
 
-    ghost Value = { FrameState };
+    ghost Value = { FrameParts };
 
-    ghost view = { λ f. frame_state f.accepted f.rows.items };
+    ghost view = { λ f. record {
+      schema = f.table.schema;
+      state = frame_state f.accepted (numbered_rows f.table.rows);
+    } };
 
-    ghost invariant = { λ f. IsCounted f.accepted f.rows.items f.accepted_rows f.deleted_rows };
+    ghost invariant = { λ f. IsTabled f.accepted f.table.rows f.accepted_rows f.deleted_rows };
 }
 
 impl Frame {
-    /// A frame that has accepted nothing.
-    pub fn new(alloc: Global) -> Frame
-        ensures { result ≡ empty_frame }
+    /// A frame of this schema that has accepted nothing.
+    pub fn new(alloc: Global, schema: Schema) -> Result<Frame, AllocError>
+        ensures { IfOk result (λ frame. frame ≡ empty_parts schema) }
     {
-        Frame {
+        let table = Table::new(alloc, schema)?;
+        Ok(Frame {
             accepted: Ranges::new(alloc),
-            rows: Vec::new(alloc),
+            table,
             accepted_rows: 0,
             deleted_rows: 0,
-        }
+        })
+    }
+
+    /// The schema of its rows.
+    pub fn schema(&self) -> &Schema
+        ensures { result.now ≡ self.now.schema }
+    {
+        self.table.schema()
     }
 
     /// How many numbers were accepted.
     pub fn accepted(&self) -> u64
-        ensures { result ≡ length self.now.accepted }
+        ensures { result ≡ length self.now.state.accepted }
     {
         self.accepted_rows
     }
 
     /// How many of them were deleted.
     pub fn deleted(&self) -> u64
-        ensures { result ≡ length self.now.deleted }
+        ensures { result ≡ length self.now.state.deleted }
     {
         self.deleted_rows
     }
 
     /// How many rows there are.
     pub fn live(&self) -> u64
-        ensures { result ≡ length self.now.rows }
+        ensures { result ≡ length self.now.state.rows }
     {
-        self.rows.len() as u64
+        self.table.len() as u64
     }
 
     /// Copies of the rows, by rising number.
     pub fn rows(&self, alloc: Global) -> Result<List<Row>, AllocError>
-        ensures { IfOk result (λ rows. rows ≡ rows_of self.now) }
+        ensures { IfOk result (λ rows. rows ≡ rows_of self.now.state) }
     {
-        copy_rows(alloc, self.rows.as_slice())
+        let rows = self.table.rows(alloc)?;
+        Ok(List::from_vec(rows))
     }
 
     /// The numbers of the rows, rising.
     pub fn numbers(&self, alloc: Global) -> Result<List<u32>, AllocError>
-        ensures { IfOk result (λ numbers. numbers ≡ numbers_of self.now) }
+        requires { IsNumbered self.now.state }
+        ensures { IfOk result (λ numbers. numbers ≡ numbers_of self.now.state) }
     {
-        copy_numbers(alloc, self.rows.as_slice())
+        let mut numbers = Vec::with_capacity(alloc, self.table.len())?;
+        for place in 0..self.table.len() {
+            numbers.push(self.number_at(place))?;
+        }
+        Ok(List::from_vec(numbers))
+    }
+
+    // The number of the row at this place.
+    fn number_at(&self, place: usize) -> u32
+        requires sound { IsNumbered self.now.state }
+        requires within { place < length self.now.state.rows }
+        ensures { result ≡ slice_index (numbers_of self.now.state) place }
+    {
+        (self.table.tag(place).first - 1) as u32
     }
 
     /// The least number of the chunk that was accepted before.
     pub fn first_taken(&self, chunk: &Chunk) -> Option<u32>
-        ensures { result ≡ refusals.first_taken self.now chunk.now }
+        ensures { result ≡ refusals.first_taken self.now.state chunk.now }
     {
         let rows = chunk.rows();
         self.accepted.first_within(chunk.first(), rows.len())
@@ -95,8 +125,8 @@ impl Frame {
 
     /// Whether more than 1,048,576 numbers would have been accepted with the chunk.
     pub fn would_be_full(&self, chunk: &Chunk) -> bool
-        requires { length self.now.accepted ≤ limits.most_rows_of_frame }
-        ensures { result ≡ refusals.would_be_full self.now chunk.now }
+        requires { length self.now.state.accepted ≤ limits.most_rows_of_frame }
+        ensures { result ≡ refusals.would_be_full self.now.state chunk.now }
     {
         let rows = chunk.rows();
         self.accepted() + rows.len() as u64 > MOST_ROWS_OF_FRAME as u64
@@ -104,16 +134,14 @@ impl Frame {
 
     /// Whether there is a row of this number.
     pub fn has_row(&self, number: u32) -> bool
-        requires { IsNumbered self.now }
-        ensures { result ≡ frames.has_row self.now number }
+        ensures { result ≡ frames.has_row self.now.state number }
     {
-        self.rows.binary_search_by_key(&number, |r| r.0).is_ok()
+        self.table.find(row_tag(number)).is_some()
     }
 
     /// The first number of the list of which there is no row.
     pub fn first_not_live<N: HasNumber>(&self, items: &[N]) -> Option<u32>
-        requires { IsNumbered self.now }
-        ensures { result ≡ refusals.first_not_live self.now (map N.number_of items.now) }
+        ensures { result ≡ refusals.first_not_live self.now.state (map N.number_of items.now) }
     {
         items
             .iter()
@@ -121,71 +149,56 @@ impl Frame {
             .find(|n| !self.has_row(*n))
     }
 
-    /// The frame after a change that nothing in it refuses.
-    pub fn changed(&self, alloc: Global, change: FrameChange) -> Result<Frame, AllocError>
-        requires sound { IsNumbered self.now }
-        requires free { frame_changes.FrameTakes self.now change }
-        ensures { IfOk result (λ frame. frame ≡ frame_changes.frame_after self.now change.entry) }
+    /// The lean delta from the rows to those after a change that nothing in the frame refuses.
+    pub fn delta(&self, alloc: Global, change: FrameChange) -> Result<Delta, AllocError>
+        requires sound { IsNumbered self.now.state }
+        requires free { frame_changes.FrameTakes self.now.state change }
+        ensures { IfOk result (IsDiff (tagged_rows_of self.now.state)
+            (tagged_rows_of (frame_changes.frame_after self.now.state change.entry))) }
     {
         match change {
-            FrameChange::Append(chunk) => self.with_chunk(alloc, chunk),
-            FrameChange::Delete(numbers) => self.without_rows(alloc, numbers),
-            FrameChange::Replace(rows) => self.with_replaced_rows(alloc, rows),
+            FrameChange::Append(chunk) => {
+                delta_of_rows(alloc, chunk.first(), chunk.rows().as_slice())
+            }
+            FrameChange::Delete(numbers) => delta_at(alloc, &self.table, numbers),
+            FrameChange::Replace(rows) => delta_at(alloc, &self.table, rows),
         }
     }
 
-    // The frame once it has accepted the chunk, none of whose numbers it has accepted yet.
-    fn with_chunk(&self, alloc: Global, chunk: &Chunk) -> Result<Frame, AllocError>
-        requires sound { IsNumbered self.now }
-        requires room { refusals.would_be_full self.now chunk.now ≡ false }
-        requires free { refusals.first_taken self.now chunk.now ≡ None }
-        ensures { IfOk result (λ frame. frame ≡ frames.with_chunk chunk.now self.now) }
+    /// The frame after a change that nothing in it refuses, and after which the rows fit. Blocks of
+    /// rows that do not change are shared.
+    pub fn changed(&self, alloc: Global, change: FrameChange) -> Result<Frame, AllocError>
+        requires sound { IsNumbered self.now.state }
+        requires free { frame_changes.FrameTakes self.now.state change }
+        requires fits { IsTrue (rows_fit self.now.schema
+            (rows_of (frame_changes.frame_after self.now.state change))) }
+        ensures schema { IfOk result (λ frame. frame.schema ≡ self.now.schema) }
+        ensures state { IfOk result (λ frame.
+            frame.state ≡ frame_changes.frame_after self.now.state change.entry) }
     {
-        let first = chunk.first();
-        let added = chunk.rows().len();
-        let accepted = self.accepted.with(alloc, first, added)?;
-        let mut rows = Vec::with_capacity(alloc, self.rows.len())?;
-        copy_below(alloc, &mut rows, self.rows.as_slice(), first)?;
-        copy_numbered(alloc, &mut rows, first, chunk.rows().as_slice())?;
-        copy_from(alloc, &mut rows, self.rows.as_slice(), first)?;
+        let delta = self.delta(alloc, change)?;
+        let table = apply(alloc, &self.table, &delta)?;
+        let accepted = self.accepted_after(alloc, change)?;
         Ok(Frame {
             accepted,
-            rows,
-            accepted_rows: self.accepted_rows + added as u64,
-            deleted_rows: self.deleted_rows,
+            table,
+            accepted_rows: self.accepted_rows + change.accepted_rows(),
+            deleted_rows: self.deleted_rows + change.deleted_rows(),
         })
     }
 
-    // The frame without the rows of these numbers, each of which stands once in the list and has a
-    // row.
-    fn without_rows(&self, alloc: Global, numbers: &[u32]) -> Result<Frame, AllocError>
-        requires sound { IsNumbered self.now }
-        requires once { doubled_number_after [] numbers.now ≡ None }
-        requires live { refusals.first_not_live self.now numbers.now ≡ None }
-        ensures { IfOk result (λ frame. frame ≡ frames.without_rows numbers.now self.now) }
+    // The numbers that were accepted after the change.
+    fn accepted_after(&self, alloc: Global, change: FrameChange) -> Result<Ranges, AllocError>
+        requires sound { IsNumbered self.now.state }
+        requires free { frame_changes.FrameTakes self.now.state change }
+        ensures { IfOk result (λ accepted.
+            accepted ≡ (frame_changes.frame_after self.now.state change.entry).accepted) }
     {
-        let accepted = self.accepted.copy(alloc)?;
-        let rows = copy_without(alloc, self.rows.as_slice(), numbers)?;
-        Ok(Frame {
-            accepted,
-            rows,
-            accepted_rows: self.accepted_rows,
-            deleted_rows: self.deleted_rows + numbers.len() as u64,
-        })
-    }
-
-    // The frame in which the new rows stand at their numbers.
-    fn with_replaced_rows(&self, alloc: Global, new_rows: &[Numbered]) -> Result<Frame, AllocError>
-        requires { IsNumbered self.now }
-        ensures { IfOk result (λ frame. frame ≡ frames.with_replaced_rows new_rows.now self.now) }
-    {
-        let accepted = self.accepted.copy(alloc)?;
-        let rows = copy_replaced(alloc, self.rows.as_slice(), new_rows)?;
-        Ok(Frame {
-            accepted,
-            rows,
-            accepted_rows: self.accepted_rows,
-            deleted_rows: self.deleted_rows,
-        })
+        match change {
+            FrameChange::Append(chunk) => {
+                self.accepted.with(alloc, chunk.first(), chunk.rows().len())
+            }
+            FrameChange::Delete(_) | FrameChange::Replace(_) => self.accepted.copy(alloc),
+        }
     }
 }

@@ -1,23 +1,11 @@
 //! Sets of the row numbers that a change lists. A look-up takes the logarithm of the set's size.
 ghost use Rattle.std.specs.Prelude.{◌≡◌, ◌==◌, [], IfOk, map};
 ghost use Rattle.std.specs.List.{list_any};
-ghost use Rattle.df_catalogue.specs.Numbers.{IsSetOf};
 ghost use Rattle.df_catalogue.specs.Refusals.{doubled_number_after};
 
 use crate::numbered::HasNumber;
 use std::alloc::{AllocError, Global};
 use std::collections::BTreeSet;
-
-/// The set of the numbers of a list.
-pub fn set_of(alloc: Global, numbers: &[u32]) -> Result<BTreeSet<u32>, AllocError>
-    ensures { IfOk result (λ set. IsSetOf set numbers.now) }
-{
-    let mut set = BTreeSet::new(alloc);
-    for number in numbers {
-        set.insert(*number)?;
-    }
-    Ok(set)
-}
 
 /// The first number that stands earlier in the list. Where memory is refused it is found without a
 /// set, in a time that grows with the square of the list's length.

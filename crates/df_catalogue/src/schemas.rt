@@ -1,19 +1,29 @@
 //! Whether schemas are the same.
 ghost use Rattle.std.specs.Prelude.{◌≡◌};
-ghost use Rattle.df_catalogue.specs.Schemas as schemas;
+ghost use Rattle.df_catalogue.specs.FrameParts.{schemas_of};
+ghost use Rattle.df_catalogue.specs.Schemas as schemas_spec;
 
-use df_value::{List, Schema, same};
+use crate::frame::Frame;
+use df_value::{Schema, same};
 
 /// Whether two schemas are the same.
 pub fn schema_eq(a: &Schema, b: &Schema) -> bool
-    ensures { result ≡ schemas.schema_eq a.now b.now }
+    ensures { result ≡ schemas_spec.schema_eq a.now b.now }
 {
     same(a, b)
 }
 
-/// Whether two lists of schemas are the same.
-pub fn schemas_eq(a: &List<Schema>, b: &List<Schema>) -> bool
-    ensures { result ≡ schemas.schemas_eq a.now b.now }
+/// Whether these are the schemas of the frames.
+pub fn are_schemas(schemas: &[Schema], frames: &[Frame]) -> bool
+    ensures { result ≡ schemas_spec.schemas_eq schemas.now (schemas_of frames.now) }
 {
-    same(a, b)
+    if schemas.len() != frames.len() {
+        return false;
+    }
+    for i in 0..frames.len() {
+        if !schema_eq(&schemas[i], frames[i].schema()) {
+            return false;
+        }
+    }
+    true
 }

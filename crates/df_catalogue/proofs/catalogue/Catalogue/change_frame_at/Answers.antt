@@ -1,5 +1,6 @@
 use Rattle.std.proofs.Common.{◌≡◌, ◌<◌, length, arith, subst, ap}
 use Rattle.std.specs.Prelude.{Some, slice_get, slice_index_or}
+use Rattle.std.proofs.lemmas.List.{length-map}
 use Rattle.df_catalogue.specs.FrameChanges.{change_of}
 use Rattle.df_catalogue.specs.States.{IsLegal}
 use Rattle.df_catalogue.specs.Transitions.{IsTransition}
@@ -14,14 +15,16 @@ bounds-desks-frame g c =
     let some = desks-long c.args.desks.now s c.requires in
     let same = frames-long s (subst IsLegal c.self.view_is c.self.invariant.legal) in
     let long = ap (λ s. length s.frames) c.self.view_is in
-    omega (arith, some, same, long, c.if-frame-len.false, c.len.ensures, c.self.inside.frames.ok.0)
+    let states = length-map c.self.inside.frames.items (λ f. f.state) in
+    omega (arith, some, same, long, states, c.if-frame-len.false, c.len.ensures, c.self.inside.frames.ok.0)
 
 -- the desk at the index is that of the frame
 desk : (g : Over) (c : goal.After-change_frame g) → (slice_get c.args.desks.now c.args.frame ≡ Some (slice_index_or c.args.desks.now c.args.frame c.index-desks-frame.result)) × ((slice_index_or c.args.desks.now c.args.frame c.index-desks-frame.result).frame ≡ c.args.frame)
 desk g c =
     let s = c.args.self.now in
     let long = ap (λ s. length s.frames) c.self.view_is in
-    let within : c.args.frame < length s.frames = omega (arith, long, c.if-frame-len.false, c.len.ensures, c.self.inside.frames.ok.0) in
+    let states = length-map c.self.inside.frames.items (λ f. f.state) in
+    let within : c.args.frame < length s.frames = omega (arith, long, states, c.if-frame-len.false, c.len.ensures, c.self.inside.frames.ok.0) in
     desk-read c.args.desks.now s c.args.frame c.index-desks-frame.result c.requires
     (subst IsLegal c.self.view_is c.self.invariant.legal) within
 

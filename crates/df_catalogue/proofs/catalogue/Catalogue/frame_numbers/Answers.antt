@@ -7,11 +7,11 @@ use Rattle.df_catalogue.proofs.catalogue.Catalogue.frame_numbers.Goals as goal
 
 pub returns-in_ok-numbers-in-Some-clause-answer : goal.returns-in_ok-numbers-in-Some-clause-answer
 returns-in_ok-numbers-in-Some-clause-answer g c =
-    ap (λ o. ok_or (option_map numbers_of o) fault.NoFrame) (sym c.frame_at.ensures.value ∙ ap option_copied c.in-Some.is)
+    ap (λ o. ok_or (option_map numbers_of o) fault.NoFrame) (sym c.frame_at.ensures.state ∙ ap (λ o. option_map (λ f. f.state) (option_copied o)) c.in-Some.is)
     ∙ ap Ok (sym c.in_ok-numbers-in-Some.ensures)
 
 pub returns-in-None-clause-answer : goal.returns-in-None-clause-answer
 returns-in-None-clause-answer g c = (
-  λ _. ap (λ o. ok_or (option_map numbers_of o) fault.NoFrame) (sym c.frame_at.ensures.value ∙ ap option_copied c.in-None.is),
+  λ _. ap (λ o. ok_or (option_map numbers_of o) fault.NoFrame) (sym c.frame_at.ensures.state ∙ ap (λ o. option_map (λ f. f.state) (option_copied o)) c.in-None.is),
   λ e. cc,
 )

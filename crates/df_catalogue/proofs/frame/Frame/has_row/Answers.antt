@@ -1,21 +1,19 @@
-use Rattle.std.proofs.Common.{◌≡◌, ◌∙◌, true, map, ap, rules}
-use Rattle.std.specs.Prelude.{◌==◌}
+use Rattle.std.proofs.Common.{◌∙◌, ap}
+use Rattle.std.specs.Prelude.{◌==◌, is_some, slice_index_or}
+use Rattle.std.specs.FinMap as finite
 use Rattle.std.specs.List.{list_any}
-use Rattle.std.proofs.lemmas.List.Sorted.{answers_always}
-use Rattle.df_catalogue.specs.Frames.{numbers_of}
-use Rattle.df_catalogue.specs.Numbers.{is_rising}
-use Rattle.df_catalogue.specs.declared.state.FrameState.{FrameState}
-use Rattle.df_catalogue.proofs.Rising.{rising-filter}
-use Rattle.df_catalogue.proofs.RowSearch.{row-found}
+use Rattle.df_catalogue.specs.FrameParts.{FrameParts}
+use Rattle.df_catalogue.specs.FrameTables.{numbered_rows}
+use Rattle.df_catalogue.proofs.FrameTableFacts.{find-there, table-found, table-has}
+use Rattle.df_catalogue.proofs.RowLookups.{found}
 use Rattle.df_catalogue.proofs.frame.Frame.has_row.Goals as goal
 
 pub returns : goal.returns
 returns c =
-    let f = c.args.self.now in
-    let rows = c.deref.result.now in
-    let same = c.deref.ensures.value ∙ ap (λ (f : FrameState). f.rows) c.self.view_is in
-    let rising : is_rising (numbers_of f) ≡ true = ap is_rising c.requires.left ∙ rising-filter _ f.accepted c.requires.rising in
-    c.is_ok.ensures.value
-    ∙ (row-found rows c.args.number c.binary_search_by_key.result (ap (λ rs. is_rising (map (λ r. r.0) rs)) same ∙ rising) c.binary_search_by_key.ensures.bound
-    (c.binary_search_by_key.ensures.position (λ r. r.0) (answers_always _ _ _ (λ f a r g called. search rules)))
-    ∙ ap (λ rs. list_any (λ r. r.0 == c.args.number) rs) same)
+    let t = c.self.inside.table.rows in
+    let n = c.args.number in
+    c.is_some.ensures
+    ∙ (find-there c.find.result (finite.get t c.row_tag.result) (λ i d. (slice_index_or (finite.entries t) i d).1) c.find.ensures.row c.find.ensures.absent
+    ∙ (ap is_some (table-found t c.self.invariant.tags c.row_tag.result)
+    ∙ (ap (λ q. is_some (found q (numbered_rows t))) c.row_tag.ensures
+    ∙ (table-has n (numbered_rows t) ∙ ap (λ (f : FrameParts). list_any (λ r. r.0 == n) f.state.rows) c.self.view_is))))

@@ -1,0 +1,57 @@
+use Rattle.std.proofs.Common.{◌≡◌, ◌+◌, ◌∙◌, length, ap, sym, subst, arith}
+use Rattle.df_column.specs.Changes.{applied}
+use Rattle.df_delta.specs.Deltas.{RowsFit}
+use Rattle.df_catalogue.specs.FrameChanges.{frame_after}
+use Rattle.df_catalogue.specs.FrameParts.{FrameParts}
+use Rattle.df_catalogue.specs.FrameTables.{tagged_rows_of}
+use Rattle.df_catalogue.proofs.Counting.{live-left}
+use Rattle.df_catalogue.proofs.FrameChangeFacts.{frame-accepted, frame-deleted, numbered-after}
+use Rattle.df_catalogue.proofs.FrameTableFacts.{frame-tabled, frame-tables, table-fits, table-is}
+use Rattle.df_catalogue.proofs.frame.Frame.changed.Goals as goal
+
+pub overflow_add-result : goal.overflow_add-result
+overflow_add-result c =
+    let f = c.args.self.now.state in
+    let sound = numbered-after 0 c.args.change f (c.accepted_rows.ensures.sound 0) c.requires.sound c.requires.free in
+    let before = c.self.invariant.counts_accepted ∙ ap (λ (x : FrameParts). length x.state.accepted) c.self.view_is in
+    let more = frame-accepted 0 c.args.change f in
+    let few = sound.few in
+    omega (arith, before, more, few, c.accepted_rows.ensures.value 0)
+
+pub overflow_add-result-2 : goal.overflow_add-result-2
+overflow_add-result-2 c =
+    let f = c.args.self.now.state in
+    let sound = numbered-after 0 c.args.change f (c.accepted_rows.ensures.sound 0) c.requires.sound c.requires.free in
+    let before = c.self.invariant.counts_deleted ∙ ap (λ (x : FrameParts). length x.state.deleted) c.self.view_is in
+    let more = frame-deleted 0 c.args.change f c.requires.sound c.requires.free in
+    let part = live-left (frame_after f c.args.change) sound in
+    let few = sound.few in
+    omega (arith, before, more, part, few, c.deleted_rows.ensures 0)
+
+pub invariant_of-result : goal.invariant_of-result
+invariant_of-result c =
+    let f = c.args.self.now.state in
+    let change = c.args.change in
+    let sound = numbered-after 0 change f (c.accepted_rows.ensures.sound 0) c.requires.sound c.requires.free in
+    let t = c.self.inside.table.rows in
+    let is : t ≡ tagged_rows_of f = sym (table-is t c.self.invariant.tags) ∙ ap (λ (x : FrameParts). tagged_rows_of x.state) c.self.view_is in
+    let gives : applied t c.in_ok-delta.delta ≡ tagged_rows_of (frame_after f change) = ap (λ u. applied u c.in_ok-delta.delta) is ∙ c.in_ok-delta.ensures.gives in
+    let fits = subst (λ schema. RowsFit schema (applied t c.in_ok-delta.delta)) (sym (ap (λ (x : FrameParts). x.schema) c.self.view_is))
+    (subst (RowsFit c.args.self.now.schema) (sym gives) (table-fits c.args.self.now.schema (frame_after f change) sound c.requires.fits)) in
+    frame-tabled (frame_after f change) sound c.in_ok-accepted.accepted c.in_ok-table.table.rows c.in_ok-accepted.ensures (c.in_ok-table.ensures.rows fits ∙ gives) _ _
+    (ap (λ k. k + c.accepted_rows.result) (c.self.invariant.counts_accepted ∙ ap (λ (x : FrameParts). length x.state.accepted) c.self.view_is)
+    ∙ (ap (λ k. length f.accepted + k) (c.accepted_rows.ensures.value 0) ∙ sym (frame-accepted 0 change f)))
+    (ap (λ k. k + c.deleted_rows.result) (c.self.invariant.counts_deleted ∙ ap (λ (x : FrameParts). length x.state.deleted) c.self.view_is)
+    ∙ (ap (λ k. length f.deleted + k) (c.deleted_rows.ensures 0) ∙ sym (frame-deleted 0 change f c.requires.sound c.requires.free)))
+
+pub returns-clause-state : goal.returns-clause-state
+returns-clause-state c =
+    let f = c.args.self.now.state in
+    let change = c.args.change in
+    let sound = numbered-after 0 change f (c.accepted_rows.ensures.sound 0) c.requires.sound c.requires.free in
+    let t = c.self.inside.table.rows in
+    let is : t ≡ tagged_rows_of f = sym (table-is t c.self.invariant.tags) ∙ ap (λ (x : FrameParts). tagged_rows_of x.state) c.self.view_is in
+    let gives : applied t c.in_ok-delta.delta ≡ tagged_rows_of (frame_after f change) = ap (λ u. applied u c.in_ok-delta.delta) is ∙ c.in_ok-delta.ensures.gives in
+    let fits = subst (λ schema. RowsFit schema (applied t c.in_ok-delta.delta)) (sym (ap (λ (x : FrameParts). x.schema) c.self.view_is))
+    (subst (RowsFit c.args.self.now.schema) (sym gives) (table-fits c.args.self.now.schema (frame_after f change) sound c.requires.fits)) in
+    frame-tables (frame_after f change) sound c.in_ok-accepted.accepted c.in_ok-table.table.rows c.in_ok-accepted.ensures (c.in_ok-table.ensures.rows fits ∙ gives)
