@@ -1,2 +1,5 @@
 pub mod RowOperators
+pub mod Prefixes
 pub mod Outputs
+pub mod Rolling
+pub mod Stretches
