@@ -3,5 +3,9 @@ pub mod RowCounts
 pub mod TagTests
 pub mod Filters
 pub mod UpTo
+pub mod Bounds
 pub mod Unreached
 pub mod RisingReach
+pub mod PrefixLaws
+pub mod WindowValues
+pub mod WindowCounts

@@ -17,4 +17,4 @@ last_row r rows = rolling_row r rows (slice_index_or rows (length rows - 1) [])
 -- what the column gives at this index of all rows, if there is one, from the rows from `start` on
 abbrev pub new_row : Rolling → ℕ → List (List Cell) → Option ℕ → Option (List Cell)
 new_row r start rows None = None
-new_row r start rows (Some at) = Some (last_row r (take (at + 1 - start) rows))
+new_row r start rows (Some at) = Some (last_row r (take (at - start + 1) rows))

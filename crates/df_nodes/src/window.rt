@@ -226,7 +226,7 @@ impl LiveWindow {
     {
         match at {
             Some(at) => {
-                let rows = &stretch.rows[..at + 1 - stretch.start];
+                let rows = &stretch.rows[..at - stretch.start + 1];
                 let row = self.rolling.last_row(self.alloc, rows, meter)?;
                 Ok(Some(row))
             }
