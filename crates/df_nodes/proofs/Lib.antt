@@ -9,3 +9,4 @@ pub mod RisingReach
 pub mod PrefixLaws
 pub mod WindowValues
 pub mod WindowCounts
+pub mod WindowReach

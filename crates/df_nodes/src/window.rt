@@ -149,7 +149,8 @@ impl LiveWindow {
             rows: input.rows_between(self.alloc, start, end)?,
         };
         self.push_at(&stretch, tag, input.find(tag), entries, meter)?;
-        self.push_run(input, &stretch, from, end, entries, meter)
+        self.push_run(input, &stretch, from, end, entries, meter)?;
+        Ok(())
     }
 
     /// Adds the changes at the tags of the rows from one index up to another.
