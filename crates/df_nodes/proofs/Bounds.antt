@@ -30,11 +30,10 @@ pub below_bound : (q : Tag) (rows : Rows) (n : ℕ) → IsLowerBound q rows n �
 below_bound q rows n h = filter_front (λ r. is_below r.0 q) rows n h.before h.after
 
 -- the rows before an entry
-pub before_entry : (rows : Rows) (entries : List Entry) (at n : ℕ) (e : Entry) → at < length entries → e ≡ get_or entries at e → IsLowerBound e.tag rows n
+pub before_entry : (rows : Rows) (entries : List Entry) (at n : ℕ) (e : Entry) → at < length entries → IsLowerBound (get_or entries at e).tag rows n
     → take n rows ≡ rows_before (map entry_change (drop at entries)) rows
-before_entry rows entries at n e lt is h =
-    sym (below_bound e.tag rows n h)
-    ∙ ap (λ (x : Entry). rows_before (map entry_change (x ∷ drop (at + 1) entries)) rows) is
+before_entry rows entries at n e lt h =
+    sym (below_bound (get_or entries at e).tag rows n h)
     ∙ ap (λ es. rows_before (map entry_change es) rows) (sym (drop_more entries at e lt))
 
 pub before_no_entry : (rows : Rows) (entries : List Entry) (at n : ℕ) → length entries ≤ at → length rows ≤ n → take n rows ≡ rows_before (map entry_change (drop at entries)) rows

@@ -10,3 +10,4 @@ pub mod PrefixLaws
 pub mod WindowValues
 pub mod WindowCounts
 pub mod WindowReach
+pub mod WindowDiff

@@ -108,7 +108,8 @@ impl LiveWindow {
         ensures grows { IsWithin meter.old meter.new }
         ensures counted { IsWithin meter.new
             (plus meter.old (windows (finite.len delta.now * reach_of self.now.rolling.w))) }
-        ensures few { finite.len delta.now < 2 ^ 64 }
+        ensures within { IsWithin meter.new
+            (plus meter.old (windows (2 ^ 64 * reach_of self.now.rolling.w))) }
     {
         let changes = delta.entries();
         let mut entries = Vec::new(self.alloc);
@@ -242,9 +243,10 @@ fn rows_before_entry(input: &Table, changes: &[Entry], at: usize) -> usize
     ensures rows { take result (finite.entries input.now.rows)
         ≡ rows_before (map entry_change (drop at changes.now)) (finite.entries input.now.rows) }
 {
-    match changes.get(at) {
-        Some(entry) => input.lower_bound(entry.tag),
-        None => input.len(),
+    if at < changes.len() {
+        input.lower_bound(changes[at].tag)
+    } else {
+        input.len()
     }
 }
 
