@@ -122,3 +122,9 @@ module _ {X : Type 0} where
         | true ↦ elim (p x) as (λ c. length (cond c (x ∷ filter p (filter r xs)) (filter p (filter r xs))) ≤ length (cond c (x ∷ filter p xs) (filter p xs))) [ true ↦ omega arith | false ↦ rest ]
         | false ↦ elim (p x) as (λ c. length (filter p (filter r xs)) ≤ length (cond c (x ∷ filter p xs) (filter p xs))) [ true ↦ omega arith | false ↦ rest ]
       ]
+
+  pub filter_length : (p : X → Bool) (xs : List X) → length (filter p xs) ≤ length xs
+  filter_length p [] = omega arith
+  filter_length p (x ∷ xs) =
+      let rest = filter_length p xs in
+      elim (p x) as (λ b. length (cond b (x ∷ filter p xs) (filter p xs)) ≤ suc (length xs)) [ true ↦ omega arith | false ↦ omega arith ]

@@ -7,7 +7,9 @@ pub mod Bounds
 pub mod Unreached
 pub mod RisingReach
 pub mod PrefixLaws
+pub mod PrefixValues
+pub mod UnreachedWindows
 pub mod WindowValues
-pub mod WindowCounts
 pub mod WindowReach
+pub mod WindowCounts
 pub mod WindowDiff

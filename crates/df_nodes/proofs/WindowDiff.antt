@@ -19,7 +19,7 @@ use Rattle.df_delta.proofs.Reached.{reached_diff, sorted_changes}
 use Rattle.df_nodes.specs.Rolling.{reached, reached_by, rolling_output, rows_before}
 use Rattle.df_nodes.specs.declared.rolling.Rolling.{Rolling}
 use Rattle.df_nodes.proofs.RisingReach.{rising_reached}
-use Rattle.df_nodes.proofs.Unreached.{same_unreached}
+use Rattle.df_nodes.proofs.UnreachedWindows.{same_windows}
 use Rattle.df_nodes.proofs.WindowValues.{changes_append}
 
 abbrev Notes : Type 0
@@ -67,7 +67,7 @@ module _ (r : Rolling) (t : TaggedRows) (d : Changes) where
       let notes = finite.entries d in
       reached_diff (rolling_output r t) (rolling_output r u) (reached r.w (finite.entries u) notes)
       (rising_reached r.w (finite.entries u) notes (finite.entries_sorted u) (finite.entries_sorted d))
-      (same_unreached r t u notes (finite.entries_sorted d)
+      (same_windows r t u notes (finite.entries_sorted d)
       (λ x none. sym (get-applied tag_total tag_same t d x ∙ ap (λ c. after_change c (finite.get t x)) (finite.get-entries d x ∙ none))))
 
   pub window_diff : (old u : TaggedRows) (notes : Notes) → notes ≡ finite.entries d → old ≡ rolling_output r t → u ≡ applied t d

@@ -12,11 +12,12 @@ use Rattle.df_column.specs.declared.tag.Tag.{Tag}
 use Rattle.df_column.proofs.Bounds.{upper_at_place}
 use Rattle.df_delta.specs.Reached.{changes_at}
 use Rattle.df_delta.specs.SameRows.{with_change}
-use Rattle.df_nodes.specs.Rolling.{rolling_output}
+use Rattle.df_nodes.specs.Rolling.{put_at, rolling_output, rolling_value}
 use Rattle.df_nodes.specs.Stretches.{IsStretch, new_row}
 use Rattle.df_nodes.specs.declared.rolling.Rolling.{Rolling}
 use Rattle.df_nodes.proofs.Bounds.{up_to_bound}
-use Rattle.df_nodes.proofs.WindowValues.{changes_append, no_row, own_row}
+use Rattle.df_nodes.proofs.PrefixValues.{no_row}
+use Rattle.df_nodes.proofs.WindowValues.{changes_append, own_row}
 
 abbrev Notes : Type 0
 Notes = List (Tag × Change (List Cell))
@@ -43,7 +44,7 @@ module _ (r : Rolling) (u : TaggedRows) (q : Tag) (from start end : ℕ) (rows :
       (omega arith, omega arith)
 
   pub found_row : (o : Option ℕ) → IfSome o (IsPlace tag_cmp (finite.entries u) q) → IfNone o (finite.get u q ≡ None) → new_row r start rows o ≡ finite.get (rolling_output r u) q
-  found_row None p none = no_row r u q none
+  found_row None p none = sym (no_row (put_at r.places) (rolling_value r) r.index u q none)
   found_row (Some i) p none =
       let at : from ≡ i + 1 = behind_place (finite.entries u) q i from bound (upper_at_place (finite.entries u) q i (finite.entries_sorted u) p) in
       own_row r u start end i rows q h (omega arith) (omega arith) (λ some. omega arith) p

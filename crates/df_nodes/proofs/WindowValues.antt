@@ -27,8 +27,8 @@ use Rattle.df_nodes.specs.Prefixes.{cells_up_to}
 use Rattle.df_nodes.specs.Rolling.{put_at, rolling_output, rolling_value}
 use Rattle.df_nodes.specs.Stretches.{IsStretch, last_row, new_row}
 use Rattle.df_nodes.specs.declared.rolling.Rolling.{Rolling}
-use Rattle.df_nodes.proofs.Bounds.{up_to_bound}
 use Rattle.df_nodes.proofs.Filters.{take_between}
+use Rattle.df_nodes.proofs.PrefixValues.{at_place}
 
 window_cut : (w start : ℕ) (cells : List Cell) → (0 < start → start + w ≤ length cells) → window_of w (drop start cells) ≡ window_of w cells
 window_cut w start cells enough =
@@ -45,17 +45,6 @@ module _ (r : Rolling) (u : TaggedRows) where
 
   abbrev row_with : ℕ → List Cell
   row_with at = put_at r.places (get_or all at []) (rolling_value r (cells_of r.index (take (at + 1) all)))
-
-  -- the column's row at the tag of an index
-  at_place : (at : ℕ) (q : Tag) → IsPlace tag_cmp (finite.entries u) q at → finite.get (rolling_output r u) q ≡ Some (row_with at)
-  at_place at q p =
-      let es = finite.entries u in
-      let d : Tag × List Cell = (record { first = 0; second = 0; third = 0 }, []) in
-      get-collected tag_cmp (λ q row. Some (put_at r.places row (rolling_value r (cells_up_to r.index u q)))) tag_same u q
-      ∙ ap (option_and_then (λ row. Some (put_at r.places row (rolling_value r (cells_up_to r.index u q))))) (row_found u q at p d)
-      ∙ ap (λ row. Some (put_at r.places row (rolling_value r (cells_up_to r.index u q)))) (sym (get_or-map (λ x. x.1) es at d [] p.in_range))
-      ∙ ap (λ rows. Some (put_at r.places (get_or all at []) (rolling_value r (cells_of r.index rows))))
-      (ap (map (λ x. x.1)) (up_to_bound q es (at + 1) (upper_at_place es q at (finite.entries_sorted u) p)) ∙ sym (take-map (λ x. x.1) (at + 1) es))
 
   -- the same from a stretch of rows that has the window
   from_stretch : (start end at : ℕ) (rows : List (List Cell)) → IsStretch all start end rows → start ≤ at → at < end → (0 < start → start + max r.w 1 ≤ at + 1) → last_row r (take (at - start + 1) rows) ≡ row_with at
@@ -80,23 +69,11 @@ module _ (r : Rolling) (u : TaggedRows) where
       let long = length-map (finite.entries u) (λ x. x.1) in
       let within = h.within in
       ap Some (from_stretch start end at rows h low high enough)
-      ∙ sym (at_place at q (record { in_range = omega arith; here = λ d. ap (λ k. tag_cmp k q) (sym (is d)) ∙ tied_itself tag_total q }))
+      ∙ sym (at_place (put_at r.places) (rolling_value r) r.index u at q (record { in_range = omega arith; here = λ d. ap (λ k. tag_cmp k q) (sym (is d)) ∙ tied_itself tag_total q }))
 
   pub own_row : (start end at : ℕ) (rows : List (List Cell)) (q : Tag) → IsStretch all start end rows → start ≤ at → at < end → (0 < start → start + max r.w 1 ≤ at + 1)
       → IsPlace tag_cmp (finite.entries u) q at → new_row r start rows (Some at) ≡ finite.get (rolling_output r u) q
-  own_row start end at rows q h low high enough p = ap Some (from_stretch start end at rows h low high enough) ∙ sym (at_place at q p)
-
-  pub no_row : (q : Tag) → finite.get u q ≡ None → None ≡ finite.get (rolling_output r u) q
-  no_row q none =
-      sym (get-collected tag_cmp (λ q row. Some (put_at r.places row (rolling_value r (cells_up_to r.index u q)))) tag_same u q
-      ∙ ap (option_and_then (λ row. Some (put_at r.places row (rolling_value r (cells_up_to r.index u q))))) none)
-
--- over no rows there is none
-pub empty_rolled : (r : Rolling) → ◌≡◌ {A = TaggedRows} (rolling_output r finite.empty) finite.empty
-empty_rolled r =
-    let none : finite.entries (finite.empty {X = List Cell} {R = tag_cmp}) ≡ [] = nil_from_length _ (sym (finite.len-entries (finite.empty {X = List Cell} {R = tag_cmp})) ∙ finite.len-empty tag_cmp (List Cell)) in
-    let g : Tag → List Cell → Option (List Cell) = λ q row. Some (put_at r.places row (rolling_value r (cells_up_to r.index finite.empty q))) in
-    finite.empty_of_len (rolling_output r finite.empty) (finite.len-entries (rolling_output r finite.empty) ∙ ap length (entries-collected tag_cmp g finite.empty ∙ ap (collected_list g) none))
+  own_row start end at rows q h low high enough p = ap Some (from_stretch start end at rows h low high enough) ∙ sym (at_place (put_at r.places) (rolling_value r) r.index u at q p)
 
 -- the changes at some tags, one by one
 module _ (t u : TaggedRows) where
