@@ -13,3 +13,4 @@ pub mod WindowValues
 pub mod WindowReach
 pub mod WindowCounts
 pub mod WindowDiff
+pub mod Sums

@@ -3,3 +3,4 @@ pub mod Prefixes
 pub mod Outputs
 pub mod Rolling
 pub mod Stretches
+pub mod Sums

@@ -5,7 +5,7 @@ use Rattle.df_value.specs.declared.cell.CellType.{CellType}
 use Rattle.df_expr.specs.declared.expr.Expr.{Expr}
 use Rattle.df_value.specs.Schemas.{column_index}
 use Rattle.df_ops.specs.RowWise.{keeps, with_column_row}
-use Rattle.df_ops.specs.Windows.{rolling_cell, window_of}
+use Rattle.df_ops.specs.Windows.{cum_sum_at, rolling_cell, window_of}
 use Rattle.df_ops.specs.declared.windows.RollKind.{RollKind}
 use Rattle.df_column.specs.Tables.{TaggedRows}
 use Rattle.df_delta.specs.Collected.{collected}
@@ -23,3 +23,7 @@ mapped f t = collected (λ _ row. Some (f row)) t
 abbrev pub rolled : List (List ℕ × CellType) → List ℕ → RollKind → List ℕ → ℕ → ℕ → TaggedRows → TaggedRows
 rolled columns name kind column w m t =
     with_each_prefix (with_column_row columns name) (λ cells. rolling_cell kind m (window_of w cells)) (column_index column columns) t
+
+-- the rows with the cumulative sums of a column put among their cells
+abbrev pub summed : List (List ℕ × CellType) → List ℕ → List ℕ → TaggedRows → TaggedRows
+summed columns name column t = with_each_prefix (with_column_row columns name) cum_sum_at (column_index column columns) t

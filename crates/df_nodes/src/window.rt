@@ -1,5 +1,5 @@
 //! The live rolling window.
-ghost use Rattle.std.specs.Prelude.{◌≡◌, ◌+◌, ◌-◌, ◌*◌, ◌<◌, ◌≤◌, ◌^◌, ◌∷◌, ◌++◌, [], List, Option, Some, T, IfOk, IfSome, OnOk, drop, length, map, slice_index_or, take};
+ghost use Rattle.std.specs.Prelude.{◌≡◌, ◌+◌, ◌-◌, ◌*◌, ◌<◌, ◌≤◌, ◌^◌, ◌∷◌, ◌++◌, [], List, Option, Some, T, IfOk, IfSome, OnOk, drop, length, map, take};
 ghost use Rattle.std.specs.FinMap as finite;
 ghost use Rattle.std.specs.List.{list_all};
 ghost use Rattle.df_value.specs.Schemas.{IsSchema};
@@ -17,11 +17,12 @@ ghost use Rattle.df_delta.specs.Reached.{changes_at};
 ghost use Rattle.df_delta.specs.SameRows.{same_row, with_change};
 ghost use Rattle.df_delta.specs.Work.{IsBelow, IsWithin, plus};
 ghost use Rattle.df_nodes.specs.Outputs.{rolled};
-ghost use Rattle.df_nodes.specs.Rolling.{reach_of, reached_by, rolling_output, rows_before, windows};
+ghost use Rattle.df_nodes.specs.Rolling.{reach_of, reached_by, rolling_output, windows};
 ghost use Rattle.df_nodes.specs.Stretches as stretches;
 ghost use Rattle.df_nodes.specs.Stretches.{IsStretch};
 
 use crate::added_column::schema_with;
+use crate::changed_tables::{ChangedTables, rows_before_entry};
 use crate::rolling::Rolling;
 use df_column::{Entry, Table, Tag};
 use df_delta::{Delta, LiveNode, apply, push_change};
@@ -35,13 +36,6 @@ use std::alloc::{AllocError, Global};
 pub struct LiveWindow {
     alloc: Global,
     rolling: Rolling,
-    input: Table,
-    output: Table,
-}
-
-/// The tables after a change.
-#[derive(Drop)]
-pub struct ChangedTables {
     input: Table,
     output: Table,
 }
@@ -234,19 +228,6 @@ impl LiveWindow {
             }
             None => Ok(None),
         }
-    }
-}
-
-/// How many rows stand before the tag of the entry at an index; all where there is none.
-fn rows_before_entry(input: &Table, changes: &[Entry], at: usize) -> usize
-    ensures within { result ≤ finite.len input.now.rows }
-    ensures rows { take result (finite.entries input.now.rows)
-        ≡ rows_before (map entry_change (drop at changes.now)) (finite.entries input.now.rows) }
-{
-    if at < changes.len() {
-        input.lower_bound(changes[at].tag)
-    } else {
-        input.len()
     }
 }
 

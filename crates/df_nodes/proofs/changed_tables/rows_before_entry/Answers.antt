@@ -1,7 +1,7 @@
 use Rattle.std.proofs.Common.{arith, ◌≤◌, length}
 use Rattle.std.specs.FinMap as finite
 use Rattle.df_nodes.proofs.Bounds.{before_entry, before_no_entry}
-use Rattle.df_nodes.proofs.window.rows_before_entry.Goals as goal
+use Rattle.df_nodes.proofs.changed_tables.rows_before_entry.Goals as goal
 
 pub returns-then-at-changes-clause-within : goal.returns-then-at-changes-clause-within
 returns-then-at-changes-clause-within c =
