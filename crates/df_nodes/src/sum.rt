@@ -165,7 +165,7 @@ impl LiveSum {
         at: Option<usize>,
         entries: &mut Vec<Entry>,
     ) -> Result<(), AllocError>
-        requires inside { IfSome at (λ i. (i < length all.now.rows.items) × (i < length all.now.sums.items)) }
+        requires { IfSome at (λ i. (i < length all.now.rows.items) × (i < length all.now.sums.items)) }
         ensures added { OnOk result (map entry_change entries.new.items
             ≡ with_change (map entry_change entries.old.items) tag
             (finite.get self.now.output.rows tag)
@@ -181,7 +181,7 @@ impl LiveSum {
 
     /// The row of the output at an index of the input, if there is one.
     fn new_row(&self, all: &SummedRows, at: Option<usize>) -> Result<Option<Row>, AllocError>
-        requires inside { IfSome at (λ i. (i < length all.now.rows.items) × (i < length all.now.sums.items)) }
+        requires { IfSome at (λ i. (i < length all.now.rows.items) × (i < length all.now.sums.items)) }
         ensures { IfOk result (λ r. r
             ≡ summed_row self.now.places all.now.rows.items all.now.sums.items at) }
     {
