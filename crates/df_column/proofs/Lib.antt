@@ -14,6 +14,7 @@ pub mod BehindLemmas
 pub mod TableLemmas
 pub mod SpotLemmas
 pub mod ReadLemmas
+pub mod Bounds
 pub mod FitLemmas
 pub mod BlockLemmas
 pub mod ChangeRuns

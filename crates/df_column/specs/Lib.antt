@@ -1,6 +1,7 @@
 pub mod Tags
 pub mod TagOrder
 pub mod Places
+pub mod Bounds
 pub mod Masks
 pub mod Pools
 pub mod Texts

@@ -1,5 +1,5 @@
 //! Tables of tagged rows in shared blocks.
-ghost use Rattle.std.specs.Prelude.{◌≡◌, ◌↔◌, ℕ, ◌<◌, ◌≤◌, ◌++◌, ◌^◌, T, List, Some, None, IfErr, IfNone, IfOk, IfSome, IsTrue, OnOk, true, map, length, not, slice_index_or};
+ghost use Rattle.std.specs.Prelude.{◌≡◌, ◌↔◌, ℕ, ◌<◌, ◌≤◌, ◌++◌, ◌^◌, T, List, Some, None, IfErr, IfNone, IfOk, IfSome, IsTrue, OnOk, true, drop, map, length, not, slice_index_or, take};
 ghost use Rattle.std.specs.Arc.{arc_value};
 ghost use Rattle.std.specs.FinMap as finite;
 ghost use Rattle.std.specs.List.{list_all};
@@ -9,6 +9,7 @@ ghost use Rattle.df_value.specs.declared.cell.CellType.{CellType};
 ghost use Rattle.df_column.specs.Blocks.{AreOfDtypes, block_rows, ends_of, rows_of_blocks};
 ghost use Rattle.df_column.specs.Columns.{column_cells, dtype_of_column};
 ghost use Rattle.df_column.specs.Picks.{AreWithin};
+ghost use Rattle.df_column.specs.Bounds.{IsLowerBound, IsUpperBound};
 ghost use Rattle.df_column.specs.Places.{IsGap, IsPlace};
 ghost use Rattle.df_column.specs.Rows.{AreRows, are_even, picked_rows};
 ghost use Rattle.df_column.specs.Tables.{NewRowsFit, AreRising, after_entries, dtypes_of, new_row_fits, new_rows_fit};
@@ -261,6 +262,55 @@ impl Table {
             Ok(at) => Some(at),
             Err(_) => None,
         }
+    }
+
+    /// A copy of the row at this tag, if there is one.
+    pub fn get(&self, alloc: Global, tag: Tag) -> Result<Option<Row>, AllocError>
+        ensures { IfOk result (λ r. r ≡ finite.get self.now.rows tag) }
+    {
+        match self.find(tag) {
+            Some(at) => Ok(Some(self.row(alloc, at)?)),
+            None => Ok(None),
+        }
+    }
+
+    /// How many rows have a tag below this one: the index of the first other row.
+    pub fn lower_bound(&self, tag: Tag) -> usize
+        ensures { IsLowerBound tag (finite.entries self.now.rows) result }
+    {
+        match find_in(&self.blocks, &self.ends, tag) {
+            Ok(at) => at,
+            Err(at) => at,
+        }
+    }
+
+    /// How many rows have a tag not above this one: the index of the first other row.
+    pub fn upper_bound(&self, tag: Tag) -> usize
+        ensures { IsUpperBound tag (finite.entries self.now.rows) result }
+    {
+        match find_in(&self.blocks, &self.ends, tag) {
+            Ok(at) => at + 1,
+            Err(at) => at,
+        }
+    }
+
+    /// Copies of the rows from one index up to another.
+    pub fn rows_between(
+        &self,
+        alloc: Global,
+        low: usize,
+        high: usize,
+    ) -> Result<Vec<Row>, AllocError>
+        requires ordered { low ≤ high }
+        requires in_range { high ≤ finite.len self.now.rows }
+        ensures { IfOk result (λ v. v.items ≡ drop low (take high (finite.values self.now.rows))) }
+    {
+        let mut out = Vec::with_capacity(alloc, high - low)?;
+        for at in low..high {
+            let row = self.row(alloc, at)?;
+            out.push(row)?;
+        }
+        Ok(out)
     }
 
     /// Copies of the rows, by rising tag.

@@ -1,2 +1,16 @@
 pub mod SameOutputs
 pub mod RowCounts
+pub mod TagTests
+pub mod Filters
+pub mod UpTo
+pub mod Bounds
+pub mod Unreached
+pub mod RisingReach
+pub mod PrefixLaws
+pub mod PrefixValues
+pub mod UnreachedWindows
+pub mod WindowValues
+pub mod WindowReach
+pub mod WindowCounts
+pub mod WindowDiff
+pub mod Sums

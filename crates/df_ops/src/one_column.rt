@@ -29,8 +29,8 @@ pub fn with_column_table(
     table_from(columns_with(alloc, columns, name, dtype), rows)
 }
 
-// The columns with one more put among them.
-fn columns_with(
+/// The columns with one more put among them: in the place of the one of its name, else last.
+pub fn columns_with(
     alloc: Global,
     columns: &[(Text, CellType)],
     name: &Text,
@@ -65,8 +65,8 @@ fn with_column_rows(
     Ok(List::from_vec(out))
 }
 
-// The places of a row's cells with one more put among them.
-fn places_with(
+/// The places of a row's cells with one more put among them, made once for all rows.
+pub fn places_with(
     alloc: Global,
     columns: &[(Text, CellType)],
     name: &Text,

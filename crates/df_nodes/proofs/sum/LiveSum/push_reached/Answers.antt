@@ -1,0 +1,38 @@
+use Rattle.std.proofs.Common.{◌+◌, ◌∙◌, ◌∷◌, ap, sym, arith, length, map, drop, max, take}
+use Rattle.std.specs.FinMap as finite
+use Rattle.df_column.specs.Tables.{entry_change}
+use Rattle.df_nodes.specs.Rolling.{reached_by}
+use Rattle.df_nodes.specs.Sums.{sum_output, summed_row}
+use Rattle.df_nodes.proofs.Sums.{found_inside, found_row, reached_rest}
+use Rattle.df_nodes.proofs.WindowReach.{all_reached}
+use Rattle.df_nodes.proofs.sum.LiveSum.push_reached.Goals as goal
+
+pub push_at-requires : goal.push_at-requires
+push_at-requires c =
+    let n = c.args.self.now in
+    let all = c.args.all.now in
+    found_inside n.places n.index c.args.input.now.rows all.rows.items all.sums.items c.requires.sums c.args.tag c.find.result c.find.ensures.found
+
+pub push_run-requires-clause-in_range : goal.push_run-requires-clause-in_range
+push_run-requires-clause-in_range c =
+    let len = finite.len-entries c.args.input.now.rows in
+    let within = c.upper_bound-from.ensures.within in
+    omega arith
+
+pub returns-clause-added : goal.returns-clause-added
+returns-clause-added c =
+    let u = c.args.input.now.rows in
+    let n = c.args.self.now in
+    let all = c.args.all.now in
+    let rows = finite.entries u in
+    let len = finite.len-entries u in
+    let from = c.upper_bound-from.result in
+    all_reached n.output.rows (sum_output n.places n.index u)
+    (map entry_change c.push_run.new.entries.items) (map entry_change c.push_at.new.entries.items) (map entry_change c.args.entries.now.items)
+    c.args.tag (map (λ x. x.0) (drop from (take c.max.result rows))) (reached_by (length rows + 1) c.args.tag (take c.args.stop rows))
+    (summed_row n.places all.rows.items all.sums.items c.find.result)
+    c.in_ok-push_at.ensures.added
+    (found_row n.places n.index u all.rows.items all.sums.items c.requires.sums c.args.tag c.find.result c.find.ensures.found c.find.ensures.absent)
+    c.in_ok-push_run.ensures.added
+    (reached_rest c.args.tag rows from c.args.stop c.upper_bound-from.ensures (omega arith)
+    ∙ ap (λ k. c.args.tag ∷ map (λ x. x.0) (drop from (take k rows))) (sym c.max.ensures))

@@ -1,0 +1,271 @@
+//! The live rolling window.
+ghost use Rattle.std.specs.Prelude.{◌≡◌, ◌+◌, ◌-◌, ◌*◌, ◌<◌, ◌≤◌, ◌^◌, ◌∷◌, ◌++◌, [], List, Option, Some, T, IfOk, IfSome, OnOk, drop, length, map, take};
+ghost use Rattle.std.specs.FinMap as finite;
+ghost use Rattle.std.specs.List.{list_all};
+ghost use Rattle.df_value.specs.Schemas.{IsSchema};
+ghost use Rattle.df_value.specs.declared.cell.Cell.{Cell};
+ghost use Rattle.df_ops.specs.NamedColumns.{with_columns};
+ghost use Rattle.df_ops.specs.Tables as tables;
+ghost use Rattle.df_ops.specs.Windows as windows_spec;
+ghost use Rattle.df_column.specs.Changes.{applied};
+ghost use Rattle.df_column.specs.Tables.{TaggedRows, entry_change};
+ghost use Rattle.df_column.specs.declared.tag.Tag.{Tag as AnyTag};
+ghost use Rattle.df_delta.specs.Deltas.{RowsFit, has_row};
+ghost use Rattle.df_delta.specs.Diff.{diff};
+ghost use Rattle.df_delta.specs.Differences.{Fits, IsDiff};
+ghost use Rattle.df_delta.specs.Reached.{changes_at};
+ghost use Rattle.df_delta.specs.SameRows.{same_row, with_change};
+ghost use Rattle.df_delta.specs.Work.{IsBelow, IsWithin, plus};
+ghost use Rattle.df_nodes.specs.Outputs.{rolled};
+ghost use Rattle.df_nodes.specs.Rolling.{reach_of, reached_by, rolling_output, windows};
+ghost use Rattle.df_nodes.specs.Stretches as stretches;
+ghost use Rattle.df_nodes.specs.Stretches.{IsStretch};
+
+use crate::added_column::schema_with;
+use crate::changed_tables::{ChangedTables, rows_before_entry};
+use crate::rolling::Rolling;
+use df_column::{Entry, Table, Tag};
+use df_delta::{Delta, LiveNode, apply, push_change};
+use df_expr::Meter;
+use df_ops::{RollKind, rolling_dtype};
+use df_value::{Duplicate, Row, Schema, Text};
+use std::alloc::{AllocError, Global};
+
+/// Puts the rolling values of a column among the cells of each row.
+#[derive(Drop)]
+pub struct LiveWindow {
+    alloc: Global,
+    rolling: Rolling,
+    input: Table,
+    output: Table,
+}
+
+/// Rows of a table from an index on.
+#[derive(Drop)]
+struct Stretch {
+    start: usize,
+    rows: Vec<Row>,
+}
+
+impl LiveWindow {
+    /// The rolling values of a column of this schema over w rows, of which m are to be not null, as the column
+    /// `output`; over no rows.
+    pub fn new(
+        alloc: Global,
+        schema: &Schema,
+        output: &Text,
+        kind: RollKind,
+        column: &Text,
+        w: usize,
+        m: usize,
+    ) -> Result<LiveWindow, AllocError>
+        requires { IsSchema (with_columns schema.now
+            ((output.now, windows_spec.rolling_dtype kind) ∷ [])) }
+        ensures output { IfOk result (λ n. (t : TaggedRows) → rolling_output n.rolling t
+            ≡ rolled schema.now output.now kind column.now w m t) }
+
+        // The rows are those that the operator gives of the rows of the input.
+        ensures rows { IfOk result (λ n. (t : TaggedRows) →
+            finite.values (rolling_output n.rolling t)
+            ≡ (tables.rolling_table (record { columns = schema.now; rows = finite.values t })
+            output.now kind column.now w m).rows) }
+        ensures over { IfOk result (λ n. (n.input.rows ≡ finite.empty)
+            × (n.output.rows ≡ rolling_output n.rolling finite.empty)) }
+        ensures schemas { IfOk result (λ n. (n.input.schema ≡ schema.now)
+            × (n.output.schema ≡ with_columns schema.now
+            ((output.now, windows_spec.rolling_dtype kind) ∷ []))) }
+        ensures size { IfOk result (λ n. n.rolling.w ≡ w) }
+    {
+        let rolling = Rolling::new(alloc, schema, output, kind, column, w, m)?;
+        let made = schema_with(alloc, schema, output, rolling_dtype(kind))?;
+        Ok(LiveWindow {
+            alloc,
+            rolling,
+            input: Table::new(alloc, schema.copy(alloc)?)?,
+            output: Table::new(alloc, made)?,
+        })
+    }
+
+    /// The delta of the output where the input comes to be this table.
+    fn changes(
+        &self,
+        input: &Table,
+        delta: &Delta,
+        meter: &mut Meter,
+    ) -> Result<Delta, AllocError>
+        requires { IsBelow (plus meter.old (windows (2 ^ 64 * reach_of self.now.rolling.w))) (2 ^ 128) }
+        ensures diff { IfOk result (λ r. (t : TaggedRows) → Fits t delta.now
+            → self.now.output.rows ≡ rolling_output self.now.rolling t
+            → input.now.rows ≡ applied t delta.now
+            → IsDiff (rolling_output self.now.rolling t)
+            (rolling_output self.now.rolling (applied t delta.now)) r) }
+        ensures grows { IsWithin meter.old meter.new }
+        ensures counted { IsWithin meter.new
+            (plus meter.old (windows (finite.len delta.now * reach_of self.now.rolling.w))) }
+        ensures within { IsWithin meter.new
+            (plus meter.old (windows (2 ^ 64 * reach_of self.now.rolling.w))) }
+    {
+        let changes = delta.entries();
+        let mut entries = Vec::new(self.alloc);
+        for at in 0..changes.len() {
+            let stop = rows_before_entry(input, changes, at + 1);
+            self.push_reached(input, changes[at].tag, stop, &mut entries, meter)?;
+        }
+        Ok(Delta::from_entries(entries))
+    }
+
+    /// Adds the changes at this tag and at the tags behind it, before the row at an index, whose windows it stands in.
+    fn push_reached(
+        &self,
+        input: &Table,
+        tag: Tag,
+        stop: usize,
+        entries: &mut Vec<Entry>,
+        meter: &mut Meter,
+    ) -> Result<(), AllocError>
+        requires stop { stop ≤ finite.len input.now.rows }
+        requires counts { meter.old.windows + reach_of self.now.rolling.w < 2 ^ 128 }
+        ensures added { OnOk result (map entry_change entries.new.items
+            ≡ map entry_change entries.old.items ++ changes_at self.now.output.rows
+            (rolling_output self.now.rolling input.now.rows)
+            (reached_by self.now.rolling.w tag (take stop (finite.entries input.now.rows)))) }
+        ensures rows { T (list_all has_row entries.old.items)
+            → OnOk result (T (list_all has_row entries.new.items)) }
+        ensures grows { IsWithin meter.old meter.new }
+        ensures counted { IsWithin meter.new
+            (plus meter.old (windows (reach_of self.now.rolling.w))) }
+    {
+        let reach = self.rolling.w.max(1);
+        let from = input.upper_bound(tag);
+        let end = from + stop.saturating_sub(from).min(reach - 1);
+        let start = from.saturating_sub(reach);
+        let stretch = Stretch {
+            start,
+            rows: input.rows_between(self.alloc, start, end)?,
+        };
+        self.push_at(&stretch, tag, input.find(tag), entries, meter)?;
+        self.push_run(input, &stretch, from, end, entries, meter)?;
+        Ok(())
+    }
+
+    /// Adds the changes at the tags of the rows from one index up to another.
+    fn push_run(
+        &self,
+        input: &Table,
+        stretch: &Stretch,
+        from: usize,
+        end: usize,
+        entries: &mut Vec<Entry>,
+        meter: &mut Meter,
+    ) -> Result<(), AllocError>
+        requires stretch { IsStretch (finite.values input.now.rows) stretch.now.start end stretch.now.rows.items }
+        requires from { stretch.now.start ≤ from }
+        requires wide { (0 < stretch.now.start) → stretch.now.start + reach_of self.now.rolling.w ≤ from + 1 }
+        requires end { from ≤ end }
+        requires counts { meter.old.windows + (end - from) < 2 ^ 128 }
+        ensures added { OnOk result (map entry_change entries.new.items
+            ≡ map entry_change entries.old.items ++ changes_at self.now.output.rows
+            (rolling_output self.now.rolling input.now.rows)
+            (map (λ r. r.0) (drop from (take end (finite.entries input.now.rows))))) }
+        ensures rows { T (list_all has_row entries.old.items)
+            → OnOk result (T (list_all has_row entries.new.items)) }
+        ensures grows { IsWithin meter.old meter.new }
+        ensures counted { IsWithin meter.new (plus meter.old (windows (end - from))) }
+    {
+        for at in from..end {
+            self.push_at(stretch, input.tag(at), Some(at), entries, meter)?;
+        }
+        Ok(())
+    }
+
+    /// Adds the change at this tag, to the row at an index of the input if there is one.
+    fn push_at(
+        &self,
+        stretch: &Stretch,
+        tag: Tag,
+        at: Option<usize>,
+        entries: &mut Vec<Entry>,
+        meter: &mut Meter,
+    ) -> Result<(), AllocError>
+        requires inside { IfSome at (λ i. (stretch.now.start ≤ i)
+            × (i < stretch.now.start + length stretch.now.rows.items)) }
+        requires counts { meter.old.windows + 1 < 2 ^ 128 }
+        ensures added { OnOk result (map entry_change entries.new.items
+            ≡ with_change (map entry_change entries.old.items) tag
+            (finite.get self.now.output.rows tag)
+            (stretches.new_row self.now.rolling stretch.now.start stretch.now.rows.items at)) }
+        ensures rows { T (list_all has_row entries.old.items)
+            → OnOk result (T (list_all has_row entries.new.items)) }
+        ensures grows { IsWithin meter.old meter.new }
+        ensures counted { IsWithin meter.new (plus meter.old (windows 1)) }
+    {
+        let old = self.output.get(self.alloc, tag)?;
+        let new = self.new_row(stretch, at, meter)?;
+        push_change(entries, tag, old, new)?;
+        Ok(())
+    }
+
+    /// The row of the output at an index of the input, if there is one.
+    fn new_row(
+        &self,
+        stretch: &Stretch,
+        at: Option<usize>,
+        meter: &mut Meter,
+    ) -> Result<Option<Row>, AllocError>
+        requires inside { IfSome at (λ i. (stretch.now.start ≤ i)
+            × (i < stretch.now.start + length stretch.now.rows.items)) }
+        requires counts { meter.old.windows + 1 < 2 ^ 128 }
+        ensures value { IfOk result (λ r. r
+            ≡ stretches.new_row self.now.rolling stretch.now.start stretch.now.rows.items at) }
+        ensures grows { IsWithin meter.old meter.new }
+        ensures counted { IsWithin meter.new (plus meter.old (windows 1)) }
+    {
+        match at {
+            Some(at) => {
+                let rows = &stretch.rows[..at - stretch.start + 1];
+                let row = self.rolling.last_row(self.alloc, rows, meter)?;
+                Ok(Some(row))
+            }
+            None => Ok(None),
+        }
+    }
+}
+
+impl LiveNode for LiveWindow {
+    type Staged = ChangedTables;
+
+    ghost Takes = { λ n t. RowsFit n.input.schema t
+        × RowsFit n.output.schema (rolling_output n.rolling t) };
+
+    ghost IsOver = { λ n t. (n.input.rows ≡ t) × (n.output.rows ≡ rolling_output n.rolling t) };
+
+    ghost output = { λ n t. rolling_output n.rolling t };
+
+    ghost HasRoomFor = { λ n s. (s.input.schema ≡ n.input.schema)
+        × (s.output.schema ≡ n.output.schema) };
+
+    ghost LeadsTo = { λ n s t. (s.input.rows ≡ t)
+        × (s.output.rows ≡ rolling_output n.rolling t) };
+
+    ghost budget = { λ n. windows (2 ^ 64 * reach_of n.rolling.w) };
+
+    ghost allowed = { λ n t u.
+        windows (finite.len (diff same_row t u) * reach_of n.rolling.w) };
+
+    fn prepare(
+        &mut self,
+        delta: &Delta,
+        meter: &mut Meter,
+    ) -> Result<(ChangedTables, Delta), AllocError> {
+        let input = apply(self.alloc, &self.input, delta)?;
+        let changes = self.changes(&input, delta, meter)?;
+        let output = apply(self.alloc, &self.output, &changes)?;
+        Ok((ChangedTables { input, output }, changes))
+    }
+
+    fn commit(&mut self, staged: ChangedTables) {
+        let ChangedTables { input, output } = staged;
+        self.input = input;
+        self.output = output;
+    }
+}
