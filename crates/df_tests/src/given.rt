@@ -1,9 +1,13 @@
 //! What the tests are given: schemas, rows and chunks of one column `x`, and a plan.
+ghost use Rattle.std.specs.Prelude.{◌≡◌, ◌∷◌, [], IfOk};
+
 use df_plan::{CheckedPlan, Plan};
 use df_value::{Cell, CellType, Chunk, List, Row, Schema, Text};
 use std::alloc::{AllocError, Global};
 
-pub fn schema(alloc: Global, kind: CellType) -> Result<Schema, AllocError> {
+pub fn schema(alloc: Global, kind: CellType) -> Result<Schema, AllocError>
+    ensures { IfOk result (λ s. s ≡ ((120 ∷ []), kind) ∷ []) }
+{
     let columns = vec![in alloc; (Text::from_str(alloc, "x")?, kind)]?;
     Schema::new(List::from_vec(columns)).map_err(|_| AllocError)
 }

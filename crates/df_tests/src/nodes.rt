@@ -7,8 +7,9 @@ use crate::given::{row, schema};
 use df_column::{Entry, Tag};
 use df_delta::{Delta, LiveNode};
 use df_expr::{ArithOp, CompareOp, Expr, Meter};
-use df_nodes::{LiveFilter, LiveMap};
-use df_value::{Boxed, Cell, CellType, Row, Text};
+use df_nodes::{LiveFilter, LiveMap, LiveWindow};
+use df_ops::RollKind;
+use df_value::{Boxed, Cell, CellType, Duplicate, Row, Text};
 use std::alloc::{AllocError, Global};
 use std::test::Fail;
 
@@ -138,5 +139,75 @@ fn a_select_is_silent_where_its_values_stay(rt: HostRuntime) -> Result<(), Fail>
     let alloc = rt.alloc();
     let (_, out, meter) = after(select(alloc)?, replaced(alloc, Some(3), Some(4))?)?;
     assert!(rt; out.len() == 0 && meter.evals == 2);
+    Ok(())
+}
+
+// Rows of these numbers, which come at the tags from 1 on.
+fn come(alloc: Global, numbers: &[i64]) -> Result<Delta, AllocError> {
+    let mut entries = Vec::new(alloc);
+    for (at, number) in numbers.iter().enumerate() {
+        let row = row(alloc, Some(*number))?;
+        entries.push(entry((at as u64).saturating_add(1), None, Some(row)))?;
+    }
+    Delta::new(entries).map_err(|_| AllocError)
+}
+
+// A row with one more cell.
+type Pair = Option<(i64, Cell)>;
+
+fn pair(alloc: Global, cells: &Pair) -> Result<Option<Row>, AllocError> {
+    match cells {
+        Some((x, cell)) => {
+            let cells = vec![in alloc; Cell::Int(*x), cell.copy(alloc)?]?;
+            Ok(Some(Row::new(alloc, cells)?))
+        }
+        None => Ok(None),
+    }
+}
+
+fn same_entry(a: &Entry, b: &Entry) -> bool {
+    a.tag == b.tag && a.old == b.old && a.new == b.new
+}
+
+// Whether the delta makes these changes, each by the first number of its tag.
+fn tells(alloc: Global, delta: &Delta, changes: &[(u64, Pair, Pair)]) -> Result<bool, AllocError> {
+    let entries = delta.entries();
+    if entries.len() != changes.len() {
+        return Ok(false);
+    }
+    for (told, (first, old, new)) in entries.iter().zip(changes) {
+        let want = entry(*first, pair(alloc, old)?, pair(alloc, new)?);
+        if !same_entry(told, &want) {
+            return Ok(false);
+        }
+    }
+    Ok(true)
+}
+
+// The sums of x over two rows.
+fn window(alloc: Global) -> Result<LiveWindow, AllocError>
+    ensures { IfOk result (λ n. n.rolling.w ≡ 2) }
+{
+    let schema = schema(alloc, CellType::Int)?;
+    let output = Text::from_str(alloc, "s")?;
+    let column = Text::from_str(alloc, "x")?;
+    let made = LiveWindow::new(alloc, &schema, &output, RollKind::Sum, &column, 2, 1)?;
+    Ok(made)
+}
+
+fn wide(x: i64, sum: i128) -> Pair {
+    Some((x, Cell::Wide(sum)))
+}
+
+#[test]
+fn a_row_that_goes_changes_the_windows_behind_it(rt: HostRuntime) -> Result<(), Fail> {
+    let alloc = rt.alloc();
+    let (window, _, _) = after(window(alloc)?, come(alloc, &[1, 2, 3])?)?;
+    let goes = vec![in alloc; entry(2, Some(row(alloc, Some(2))?), None)]?;
+    let goes = Delta::new(goes).map_err(|_| AllocError)?;
+    let (_, out, meter) = after(window, goes)?;
+    let want = [(2, wide(2, 3), None), (3, wide(3, 5), wide(3, 4))];
+    assert!(rt; tells(alloc, &out, &want)?);
+    assert!(rt; meter.windows <= 2);
     Ok(())
 }
