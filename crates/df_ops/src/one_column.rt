@@ -65,8 +65,8 @@ fn with_column_rows(
     Ok(List::from_vec(out))
 }
 
-// The places of a row's cells with one more put among them.
-fn places_with(
+/// The places of a row's cells with one more put among them.
+pub fn places_with(
     alloc: Global,
     columns: &[(Text, CellType)],
     name: &Text,
@@ -79,8 +79,8 @@ fn places_with(
     places_of(alloc, columns, &added)
 }
 
-// The row with one more cell put among its own.
-fn with_column_row(
+/// The row with one more cell put among its own.
+pub fn with_column_row(
     alloc: Global,
     places: &[Place],
     row: &Row,
