@@ -30,7 +30,7 @@ pub use join_columns::{JoinIndices, columns_of_join, join_indices_of};
 pub use joins::{How, join, join_row, join_rows};
 pub use min_max::{MinMax, min_and_max_of, min_or_max_of};
 pub use named_columns::with_columns;
-pub use one_column::{columns_with, places_with};
+pub use one_column::{columns_with, places_with, with_column_row};
 pub use places::{Origin, Place, placed_row, places_of};
 pub use plain_table::PlainTable;
 pub use ranks::{RankKind, dense_rank, min_rank, rank_table};

@@ -79,8 +79,8 @@ pub fn places_with(
     places_of(alloc, columns, &added)
 }
 
-// The row with one more cell put among its own.
-fn with_column_row(
+/// The row with one more cell put among its own.
+pub fn with_column_row(
     alloc: Global,
     places: &[Place],
     row: &Row,

@@ -1,0 +1,141 @@
+-- What the values below a cell add to its rank.
+use Rattle.std.proofs.Common.{◌≡◌, ℕ, ◌+◌, Bool, true, false, cond, not, List, [], ◌∷◌, Option, Some, None, pos, refl, sym, ap, subst, ◌∙◌, arith}
+use Rattle.std.specs.Prelude.{T, ◌==◌, is_some}
+use Rattle.std.specs.List.{prefix_len, cons_option}
+use Rattle.std.specs.Option.{option_map, option_and_then}
+use Rattle.std.specs.Ordering.{is_lt, ordering_reverse}
+use Rattle.std.specs.declared.cmp.Ordering.{Ordering}
+use Rattle.std.specs.declared.cmp.Ordering.TheVariants.{Less, Equal, Greater}
+use Rattle.std.specs.FinMap.{is_sorted, find}
+use Rattle.std.specs.FinMap.Entries.{below_all, same_entries}
+use Rattle.std.proofs.lemmas.Bool.{eqb-true}
+use Rattle.df_value.specs.CellOrder.{cell_cmp, cell_cmp_total}
+use Rattle.df_value.specs.declared.cell.Cell.{Cell}
+use Rattle.df_value.specs.declared.cell.Cell.TheVariants as cell
+use Rattle.df_expr.specs.Value.{is_null}
+use Rattle.df_ops.specs.declared.ranks.RankKind.{RankKind}
+use Rattle.df_ops.specs.declared.ranks.RankKind.TheVariants as rank
+use Rattle.df_column.proofs.Bools.{T-first, T-second, less_from_is_lt}
+use Rattle.df_delta.specs.Collected.{collected_list}
+use Rattle.df_delta.proofs.Collected.{find-collected, is_sorted-collected}
+use Rattle.df_ranks.specs.Counts.{changes_weight, counted_rank, is_above, value_in, weight, weight_below, RanksStay, SameBelow}
+use Rattle.df_ranks.proofs.Orders.{cell_same}
+use Rattle.df_ranks.proofs.RowSums.{total, total-sum_by}
+
+-- what one entry adds
+abbrev pub weight_at : RankKind → Cell → Cell × ℕ → ℕ
+weight_at kind c e = cond (is_lt (cell_cmp e.0 c)) (weight kind e.1) 0
+
+-- what an entry adds, if it is below
+abbrev part_below : RankKind → Cell → Cell → ℕ → Option ℕ
+part_below kind c k n = cond (is_lt (cell_cmp k c)) (Some (weight kind n)) None
+
+pub weights_total : (kind : RankKind) (counts : List (Cell × ℕ)) (c : Cell) → weight_below kind counts c ≡ total (weight_at kind c) counts
+weights_total kind counts c = total-sum_by (weight_at kind c) counts
+
+collected_total : (kind : RankKind) (c : Cell) (es : List (Cell × ℕ)) → total (weight_at kind c) es ≡ total (λ e. e.1) (collected_list (part_below kind c) es)
+collected_total kind c [] = refl
+collected_total kind c (e ∷ es) =
+    elim (is_lt (cell_cmp e.0 c)) as (λ b. cond b (weight kind e.1) 0 + total (weight_at kind c) es ≡ total (λ e. e.1) (cons_option (option_map (λ y. (e.0, y)) (cond b (Some (weight kind e.1)) None)) (collected_list (part_below kind c) es))) [
+      | true ↦ ap (λ n. weight kind e.1 + n) (collected_total kind c es)
+      | false ↦ let none : 0 + total (weight_at kind c) es ≡ total (weight_at kind c) es = omega arith in none ∙ collected_total kind c es
+    ]
+
+not_changed : (kind : RankKind) (a b : Option ℕ) → changes_weight kind a b ≡ false → option_map (weight kind) a ≡ option_map (weight kind) b
+not_changed kind None None e = refl
+not_changed kind None (Some n) e = cc e
+not_changed kind (Some m) None e = cc e
+not_changed kind (Some m) (Some n) e = ap Some (eqb-true (weight kind m) (weight kind n) (by_case (weight kind m == weight kind n) e)) where
+  by_case : (b : Bool) → not b ≡ false → b ≡ true
+  by_case true e = refl
+  by_case false e = cc e
+
+-- where no value below c changes what it adds, c keeps its rank
+pub weights_same : (kind : RankKind) (old new : List (Cell × ℕ)) (c : Cell) → T (is_sorted cell_cmp old) → T (is_sorted cell_cmp new)
+    → ((u : Cell) → is_lt (cell_cmp u c) ≡ true → changes_weight kind (find cell_cmp u old) (find cell_cmp u new) ≡ false)
+    → weight_below kind old c ≡ weight_below kind new c
+weights_same kind old new c h g same =
+    weights_total kind old c ∙ collected_total kind c old
+    ∙ ap (total (λ e. e.1)) (same_entries cell_cmp cell_cmp_total cell_same _ _ (is_sorted-collected cell_cmp (part_below kind c) old h) (is_sorted-collected cell_cmp (part_below kind c) new g) (λ q.
+    find-collected cell_cmp (part_below kind c) cell_same q old h
+    ∙ by_order q (is_lt (cell_cmp q c)) refl
+    ∙ sym (find-collected cell_cmp (part_below kind c) cell_same q new g)))
+    ∙ sym (weights_total kind new c ∙ collected_total kind c new)
+  where
+    mapped : (a : Option ℕ) → option_and_then (λ n. Some (weight kind n)) a ≡ option_map (weight kind) a
+    mapped None = refl
+    mapped (Some n) = refl
+
+    nothing : (a : Option ℕ) → ◌≡◌ {A = Option ℕ} (option_and_then (λ n. None) a) None
+    nothing None = refl
+    nothing (Some n) = refl
+
+    by_order : (q : Cell) (b : Bool) → is_lt (cell_cmp q c) ≡ b
+        → option_and_then (λ n. cond (is_lt (cell_cmp q c)) (Some (weight kind n)) None) (find cell_cmp q old) ≡ option_and_then (λ n. cond (is_lt (cell_cmp q c)) (Some (weight kind n)) None) (find cell_cmp q new)
+    by_order q true e =
+        ap (λ b. option_and_then (λ n. cond b (Some (weight kind n)) None) (find cell_cmp q old)) e
+        ∙ mapped (find cell_cmp q old) ∙ not_changed kind _ _ (same q e) ∙ sym (mapped (find cell_cmp q new))
+        ∙ ap (λ b. option_and_then (λ n. cond b (Some (weight kind n)) None) (find cell_cmp q new)) (sym e)
+    by_order q false e =
+        ap (λ b. option_and_then (λ n. cond b (Some (weight kind n)) None) (find cell_cmp q old)) e
+        ∙ nothing (find cell_cmp q old) ∙ sym (nothing (find cell_cmp q new))
+        ∙ ap (λ b. option_and_then (λ n. cond b (Some (weight kind n)) None) (find cell_cmp q new)) (sym e)
+
+-- a value below one that is not above another is below the other
+under : (l u c : Cell) → is_lt (cell_cmp l c) ≡ false → is_lt (cell_cmp u c) ≡ true → is_lt (cell_cmp u l) ≡ true
+under l u c above below = by_answer (cell_cmp u l) refl where
+  less : cell_cmp u c ≡ Less
+  less = less_from_is_lt _ (subst T (sym below) tt)
+
+  refuted : cell_cmp l c ≡ Less → is_lt (cell_cmp u l) ≡ true
+  refuted e = let t : true ≡ false = sym (ap is_lt e) ∙ above in cc t
+
+  by_answer : (r : Ordering) → cell_cmp u l ≡ r → is_lt (cell_cmp u l) ≡ true
+  by_answer Less e = ap is_lt e
+  by_answer Equal e = refuted (ap (λ z. cell_cmp z c) (sym (cell_same u l e)) ∙ less)
+  by_answer Greater e = refuted (cell_cmp_total.trans l u c (cell_cmp_total.antisymm l u ∙ ap ordering_reverse e) less)
+
+pub ranks_at : (kind : RankKind) (old new : List (Cell × ℕ)) (least : Option Cell) → T (is_sorted cell_cmp old) → T (is_sorted cell_cmp new) → SameBelow kind old new least
+    → (c : Cell) → is_above least c ≡ false → weight_below kind old c ≡ weight_below kind new c
+ranks_at kind old new None h g same c e = weights_same kind old new c h g (λ u below. same.at u refl)
+ranks_at kind old new (Some l) h g same c e = weights_same kind old new c h g (λ u below. same.at u (under l u c e below))
+
+pub ranks_stay : (kind : RankKind) (old new : List (Cell × ℕ)) (least : Option Cell) → T (is_sorted cell_cmp old) → T (is_sorted cell_cmp new) → SameBelow kind old new least → RanksStay kind old new least
+ranks_stay kind old new least h g same = record { at = λ c there e. ranks_at kind old new least h g same c e }
+
+-- the same where no value is above the least
+pub ranks_stay_all : (kind : RankKind) (old new : List (Cell × ℕ)) (l : Cell) → T (is_sorted cell_cmp old) → T (is_sorted cell_cmp new) → SameBelow kind old new (Some l)
+    → ((v : Cell) → is_some (find cell_cmp v new) ≡ true → is_lt (cell_cmp l v) ≡ false) → RanksStay kind old new None
+ranks_stay_all kind old new l h g same none = record { at = λ c there e. ranks_at kind old new (Some l) h g same c (none c there) }
+
+-- dense ranks count the values below
+none_below : (c : Cell) (e : Cell × ℕ) (es : List (Cell × ℕ)) → is_lt (cell_cmp e.0 c) ≡ false → T (below_all cell_cmp e.0 es) → total (weight_at rank.Dense c) es ≡ 0
+none_below c e [] from h = refl
+none_below c e (f ∷ es) from h =
+    let above : is_lt (cell_cmp f.0 c) ≡ false = by_answer (is_lt (cell_cmp f.0 c)) refl in
+    let none = none_below c e es from (T-second _ _ h) in
+    let zero_more : 0 + total (weight_at rank.Dense c) es ≡ 0 = omega (arith, none) in
+    ap (λ b. cond b 1 0 + total (weight_at rank.Dense c) es) above ∙ zero_more
+  where
+    by_answer : (b : Bool) → is_lt (cell_cmp f.0 c) ≡ b → b ≡ false
+    by_answer true p = let t : true ≡ false = sym (ap is_lt (cell_cmp_total.trans e.0 f.0 c (less_from_is_lt _ (T-first _ _ h)) (less_from_is_lt _ (subst T (sym p) tt)))) ∙ from in t
+    by_answer false p = refl
+
+pub dense_weights : (c : Cell) (es : List (Cell × ℕ)) → T (is_sorted cell_cmp es) → weight_below rank.Dense es c ≡ prefix_len (λ e. is_lt (cell_cmp e.0 c)) es
+dense_weights c es h = weights_total rank.Dense es c ∙ counted es h where
+  counted : (es : List (Cell × ℕ)) → T (is_sorted cell_cmp es) → total (weight_at rank.Dense c) es ≡ prefix_len (λ e. is_lt (cell_cmp e.0 c)) es
+  counted [] h = refl
+  counted (e ∷ es) h = by_answer (is_lt (cell_cmp e.0 c)) refl (counted es (T-second _ _ h)) where
+    by_answer : (b : Bool) → is_lt (cell_cmp e.0 c) ≡ b → total (weight_at rank.Dense c) es ≡ prefix_len (λ e. is_lt (cell_cmp e.0 c)) es
+        → cond b 1 0 + total (weight_at rank.Dense c) es ≡ cond b (1 + prefix_len (λ e. is_lt (cell_cmp e.0 c)) es) 0
+    by_answer true p rest = ap (λ n. 1 + n) rest
+    by_answer false p rest = let none = none_below c e es p (T-first _ _ h) in omega (arith, none)
+
+-- the rank of a cell that has this value
+pub rank_of_value : (c v : Cell) (counts : List (Cell × ℕ)) (n : ℕ) → Some v ≡ value_in c → n ≡ prefix_len (λ e. is_lt (cell_cmp e.0 v)) counts → T (is_sorted cell_cmp counts) → cell.Int (pos (1 + n)) ≡ counted_rank rank.Dense counts c
+rank_of_value c v counts n is count h = by_null (is_null c) is where
+  by_null : (b : Bool) → Some v ≡ cond b None (Some c) → cell.Int (pos (1 + n)) ≡ cond b cell.Null (cell.Int (pos (1 + weight_below rank.Dense counts c)))
+  by_null true e = cc e
+  by_null false e =
+      let same : v ≡ c = cc e in
+      ap (λ m. cell.Int (pos (1 + m))) (count ∙ ap (λ z. prefix_len (λ e. is_lt (cell_cmp e.0 z)) counts) same ∙ sym (dense_weights c counts h))

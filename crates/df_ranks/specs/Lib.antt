@@ -1,0 +1,5 @@
+pub mod Ranked
+pub mod Counts
+pub mod Rises
+pub mod Reach
+pub mod Nodes

@@ -1,0 +1,207 @@
+//! How many rows have each value of a column.
+ghost use Rattle.std.specs.Prelude.{◌≡◌, ℕ, ◌+◌, ◌^◌, ◌<◌, ◌≤◌, ◌++◌, ◌∷◌, [], List, T, IfOk, IsTrue, OnOk, drop, false, is_some, length, map, true};
+ghost use Rattle.std.specs.List.{prefix_len};
+ghost use Rattle.std.specs.Ordering.{is_lt};
+ghost use Rattle.std.specs.FinMap.{find as entry_of, is_sorted};
+ghost use Rattle.std.specs.FinMap.Entries.{below_all};
+ghost use Rattle.df_value.specs.CellOrder.{cell_cmp};
+ghost use Rattle.df_value.specs.declared.cell.Cell.{Cell as AnyCell};
+ghost use Rattle.df_column.specs.Changes.{Change, after_changes, one_at, rest_after};
+ghost use Rattle.df_ranks.specs.Counts.{some_count};
+ghost use Rattle.df_ranks.specs.Rises.{count_change};
+
+use df_value::{Cell, Duplicate, same};
+use std::alloc::{AllocError, Global};
+use std::collections::BTreeMap;
+
+/// The values of a column with the number of their rows, by rising value.
+#[derive(Drop)]
+pub struct Counts {
+    items: Vec<(Cell, u64)>,
+    ghost rising: { IsTrue (is_sorted cell_cmp items.items) },
+}
+
+impl Counts {
+    /// No counts.
+    pub fn new(alloc: Global) -> Counts
+        ensures { result.items.items ≡ [] }
+    {
+        Counts {
+            items: Vec::new(alloc),
+        }
+    }
+
+    /// How many of the values are less than this one.
+    pub fn count_below(&self, value: &Cell) -> usize
+        ensures value { result ≡ prefix_len (λ e. is_lt (cell_cmp e.0 value.now)) self.now.items.items }
+        ensures few { result + 1 < 2 ^ 63 }
+    {
+        values_below(&self.items, value)
+    }
+
+    /// How many rows have this value, if one has it.
+    pub fn find(&self, value: &Cell) -> Option<u64>
+        ensures { result ≡ entry_of cell_cmp value.now self.now.items.items }
+    {
+        count_of(&self.items, value)
+    }
+
+    /// Whether no value is above this one.
+    pub fn has_none_above(&self, value: &Cell) -> bool
+        ensures { IsTrue result → (v : AnyCell)
+            → is_some (entry_of cell_cmp v self.now.items.items) ≡ true
+            → is_lt (cell_cmp value.now v) ≡ false }
+    {
+        match self.items.last() {
+            Some(last) => !is_less(value, &last.0),
+            None => true,
+        }
+    }
+
+    /// The counts after these rises, modulo 2^64. A value whose count becomes 0 goes. There are to be at most so many
+    /// values.
+    pub fn raised(
+        &self,
+        alloc: Global,
+        rises: &BTreeMap<Cell, u64>,
+        most: usize,
+    ) -> Result<Counts, AllocError>
+        ensures rising { IfOk result (λ _. T (is_sorted cell_cmp rises.now.entries)) }
+        ensures counts { IfOk result (λ c. c.items.items ≡ after_changes cell_cmp self.now.items.items
+            (map (count_change self.now.items.items) rises.now.entries)) }
+    {
+        Ok(Counts {
+            items: raised_counts(alloc, &self.items, rises, most)?,
+        })
+    }
+}
+
+/// Whether a value is less than another.
+pub fn is_less(a: &Cell, b: &Cell) -> bool
+    ensures { result ≡ is_lt (cell_cmp a.now b.now) }
+{
+    *a < *b
+}
+
+/// How many of the values are less than this one.
+fn values_below(counts: &[(Cell, u64)], value: &Cell) -> usize
+    requires { IsTrue (is_sorted cell_cmp counts.now) }
+    ensures value { result ≡ prefix_len (λ e. is_lt (cell_cmp e.0 value.now)) counts.now }
+    ensures within { result ≤ length counts.now }
+    ensures few { result + 1 < 2 ^ 63 }
+{
+    counts.partition_point(|count| count.0 < *value)
+}
+
+/// How many rows have this value, if one has it.
+fn count_of(counts: &[(Cell, u64)], value: &Cell) -> Option<u64>
+    requires { IsTrue (is_sorted cell_cmp counts.now) }
+    ensures { result ≡ entry_of cell_cmp value.now counts.now }
+{
+    let at = values_below(counts, value);
+    if at == counts.len() {
+        return None;
+    }
+    if same(&counts[at].0, value) {
+        Some(counts[at].1)
+    } else {
+        None
+    }
+}
+
+/// The index behind this one where the value stands here, else this index.
+fn index_after(counts: &[(Cell, u64)], at: usize, value: &Cell) -> usize
+    requires { at ≤ length counts.now }
+    ensures rest { rest_after cell_cmp value.now (drop at counts.now) ≡ drop result counts.now }
+    ensures within { result ≤ length counts.now }
+{
+    if at == counts.len() {
+        return at;
+    }
+    if same(&counts[at].0, value) {
+        at + 1
+    } else {
+        at
+    }
+}
+
+/// Adds copies of these counts.
+fn push_counts(
+    alloc: Global,
+    out: &mut Vec<(Cell, u64)>,
+    counts: &[(Cell, u64)],
+) -> Result<(), AllocError>
+    ensures { OnOk result (out.new.items ≡ out.old.items ++ counts.now) }
+{
+    for count in counts {
+        let value = count.0.copy(alloc)?;
+        out.push((value, count.1))?;
+    }
+    Ok(())
+}
+
+/// Adds the count of the value, unless it is 0.
+fn push_count(
+    alloc: Global,
+    out: &mut Vec<(Cell, u64)>,
+    value: &Cell,
+    count: u64,
+) -> Result<(), AllocError>
+    ensures { OnOk result (out.new.items ≡ out.old.items ++ one_at value.now (some_count count)) }
+{
+    if count == 0 {
+        return Ok(());
+    }
+    let value = value.copy(alloc)?;
+    out.push((value, count))?;
+    Ok(())
+}
+
+/// Adds the counts from this index on of what is less than the value, and the count of the value after its rise. Gives
+/// the index behind.
+fn push_raised(
+    alloc: Global,
+    out: &mut Vec<(Cell, u64)>,
+    counts: &[(Cell, u64)],
+    at: usize,
+    value: &Cell,
+    rise: u64,
+) -> Result<usize, AllocError>
+    requires rising { IsTrue (is_sorted cell_cmp counts.now) }
+    requires at { at ≤ length counts.now }
+    ensures at { IfOk result (λ next. next ≤ length counts.now) }
+    ensures counts { IfOk result (λ next. (later : List (AnyCell × Change ℕ)) →
+        T (below_all cell_cmp value.now later) →
+        out.new.items ++ after_changes cell_cmp (drop next counts.now) later ≡
+        out.old.items ++ after_changes cell_cmp (drop at counts.now)
+        (count_change counts.now (value.now, rise) ∷ later)) }
+{
+    let rest = &counts[at..];
+    let next = at + values_below(rest, value);
+    push_counts(alloc, out, &counts[at..next])?;
+    let count = count_of(counts, value).unwrap_or(0).wrapping_add(rise);
+    push_count(alloc, out, value, count)?;
+    Ok(index_after(counts, next, value))
+}
+
+/// The counts after these rises.
+fn raised_counts(
+    alloc: Global,
+    counts: &[(Cell, u64)],
+    rises: &BTreeMap<Cell, u64>,
+    most: usize,
+) -> Result<Vec<(Cell, u64)>, AllocError>
+    requires { IsTrue (is_sorted cell_cmp counts.now) }
+    ensures rising { IfOk result (λ _. T (is_sorted cell_cmp rises.now.entries)) }
+    ensures counts { IfOk result (λ v. v.items ≡
+        after_changes cell_cmp counts.now (map (count_change counts.now) rises.now.entries)) }
+{
+    let values = counts.len().saturating_add(rises.len());
+    let mut out = Vec::with_capacity(alloc, values.min(most))?;
+    let mut at = 0;
+    for (value, rise) in rises {
+        at = push_raised(alloc, &mut out, counts, at, value, *rise)?;
+    }
+    push_counts(alloc, &mut out, &counts[at..])?;
+    Ok(out)
+}

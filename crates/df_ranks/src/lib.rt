@@ -1,0 +1,16 @@
+//! The live rank: a column of ranks that follows its input by deltas.
+//!
+//! [`LiveRank`] keeps its input and its output as tables, which share blocks from one change to the next, and how many
+//! rows have each value of the ranked column. A change that neither brings a value nor takes one away touches its own
+//! rows alone.
+#![tactic(auto)]
+
+mod column;
+mod counts;
+mod rank;
+mod reach;
+mod rises;
+
+pub use column::RankColumn;
+pub use counts::Counts;
+pub use rank::{LiveRank, StagedRank};

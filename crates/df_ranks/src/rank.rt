@@ -1,0 +1,187 @@
+//! The live rank.
+ghost use Rattle.std.specs.Prelude.{◌≡◌, ◌∷◌, [], T, IfOk};
+ghost use Rattle.std.specs.FinMap as finite;
+ghost use Rattle.df_value.specs.Schemas.{IsSchema, column_index as index_of};
+ghost use Rattle.df_value.specs.declared.cell.CellType.TheVariants as dtype;
+ghost use Rattle.df_column.specs.Tables.{TaggedRows};
+ghost use Rattle.df_delta.specs.Reached.{are_rising, changes_at};
+ghost use Rattle.df_delta.specs.Work.{no_work};
+ghost use Rattle.df_ops.specs.NamedColumns.{with_columns as columns_with};
+ghost use Rattle.df_ops.specs.Tables.{rank_table};
+ghost use Rattle.df_ops.specs.declared.ranks.RankKind.TheVariants as kinds;
+ghost use Rattle.df_ranks.specs.Counts.{counted_rank};
+ghost use Rattle.df_ranks.specs.Nodes.{IsRanked, RanksFit};
+ghost use Rattle.df_ranks.specs.Ranked.{ranked, with_ranks};
+
+use crate::column::RankColumn;
+use crate::counts::Counts;
+use crate::reach::{least_change, reached_tags};
+use crate::rises::rises_of;
+use df_column::{Table, Tag};
+use df_delta::{Delta, LiveNode, apply, push_change};
+use df_expr::Meter;
+use df_ops::with_columns;
+use df_value::{CellType, Duplicate, Row, Schema, Text};
+use std::alloc::{AllocError, Global};
+
+/// Puts the dense rank of a column's cell into each row, at its tag.
+#[derive(Drop)]
+pub struct LiveRank {
+    alloc: Global,
+    column: RankColumn,
+    input: Table,
+    output: Table,
+    counts: Counts,
+}
+
+/// What a live rank keeps after a change.
+#[derive(Drop)]
+pub struct StagedRank {
+    input: Table,
+    output: Table,
+    counts: Counts,
+}
+
+impl LiveRank {
+    /// The dense ranks of a column of rows of this schema, under this name. It stands over no rows.
+    pub fn dense(
+        alloc: Global,
+        schema: &Schema,
+        name: &Text,
+        column: &Text,
+    ) -> Result<LiveRank, AllocError>
+        ensures output { IfOk result (λ n. (t : TaggedRows) →
+            ranked n.column.schema n.column.name kinds.Dense n.column.index t
+            ≡ ranked schema.now name.now kinds.Dense (index_of column.now schema.now) t) }
+
+        // The rows are those that the operator gives of the rows of the input.
+        ensures rows { IfOk result (λ n. (t : TaggedRows) →
+            finite.values (ranked n.column.schema n.column.name kinds.Dense n.column.index t)
+            ≡ (rank_table (record { columns = schema.now; rows = finite.values t }) name.now
+            kinds.Dense column.now).rows) }
+        ensures input { IfOk result (λ n. n.input.schema ≡ schema.now) }
+        ensures columns { IfOk result (λ n.
+            IsSchema (columns_with schema.now ((name.now, dtype.Int) ∷ []))
+            → n.output.schema ≡ columns_with schema.now ((name.now, dtype.Int) ∷ [])) }
+        ensures over { IfOk result (λ n. IsRanked n.column.schema n.column.name kinds.Dense
+            n.column.index n.input n.output n.counts.items.items finite.empty) }
+    {
+        let output = output_schema(alloc, schema, name)?;
+        let column = RankColumn::new(alloc, schema, name, column)?;
+        let input = Table::new(alloc, schema.copy(alloc)?)?;
+        let output = Table::new(alloc, output)?;
+        Ok(LiveRank {
+            alloc,
+            column,
+            input,
+            output,
+            counts: Counts::new(alloc),
+        })
+    }
+
+    /// The new row at the tag, if there is one, with its rank.
+    fn new_row(&self, input: &Table, counts: &Counts, tag: Tag) -> Result<Option<Row>, AllocError>
+        ensures { IfOk result (λ r. r ≡ finite.get (with_ranks self.now.column.schema
+            self.now.column.name self.now.column.index
+            (counted_rank kinds.Dense counts.now.items.items) input.now.rows) tag) }
+    {
+        match row_of(self.alloc, input, tag)? {
+            Some(row) => Ok(Some(self.column.ranked_row(self.alloc, counts, &row)?)),
+            None => Ok(None),
+        }
+    }
+
+    /// The changes of the output at these tags, where this is the input afterwards, with these counts.
+    fn changes(&self, input: &Table, counts: &Counts, tags: &[Tag]) -> Result<Delta, AllocError>
+        requires { T (are_rising tags.now) }
+        ensures { IfOk result (λ d. d ≡ finite.from_sorted (changes_at self.now.output.rows
+            (with_ranks self.now.column.schema self.now.column.name self.now.column.index
+            (counted_rank kinds.Dense counts.now.items.items) input.now.rows) tags.now)) }
+    {
+        let mut entries = Vec::new(self.alloc);
+        for tag in tags {
+            let old = row_of(self.alloc, &self.output, *tag)?;
+            let new = self.new_row(input, counts, *tag)?;
+            push_change(&mut entries, *tag, old, new)?;
+        }
+        Ok(Delta::from_entries(entries))
+    }
+}
+
+/// The row of the table at this tag, if there is one.
+fn row_of(alloc: Global, table: &Table, tag: Tag) -> Result<Option<Row>, AllocError>
+    ensures { IfOk result (λ r. r ≡ finite.get table.now.rows tag) }
+{
+    match table.find(tag) {
+        Some(at) => Ok(Some(table.row(alloc, at)?)),
+        None => Ok(None),
+    }
+}
+
+/// The schema with a column of ranks of this name put among its columns. Where these are too many for a schema, it is
+/// the schema that was given.
+fn output_schema(alloc: Global, schema: &Schema, name: &Text) -> Result<Schema, AllocError>
+    ensures { IfOk result (λ s. IsSchema (columns_with schema.now ((name.now, dtype.Int) ∷ []))
+        → s ≡ columns_with schema.now ((name.now, dtype.Int) ∷ [])) }
+{
+    let added = [(name.copy(alloc)?, CellType::Int)];
+    let columns = with_columns(alloc, schema.columns().as_slice(), &added)?;
+    match Schema::new(columns) {
+        Ok(output) => Ok(output),
+        Err(_) => schema.copy(alloc),
+    }
+}
+
+impl LiveNode for LiveRank {
+    type Staged = StagedRank;
+
+    ghost Takes = { λ n t. RanksFit n.column.schema n.column.name kinds.Dense n.column.index
+        n.input n.output t };
+
+    ghost IsOver = { λ n t. IsRanked n.column.schema n.column.name kinds.Dense n.column.index
+        n.input n.output n.counts.items.items t };
+
+    ghost output = { λ n t. ranked n.column.schema n.column.name kinds.Dense n.column.index t };
+
+    ghost HasRoomFor = { λ n s. (s.input.schema ≡ n.input.schema) × (s.output.schema ≡ n.output.schema) };
+
+    ghost LeadsTo = { λ n s t. IsRanked n.column.schema n.column.name kinds.Dense n.column.index
+        s.input s.output s.counts.items.items t };
+
+    ghost budget = { λ _. no_work };
+
+    ghost allowed = { λ _ _ _. no_work };
+
+    fn prepare(
+        &mut self,
+        delta: &Delta,
+        _meter: &mut Meter,
+    ) -> Result<(StagedRank, Delta), AllocError> {
+        let input = apply(self.alloc, &self.input, delta)?;
+        let rises = rises_of(self.alloc, self.column.index(), delta.entries())?;
+        let counts = self.counts.raised(self.alloc, &rises, input.len())?;
+        let least = least_change(&self.counts, &counts, &rises);
+        let tags = reached_tags(self.alloc, delta, &input, self.column.index(), least)?;
+        let changes = self.changes(&input, &counts, &tags)?;
+        let output = apply(self.alloc, &self.output, &changes)?;
+        Ok((
+            StagedRank {
+                input,
+                output,
+                counts,
+            },
+            changes,
+        ))
+    }
+
+    fn commit(&mut self, staged: StagedRank) {
+        let StagedRank {
+            input,
+            output,
+            counts,
+        } = staged;
+        self.input = input;
+        self.output = output;
+        self.counts = counts;
+    }
+}

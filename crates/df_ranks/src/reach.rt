@@ -1,0 +1,147 @@
+//! The tags at which a rank looks again.
+ghost use Rattle.std.specs.Prelude.{◌≡◌, ◌++◌, ◌∷◌, [], T, IfOk, OnOk, map};
+ghost use Rattle.std.specs.Option.{option_copied};
+ghost use Rattle.std.specs.FinMap as finite;
+ghost use Rattle.df_value.specs.CellOrder.{cell_cmp};
+ghost use Rattle.df_column.specs.Changes.{after_changes};
+ghost use Rattle.df_ops.specs.declared.ranks.RankKind.TheVariants as kinds;
+ghost use Rattle.df_ranks.specs.Counts.{RanksStay, SameBelow, changes_weight};
+ghost use Rattle.df_ranks.specs.Reach.{Reaches, is_row_above, tags_above, tags_above_any};
+ghost use Rattle.df_ranks.specs.Rises.{count_change};
+
+use crate::counts::{Counts, is_less};
+use crate::rises::value_at;
+use df_column::{Table, Tag};
+use df_delta::Delta;
+use df_value::{Cell, Row};
+use std::alloc::{AllocError, Global};
+use std::collections::BTreeMap;
+
+/// The least value above which ranks change, if there is one.
+pub fn least_change<'a>(
+    old: &Counts,
+    new: &Counts,
+    rises: &'a BTreeMap<Cell, u64>,
+) -> Option<&'a Cell>
+    requires { new.now.items.items ≡ after_changes cell_cmp old.now.items.items
+        (map (count_change old.now.items.items) rises.now.entries) }
+    ensures { RanksStay kinds.Dense old.now.items.items new.now.items.items (option_copied result) }
+{
+    let Some(least) = first_change(old, new, rises) else {
+        return None;
+    };
+    if new.has_none_above(least) {
+        return None;
+    }
+    Some(least)
+}
+
+/// The least value that appears or disappears, if one does.
+fn first_change<'a>(old: &Counts, new: &Counts, rises: &'a BTreeMap<Cell, u64>) -> Option<&'a Cell>
+    requires { new.now.items.items ≡ after_changes cell_cmp old.now.items.items
+        (map (count_change old.now.items.items) rises.now.entries) }
+    ensures { SameBelow kinds.Dense old.now.items.items new.now.items.items (option_copied result) }
+{
+    for value in rises.keys() {
+        if is_changed(old.find(value), new.find(value)) {
+            return Some(value);
+        }
+    }
+    None
+}
+
+/// Whether a value with the first count, if any, appears or disappears where it gets the second.
+fn is_changed(old: Option<u64>, new: Option<u64>) -> bool
+    ensures { result ≡ changes_weight kinds.Dense old new }
+{
+    old.is_some() != new.is_some()
+}
+
+/// The tags of the delta, and those of the rows whose value is above the least one, in order.
+pub fn reached_tags(
+    alloc: Global,
+    delta: &Delta,
+    input: &Table,
+    index: Option<usize>,
+    least: Option<&Cell>,
+) -> Result<Vec<Tag>, AllocError>
+    ensures { IfOk result (λ v.
+        Reaches v.items delta.now input.now.rows index (option_copied least.entry)) }
+{
+    let mut tags = gathered_tags(alloc, delta, input, index, least)?;
+    tags.sort_unstable();
+    tags.dedup();
+    Ok(tags)
+}
+
+fn gathered_tags(
+    alloc: Global,
+    delta: &Delta,
+    input: &Table,
+    index: Option<usize>,
+    least: Option<&Cell>,
+) -> Result<Vec<Tag>, AllocError>
+    ensures { IfOk result (λ v. v.items ≡ finite.keys delta.now
+        ++ tags_above_any index (option_copied least.entry) (finite.entries input.now.rows)) }
+{
+    let mut tags = delta_tags(alloc, delta)?;
+    let Some(least) = least else {
+        return Ok(tags);
+    };
+    push_tags_above(alloc, &mut tags, input, index, least)?;
+    Ok(tags)
+}
+
+fn delta_tags(alloc: Global, delta: &Delta) -> Result<Vec<Tag>, AllocError>
+    ensures { IfOk result (λ v. v.items ≡ finite.keys delta.now) }
+{
+    let entries = delta.entries();
+    let mut tags = Vec::with_capacity(alloc, entries.len())?;
+    for entry in entries {
+        tags.push(entry.tag)?;
+    }
+    Ok(tags)
+}
+
+/// Adds the tags of the rows whose value at an index is above this one.
+fn push_tags_above(
+    alloc: Global,
+    tags: &mut Vec<Tag>,
+    input: &Table,
+    index: Option<usize>,
+    least: &Cell,
+) -> Result<(), AllocError>
+    ensures { OnOk result (tags.new.items ≡ tags.old.items
+        ++ tags_above index least.now (finite.entries input.now.rows)) }
+{
+    for at in 0..input.len() {
+        let row = input.row(alloc, at)?;
+        push_if_above(tags, input.tag(at), index, least, &row)?;
+    }
+    Ok(())
+}
+
+/// Adds the row's tag if its value at an index is above this one.
+fn push_if_above(
+    tags: &mut Vec<Tag>,
+    tag: Tag,
+    index: Option<usize>,
+    least: &Cell,
+    row: &Row,
+) -> Result<(), AllocError>
+    ensures { OnOk result (tags.new.items ≡ tags.old.items ++ tags_above index least.now ((tag, row.now) ∷ [])) }
+{
+    if is_above_least(index, least, row) {
+        tags.push(tag)?;
+    }
+    Ok(())
+}
+
+fn is_above_least(index: Option<usize>, least: &Cell, row: &Row) -> bool
+    ensures { result ≡ is_row_above index least.now row.now }
+{
+    match value_at(index, row) {
+        Some(value) => is_less(least, value),
+        None => false,
+    }
+}
