@@ -101,18 +101,8 @@ fn entries_at(
 {
     let mut entries = Vec::with_capacity(alloc, new_rows.len())?;
     for (tag, new) in new_rows {
-        let old = row_at(alloc, table, tag)?;
+        let old = table.get(alloc, tag)?;
         push_change(&mut entries, tag, old, new)?;
     }
     Ok(entries)
-}
-
-// A copy of the table's row at this tag, if there is one.
-fn row_at(alloc: Global, table: &Table, tag: Tag) -> Result<Option<Row>, AllocError>
-    ensures { IfOk result (λ row. row ≡ finite.get table.now.rows tag) }
-{
-    match table.find(tag) {
-        Some(at) => Ok(Some(table.row(alloc, at)?)),
-        None => Ok(None),
-    }
 }

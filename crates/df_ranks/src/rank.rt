@@ -85,7 +85,7 @@ impl LiveRank {
             self.now.column.name self.now.column.index
             (counted_rank kinds.Dense counts.now.items.items) input.now.rows) tag) }
     {
-        match row_of(self.alloc, input, tag)? {
+        match input.get(self.alloc, tag)? {
             Some(row) => Ok(Some(self.column.ranked_row(self.alloc, counts, &row)?)),
             None => Ok(None),
         }
@@ -100,21 +100,11 @@ impl LiveRank {
     {
         let mut entries = Vec::new(self.alloc);
         for tag in tags {
-            let old = row_of(self.alloc, &self.output, *tag)?;
+            let old = self.output.get(self.alloc, *tag)?;
             let new = self.new_row(input, counts, *tag)?;
             push_change(&mut entries, *tag, old, new)?;
         }
         Ok(Delta::from_entries(entries))
-    }
-}
-
-/// The row of the table at this tag, if there is one.
-fn row_of(alloc: Global, table: &Table, tag: Tag) -> Result<Option<Row>, AllocError>
-    ensures { IfOk result (λ r. r ≡ finite.get table.now.rows tag) }
-{
-    match table.find(tag) {
-        Some(at) => Ok(Some(table.row(alloc, at)?)),
-        None => Ok(None),
     }
 }
 

@@ -7,8 +7,9 @@ use crate::given::{row, schema};
 use df_column::{Entry, Tag};
 use df_delta::{Delta, LiveNode};
 use df_expr::{ArithOp, CompareOp, Expr, Meter};
-use df_nodes::{LiveFilter, LiveMap, LiveWindow};
+use df_nodes::{LiveFilter, LiveMap, LiveSum, LiveWindow};
 use df_ops::RollKind;
+use df_ranks::LiveRank;
 use df_value::{Boxed, Cell, CellType, Duplicate, Row, Text};
 use std::alloc::{AllocError, Global};
 use std::test::Fail;
@@ -143,12 +144,26 @@ fn a_select_is_silent_where_its_values_stay(rt: HostRuntime) -> Result<(), Fail>
 }
 
 // Rows of these numbers, which come at the tags from 1 on.
-fn come(alloc: Global, numbers: &[i64]) -> Result<Delta, AllocError> {
+fn come(alloc: Global, numbers: &[Option<i64>]) -> Result<Delta, AllocError> {
     let mut entries = Vec::new(alloc);
     for (at, number) in numbers.iter().enumerate() {
-        let row = row(alloc, Some(*number))?;
+        let row = row(alloc, *number)?;
         entries.push(entry((at as u64).saturating_add(1), None, Some(row)))?;
     }
+    Delta::new(entries).map_err(|_| AllocError)
+}
+
+// The row of this number goes, which stood at this tag.
+fn goes(alloc: Global, first: u64, number: i64) -> Result<Delta, AllocError> {
+    let old = row(alloc, Some(number))?;
+    let entries = vec![in alloc; entry(first, Some(old), None)]?;
+    Delta::new(entries).map_err(|_| AllocError)
+}
+
+// A row of this number comes at this tag.
+fn comes(alloc: Global, first: u64, number: i64) -> Result<Delta, AllocError> {
+    let new = row(alloc, Some(number))?;
+    let entries = vec![in alloc; entry(first, None, Some(new))]?;
     Delta::new(entries).map_err(|_| AllocError)
 }
 
@@ -202,12 +217,56 @@ fn wide(x: i64, sum: i128) -> Pair {
 #[test]
 fn a_row_that_goes_changes_the_windows_behind_it(rt: HostRuntime) -> Result<(), Fail> {
     let alloc = rt.alloc();
-    let (window, _, _) = after(window(alloc)?, come(alloc, &[1, 2, 3])?)?;
-    let goes = vec![in alloc; entry(2, Some(row(alloc, Some(2))?), None)]?;
-    let goes = Delta::new(goes).map_err(|_| AllocError)?;
-    let (_, out, meter) = after(window, goes)?;
+    let (window, _, _) = after(window(alloc)?, come(alloc, &[Some(1), Some(2), Some(3)])?)?;
+    let (_, out, meter) = after(window, goes(alloc, 2, 2)?)?;
     let want = [(2, wide(2, 3), None), (3, wide(3, 5), wide(3, 4))];
     assert!(rt; tells(alloc, &out, &want)?);
     assert!(rt; meter.windows <= 2);
+    Ok(())
+}
+
+// The sums of x.
+fn sum(alloc: Global) -> Result<LiveSum, AllocError> {
+    let schema = schema(alloc, CellType::Int)?;
+    let output = Text::from_str(alloc, "s")?;
+    let column = Text::from_str(alloc, "x")?;
+    let made = LiveSum::new(alloc, &schema, &output, &column)?;
+    Ok(made)
+}
+
+#[test]
+fn a_row_that_goes_changes_the_sums_behind_it(rt: HostRuntime) -> Result<(), Fail> {
+    let alloc = rt.alloc();
+    let (sum, _, _) = after(sum(alloc)?, come(alloc, &[Some(1), None, Some(2)])?)?;
+    let (_, out, _) = after(sum, goes(alloc, 1, 1)?)?;
+    let want = [(1, wide(1, 1), None), (3, wide(2, 3), wide(2, 2))];
+    assert!(rt; tells(alloc, &out, &want)?);
+    Ok(())
+}
+
+// The dense ranks of x.
+fn ranks(alloc: Global) -> Result<LiveRank, AllocError> {
+    let schema = schema(alloc, CellType::Int)?;
+    let output = Text::from_str(alloc, "r")?;
+    let column = Text::from_str(alloc, "x")?;
+    let made = LiveRank::dense(alloc, &schema, &output, &column)?;
+    Ok(made)
+}
+
+fn int(x: i64, rank: i64) -> Pair {
+    Some((x, Cell::Int(rank)))
+}
+
+#[test]
+fn a_value_that_comes_raises_the_ranks_above_it(rt: HostRuntime) -> Result<(), Fail> {
+    let alloc = rt.alloc();
+    let (ranks, _, _) = after(ranks(alloc)?, come(alloc, &[Some(3), Some(6), Some(1)])?)?;
+    let (_, out, _) = after(ranks, comes(alloc, 4, 2)?)?;
+    let want = [
+        (1, int(3, 2), int(3, 3)),
+        (2, int(6, 3), int(6, 4)),
+        (4, None, int(2, 2)),
+    ];
+    assert!(rt; tells(alloc, &out, &want)?);
     Ok(())
 }
