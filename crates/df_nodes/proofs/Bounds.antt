@@ -1,12 +1,11 @@
 -- Rows below a tag, up to it and behind it, by their indexes.
-use Rattle.std.proofs.Common.{◌≡◌, ℕ, ◌+◌, ◌-◌, ◌<◌, ◌≤◌, min, max, Bool, true, false, not, List, [], ◌∷◌, length, map, take, drop, get_or, filter, refl, sym, ap, subst, ◌∙◌, arith}
-use Rattle.std.specs.Prelude.{T, ◌&&◌}
+use Rattle.std.proofs.Common.{◌≡◌, ℕ, ◌+◌, ◌-◌, ◌<◌, ◌≤◌, min, max, Bool, true, false, not, List, [], ◌∷◌, length, map, take, drop, get_or, filter, sym, ap, ◌∙◌, arith}
+use Rattle.std.specs.Prelude.{T}
 use Rattle.std.specs.List.{list_all}
-use Rattle.std.specs.FinMap as finite
 use Rattle.std.proofs.lemmas.List.{drop_all, drop_more, take_all}
 use Rattle.df_value.specs.declared.cell.Cell.{Cell}
 use Rattle.df_column.specs.Bounds.{IsLowerBound, IsUpperBound, is_below}
-use Rattle.df_column.specs.Tables.{TaggedRows, entry_change}
+use Rattle.df_column.specs.Tables.{entry_change}
 use Rattle.df_column.specs.declared.entry.Entry.{Entry}
 use Rattle.df_column.specs.declared.tag.Tag.{Tag}
 use Rattle.df_delta.proofs.Collected.{T-first, T-second, T-both}

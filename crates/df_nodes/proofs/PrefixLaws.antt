@@ -1,9 +1,8 @@
 -- What operators over the rows up to each row give, by their definitions over plain rows.
-use Rattle.std.proofs.Common.{◌≡◌, ℕ, zero, suc, ◌+◌, ◌<◌, ◌≤◌, List, [], ◌∷◌, ◌++◌, length, map, take, get_or, Option, Some, refl, sym, ap, subst, ◌∙◌, arith, append_assoc, length-append}
+use Rattle.std.proofs.Common.{◌≡◌, ℕ, ◌+◌, List, [], ◌∷◌, ◌++◌, length, map, take, get_or, Option, Some, refl, sym, ap, ◌∙◌, arith, append_assoc, length-append}
 use Rattle.std.specs.Prelude.{T}
 use Rattle.std.specs.Cmp.{tied_itself}
 use Rattle.std.specs.List.{range_with_len, zip}
-use Rattle.std.specs.declared.cmp.Ordering.TheVariants.{Equal}
 use Rattle.std.specs.FinMap as finite
 use Rattle.std.proofs.lemmas.List.{get_or_at, length-map, length_push, take-map}
 use Rattle.df_value.specs.declared.cell.Cell.{Cell}
@@ -15,21 +14,18 @@ use Rattle.df_ops.specs.Places.{places_of}
 use Rattle.df_ops.specs.RowWise.{with_column_row}
 use Rattle.df_ops.specs.Tables.{rolling_table, with_column_table}
 use Rattle.df_ops.specs.Windows.{each_prefix, rolling_cell, rolling_dtype, window_of}
-use Rattle.df_ops.specs.declared.places.Place.{Place}
 use Rattle.df_ops.specs.declared.windows.RollKind.{RollKind}
 use Rattle.df_ops.proofs.PlacesFacts.{placed_column}
-use Rattle.df_column.specs.Bounds.{IsUpperBound, is_below}
-use Rattle.df_column.specs.Places.{IsPlace}
 use Rattle.df_column.specs.TagOrder.{tag_total}
 use Rattle.df_column.specs.Tables.{TaggedRows}
 use Rattle.df_column.specs.Tags.{tag_cmp}
 use Rattle.df_column.specs.declared.tag.Tag.{Tag}
 use Rattle.df_column.proofs.Bounds.{upper_at_place}
-use Rattle.df_delta.specs.Collected.{collected, collected_list}
+use Rattle.df_delta.specs.Collected.{collected_list}
 use Rattle.df_delta.proofs.Collected.{entries-collected}
 use Rattle.df_nodes.specs.Outputs.{rolled}
 use Rattle.df_nodes.specs.Prefixes.{cells_up_to, rows_up_to, with_each_prefix}
-use Rattle.df_nodes.specs.Rolling.{put_at, rolling_output}
+use Rattle.df_nodes.specs.Rolling.{rolling_output}
 use Rattle.df_nodes.specs.declared.rolling.Rolling.{Rolling}
 use Rattle.df_nodes.proofs.Bounds.{up_to_bound}
 use Rattle.df_nodes.proofs.UpTo.{Rows, cells_in}

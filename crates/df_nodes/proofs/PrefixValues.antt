@@ -1,5 +1,5 @@
 -- What an operator over the rows up to each row gives at a tag, and where it gives the same of two inputs.
-use Rattle.std.proofs.Common.{◌≡◌, ℕ, ◌+◌, ◌<◌, Bool, not, List, [], ◌∷◌, length, map, take, get_or, Option, Some, None, refl, sym, ap, ◌∙◌}
+use Rattle.std.proofs.Common.{◌≡◌, ℕ, ◌+◌, not, List, [], length, map, take, get_or, Option, Some, None, sym, ap, ◌∙◌}
 use Rattle.std.specs.Prelude.{T}
 use Rattle.std.specs.Option.{option_and_then}
 use Rattle.std.specs.FinMap as finite

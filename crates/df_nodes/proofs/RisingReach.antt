@@ -1,6 +1,6 @@
 -- The tags that changes reach rise.
-use Rattle.std.proofs.Common.{◌≡◌, ℕ, zero, suc, ◌-◌, Bool, true, false, cond, not, List, [], ◌∷◌, ◌++◌, map, take, filter, refl, sym, ap, subst, ◌∙◌, append-nil}
-use Rattle.std.specs.Prelude.{T, ◌&&◌}
+use Rattle.std.proofs.Common.{◌≡◌, ℕ, zero, suc, ◌-◌, Bool, true, false, cond, List, [], ◌∷◌, ◌++◌, map, take, filter, refl, sym, subst, append-nil}
+use Rattle.std.specs.Prelude.{T}
 use Rattle.std.specs.List.{list_all}
 use Rattle.std.specs.FinMap as finite
 use Rattle.std.specs.FinMap.Entries.{below_all, is_sorted-where_key}
@@ -11,7 +11,7 @@ use Rattle.df_column.specs.Tags.{tag_cmp}
 use Rattle.df_column.specs.declared.tag.Tag.{Tag}
 use Rattle.df_delta.specs.Reached.{are_rising}
 use Rattle.df_delta.proofs.Collected.{T-first, T-second, T-both}
-use Rattle.df_nodes.specs.Rolling.{reached, reached_by, rows_before}
+use Rattle.df_nodes.specs.Rolling.{reached, reached_by}
 use Rattle.df_nodes.proofs.TagTests.{below_more}
 use Rattle.df_nodes.proofs.UpTo.{Rows}
 

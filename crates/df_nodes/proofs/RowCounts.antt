@@ -1,8 +1,8 @@
 -- Counts of evaluations over the entries of a delta, two rows to an entry.
-use Rattle.std.proofs.Common.{◌≡◌, ℕ, ◌+◌, ◌*◌, ◌<◌, ◌≤◌, ◌^◌, arith}
+use Rattle.std.proofs.Common.{ℕ, ◌+◌, ◌*◌, ◌<◌, ◌≤◌, ◌^◌, arith}
 use Rattle.std.proofs.Math.Nat.{mul-le-mul_right}
 use Rattle.df_expr.specs.declared.meter.Meter.{Meter}
-use Rattle.df_delta.specs.Work.{IsBelow, IsWithin, evaluations, plus}
+use Rattle.df_delta.specs.Work.{IsWithin, evaluations, plus}
 
 -- after i entries there is room for the next one
 pub room : (i n k e0 e : ℕ) → i < n → n < 2 ^ 64 → e0 + 2 ^ 65 * k < 2 ^ 128 → e ≤ e0 + 2 * i * k → e + 2 * k < 2 ^ 128

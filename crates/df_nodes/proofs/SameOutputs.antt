@@ -9,7 +9,7 @@ use Rattle.df_value.specs.declared.cell.CellType.{CellType}
 use Rattle.df_expr.specs.declared.expr.Expr.{Expr}
 use Rattle.df_expr.specs.declared.physical.PhysicalExpr.{PhysicalExpr}
 use Rattle.df_expr.specs.Physical.{IsPhysical, physical_value}
-use Rattle.df_ops.specs.RowWise.{ArePhysical, filter_rows, is_true, keeps, select_row, with_columns_row}
+use Rattle.df_ops.specs.RowWise.{ArePhysical, filter_rows, is_true, keeps, with_columns_row}
 use Rattle.df_ops.specs.Places.{placed_cell, places_of}
 use Rattle.df_ops.specs.declared.places.Place.{Place}
 use Rattle.df_ops.proofs.PlacesFacts.{placed_values}

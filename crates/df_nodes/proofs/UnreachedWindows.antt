@@ -1,5 +1,5 @@
 -- A rolling column is the same before and after a delta at each tag that no change reaches.
-use Rattle.std.proofs.Common.{◌≡◌, ℕ, ◌+◌, ◌-◌, ◌≤◌, not, List, length, filter, Option, Some, None, false, refl, ap, ◌∙◌, arith}
+use Rattle.std.proofs.Common.{◌≡◌, ◌-◌, not, List, filter, Option, Some, None, false, refl, ap, ◌∙◌, arith}
 use Rattle.std.specs.Prelude.{T, ◌&&◌}
 use Rattle.std.specs.FinMap as finite
 use Rattle.std.specs.FinMap.Entries.{is_sorted-where_key}

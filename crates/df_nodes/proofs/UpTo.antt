@@ -1,11 +1,10 @@
 -- The rows up to a tag, in two maps that agree from a tag on.
-use Rattle.std.proofs.Common.{◌≡◌, ℕ, zero, suc, ◌+◌, ◌-◌, ◌<◌, ◌≤◌, Bool, true, false, cond, not, List, [], ◌∷◌, ◌++◌, length, map, take, drop, filter, Option, Some, None, refl, sym, ap, subst, ◌∙◌, arith, length-append}
+use Rattle.std.proofs.Common.{◌≡◌, ℕ, zero, suc, ◌+◌, ◌-◌, ◌≤◌, Bool, true, false, cond, not, List, [], ◌∷◌, ◌++◌, length, map, take, drop, filter, Option, Some, None, refl, sym, ap, subst, ◌∙◌, arith, length-append}
 use Rattle.std.specs.Prelude.{T, ◌&&◌}
 use Rattle.std.specs.List.{list_all}
 use Rattle.std.specs.Ordering.{eq_by_cmp}
-use Rattle.std.specs.declared.cmp.Ordering.TheVariants.{Equal}
 use Rattle.std.specs.FinMap as finite
-use Rattle.std.specs.FinMap.Entries.{below_all, find-where_key, is_sorted-where_key, same_entries, where_key}
+use Rattle.std.specs.FinMap.Entries.{find-where_key, is_sorted-where_key, same_entries, where_key}
 use Rattle.std.proofs.lemmas.List.{drop-drop, drop_at, length-map, map-append}
 use Rattle.df_value.specs.declared.cell.Cell.{Cell}
 use Rattle.df_value.specs.Rows.{cell_at}
@@ -16,7 +15,7 @@ use Rattle.df_column.specs.TagOrder.{tag_total, tag_same}
 use Rattle.df_column.specs.Tables.{TaggedRows}
 use Rattle.df_column.specs.Tags.{tag_cmp}
 use Rattle.df_column.specs.declared.tag.Tag.{Tag}
-use Rattle.df_delta.proofs.Collected.{T-first, T-second, T-both, equal_from_is_eq}
+use Rattle.df_delta.proofs.Collected.{T-first, T-second, T-both}
 use Rattle.df_nodes.specs.Prefixes.{rows_up_to}
 use Rattle.df_nodes.proofs.Filters.{filter_none, filter_same}
 use Rattle.df_nodes.proofs.TagTests.{all_above, below_more, false_from_not, find_before, from_true, not_back, not_from_false, up_to_below}

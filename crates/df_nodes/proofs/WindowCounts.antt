@@ -1,5 +1,5 @@
 -- Counts of windows.
-use Rattle.std.proofs.Common.{◌≡◌, ℕ, ◌+◌, ◌*◌, ◌<◌, ◌≤◌, ◌^◌, arith}
+use Rattle.std.proofs.Common.{ℕ, ◌+◌, ◌*◌, ◌<◌, ◌≤◌, ◌^◌, arith}
 use Rattle.std.proofs.Math.Nat.{mul-le-mul_right}
 use Rattle.df_expr.specs.declared.meter.Meter.{Meter}
 use Rattle.df_delta.specs.Work.{IsWithin, plus}

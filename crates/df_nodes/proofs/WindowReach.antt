@@ -1,7 +1,6 @@
 -- The rows of an input that one change reaches, from a stretch of rows that has their windows.
-use Rattle.std.proofs.Common.{◌≡◌, ℕ, ◌+◌, ◌-◌, ◌<◌, ◌≤◌, min, max, List, [], ◌∷◌, ◌++◌, length, map, take, drop, Option, Some, None, IfSome, IfNone, refl, sym, ap, ◌∙◌, arith, append_assoc, length-drop, length-take}
+use Rattle.std.proofs.Common.{◌≡◌, ℕ, ◌+◌, ◌-◌, ◌<◌, ◌≤◌, max, List, [], ◌∷◌, ◌++◌, length, take, Option, Some, None, IfSome, IfNone, sym, ap, ◌∙◌, arith, append_assoc, length-drop, length-take}
 use Rattle.std.specs.FinMap as finite
-use Rattle.std.proofs.lemmas.List.{length-map}
 use Rattle.df_value.specs.declared.cell.Cell.{Cell}
 use Rattle.df_column.specs.Bounds.{IsUpperBound}
 use Rattle.df_column.specs.Changes.{Change}

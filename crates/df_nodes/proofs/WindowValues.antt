@@ -1,29 +1,24 @@
 -- What a rolling column gives at a row, from rows before it that are enough.
-use Rattle.std.proofs.Common.{◌≡◌, ℕ, ◌+◌, ◌-◌, ◌<◌, ◌≤◌, min, max, List, [], ◌∷◌, ◌++◌, length, map, take, drop, get_or, Option, Some, None, ◌⊎◌, inl, inr, refl, sym, ap, subst, ◌∙◌, arith, append_assoc, length-drop, length-take, get_or-drop, get_or-take}
+use Rattle.std.proofs.Common.{◌≡◌, ℕ, ◌+◌, ◌-◌, ◌<◌, ◌≤◌, min, max, List, [], ◌∷◌, ◌++◌, length, map, take, drop, get_or, Option, Some, None, ◌⊎◌, inl, inr, refl, sym, ap, ◌∙◌, arith, append_assoc, length-drop, length-take, get_or-drop, get_or-take}
 use Rattle.std.specs.List.{cons_option}
-use Rattle.std.specs.Option.{option_and_then, option_map}
+use Rattle.std.specs.Option.{option_map}
 use Rattle.std.specs.Cmp.{tied_itself}
 use Rattle.std.specs.FinMap as finite
 use Rattle.std.proofs.lemmas.Bool.{cases_lt}
-use Rattle.std.proofs.lemmas.List.{drop-append-le, drop-drop, drop-map, get_or-map, length-map, map_push, nil_from_length, take-map, take_more}
+use Rattle.std.proofs.lemmas.List.{drop-append-le, drop-drop, drop-map, length-map, map_push, take_more}
 use Rattle.df_value.specs.declared.cell.Cell.{Cell}
 use Rattle.df_value.specs.Rows.{cell_at}
 use Rattle.df_ops.specs.Aggregates.{cells_of}
 use Rattle.df_ops.specs.Windows.{rolling_cell, window_of}
 use Rattle.df_column.specs.Changes.{Change}
 use Rattle.df_column.specs.Places.{IsPlace}
-use Rattle.df_column.specs.TagOrder.{tag_total, tag_same}
+use Rattle.df_column.specs.TagOrder.{tag_total}
 use Rattle.df_column.specs.Tables.{TaggedRows}
 use Rattle.df_column.specs.Tags.{tag_cmp}
 use Rattle.df_column.specs.declared.tag.Tag.{Tag}
-use Rattle.df_column.proofs.Bounds.{upper_at_place}
-use Rattle.df_column.proofs.ReadLemmas.{row_found}
-use Rattle.df_delta.specs.Collected.{collected_list}
 use Rattle.df_delta.specs.Reached.{changes_at}
 use Rattle.df_delta.specs.ChangeOf.{change_of}
 use Rattle.df_delta.specs.SameRows.{same_row, with_change}
-use Rattle.df_delta.proofs.Collected.{entries-collected, get-collected}
-use Rattle.df_nodes.specs.Prefixes.{cells_up_to}
 use Rattle.df_nodes.specs.Rolling.{put_at, rolling_output, rolling_value}
 use Rattle.df_nodes.specs.Stretches.{IsStretch, last_row, new_row}
 use Rattle.df_nodes.specs.declared.rolling.Rolling.{Rolling}

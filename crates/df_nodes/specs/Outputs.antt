@@ -1,5 +1,5 @@
 -- The tagged rows that each operator gives of those of its input.
-use Rattle.std.specs.Prelude.{ℕ, List, Option, Some, None, cond}
+use Rattle.std.specs.Prelude.{ℕ, List, Some, None, cond}
 use Rattle.df_value.specs.declared.cell.Cell.{Cell}
 use Rattle.df_value.specs.declared.cell.CellType.{CellType}
 use Rattle.df_expr.specs.declared.expr.Expr.{Expr}

@@ -1,5 +1,5 @@
 -- Operators that give of each row what stands in the rows up to it.
-use Rattle.std.specs.Prelude.{ℕ, Bool, not, List, Option, Some, filter, map}
+use Rattle.std.specs.Prelude.{ℕ, not, List, Option, Some, filter, map}
 use Rattle.std.specs.FinMap as finite
 use Rattle.df_value.specs.declared.cell.Cell.{Cell}
 use Rattle.df_ops.specs.Aggregates.{cells_of}

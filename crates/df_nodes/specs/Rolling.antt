@@ -1,6 +1,5 @@
 -- A rolling column over tagged rows, and the rows at which it may change.
-use Rattle.std.specs.Prelude.{ℕ, ◌+◌, ◌-◌, List, [], ◌∷◌, ◌++◌, Option, filter, map, take, max}
-use Rattle.std.specs.Option.{option_map}
+use Rattle.std.specs.Prelude.{ℕ, ◌-◌, List, [], ◌∷◌, ◌++◌, filter, map, take, max}
 use Rattle.df_value.specs.declared.cell.Cell.{Cell}
 use Rattle.df_expr.specs.declared.meter.Meter.{Meter}
 use Rattle.df_ops.specs.Aggregates.{cells_of}

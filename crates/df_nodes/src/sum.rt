@@ -64,12 +64,7 @@ impl LiveSum {
         ensures schemas { IfOk result (λ n. (n.input.schema ≡ schema.now)
             × (n.output.schema ≡ with_columns schema.now ((output.now, CellType.Wide) ∷ []))) }
     {
-        let places = places_with(
-            alloc,
-            schema.columns().as_slice(),
-            output,
-            CellType::Wide,
-        )?;
+        let places = places_with(alloc, schema.columns().as_slice(), output, CellType::Wide)?;
         let made = schema_with(alloc, schema, output, CellType::Wide)?;
         Ok(LiveSum {
             alloc,

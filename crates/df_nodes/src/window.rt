@@ -87,12 +87,7 @@ impl LiveWindow {
     }
 
     /// The delta of the output where the input comes to be this table.
-    fn changes(
-        &self,
-        input: &Table,
-        delta: &Delta,
-        meter: &mut Meter,
-    ) -> Result<Delta, AllocError>
+    fn changes(&self, input: &Table, delta: &Delta, meter: &mut Meter) -> Result<Delta, AllocError>
         requires { IsBelow (plus meter.old (windows (2 ^ 64 * reach_of self.now.rolling.w))) (2 ^ 128) }
         ensures diff { IfOk result (λ r. (t : TaggedRows) → Fits t delta.now
             → self.now.output.rows ≡ rolling_output self.now.rolling t

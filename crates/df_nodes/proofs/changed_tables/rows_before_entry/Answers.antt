@@ -1,4 +1,4 @@
-use Rattle.std.proofs.Common.{arith, ◌≤◌, length}
+use Rattle.std.proofs.Common.{arith}
 use Rattle.std.specs.FinMap as finite
 use Rattle.df_nodes.proofs.Bounds.{before_entry, before_no_entry}
 use Rattle.df_nodes.proofs.changed_tables.rows_before_entry.Goals as goal

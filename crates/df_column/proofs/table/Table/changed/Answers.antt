@@ -1,6 +1,6 @@
-use Rattle.std.proofs.Common.{◌∙◌, arith}
+use Rattle.std.proofs.Common.{◌∙◌}
 use Rattle.df_column.specs.Tables.{after_entries}
-use Rattle.df_column.proofs.TableLemmas.{new_rows, changed_sorted, changed_rows, changed_length, same_table}
+use Rattle.df_column.proofs.TableLemmas.{new_rows, changed_sorted, changed_rows, same_table}
 use Rattle.df_column.proofs.table.Table.changed.Goals as goal
 
 pub changed_blocks-requires-clause-fits : goal.changed_blocks-requires-clause-fits

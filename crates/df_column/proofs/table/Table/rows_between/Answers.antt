@@ -1,4 +1,4 @@
-use Rattle.std.proofs.Common.{arith, ap, ◌∙◌, sym}
+use Rattle.std.proofs.Common.{arith, ◌∙◌}
 use Rattle.std.specs.FinMap as finite
 use Rattle.df_column.proofs.Bounds.{between_more, between_none}
 use Rattle.df_column.proofs.table.Table.rows_between.Goals as goal

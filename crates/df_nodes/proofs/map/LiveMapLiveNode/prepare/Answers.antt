@@ -1,5 +1,4 @@
 use Rattle.std.proofs.Common.{◌*◌, ℕ, subst}
-use Rattle.df_delta.specs.Inputs.{MayFollow}
 use Rattle.df_delta.specs.Work.{evaluations, plus, IsWithin}
 use Rattle.df_delta.proofs.SameRows.{len-diff}
 use Rattle.df_nodes.specs.RowOperators.{evaluations_of}

@@ -12,7 +12,7 @@ abbrev pub invariant-loop-at : goal.invariant-loop-at
 invariant-loop-at l =
     record {
       done : map entry_change l.entries.items ++ changes_of_entries l.self.output.rows (sum_output l.self.places l.self.index l.input.rows) (length (finite.entries l.input.rows) + 1) (finite.entries l.input.rows) (drop l.at l.changes)
-      ≡ changes_of_entries l.self.output.rows (sum_output l.self.places l.self.index l.input.rows) (length (finite.entries l.input.rows) + 1) (finite.entries l.input.rows) l.changes;
+          ≡ changes_of_entries l.self.output.rows (sum_output l.self.places l.self.index l.input.rows) (length (finite.entries l.input.rows) + 1) (finite.entries l.input.rows) l.changes;
       whole : map entry_change l.changes ≡ finite.entries l.delta;
       rows : T (list_all has_row l.entries.items);
       sums : AreSums l.self.index (finite.values l.input.rows) l.all.rows.items l.all.sums.items;

@@ -1,4 +1,4 @@
-use Rattle.std.proofs.Common.{◌+◌, ◌∙◌, ◌∷◌, ap, sym, arith, length, map, drop, max, take}
+use Rattle.std.proofs.Common.{◌+◌, ◌∙◌, ◌∷◌, ap, sym, arith, length, map, drop, take}
 use Rattle.std.specs.FinMap as finite
 use Rattle.df_column.specs.Tables.{entry_change}
 use Rattle.df_nodes.specs.Rolling.{reached_by}

@@ -12,6 +12,6 @@ abbrev pub invariant-loop-at : goal.invariant-loop-at
 invariant-loop-at l =
     record {
       added : map entry_change l.entries.items ≡ map entry_change l.fn.entries.items
-      ++ changes_at l.self.output.rows (sum_output l.self.places l.self.index l.input.rows) (map (λ r. r.0) (drop l.from (take l.at (finite.entries l.input.rows))));
+          ++ changes_at l.self.output.rows (sum_output l.self.places l.self.index l.input.rows) (map (λ r. r.0) (drop l.from (take l.at (finite.entries l.input.rows))));
       rows : T (list_all has_row l.fn.entries.items) → T (list_all has_row l.entries.items);
     }

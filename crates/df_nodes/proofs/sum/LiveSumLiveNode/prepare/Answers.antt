@@ -19,8 +19,7 @@ returns-clause-staged c t h =
     let d = c.args.delta.now in
     let is : n.input.rows ≡ t = h.over.0 in
     let fit : RowsFit n.input.schema (applied n.input.rows d) = subst (λ (m : TaggedRows). RowsFit n.input.schema (applied m d)) (sym is) h.after.0 in
-    let made = ap (λ (m : TaggedRows). applied m c.in_ok-changes.changes) h.over.1 ∙ (returns-clause-diff c t h).gives in
-    (
+    let made = ap (λ (m : TaggedRows). applied m c.in_ok-changes.changes) h.over.1 ∙ (returns-clause-diff c t h).gives in (
       c.in_ok-input.ensures.rows fit ∙ ap (λ (m : TaggedRows). applied m d) is,
       c.in_ok-output.ensures.rows (subst (RowsFit n.output.schema) (sym made) h.after.1) ∙ made,
     )

@@ -1,4 +1,4 @@
-use Rattle.std.proofs.Common.{◌+◌, ◌++◌, ◌≡◌, ◌≤◌, ◌^◌, ◌∙◌, ap, arith, length, map, subst, sym, drop, refl, take}
+use Rattle.std.proofs.Common.{◌+◌, ◌++◌, ◌≤◌, ◌^◌, ◌∙◌, ap, arith, length, map, subst, sym}
 use Rattle.std.specs.Prelude.{T}
 use Rattle.std.specs.List.{list_all}
 use Rattle.std.specs.FinMap as finite
@@ -6,8 +6,8 @@ use Rattle.df_column.specs.Changes.{applied}
 use Rattle.df_column.specs.Tables.{entry_change}
 use Rattle.df_delta.specs.Deltas.{has_row}
 use Rattle.df_delta.specs.Differences.{IsDiff}
-use Rattle.df_nodes.specs.Rolling.{reach_of, rolling_output, windows}
-use Rattle.df_nodes.proofs.WindowCounts.{counted_more, counted_less, fewer, grown, next_change, room}
+use Rattle.df_nodes.specs.Rolling.{reach_of, rolling_output}
+use Rattle.df_nodes.proofs.WindowCounts.{fewer, grown, next_change, room}
 use Rattle.df_nodes.proofs.WindowDiff.{changes_of_entries, last_entry, next_entry, reached_delta, window_diff}
 use Rattle.df_nodes.proofs.window.LiveWindow.changes.Goals as goal
 

@@ -13,7 +13,7 @@ abbrev pub invariant-loop-at : goal.invariant-loop-at
 invariant-loop-at l =
     record {
       done : map entry_change l.entries.items ++ changes_of_entries l.self.output.rows (rolling_output l.self.rolling l.input.rows) l.self.rolling.w (finite.entries l.input.rows) (drop l.at l.changes)
-      ≡ changes_of_entries l.self.output.rows (rolling_output l.self.rolling l.input.rows) l.self.rolling.w (finite.entries l.input.rows) l.changes;
+          ≡ changes_of_entries l.self.output.rows (rolling_output l.self.rolling l.input.rows) l.self.rolling.w (finite.entries l.input.rows) l.changes;
       whole : map entry_change l.changes ≡ finite.entries l.delta;
       short : length l.changes ≡ finite.len l.delta;
       rows : T (list_all has_row l.entries.items);

@@ -1,11 +1,10 @@
-use Rattle.std.proofs.Common.{◌+◌, ◌-◌, ◌≡◌, ◌∷◌, ap, ◌∙◌, sym, arith, max, min, length, map, drop, take}
+use Rattle.std.proofs.Common.{◌+◌, ◌-◌, ◌≡◌, ◌∷◌, ap, ◌∙◌, sym, arith, max, min, map, drop, take}
 use Rattle.std.specs.FinMap as finite
 use Rattle.std.proofs.lemmas.List.{length-map}
 use Rattle.df_column.specs.Tables.{entry_change}
 use Rattle.df_nodes.specs.Rolling.{reached_by, rolling_output}
-use Rattle.df_nodes.specs.Stretches.{IsStretch, new_row}
+use Rattle.df_nodes.specs.Stretches.{new_row}
 use Rattle.df_nodes.proofs.Bounds.{reached_run}
-use Rattle.df_nodes.proofs.WindowCounts.{counted_more, grown}
 use Rattle.df_nodes.proofs.WindowReach.{all_reached, found_row, place_inside}
 use Rattle.df_nodes.proofs.window.LiveWindow.push_reached.Goals as goal
 

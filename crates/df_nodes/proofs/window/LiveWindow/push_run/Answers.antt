@@ -1,4 +1,4 @@
-use Rattle.std.proofs.Common.{◌+◌, ◌-◌, Some, arith, length, map, drop, take}
+use Rattle.std.proofs.Common.{◌+◌, ◌-◌, Some, arith, map, drop, take}
 use Rattle.std.specs.FinMap as finite
 use Rattle.std.proofs.lemmas.List.{length-map}
 use Rattle.df_column.specs.Tables.{entry_change}

@@ -13,7 +13,7 @@ abbrev pub invariant-loop-at : goal.invariant-loop-at
 invariant-loop-at l =
     record {
       added : map entry_change l.entries.items ≡ map entry_change l.fn.entries.items
-      ++ changes_at l.self.output.rows (rolling_output l.self.rolling l.input.rows) (map (λ r. r.0) (drop l.from (take l.at (finite.entries l.input.rows))));
+          ++ changes_at l.self.output.rows (rolling_output l.self.rolling l.input.rows) (map (λ r. r.0) (drop l.from (take l.at (finite.entries l.input.rows))));
       rows : T (list_all has_row l.fn.entries.items) → T (list_all has_row l.entries.items);
       grows : IsWithin l.fn.meter l.meter;
       counted : IsWithin l.meter (plus l.fn.meter (windows (l.at - l.from)));

@@ -4,7 +4,7 @@ use Rattle.df_column.specs.Tables.{TaggedRows}
 use Rattle.df_delta.specs.Deltas.{RowsFit}
 use Rattle.df_delta.specs.Work.{IsWithin, plus}
 use Rattle.df_delta.proofs.SameRows.{len-diff}
-use Rattle.df_nodes.specs.Rolling.{reach_of, rolling_output, windows}
+use Rattle.df_nodes.specs.Rolling.{reach_of, windows}
 use Rattle.df_nodes.proofs.window.LiveWindowLiveNode.prepare.Goals as goal
 
 pub returns-in_err-changes-clause-meter : goal.returns-in_err-changes-clause-meter
@@ -37,8 +37,7 @@ returns-clause-staged c t h =
     let d = c.args.delta.now in
     let is : n.input.rows ≡ t = h.over.0 in
     let fit : RowsFit n.input.schema (applied n.input.rows d) = subst (λ (m : TaggedRows). RowsFit n.input.schema (applied m d)) (sym is) h.after.0 in
-    let made = ap (λ (m : TaggedRows). applied m c.in_ok-changes.changes) h.over.1 ∙ (returns-clause-diff c t h).gives in
-    (
+    let made = ap (λ (m : TaggedRows). applied m c.in_ok-changes.changes) h.over.1 ∙ (returns-clause-diff c t h).gives in (
       c.in_ok-input.ensures.rows fit ∙ ap (λ (m : TaggedRows). applied m d) is,
       c.in_ok-output.ensures.rows (subst (RowsFit n.output.schema) (sym made) h.after.1) ∙ made,
     )
