@@ -104,7 +104,11 @@ fn filter(alloc: Global) -> Result<LiveFilter, AllocError>
 }
 
 // What the filter tells of a row that gives way to another, and how many evaluations it counts.
-fn filtered(alloc: Global, old: Option<i64>, new: Option<i64>) -> Result<(Delta, u128), AllocError> {
+fn filtered(
+    alloc: Global,
+    old: Option<i64>,
+    new: Option<i64>,
+) -> Result<(Delta, u128), AllocError> {
     let (_, out, meter) = after(filter(alloc)?, replaced(alloc, old, new)?)?;
     Ok((out, meter.evals))
 }
