@@ -104,7 +104,7 @@ module _ {K X : Type 0} {R : K → K → Ordering} (o : IsTotalOrder R) (same : 
       let here : e.1.old ≡ get t e.0 = subst (λ b. IfSome (cond b (Some e.1) (find R e.0 es)) (λ c. c.old ≡ get t e.0)) (itself e.0) (fits e.0) in
       let old : part f e.0 e.1.old ≡ part f e.0 (get t e.0) = ap (part f e.0) here in
       let one = total_set t e.0 e.1.new in
-      let rest : total f (entries (applied_list (set_at t e.0 e.1.new) es)) + going f es ≡ total f (entries (set_at t e.0 e.1.new)) + coming f es = total_list (set_at t e.0 e.1.new) es (T-second _ _ h) (λ q. later q (eq_by_cmp R q e.0) refl (fits q)) in
+      let rest : total f (entries (applied_list (set_at t e.0 e.1.new) es)) + going f es ≡ total f (entries (set_at t e.0 e.1.new)) + coming f es = total_list (set_at t e.0 e.1.new) es (T-second (below_all R e.0 es) (is_sorted R es) h) (λ q. later q (eq_by_cmp R q e.0) refl (fits q)) in
       omega (arith, old, one, rest)
     where
       later : (q : K) (b : Bool) → eq_by_cmp R q e.0 ≡ b → IfSome (cond b (Some e.1) (find R q es)) (λ c. c.old ≡ get t q) → IfSome (find R q es) (λ c. c.old ≡ get (set_at t e.0 e.1.new) q)

@@ -113,7 +113,7 @@ none_below : (c : Cell) (e : Cell × ℕ) (es : List (Cell × ℕ)) → is_lt (c
 none_below c e [] from h = refl
 none_below c e (f ∷ es) from h =
     let above : is_lt (cell_cmp f.0 c) ≡ false = by_answer (is_lt (cell_cmp f.0 c)) refl in
-    let none = none_below c e es from (T-second _ _ h) in
+    let none = none_below c e es from (T-second (is_lt (cell_cmp e.0 f.0)) (below_all cell_cmp e.0 es) h) in
     let zero_more : 0 + total (weight_at rank.Dense c) es ≡ 0 = omega (arith, none) in
     ap (λ b. cond b 1 0 + total (weight_at rank.Dense c) es) above ∙ zero_more
   where

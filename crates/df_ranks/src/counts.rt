@@ -1,13 +1,14 @@
 //! How many rows have each value of a column.
-ghost use Rattle.std.specs.Prelude.{◌≡◌, ℕ, ◌+◌, ◌^◌, ◌<◌, ◌≤◌, ◌++◌, ◌∷◌, [], List, T, IfOk, IsTrue, OnOk, drop, false, is_some, length, map, true};
+ghost use Rattle.std.specs.Prelude.{◌≡◌, ℕ, ◌+◌, ◌^◌, ◌<◌, ◌≤◌, ◌++◌, ◌∷◌, [], List, T, IfOk, IfSome, IsTrue, OnOk, drop, false, is_some, length, map, true};
 ghost use Rattle.std.specs.List.{prefix_len};
 ghost use Rattle.std.specs.Ordering.{is_lt};
-ghost use Rattle.std.specs.FinMap.{find as entry_of, is_sorted};
+ghost use Rattle.std.specs.FinMap.{find as entry_of, is_sorted, put};
 ghost use Rattle.std.specs.FinMap.Entries.{below_all};
 ghost use Rattle.df_value.specs.CellOrder.{cell_cmp};
 ghost use Rattle.df_value.specs.declared.cell.Cell.{Cell as AnyCell};
 ghost use Rattle.df_column.specs.Changes.{Change, after_changes, one_at, rest_after};
 ghost use Rattle.df_ranks.specs.Counts.{some_count};
+ghost use Rattle.df_ranks.specs.Recounts.{IsRecount, count_after, have_counts, with_recounts};
 ghost use Rattle.df_ranks.specs.Rises.{count_change};
 
 use df_value::{Cell, Duplicate, same};
@@ -58,6 +59,46 @@ impl Counts {
         }
     }
 
+    /// Sets the count of a value that has one.
+    pub fn set(&mut self, value: &Cell, count: u64)
+        requires { is_some (entry_of cell_cmp value.now self.old.items.items) ≡ true }
+        ensures { self.new.items.items ≡ put cell_cmp value.now count self.old.items.items }
+    {
+        let at = values_below(&self.items, value);
+        self.items[at].1 = count;
+    }
+
+    /// Sets the counts of these values, each of which has one.
+    pub fn set_all(&mut self, recounts: &[(Cell, u64)])
+        requires { have_counts self.old.items.items recounts.now ≡ true }
+        ensures { self.new.items.items ≡ with_recounts self.old.items.items recounts.now }
+    {
+        for recount in recounts {
+            self.set(&recount.0, recount.1);
+        }
+    }
+
+    /// The values of these rises with their new counts, if each has a count and keeps one.
+    pub fn recounts(
+        &self,
+        alloc: Global,
+        rises: &BTreeMap<Cell, u64>,
+    ) -> Result<Option<Vec<(Cell, u64)>>, AllocError>
+        ensures rising { IfOk result (λ _. T (is_sorted cell_cmp rises.now.entries)) }
+        ensures recounts { IfOk result (λ o. IfSome o (λ recounts. IsRecount self.now.items.items rises.now.entries recounts.items)) }
+    {
+        let mut recounts = Vec::with_capacity(alloc, rises.len())?;
+        for (value, rise) in rises {
+            let count = raised_count(self.find(value), *rise);
+            if count == 0 {
+                return Ok(None);
+            }
+            let value = value.copy(alloc)?;
+            recounts.push((value, count))?;
+        }
+        Ok(Some(recounts))
+    }
+
     /// The counts after these rises, modulo 2^64. A value whose count becomes 0 goes. There are to be at most so many
     /// values.
     pub fn raised(
@@ -73,6 +114,16 @@ impl Counts {
         Ok(Counts {
             items: raised_counts(alloc, &self.items, rises, most)?,
         })
+    }
+}
+
+/// A count after a rise, modulo 2^64; 0 where there was none.
+fn raised_count(count: Option<u64>, rise: u64) -> u64
+    ensures { result ≡ count_after count rise }
+{
+    match count {
+        Some(count) => count.wrapping_add(rise),
+        None => 0,
     }
 }
 

@@ -10,7 +10,9 @@ mod counts;
 mod rank;
 mod reach;
 mod rises;
+mod staged;
 
 pub use column::RankColumn;
 pub use counts::Counts;
 pub use rank::{LiveRank, StagedRank};
+pub use staged::StagedCounts;

@@ -1,5 +1,5 @@
 //! The live rank.
-ghost use Rattle.std.specs.Prelude.{◌≡◌, ◌∷◌, [], T, IfOk};
+ghost use Rattle.std.specs.Prelude.{◌≡◌, ◌∷◌, [], T, IfOk, true};
 ghost use Rattle.std.specs.FinMap as finite;
 ghost use Rattle.df_value.specs.Schemas.{IsSchema, column_index as index_of};
 ghost use Rattle.df_value.specs.declared.cell.CellType.TheVariants as dtype;
@@ -12,17 +12,24 @@ ghost use Rattle.df_ops.specs.declared.ranks.RankKind.TheVariants as kinds;
 ghost use Rattle.df_ranks.specs.Counts.{counted_rank};
 ghost use Rattle.df_ranks.specs.Nodes.{IsRanked, RanksFit};
 ghost use Rattle.df_ranks.specs.Ranked.{ranked, with_ranks};
+ghost use Rattle.df_ranks.specs.Recounts.{IsRecount};
+ghost use Rattle.df_ranks.specs.Staged.{can_take, staged_counts};
+ghost use Rattle.df_ranks.specs.Stages.{IsStage};
+ghost use Rattle.df_value.specs.CellOrder.{cell_cmp};
+ghost use Rattle.std.specs.FinMap.{is_sorted};
 
 use crate::column::RankColumn;
 use crate::counts::Counts;
 use crate::reach::{least_change, reached_tags};
 use crate::rises::rises_of;
+use crate::staged::StagedCounts;
 use df_column::{Table, Tag};
 use df_delta::{Delta, LiveNode, apply, push_change};
 use df_expr::Meter;
 use df_ops::with_columns;
-use df_value::{CellType, Duplicate, Row, Schema, Text};
+use df_value::{Cell, CellType, Duplicate, Row, Schema, Text};
 use std::alloc::{AllocError, Global};
+use std::collections::BTreeMap;
 
 /// Puts the dense rank of a column's cell into each row, at its tag.
 #[derive(Drop)]
@@ -39,7 +46,7 @@ pub struct LiveRank {
 pub struct StagedRank {
     input: Table,
     output: Table,
-    counts: Counts,
+    counts: StagedCounts,
 }
 
 impl LiveRank {
@@ -108,6 +115,59 @@ impl LiveRank {
     }
 }
 
+impl LiveRank {
+    /// What becomes of the counts under these rises, and the changes of the output. There are to be at most so many
+    /// values.
+    fn counts_and_changes(
+        &self,
+        delta: &Delta,
+        input: &Table,
+        rises: &BTreeMap<Cell, u64>,
+        most: usize,
+    ) -> Result<(StagedCounts, Delta), AllocError>
+        ensures { IfOk result (λ r. IsStage self.now delta.now input.now.rows rises.now r.0 r.1) }
+    {
+        match self.counts.recounts(self.alloc, rises)? {
+            Some(recounts) => self.recounted(delta, input, rises, recounts),
+            None => self.counted_anew(delta, input, rises, most),
+        }
+    }
+
+    /// The same where no value appears or disappears.
+    fn recounted(
+        &self,
+        delta: &Delta,
+        input: &Table,
+        rises: &BTreeMap<Cell, u64>,
+        recounts: Vec<(Cell, u64)>,
+    ) -> Result<(StagedCounts, Delta), AllocError>
+        requires rising { T (is_sorted cell_cmp rises.now.entries) }
+        requires recounts { IsRecount self.now.counts.items.items rises.now.entries recounts.items }
+        ensures { IfOk result (λ r. IsStage self.now delta.now input.now.rows rises.now r.0 r.1) }
+    {
+        let tags = reached_tags(self.alloc, delta, input, self.column.index(), None)?;
+        let changes = self.changes(input, &self.counts, &tags)?;
+        Ok((StagedCounts::Recounts(recounts), changes))
+    }
+
+    /// The same with all counts made anew.
+    fn counted_anew(
+        &self,
+        delta: &Delta,
+        input: &Table,
+        rises: &BTreeMap<Cell, u64>,
+        most: usize,
+    ) -> Result<(StagedCounts, Delta), AllocError>
+        ensures { IfOk result (λ r. IsStage self.now delta.now input.now.rows rises.now r.0 r.1) }
+    {
+        let counts = self.counts.raised(self.alloc, rises, most)?;
+        let least = least_change(&self.counts, &counts, rises);
+        let tags = reached_tags(self.alloc, delta, input, self.column.index(), least)?;
+        let changes = self.changes(input, &counts, &tags)?;
+        Ok((StagedCounts::Counts(counts), changes))
+    }
+}
+
 /// The schema with a column of ranks of this name put among its columns. Where these are too many for a schema, it is
 /// the schema that was given.
 fn output_schema(alloc: Global, schema: &Schema, name: &Text) -> Result<Schema, AllocError>
@@ -133,10 +193,12 @@ impl LiveNode for LiveRank {
 
     ghost output = { λ n t. ranked n.column.schema n.column.name kinds.Dense n.column.index t };
 
-    ghost HasRoomFor = { λ n s. (s.input.schema ≡ n.input.schema) × (s.output.schema ≡ n.output.schema) };
+    ghost HasRoomFor = { λ n s. (s.input.schema ≡ n.input.schema)
+        × (s.output.schema ≡ n.output.schema)
+        × (can_take n.counts.items.items s.counts ≡ true) };
 
     ghost LeadsTo = { λ n s t. IsRanked n.column.schema n.column.name kinds.Dense n.column.index
-        s.input s.output s.counts.items.items t };
+        s.input s.output (staged_counts n.counts.items.items s.counts) t };
 
     ghost budget = { λ _. no_work };
 
@@ -149,10 +211,7 @@ impl LiveNode for LiveRank {
     ) -> Result<(StagedRank, Delta), AllocError> {
         let input = apply(self.alloc, &self.input, delta)?;
         let rises = rises_of(self.alloc, self.column.index(), delta.entries())?;
-        let counts = self.counts.raised(self.alloc, &rises, input.len())?;
-        let least = least_change(&self.counts, &counts, &rises);
-        let tags = reached_tags(self.alloc, delta, &input, self.column.index(), least)?;
-        let changes = self.changes(&input, &counts, &tags)?;
+        let (counts, changes) = self.counts_and_changes(delta, &input, &rises, input.len())?;
         let output = apply(self.alloc, &self.output, &changes)?;
         Ok((
             StagedRank {
@@ -172,6 +231,6 @@ impl LiveNode for LiveRank {
         } = staged;
         self.input = input;
         self.output = output;
-        self.counts = counts;
+        counts.take(&mut self.counts);
     }
 }
