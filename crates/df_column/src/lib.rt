@@ -17,6 +17,7 @@ mod masked;
 mod merge;
 mod picks;
 mod pool;
+mod reads;
 mod spots;
 mod table;
 mod tag;

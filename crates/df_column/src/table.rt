@@ -1,26 +1,27 @@
 //! Tables of tagged rows in shared blocks.
-ghost use Rattle.std.specs.Prelude.{◌≡◌, ◌↔◌, ℕ, ◌<◌, ◌≤◌, ◌++◌, ◌^◌, T, List, Some, None, IfErr, IfNone, IfOk, IfSome, IsTrue, OnOk, true, drop, map, length, not, slice_index_or, take};
+ghost use Rattle.std.specs.Prelude.{◌≡◌, ◌↔◌, ℕ, ◌<◌, ◌≤◌, ◌++◌, ◌^◌, T, List, Some, None, IfErr, IfNone, IfOk, IfSome, IsTrue, true, drop, map, length, not, slice_index_or, take};
 ghost use Rattle.std.specs.Arc.{arc_value};
 ghost use Rattle.std.specs.FinMap as finite;
 ghost use Rattle.std.specs.List.{list_all};
 ghost use Rattle.df_value.specs.Rows.{row_fits, rows_fit};
 ghost use Rattle.df_value.specs.declared.cell.Cell.{Cell};
 ghost use Rattle.df_value.specs.declared.cell.CellType.{CellType};
-ghost use Rattle.df_column.specs.Blocks.{AreOfDtypes, block_rows, ends_of, rows_of_blocks};
+ghost use Rattle.df_column.specs.Blocks.{AreOfDtypes, ends_of, rows_of_blocks};
 ghost use Rattle.df_column.specs.Columns.{column_cells, dtype_of_column};
 ghost use Rattle.df_column.specs.Picks.{AreWithin};
 ghost use Rattle.df_column.specs.Bounds.{IsLowerBound, IsUpperBound};
 ghost use Rattle.df_column.specs.Places.{IsGap, IsPlace};
 ghost use Rattle.df_column.specs.Rows.{AreRows, are_even, picked_rows};
-ghost use Rattle.df_column.specs.Tables.{NewRowsFit, AreRising, after_entries, dtypes_of, new_row_fits, new_rows_fit};
+ghost use Rattle.df_column.specs.Tables.{NewRowsFit, AreRising, after_entries, dtypes_of, new_rows_fit};
 ghost use Rattle.df_column.specs.Tags.{tag_cmp};
 ghost use Rattle.df_column.specs.declared.tag.Tag.{Tag};
 
 use crate::block::{Block, MOST_ROWS};
 use crate::blocks::{changed_blocks, push_parts, push_shared};
 use crate::column::Column;
-use crate::entry::Entry;
+use crate::entry::{Entry, are_fitting};
 use crate::picks::{Origin, Pick};
+use crate::reads::{push_rows, push_tagged_rows};
 use crate::spots;
 use crate::tag::Tag;
 use df_value::{Row, Schema};
@@ -346,49 +347,6 @@ fn find_in(blocks: &[Arc<Block>], ends: &[usize], tag: Tag) -> Result<usize, usi
     ensures absent { IfErr result (IsGap tag_cmp (rows_of_blocks blocks.now) tag) }
 {
     spots::search(blocks, ends, tag, 0, spots::count(blocks, ends))
-}
-
-/// Whether the new row of each entry fits the schema.
-fn are_fitting(schema: &Schema, entries: &[Entry]) -> bool
-    ensures { result ≡ new_rows_fit schema.now entries.now }
-{
-    entries.iter().all(|entry| is_fitting(schema, entry))
-}
-
-fn is_fitting(schema: &Schema, entry: &Entry) -> bool
-    ensures { result ≡ new_row_fits schema.now entry.now.new }
-{
-    match &entry.new {
-        Some(row) => schema.fits(row),
-        None => true,
-    }
-}
-
-/// Adds copies of the block's rows.
-fn push_rows(alloc: Global, out: &mut Vec<Row>, block: &Block) -> Result<(), AllocError>
-    ensures { OnOk result (out.new.items ≡ out.old.items ++ map (λ r. r.1) (block_rows block.now)) }
-{
-    for at in 0..block.tags().len() {
-        let row = block.row(alloc, at)?;
-        out.push(row)?;
-    }
-    Ok(())
-}
-
-/// Adds the block's tags with copies of their rows.
-fn push_tagged_rows(
-    alloc: Global,
-    out: &mut Vec<(Tag, Row)>,
-    block: &Block,
-) -> Result<(), AllocError>
-    ensures { OnOk result (out.new.items ≡ out.old.items ++ block_rows block.now) }
-{
-    let tags = block.tags();
-    for at in 0..tags.len() {
-        let row = block.row(alloc, at)?;
-        out.push((tags[at], row))?;
-    }
-    Ok(())
 }
 
 /// Blocks of these rows.

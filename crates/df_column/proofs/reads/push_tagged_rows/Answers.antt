@@ -1,6 +1,6 @@
 use Rattle.std.proofs.Common.{ap, arith, length}
 use Rattle.df_column.proofs.ReadLemmas.{tagged_row_step, tagged_rows_end}
-use Rattle.df_column.proofs.table.push_tagged_rows.Goals as goal
+use Rattle.df_column.proofs.reads.push_tagged_rows.Goals as goal
 
 pub loop-at-preserved : goal.loop-at-preserved
 loop-at-preserved c =
