@@ -1,5 +1,5 @@
 //! The deltas that changes make of a frame's table.
-ghost use Rattle.std.specs.Prelude.{◌≡◌, ◌+◌, ◌≤◌, IfOk, T, length, map};
+ghost use Rattle.std.specs.Prelude.{◌≡◌, ◌+◌, ◌≤◌, IfOk, OnOk, T, length, map};
 ghost use Rattle.std.specs.FinMap as finite;
 ghost use Rattle.std.specs.List.{enumerate_from, list_all};
 ghost use Rattle.df_catalogue.specs.FrameTables as frame_tables;
@@ -9,7 +9,7 @@ ghost use Rattle.df_delta.specs.ChangeOf.{change_of};
 ghost use Rattle.df_delta.specs.Collected.{collected_list};
 ghost use Rattle.df_delta.specs.Deltas.{has_row};
 ghost use Rattle.df_delta.specs.Differences.{IsDiff};
-ghost use Rattle.df_delta.specs.SameRows.{same_row};
+ghost use Rattle.df_delta.specs.SameRows.{same_row, with_change};
 ghost use Rattle.df_value.specs.Limits as limits;
 
 use crate::numbered::{HasNumber, NewRow};
@@ -101,8 +101,25 @@ fn entries_at(
 {
     let mut entries = Vec::with_capacity(alloc, new_rows.len())?;
     for (tag, new) in new_rows {
-        let old = table.get(alloc, tag)?;
-        push_change(&mut entries, tag, old, new)?;
+        push_row(alloc, &mut entries, table, tag, new)?;
     }
     Ok(entries)
+}
+
+// Adds the change from the table's row at the tag to the new one, unless the two are equal.
+fn push_row(
+    alloc: Global,
+    entries: &mut Vec<Entry>,
+    table: &Table,
+    tag: Tag,
+    new: Option<Row>,
+) -> Result<(), AllocError>
+    ensures added { OnOk result (map entry_change entries.new.items
+        ≡ with_change (map entry_change entries.old.items) tag (finite.get table.now.rows tag) new) }
+    ensures rows { T (list_all has_row entries.old.items)
+        → OnOk result (T (list_all has_row entries.new.items)) }
+{
+    let old = table.get(alloc, tag)?;
+    push_change(entries, tag, old, new)?;
+    Ok(())
 }
