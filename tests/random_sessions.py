@@ -32,7 +32,7 @@ VIEWS = [
     ("windows", "left", [["rolling_sum", "s", "v", 3, 2], ["rolling_max", "m", "v", 2, 1]]),
     ("sums", "left", [["filter", [">", ["col", "v"], -5]], ["cum_sum", "s", "v"]]),
     ("ranks", "left", [["rank", "d", "dense", "k"], ["rank", "m", "min", "v"]]),
-    ("totals", "left", [["join", "left", ["k"], "right", True], ["group_by", ["w"], ["n", "len"]], ["rank", "r", "dense", "n"]]),
+    ("totals", "left", [["join", "left", ["k"], "right", "nulls_equal"], ["group_by", ["w"], ["n", "len"]], ["rank", "r", "dense", "n"]]),
 ]
 
 
@@ -161,7 +161,7 @@ def run(program, views, turns):
 def main():
     program = sys.argv[1]
     seed = int(sys.argv[2]) if len(sys.argv) > 2 else 20261123
-    sessions = int(sys.argv[3]) if len(sys.argv) > 3 else 40
+    sessions = int(sys.argv[3]) if len(sys.argv) > 3 else 16
     wrong = 0
     for n in range(sessions):
         source = random.Random(seed + n)
