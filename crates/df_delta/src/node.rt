@@ -20,7 +20,7 @@ pub trait LiveNode {
     /// What a prepare makes and a commit puts in place.
     type Staged: Drop;
 
-    /// The operator takes this input, as one whose rows fit and are not too many.
+    /// The operator takes this input, as one whose rows fit.
     ghost Takes: { Self → TaggedRows → Type 0 };
 
     /// The node stands over this input.
@@ -29,7 +29,7 @@ pub trait LiveNode {
     /// What the operator gives of an input.
     ghost output: { Self → TaggedRows → TaggedRows };
 
-    /// A commit of what was staged needs no memory.
+    /// What was staged is such that a commit may put it in place.
     ghost HasRoomFor: { Self → Self.Staged → Type 0 };
 
     /// A commit of what was staged leads to this input.

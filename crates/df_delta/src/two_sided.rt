@@ -26,7 +26,7 @@ pub trait TwoSidedNode {
     /// What the operator gives of two inputs.
     ghost output: { Self → TaggedRows → TaggedRows → TaggedRows };
 
-    /// A commit of what was staged needs no memory.
+    /// What was staged is such that a commit may put it in place.
     ghost HasRoomFor: { Self → Self.Staged → Type 0 };
 
     /// A commit of what was staged leads to these inputs.

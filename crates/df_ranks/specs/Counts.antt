@@ -41,12 +41,12 @@ weight_below kind counts c = sum_by (λ e. if is_lt (cell_cmp e.0 c) then weight
 abbrev pub counted_rank : RankKind → List (Cell × ℕ) → Cell → Cell
 counted_rank kind counts c = if is_null c then cell.Null else cell.Int (pos (1 + weight_below kind counts c))
 
--- whether a cell stands above the least value that changed, if one did
+-- whether a cell is above the value above which ranks change, if there is one
 abbrev pub is_above : Option Cell → Cell → Bool
 is_above None c = false
 is_above (Some least) c = is_lt (cell_cmp least c)
 
--- the values that stand in the new counts and not above the least have the ranks that they had
+-- for a value that is in the new counts and not above the least, the values below it add as much in both
 pub record RanksStay (kind : RankKind) (old new : List (Cell × ℕ)) (least : Option Cell) : Type 0 where
   pub at : (c : Cell) → is_some (find cell_cmp c new) ≡ true → is_above least c ≡ false → weight_below kind old c ≡ weight_below kind new c
 

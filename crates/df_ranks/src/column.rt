@@ -75,7 +75,7 @@ fn rank_at(index: Option<usize>, counts: &Counts, row: &Row) -> Cell
     }
 }
 
-/// The rank above so many values.
+/// The dense rank of a value with so many smaller values.
 fn rank_of_count(count: usize) -> Cell
     requires { count + 1 < 2 ^ 63 }
     ensures { result ≡ cell.Int (pos (1 + count)) }

@@ -18,7 +18,7 @@ doubled_name_after name_of seen [] = None
 doubled_name_after name_of seen (x ∷ xs) =
     if has_name name_of (name_of x) seen then Some (name_of x) else doubled_name_after name_of (seen ++ x ∷ []) xs
 
--- no name stands twice, where the items seen stand before the list
+-- no item has the name of an item seen or of an earlier item
 abbrev pub AreDistinct : {T : Type 0} → (T → List ℕ) → List T → List T → Type 0
 AreDistinct name_of seen xs = doubled_name_after name_of seen xs ≡ None
 
