@@ -161,7 +161,7 @@ def run(program, views, turns):
 def main():
     program = sys.argv[1]
     seed = int(sys.argv[2]) if len(sys.argv) > 2 else 20261123
-    sessions = int(sys.argv[3]) if len(sys.argv) > 3 else 16
+    sessions = int(sys.argv[3]) if len(sys.argv) > 3 else 100
     wrong = 0
     for n in range(sessions):
         source = random.Random(seed + n)
