@@ -13,7 +13,7 @@ use Rattle.df_delta.specs.Notes.{IsNote}
 use Rattle.df_delta.specs.Diff.{filled, diff}
 use Rattle.df_delta.proofs.Changes.{one_diff}
 use Rattle.df_delta.proofs.Collected.{T-first, T-second, find_below_all, equal_from_is_eq, get-collected}
-use Rattle.df_delta.proofs.Notes.{diff_of_notes}
+use Rattle.df_delta.proofs.NoteDiffs.{diff_of_notes}
 
 -- a note where the later table has a row, else d's
 abbrev noted : {X : Type 0} → Option X → Option X → Option (Change X) → Option (Change X)

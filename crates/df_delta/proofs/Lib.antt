@@ -1,7 +1,8 @@
 pub mod Collected
 pub mod Changes
 pub mod ChangeOf
-pub mod Notes
+pub mod NoteDiffs
+pub mod NoteMaps
 pub mod SameRows
 pub mod Diff
 pub mod Whole

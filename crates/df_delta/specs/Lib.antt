@@ -4,6 +4,7 @@ pub mod ChangeOf
 pub mod SameRows
 pub mod Reached
 pub mod Notes
+pub mod NotedRows
 pub mod Diff
 pub mod Deltas
 pub mod Work

@@ -8,9 +8,11 @@
 mod delta;
 mod entries;
 mod node;
+mod notes;
 mod two_sided;
 
 pub use delta::{Delta, apply};
 pub use entries::push_change;
 pub use node::LiveNode;
+pub use notes::Notes;
 pub use two_sided::TwoSidedNode;
