@@ -1,6 +1,6 @@
 -- The table of a frame: its rows by their tags, and what a change makes of them.
-use Rattle.std.proofs.Common.{◌≡◌, ℕ, ◌+◌, ◌-◌, ◌<◌, Bool, true, false, zero, suc, cond, List, [], ◌∷◌, get_or, map, length, refl, sym, ap, subst, ◌∙◌, arith}
-use Rattle.std.specs.Prelude.{IsTrue, T, nat_lt, not, ◌&&◌, ◌||◌, ◌==◌, Option, None, Some, is_some, unwrap_or}
+use Rattle.std.proofs.Common.{◌≡◌, ℕ, ◌+◌, ◌-◌, ◌<◌, ◌≤◌, Bool, true, false, zero, suc, cond, List, [], ◌∷◌, get_or, map, length, refl, sym, ap, subst, ◌∙◌, arith}
+use Rattle.std.specs.Prelude.{IsTrue, T, nat_lt, not, ◌&&◌, ◌||◌, ◌==◌, Option, None, Some, is_some, option_map, slice_get, unwrap_or}
 use Rattle.std.specs.FinMap as finite
 use Rattle.std.specs.List.{enumerate_from, list_all, list_any}
 use Rattle.std.specs.Option.{IfNone, IfSome}
@@ -8,7 +8,7 @@ use Rattle.std.proofs.lemmas.Bool.{and_parts, ltb-true}
 use Rattle.std.proofs.lemmas.List.{get_or-map, length-map}
 use Rattle.df_value.specs.Chunks.{ChunkParts}
 use Rattle.df_value.specs.Limits as limits
-use Rattle.df_value.specs.Rows.{row_fits, rows_fit}
+use Rattle.df_value.specs.Rows.{row_eq, row_fits, rows_fit}
 use Rattle.df_value.specs.declared.cell.Cell.{Cell}
 use Rattle.df_value.specs.declared.cell.CellType.{CellType}
 use Rattle.df_column.specs.TagOrder.{tag_same, tag_total}
@@ -19,7 +19,7 @@ use Rattle.df_delta.specs.Deltas.{RowsFit}
 use Rattle.df_delta.specs.Differences.{IsDiff}
 use Rattle.df_catalogue.specs.FrameParts.{frame_state}
 use Rattle.df_catalogue.specs.FrameTables.{IsTabled, at_tag, coming_row, numbered_row, numbered_rows, row_tag, set_rows, tagged_rows_of}
-use Rattle.df_catalogue.specs.Frames.{has_row, numbers_of, rows_of, with_chunk, with_replaced_rows, without_rows, IsNumbered}
+use Rattle.df_catalogue.specs.Frames.{has_row, is_numbered_row, is_row_at, numbers_of, rows_of, with_chunk, with_replaced_rows, without_rows, IsNumbered}
 use Rattle.df_catalogue.specs.Numbers.{has_number, is_rising}
 use Rattle.df_catalogue.specs.Refusals.{first_not_live, first_taken}
 use Rattle.df_catalogue.specs.States.{empty_frame}
@@ -216,3 +216,36 @@ rows-replaced rows f h live = finite.same_map tag_total tag_same _ _ (λ q.
     ∙ (ap (unwrap_or (found q (map (λ r. (r.0, Some r.1)) rows))) (table-at f h q)
     ∙ (sym (found-replaced q rows f.rows (none-new q rows f.rows (live-number f (map (λ r. r.0) rows) live)))
     ∙ sym (table-at (with_replaced_rows rows f) (numbered-with_replaced_rows rows f h) q))))
+
+-- ---- the test of a row
+
+abbrev tested : ℕ → List Cell → Rows → ℕ → Bool
+tested n row rows place = unwrap_or (option_map (is_numbered_row n row) (slice_get rows place)) false
+
+pub tested-inside : (n : ℕ) (row : List Cell) (rows : Rows) (place : ℕ) (d : ℕ × List Cell) → place < length rows → tested n row rows place ≡ is_numbered_row n row (get_or rows place d)
+tested-inside n row [] place d h = absurd (omega arith)
+tested-inside n row (r ∷ rs) zero d h = refl
+tested-inside n row (r ∷ rs) (suc place) d h = tested-inside n row rs place d (omega arith)
+
+pub tested-past : (n : ℕ) (row : List Cell) (rows : Rows) (place : ℕ) → length rows ≤ place → tested n row rows place ≡ false
+tested-past n row [] place h = refl
+tested-past n row (r ∷ rs) zero h = absurd (omega arith)
+tested-past n row (r ∷ rs) (suc place) h = tested-past n row rs place (omega arith)
+
+-- the row that stands behind a number in a table
+pub row-read : (t : TaggedRows) (rows : Rows) → numbered_rows t ≡ rows → (place : ℕ) (d : Tag × List Cell) → place < length rows → (get_or rows place (numbered_row d)).1 ≡ (get_or (finite.entries t) place d).1
+row-read t rows e place d h =
+    let long : place < length (finite.entries t) = omega (arith, h, ap length e, length-map (finite.entries t) numbered_row) in
+    ap (λ l. (get_or l place (numbered_row d)).1) (sym e) ∙ ap (λ r. r.1) (get_or-map numbered_row (finite.entries t) place d (numbered_row d) long)
+
+abbrev pub some_entry : Tag × List Cell
+some_entry = (record { first = 0; second = 0; third = 0 }, [])
+
+-- the test by a row's number and its cells
+pub row-tested : (t : TaggedRows) (f : FrameState) → numbered_rows t ≡ f.rows → (place n m : ℕ) (row : List Cell) → place < length f.rows → m ≡ get_or (numbers_of f) place 0
+    → is_row_at f place n row ≡ ((m == n) && row_eq (get_or (finite.entries t) place some_entry).1 row)
+row-tested t f e place n m row h number =
+    let r = numbered_row some_entry in
+    tested-inside n row f.rows place r h
+    ∙ ap (λ k. (k == n) && row_eq (get_or f.rows place r).1 row) (sym (number ∙ get_or-map (λ (r : ℕ × List Cell). r.0) f.rows place r 0 h))
+    ∙ ap (λ cells. (m == n) && row_eq cells row) (row-read t f.rows e place some_entry h)

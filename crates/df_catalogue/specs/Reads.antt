@@ -1,5 +1,5 @@
 -- What is read of a state: the rows and numbers of frames, and views by name.
-use Rattle.std.specs.Prelude.{ℕ, List, length, map, Option, Result, option_map, ok_or, find, slice_get, bytes_eq}
+use Rattle.std.specs.Prelude.{ℕ, Bool, false, List, length, map, Option, Result, option_map, unwrap_or, ok_or, find, slice_get, bytes_eq}
 use Rattle.df_value.specs.declared.cell.Cell.{Cell}
 use Rattle.df_value.specs.declared.cell.CellType.{CellType}
 use Rattle.df_plan.specs.CheckedParts.{CheckedParts}
@@ -7,7 +7,7 @@ use Rattle.df_catalogue.specs.declared.state.State.{State}
 use Rattle.df_catalogue.specs.declared.state.ViewState.{ViewState}
 use Rattle.df_catalogue.specs.declared.fault.CatalogueFault.{CatalogueFault}
 use Rattle.df_catalogue.specs.declared.fault.CatalogueFault.TheVariants as fault
-use Rattle.df_catalogue.specs.Frames.{rows_of, numbers_of}
+use Rattle.df_catalogue.specs.Frames.{is_row_at, rows_of, numbers_of}
 
 -- the rows of a frame, and their numbers
 abbrev pub frame_rows_of : State → ℕ → Result (List (List Cell)) CatalogueFault
@@ -15,6 +15,10 @@ frame_rows_of s f = ok_or (option_map rows_of (slice_get s.frames f)) fault.NoFr
 
 abbrev pub frame_numbers_of : State → ℕ → Result (List ℕ) CatalogueFault
 frame_numbers_of s f = ok_or (option_map numbers_of (slice_get s.frames f)) fault.NoFrame
+
+-- whether the row of a frame at this place has this number and these cells
+abbrev pub is_row_of : State → ℕ → ℕ → ℕ → List Cell → Bool
+is_row_of s f place n row = unwrap_or (option_map (λ x. is_row_at x place n row) (slice_get s.frames f)) false
 
 -- how many numbers a frame accepted, how many of them were deleted, and how many rows it has
 abbrev pub accepted_of : State → ℕ → Option ℕ

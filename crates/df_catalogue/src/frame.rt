@@ -115,6 +115,17 @@ impl Frame {
         (self.table.tag(place).first - 1) as u32
     }
 
+    /// Whether the row at this place has this number and these cells.
+    pub fn is_row(&self, place: usize, number: u32, row: &Row) -> bool
+        requires { IsNumbered self.now.state }
+        ensures { result ≡ frames.is_row_at self.now.state place number row.now }
+    {
+        if place >= self.table.len() {
+            return false;
+        }
+        self.number_at(place) == number && self.table.is_row(place, row)
+    }
+
     /// The least number of the chunk that was accepted before.
     pub fn first_taken(&self, chunk: &Chunk) -> Option<u32>
         ensures { result ≡ refusals.first_taken self.now.state chunk.now }

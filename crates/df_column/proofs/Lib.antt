@@ -6,6 +6,7 @@ pub mod PoolOrder
 pub mod Masks
 pub mod PickedCells
 pub mod RowLemmas
+mod RowTests
 pub mod BlockRowLemmas
 pub mod Removal
 pub mod TableChanges

@@ -1,5 +1,6 @@
 //! Blocks of at most 1,024 tagged rows.
 ghost use Rattle.std.specs.Prelude.{◌≡◌, ◌<◌, ◌≤◌, ◌+◌, ◌++◌, T, List, IfOk, map, length, slice_index_or};
+ghost use Rattle.df_value.specs.Rows.{row_eq};
 ghost use Rattle.df_value.specs.declared.cell.Cell.{Cell};
 ghost use Rattle.df_column.specs.Blocks.{IsBlock, block_rows};
 ghost use Rattle.df_column.specs.Changes.{IsHead};
@@ -12,7 +13,7 @@ ghost use Rattle.df_column.specs.declared.column.Column.{Column};
 use crate::column::Column;
 use crate::picks::Pick;
 use crate::tag::Tag;
-use df_value::{Row, both};
+use df_value::{Cell, Row, both};
 use std::alloc::{AllocError, Global};
 use std::marker::Model;
 
@@ -114,6 +115,23 @@ fn start_tags(alloc: Global, tags: &[Tag], whole: bool, more: usize) -> Result<V
     }
 }
 
+/// Whether the columns have these cells at this index.
+fn are_cells(tags: &[Tag], columns: &[Column], at: usize, cells: &[Cell]) -> bool
+    requires at { at < length tags.now }
+    requires even { T (are_even (length tags.now) (map column_cells columns.now)) }
+    ensures { result ≡ row_eq (row_at (map column_cells columns.now) at) cells.now }
+{
+    if columns.len() != cells.len() {
+        return false;
+    }
+    for column in 0..columns.len() {
+        if !columns[column].is_cell(at, &cells[column]) {
+            return false;
+        }
+    }
+    true
+}
+
 impl Block {
     /// The picked rows of the block of these tags and columns, behind all its rows if `whole` says so.
     pub fn picked(
@@ -173,5 +191,13 @@ impl Block {
             cells.push(column.cell(alloc, at)?)?;
         }
         Row::new(alloc, cells)
+    }
+
+    /// Whether the row at this index is this one. No cell is copied.
+    pub fn is_row(&self, at: usize, row: &Row) -> bool
+        requires { at < length self.now.tags }
+        ensures { result ≡ row_eq (row_at (map column_cells self.now.columns) at) row.now }
+    {
+        are_cells(self.tags(), self.columns(), at, row.as_slice())
     }
 }

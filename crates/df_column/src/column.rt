@@ -1,5 +1,6 @@
 //! Columns of cells.
 ghost use Rattle.std.specs.Prelude.{◌≡◌, ◌<◌, ◌≤◌, ◌+◌, ◌++◌, [], IfOk, length, slice_index_or};
+ghost use Rattle.df_value.specs.CellEq.{cell_eq};
 ghost use Rattle.df_value.specs.declared.cell.Cell.{Cell};
 ghost use Rattle.df_column.specs.Columns.{column_cells, dtype_of_column};
 ghost use Rattle.df_column.specs.Picks.{AreFit, AreWithin, picked_cells, all_or_none};
@@ -59,6 +60,20 @@ impl Column {
             Column::Text(texts) => texts.cell(alloc, at),
             Column::Bool(values) => Ok(values.cell(at)),
             Column::Frac(values) => Ok(values.cell(at)),
+        }
+    }
+
+    /// Whether the cell at this index is this one.
+    pub fn is_cell(&self, at: usize, cell: &Cell) -> bool
+        requires { at < length (column_cells self.now) }
+        ensures { (d : Cell) → result ≡ cell_eq (slice_index_or (column_cells self.now) at d) cell.now }
+    {
+        match self {
+            Column::Int(values) => values.cell(at) == *cell,
+            Column::Wide(values) => values.cell(at) == *cell,
+            Column::Text(texts) => texts.is_cell(at, cell),
+            Column::Bool(values) => values.cell(at) == *cell,
+            Column::Frac(values) => values.cell(at) == *cell,
         }
     }
 

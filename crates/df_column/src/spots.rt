@@ -2,6 +2,7 @@
 ghost use Rattle.std.specs.Prelude.{◌≡◌, ℕ, ◌<◌, ◌≤◌, T, List, IfErr, IfOk, length, slice_index_or};
 ghost use Rattle.std.specs.FinMap as finite;
 ghost use Rattle.std.specs.List.Sorted.{IsNonDecreasing};
+ghost use Rattle.df_value.specs.Rows.{row_eq};
 ghost use Rattle.df_value.specs.declared.cell.Cell.{Cell};
 ghost use Rattle.df_column.specs.Blocks.{ends_of, rows_of_blocks};
 ghost use Rattle.df_column.specs.Places.{IsGap, IsPlace};
@@ -79,6 +80,17 @@ pub fn row_at(
     let spot = locate(blocks, ends, at);
     let row = blocks[spot.block].row(alloc, spot.row)?;
     Ok(row)
+}
+
+/// Whether the row at this index is this one.
+pub fn is_row_at(blocks: &[Arc<Block>], ends: &[usize], at: usize, row: &Row) -> bool
+    requires ends { ends.now ≡ ends_of 0 blocks.now }
+    requires at { at < length (rows_of_blocks blocks.now) }
+    ensures { (d : Tag × List Cell) → result ≡
+        row_eq (slice_index_or (rows_of_blocks blocks.now) at d).1 row.now }
+{
+    let spot = locate(blocks, ends, at);
+    blocks[spot.block].is_row(spot.row, row)
 }
 
 /// The index of the row at this tag, or where it would stand, between these indexes.

@@ -3,7 +3,7 @@ ghost use Rattle.std.specs.Prelude.{◌≡◌, ◌↔◌, ℕ, ◌<◌, ◌≤�
 ghost use Rattle.std.specs.Arc.{arc_value};
 ghost use Rattle.std.specs.FinMap as finite;
 ghost use Rattle.std.specs.List.{list_all};
-ghost use Rattle.df_value.specs.Rows.{row_fits, rows_fit};
+ghost use Rattle.df_value.specs.Rows.{row_eq, row_fits, rows_fit};
 ghost use Rattle.df_value.specs.declared.cell.Cell.{Cell};
 ghost use Rattle.df_value.specs.declared.cell.CellType.{CellType};
 ghost use Rattle.df_column.specs.Blocks.{AreOfDtypes, ends_of, rows_of_blocks};
@@ -248,6 +248,15 @@ impl Table {
     {
         let row = spots::row_at(alloc, &self.blocks, &self.ends, at)?;
         Ok(row)
+    }
+
+    /// Whether the row at this index is this one. No cell is copied.
+    pub fn is_row(&self, at: usize, row: &Row) -> bool
+        requires { at < finite.len self.now.rows }
+        ensures { (d : Tag × List Cell) → result ≡
+            row_eq (slice_index_or (finite.entries self.now.rows) at d).1 row.now }
+    {
+        spots::is_row_at(&self.blocks, &self.ends, at, row)
     }
 
     /// The index of the row at this tag, if there is one. The number of steps goes by the logarithm of the number of

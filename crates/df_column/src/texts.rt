@@ -1,5 +1,6 @@
 //! The texts of one column of a block.
 ghost use Rattle.std.specs.Prelude.{◌≡◌, ◌<◌, ◌≤◌, ◌+◌, ◌++◌, ◌∷◌, [], T, List, ℕ, length, map, slice_index_or, IfOk, IsTrue, OnOk, Option};
+ghost use Rattle.df_value.specs.CellEq.{cell_eq};
 ghost use Rattle.df_value.specs.Cells.{fits_dtype};
 ghost use Rattle.df_value.specs.declared.cell.Cell.{Cell};
 ghost use Rattle.df_value.specs.declared.cell.CellType.TheVariants as dtype_as;
@@ -84,6 +85,17 @@ fn text_from<'a>(old: &'a Texts, column: usize, origin: Origin<'a>) -> Option<&'
     }
 }
 
+/// Whether the cell is this text, or a null where there is none.
+fn is_cell_of(text: Option<&str>, cell: &Cell) -> bool
+    ensures { result ≡ cell_eq (text_cell (text_now text.entry)) cell.now }
+{
+    match (text, cell) {
+        (Some(text), Cell::Text(other)) => text == other.as_str(),
+        (None, Cell::Null) => true,
+        _ => false,
+    }
+}
+
 impl Texts {
     /// No texts.
     pub fn new(alloc: Global) -> Self
@@ -122,6 +134,14 @@ impl Texts {
             Some(text) => Ok(Cell::Text(Text::from_str(alloc, text)?)),
             None => Ok(Cell::Null),
         }
+    }
+
+    /// Whether the cell at this index is this one. No text is copied.
+    pub fn is_cell(&self, at: usize, cell: &Cell) -> bool
+        requires { at < length (map text_cell self.now) }
+        ensures { (d : Cell) → result ≡ cell_eq (slice_index_or (map text_cell self.now) at d) cell.now }
+    {
+        is_cell_of(self.get(at), cell)
     }
 
     /// These texts, with room for more places.
