@@ -12,6 +12,15 @@ pub fn schema(alloc: Global, kind: CellType) -> Result<Schema, AllocError>
     Schema::new(List::from_vec(columns)).map_err(|_| AllocError)
 }
 
+/// A schema of whole numbers under these names.
+pub fn columns(alloc: Global, names: &[&str]) -> Result<Schema, AllocError> {
+    let mut columns = Vec::with_capacity(alloc, names.len())?;
+    for name in names {
+        columns.push((Text::from_str(alloc, *name)?, CellType::Int))?;
+    }
+    Schema::new(List::from_vec(columns)).map_err(|_| AllocError)
+}
+
 /// A schema with a column of each of these types.
 pub fn schemas(alloc: Global, kinds: &[CellType]) -> Result<List<Schema>, AllocError> {
     let mut schemas = Vec::with_capacity(alloc, kinds.len())?;

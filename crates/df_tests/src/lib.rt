@@ -9,6 +9,8 @@ mod blocks;
 #[cfg(test)]
 mod changes;
 #[cfg(test)]
+mod deltas;
+#[cfg(test)]
 mod desks;
 #[cfg(test)]
 mod given;

@@ -1,45 +1,49 @@
-//! Deltas, and live nodes under them.
-ghost use Rattle.std.specs.Prelude.{◌≡◌, ◌^◌, IfOk};
-ghost use Rattle.df_delta.specs.Work.{IsBelow};
+//! Live nodes under deltas.
+ghost use Rattle.std.specs.Prelude.{◌≡◌, IfOk};
 ghost use Rattle.df_nodes.specs.RowOperators.{evaluations_of};
 
-use crate::given::{row, schema};
-use df_column::{Entry, Tag};
-use df_delta::{Delta, LiveNode};
-use df_expr::{ArithOp, CompareOp, Expr, Meter};
+use crate::deltas::{PairChange, after, comes, delta, entries, gives_way, goes, has_changes};
+use crate::given::schema;
+use df_delta::Delta;
+use df_expr::{ArithOp, CompareOp, Expr};
 use df_nodes::{LiveFilter, LiveMap, LiveSum, LiveWindow};
 use df_ops::RollKind;
 use df_ranks::LiveRank;
-use df_value::{Boxed, Cell, CellType, Duplicate, Row, Text};
+use df_value::{Boxed, Cell, CellType, Text};
 use std::alloc::{AllocError, Global};
 use std::test::Fail;
 
-fn tag(first: u64) -> Tag {
-    Tag {
-        first,
-        second: 0,
-        third: 0,
+const INT: [CellType; 1] = [CellType::Int];
+const RANKED: [CellType; 2] = [CellType::Int, CellType::Int];
+const SUMMED: [CellType; 2] = [CellType::Int, CellType::Wide];
+
+// Whether these changes make no delta, and their entries come back.
+fn come_back(alloc: Global, changes: &[PairChange]) -> Result<bool, AllocError> {
+    match Delta::new(entries(alloc, &INT, changes)?) {
+        Ok(_) => Ok(false),
+        Err(back) => Ok(back.len() == changes.len()),
     }
 }
 
-fn entry(first: u64, old: Option<Row>, new: Option<Row>) -> Entry {
-    Entry {
-        tag: tag(first),
-        old,
-        new,
-    }
+#[test]
+fn entries_whose_tags_do_not_rise_come_back(rt: HostRuntime) -> Result<(), Fail> {
+    let alloc = rt.alloc();
+    let (one, two) = (comes(1, (Some(7), None)), comes(2, (Some(7), None)));
+    assert!(rt; come_back(alloc, &[two, one])?);
+    assert!(rt; come_back(alloc, &[one, one])?);
+    assert!(rt; !come_back(alloc, &[one, two])?);
+    Ok(())
 }
 
-// The delta of one change at the tag 1.
-fn change(alloc: Global, old: Option<Row>, new: Option<Row>) -> Result<Delta, AllocError> {
-    Delta::new(vec![in alloc; entry(1, old, new)]?).map_err(|_| AllocError)
-}
-
-// The delta of a row at the tag 1 that gives way to another, by their numbers.
-fn replaced(alloc: Global, old: Option<i64>, new: Option<i64>) -> Result<Delta, AllocError> {
-    let old = row(alloc, old)?;
-    let new = row(alloc, new)?;
-    change(alloc, Some(old), Some(new))
+#[test]
+fn an_entry_of_no_row_comes_back(rt: HostRuntime) -> Result<(), Fail> {
+    let none = PairChange {
+        tag: (1, 0, 0),
+        old: None,
+        new: None,
+    };
+    assert!(rt; come_back(rt.alloc(), &[none])?);
+    Ok(())
 }
 
 fn x(alloc: Global) -> Result<Expr, AllocError> {
@@ -50,48 +54,10 @@ fn number(n: i64) -> Expr {
     Expr::Literal(Cell::Int(n), CellType::Int)
 }
 
-// Two rows that come, at these tags.
-fn two(alloc: Global, first: u64, second: u64) -> Result<Vec<Entry>, AllocError> {
-    let mut entries = Vec::new(alloc);
-    for at in [first, second] {
-        entries.push(entry(at, None, Some(row(alloc, Some(7))?)))?;
-    }
-    Ok(entries)
-}
-
-// Whether these entries make no delta, and come back.
-fn come_back(entries: Vec<Entry>) -> bool {
-    match Delta::new(entries) {
-        Ok(_) => false,
-        Err(back) => !back.is_empty(),
-    }
-}
-
-#[test]
-fn entries_whose_tags_do_not_rise_come_back(rt: HostRuntime) -> Result<(), Fail> {
-    let alloc = rt.alloc();
-    assert!(rt; come_back(two(alloc, 2, 1)?));
-    assert!(rt; come_back(two(alloc, 1, 1)?));
-    assert!(rt; !come_back(two(alloc, 1, 2)?));
-    Ok(())
-}
-
-#[test]
-fn an_entry_of_no_row_comes_back(rt: HostRuntime) -> Result<(), Fail> {
-    let entries = vec![in rt.alloc(); entry(1, None, None)]?;
-    assert!(rt; come_back(entries));
-    Ok(())
-}
-
-// The node after this delta, the delta that it told, and the work that it counted.
-fn after<N: LiveNode + Drop>(mut node: N, delta: Delta) -> Result<(N, Delta, Meter), AllocError>
-    requires { IsBelow (N.budget node) (2 ^ 128) }
-    ensures { IfOk result (λ r. N.budget r.0 ≡ N.budget node) }
-{
-    let mut meter = Meter::new();
-    let (staged, out) = node.prepare(&delta, &mut meter)?;
-    node.commit(staged);
-    Ok((node, out, meter))
+// The delta of a number that gives way to another, at the tag 1.
+fn replaced(alloc: Global, old: i64, new: Option<i64>) -> Result<Delta, AllocError> {
+    let change = gives_way(1, (Some(old), None), (new, None));
+    delta(alloc, &INT, &[change])
 }
 
 // The rows whose number is above 1.
@@ -103,28 +69,19 @@ fn filter(alloc: Global) -> Result<LiveFilter, AllocError>
     LiveFilter::new(alloc, &schema(alloc, CellType::Int)?, &above)
 }
 
-// What the filter tells of a row that gives way to another, and how many evaluations it counts.
-fn filtered(
-    alloc: Global,
-    old: Option<i64>,
-    new: Option<i64>,
-) -> Result<(Delta, u128), AllocError> {
-    let (_, out, meter) = after(filter(alloc)?, replaced(alloc, old, new)?)?;
-    Ok((out, meter.evals))
-}
-
 #[test]
 fn a_filter_is_silent_of_rows_that_it_drops(rt: HostRuntime) -> Result<(), Fail> {
-    let (out, evals) = filtered(rt.alloc(), Some(1), None)?;
-    assert!(rt; out.len() == 0 && evals == 2);
+    let alloc = rt.alloc();
+    let (_, out, meter) = after(filter(alloc)?, replaced(alloc, 1, None)?)?;
+    assert!(rt; out.len() == 0 && meter.evals == 2);
     Ok(())
 }
 
 #[test]
 fn a_filter_lets_a_row_in(rt: HostRuntime) -> Result<(), Fail> {
-    let (out, _) = filtered(rt.alloc(), Some(1), Some(2))?;
-    let comes = matches!(out.entries(), [e] if e.old.is_none() && e.new.is_some());
-    assert!(rt; comes);
+    let alloc = rt.alloc();
+    let (_, out, _) = after(filter(alloc)?, replaced(alloc, 1, Some(2))?)?;
+    assert!(rt; has_changes(alloc, &out, &INT, &[comes(1, (Some(2), None))])?);
     Ok(())
 }
 
@@ -142,65 +99,20 @@ fn select(alloc: Global) -> Result<LiveMap, AllocError>
 #[test]
 fn a_select_is_silent_where_its_values_stay(rt: HostRuntime) -> Result<(), Fail> {
     let alloc = rt.alloc();
-    let (_, out, meter) = after(select(alloc)?, replaced(alloc, Some(3), Some(4))?)?;
+    let (_, out, meter) = after(select(alloc)?, replaced(alloc, 3, Some(4))?)?;
     assert!(rt; out.len() == 0 && meter.evals == 2);
     Ok(())
 }
 
-// Rows of these numbers, which come at the tags from 1 on.
-fn come(alloc: Global, numbers: &[Option<i64>]) -> Result<Delta, AllocError> {
-    let mut entries = Vec::new(alloc);
-    for (at, number) in numbers.iter().enumerate() {
-        let row = row(alloc, *number)?;
-        entries.push(entry((at as u64).saturating_add(1), None, Some(row)))?;
-    }
-    Delta::new(entries).map_err(|_| AllocError)
-}
-
-// The row of this number goes, which stood at this tag.
-fn goes(alloc: Global, first: u64, number: i64) -> Result<Delta, AllocError> {
-    let old = row(alloc, Some(number))?;
-    let entries = vec![in alloc; entry(first, Some(old), None)]?;
-    Delta::new(entries).map_err(|_| AllocError)
-}
-
-// A row of this number comes at this tag.
-fn comes(alloc: Global, first: u64, number: i64) -> Result<Delta, AllocError> {
-    let new = row(alloc, Some(number))?;
-    let entries = vec![in alloc; entry(first, None, Some(new))]?;
-    Delta::new(entries).map_err(|_| AllocError)
-}
-
-// A row with one more cell.
-type Pair = Option<(i64, Cell)>;
-
-fn pair(alloc: Global, cells: &Pair) -> Result<Option<Row>, AllocError> {
-    match cells {
-        Some((x, cell)) => {
-            let cells = vec![in alloc; Cell::Int(*x), cell.copy(alloc)?]?;
-            Ok(Some(Row::new(alloc, cells)?))
-        }
-        None => Ok(None),
-    }
-}
-
-fn same_entry(a: &Entry, b: &Entry) -> bool {
-    a.tag == b.tag && a.old == b.old && a.new == b.new
-}
-
-// Whether the delta makes these changes, each by the first number of its tag.
-fn tells(alloc: Global, delta: &Delta, changes: &[(u64, Pair, Pair)]) -> Result<bool, AllocError> {
-    let entries = delta.entries();
-    if entries.len() != changes.len() {
-        return Ok(false);
-    }
-    for (told, (first, old, new)) in entries.iter().zip(changes) {
-        let want = entry(*first, pair(alloc, old)?, pair(alloc, new)?);
-        if !same_entry(told, &want) {
-            return Ok(false);
-        }
-    }
-    Ok(true)
+// The delta of three numbers that come at the tags 1, 2 and 3.
+fn three(alloc: Global, numbers: [Option<i64>; 3]) -> Result<Delta, AllocError> {
+    let [first, second, third] = numbers;
+    let changes = [
+        comes(1, (first, None)),
+        comes(2, (second, None)),
+        comes(3, (third, None)),
+    ];
+    delta(alloc, &INT, &changes)
 }
 
 // The sums of x over two rows.
@@ -214,17 +126,17 @@ fn window(alloc: Global) -> Result<LiveWindow, AllocError>
     Ok(made)
 }
 
-fn wide(x: i64, sum: i128) -> Pair {
-    Some((x, Cell::Wide(sum)))
-}
-
 #[test]
 fn a_row_that_goes_changes_the_windows_behind_it(rt: HostRuntime) -> Result<(), Fail> {
     let alloc = rt.alloc();
-    let (window, _, _) = after(window(alloc)?, come(alloc, &[Some(1), Some(2), Some(3)])?)?;
-    let (_, out, meter) = after(window, goes(alloc, 2, 2)?)?;
-    let want = [(2, wide(2, 3), None), (3, wide(3, 5), wide(3, 4))];
-    assert!(rt; tells(alloc, &out, &want)?);
+    let (window, _, _) = after(window(alloc)?, three(alloc, [Some(1), Some(2), Some(3)])?)?;
+    let gone = delta(alloc, &INT, &[goes(2, (Some(2), None))])?;
+    let (_, out, meter) = after(window, gone)?;
+    let want = [
+        goes(2, (Some(2), Some(3))),
+        gives_way(3, (Some(3), Some(5)), (Some(3), Some(4))),
+    ];
+    assert!(rt; has_changes(alloc, &out, &SUMMED, &want)?);
     assert!(rt; meter.windows <= 2);
     Ok(())
 }
@@ -241,10 +153,14 @@ fn sum(alloc: Global) -> Result<LiveSum, AllocError> {
 #[test]
 fn a_row_that_goes_changes_the_sums_behind_it(rt: HostRuntime) -> Result<(), Fail> {
     let alloc = rt.alloc();
-    let (sum, _, _) = after(sum(alloc)?, come(alloc, &[Some(1), None, Some(2)])?)?;
-    let (_, out, _) = after(sum, goes(alloc, 1, 1)?)?;
-    let want = [(1, wide(1, 1), None), (3, wide(2, 3), wide(2, 2))];
-    assert!(rt; tells(alloc, &out, &want)?);
+    let (sum, _, _) = after(sum(alloc)?, three(alloc, [Some(1), None, Some(2)])?)?;
+    let gone = delta(alloc, &INT, &[goes(1, (Some(1), None))])?;
+    let (_, out, _) = after(sum, gone)?;
+    let want = [
+        goes(1, (Some(1), Some(1))),
+        gives_way(3, (Some(2), Some(3)), (Some(2), Some(2))),
+    ];
+    assert!(rt; has_changes(alloc, &out, &SUMMED, &want)?);
     Ok(())
 }
 
@@ -257,20 +173,17 @@ fn ranks(alloc: Global) -> Result<LiveRank, AllocError> {
     Ok(made)
 }
 
-fn int(x: i64, rank: i64) -> Pair {
-    Some((x, Cell::Int(rank)))
-}
-
 #[test]
 fn a_value_that_comes_raises_the_ranks_above_it(rt: HostRuntime) -> Result<(), Fail> {
     let alloc = rt.alloc();
-    let (ranks, _, _) = after(ranks(alloc)?, come(alloc, &[Some(3), Some(6), Some(1)])?)?;
-    let (_, out, _) = after(ranks, comes(alloc, 4, 2)?)?;
+    let (ranks, _, _) = after(ranks(alloc)?, three(alloc, [Some(3), Some(6), Some(1)])?)?;
+    let come = delta(alloc, &INT, &[comes(4, (Some(2), None))])?;
+    let (_, out, _) = after(ranks, come)?;
     let want = [
-        (1, int(3, 2), int(3, 3)),
-        (2, int(6, 3), int(6, 4)),
-        (4, None, int(2, 2)),
+        gives_way(1, (Some(3), Some(2)), (Some(3), Some(3))),
+        gives_way(2, (Some(6), Some(3)), (Some(6), Some(4))),
+        comes(4, (Some(2), Some(2))),
     ];
-    assert!(rt; tells(alloc, &out, &want)?);
+    assert!(rt; has_changes(alloc, &out, &RANKED, &want)?);
     Ok(())
 }
