@@ -17,11 +17,10 @@ import shutil
 import subprocess
 import sys
 import tempfile
-import time
 
 HERE = pathlib.Path(__file__).resolve().parent
 ROWS_OF_CHUNK = 1000
-SINGLES = 2000
+SINGLES = 20000
 DOCUMENT = """[[frame]]
 name = "rows"
 columns = [["key", "Text"], ["city", "Text"], ["amount", "Int"], ["open", "Bool"]]
@@ -58,14 +57,13 @@ def library(folder):
 
 
 def seconds_of(program, folder, name):
-    """How long the session takes, and the most megabytes that the shell had."""
-    report = folder / "report"
-    command = ["/usr/bin/time", "-f", "%M", "-o", report] if os.path.exists("/usr/bin/time") else []
+    """The processor seconds of the session, and the most megabytes that the shell had."""
     with open(folder / name, "rb") as typed:
-        start = time.monotonic()
-        subprocess.run([*command, program, "rows.toml"], cwd=folder, stdin=typed, stdout=subprocess.DEVNULL, check=True)
-        seconds = time.monotonic() - start
-    return seconds, int(report.read_text().split()[-1]) / 1024 if command else None
+        shell = subprocess.Popen([program, "rows.toml"], cwd=folder, stdin=typed, stdout=subprocess.DEVNULL)
+        _, status, used = os.wait4(shell.pid, 0)
+    if status != 0:
+        sys.exit(f"the session {name} failed")
+    return used.ru_utime + used.ru_stime, used.ru_maxrss / 1024
 
 
 def requests_of(program, folder, name, preloaded):
@@ -98,9 +96,8 @@ def main():
         made = (seconds["more made"] - seconds["made"]) / SINGLES
         asked = (requests["more"] - requests["appended"]) / SINGLES
         print(f"one more row: {each * 1e6:.1f} microseconds, of which making it {made * 1e6:.1f}; {asked:.0f} requests")
-        if megabytes["made"] is not None:
-            rows = chunks * ROWS_OF_CHUNK
-            print(f"{rows} rows: {megabytes['appended'] - megabytes['made']:.0f} MB beside one chunk")
+        rows = chunks * ROWS_OF_CHUNK
+        print(f"{rows} rows: {megabytes['appended'] - megabytes['made']:.0f} MB beside one chunk")
 
 
 if __name__ == "__main__":
