@@ -10,3 +10,4 @@ pub mod Loops
 pub mod Rising
 pub mod Fitting
 pub mod Reached
+pub mod KeyedChanges

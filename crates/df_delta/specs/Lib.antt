@@ -9,3 +9,4 @@ pub mod Diff
 pub mod Deltas
 pub mod Work
 pub mod Inputs
+pub mod Keyed

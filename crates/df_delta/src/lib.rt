@@ -7,12 +7,14 @@
 
 mod delta;
 mod entries;
+mod keyed;
 mod node;
 mod notes;
 mod two_sided;
 
 pub use delta::{Delta, apply};
 pub use entries::push_change;
+pub use keyed::{KeyChanges, keyed_changes};
 pub use node::LiveNode;
 pub use notes::Notes;
 pub use two_sided::TwoSidedNode;

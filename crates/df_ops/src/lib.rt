@@ -23,10 +23,10 @@ mod totals;
 mod windows;
 
 pub use agg::Agg;
-pub use aggregates::{count_of, mean_of, sum_of};
+pub use aggregates::{aggregate, count_of, mean_of, sum_of};
 pub use grouping::group_by;
-pub use groups::{group_lengths, group_of, keys_of};
-pub use join_columns::{JoinIndices, columns_of_join, join_indices_of};
+pub use groups::{group_lengths, group_of, key_of, keys_of};
+pub use join_columns::{JoinIndices, column_indices, columns_of_join, join_indices_of};
 pub use joins::{How, join, join_row, join_rows};
 pub use min_max::{MinMax, min_and_max_of, min_or_max_of};
 pub use named_columns::with_columns;

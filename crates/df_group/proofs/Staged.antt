@@ -1,0 +1,92 @@
+-- What is staged follows a change of the input.
+use Rattle.std.proofs.Common.{◌≡◌, true, false, cond, List, [], ◌∷◌, ◌++◌, Option, Some, None, refl, sym, ap, subst, ◌∙◌}
+use Rattle.std.specs.Prelude.{T}
+use Rattle.std.specs.Option.{IfSome}
+use Rattle.std.specs.Map.{lookup}
+use Rattle.std.specs.FinMap as finite
+use Rattle.df_column.specs.Tags.{tag_cmp}
+use Rattle.indexmap.specs.IndexMap.{IndexMap, get}
+use Rattle.df_value.specs.declared.cell.Cell.{Cell}
+use Rattle.df_value.specs.Rows.{row_eq}
+use Rattle.df_value.specs.RowEq.{row_eq-Decides}
+use Rattle.df_column.specs.Changes.{applied, applied_list}
+use Rattle.df_column.specs.Tables.{AreRising, TaggedRows}
+use Rattle.df_delta.specs.Deltas.{Changes, RowsFit}
+use Rattle.df_delta.specs.Differences.{Fits}
+use Rattle.df_delta.specs.Keyed.{kept_changes, keyed_changes}
+use Rattle.df_delta.specs.declared.keyed.KeyChanges.{KeyChanges}
+use Rattle.df_delta.proofs.KeyedChanges.{keyed_diff}
+use Rattle.df_ops.specs.Groups.{key_of}
+use Rattle.df_group.specs.GroupIndex.{IsIndexOf, LeadsTo, changed_group, edited_table, group_in, group_with, members_now, non_empty, staged_or, staged_with, state_of}
+use Rattle.df_group.specs.GroupRows.{members_of}
+use Rattle.df_group.specs.declared.group.Group.{Group}
+use Rattle.df_group.specs.declared.grouping.Grouping.{Grouping}
+use Rattle.df_group.proofs.IndexMaps.{popped}
+use Rattle.df_group.proofs.Members.{edited_members, members_fit, members_now_is}
+
+-- the group of one more key is staged
+pub stage_more : (g : Grouping) (key k : List Cell) (now : List Cell → Option Group) (x : KeyChanges) (old rest : Option KeyChanges) (staged next : Option Group)
+    → old ≡ cond (row_eq key k) (Some x) rest → rest ≡ cond (row_eq key k) None old → next ≡ cond (row_eq key k) (Some (changed_group g key (now key) x)) staged
+    → staged_with g k (now k) rest next ≡ staged_with g k (now k) old staged
+stage_more g key k now x old rest staged next is taken put =
+    elim (row_eq key k) as (λ b. row_eq key k ≡ b → old ≡ cond b (Some x) rest → rest ≡ cond b None old → next ≡ cond b (Some (changed_group g key (now key) x)) staged → staged_with g k (now k) rest next ≡ staged_with g k (now k) old staged) [
+      | true ↦ λ e is taken put.
+          ap (λ c. staged_with g k (now k) c next) taken
+          ∙ put
+          ∙ ap (λ j. Some (changed_group g j (now j) x)) ((row_eq-Decides key k).0 e)
+          ∙ ap (λ c. staged_with g k (now k) c staged) (sym is)
+      | false ↦ λ e is taken put.
+          ap (staged_with g k (now k) rest) put
+          ∙ ap (λ c. staged_with g k (now k) c staged) taken
+    ] refl is taken put
+
+module _ {S : Type 0} where
+  -- a staged group goes into the index
+  pub put_more : (index next staged rest : IndexMap (List Cell) Group S) (key : List Cell) (group : Group) → staged.entries ≡ rest.entries ++ (key, group) ∷ []
+      → ((k : List Cell) → get row_eq rest k ≡ cond (row_eq key k) None (get row_eq staged k))
+      → ((k : List Cell) → get row_eq next k ≡ cond (row_eq key k) (non_empty group) (get row_eq index k))
+      → (k : List Cell) → state_of next rest k ≡ state_of index staged k
+  put_more index next staged rest key group e taken put k =
+      ap (λ s. staged_or s (get row_eq next k)) (taken k)
+      ∙ ap (staged_or (cond (row_eq key k) None (get row_eq staged k))) (put k)
+      ∙ elim (row_eq key k) as (λ b. get row_eq staged k ≡ cond b (Some group) (get row_eq rest k) → staged_or (cond b None (get row_eq staged k)) (cond b (non_empty group) (get row_eq index k)) ≡ state_of index staged k) [
+        | true ↦ λ is. sym (ap (λ s. staged_or s (get row_eq index k)) is)
+        | false ↦ λ is. refl
+      ] (popped staged rest key group e taken k)
+
+module _ (g : Grouping) (t : TaggedRows) (d : Changes) (fits : Fits t d) (fit : RowsFit g.schema (applied t d)) where
+  abbrev of : List Cell → Changes
+  of k = keyed_changes (key_of g.indices) k d
+
+  gives : (k : List Cell) → applied (members_of g.indices k t) (of k) ≡ members_of g.indices k (applied t d)
+  gives k = (keyed_diff (key_of g.indices) k t d fits).gives
+
+  state_at : (k : List Cell) (now : Option Group) (c : Option KeyChanges) → now ≡ non_empty (group_in g k t) → kept_changes c ≡ finite.entries (of k)
+      → staged_or (staged_with g k now c None) now ≡ non_empty (group_in g k (applied t d))
+  state_at k now None is e =
+      is
+      ∙ ap (λ m. non_empty (group_with g k (record { schema = g.schema; rows = m }))) (ap (applied_list (members_of g.indices k t)) e ∙ gives k)
+  state_at k now (Some c) is e =
+      ap (λ p. non_empty (group_with g k p)) (
+      ap (λ p. edited_table p c.entries.items) (ap (members_now g) is ∙ members_now_is g k (members_of g.indices k t))
+      ∙ edited_members g k (members_of g.indices k t) (of k) c.entries.items e (subst (RowsFit g.schema) (sym (gives k)) (members_fit g k (applied t d) fit))
+      ∙ ap (λ m. record { schema = g.schema; rows = m }) (gives k))
+
+  pub leads : {S Z : Type 0} (index staged : IndexMap (List Cell) Group S) (changes : IndexMap (List Cell) KeyChanges Z) → IsIndexOf g index t
+      → ((k : List Cell) → kept_changes (get row_eq changes k) ≡ finite.entries (of k))
+      → ((k : List Cell) → get row_eq staged k ≡ staged_with g k (get row_eq index k) (get row_eq changes k) None)
+      → LeadsTo g index staged (applied t d)
+  leads index staged changes over kept staged_is = record {
+    at = λ k. ap (λ s. staged_or s (get row_eq index k)) (staged_is k) ∙ state_at k (get row_eq index k) (get row_eq changes k) (over.at k) (kept k);
+  }
+
+-- the entries that are kept for a key rise
+pub rising_of : (changes : Option KeyChanges) (d : Changes) → kept_changes changes ≡ finite.entries d → IfSome changes (λ c. AreRising c.entries.items)
+rising_of None d e = tt
+rising_of (Some c) d e = subst (λ es. T (finite.is_sorted tag_cmp es)) (sym e) (finite.entries_sorted d)
+
+-- an index of the same entries holds the same
+pub leads_still : {S : Type 0} (g : Grouping) (index next staged : IndexMap (List Cell) Group S) (t : TaggedRows) → next.entries ≡ index.entries → LeadsTo g index staged t → LeadsTo g next staged t
+leads_still g index next staged t e leads = record {
+  at = λ k. ap (λ (es : List (List Cell × Group)). staged_or (get row_eq staged k) (lookup (row_eq k) es)) e ∙ leads.at k;
+}

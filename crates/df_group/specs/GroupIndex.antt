@@ -1,0 +1,85 @@
+-- What the index of groups holds of an input, and what a change stages for it.
+use Rattle.std.specs.Prelude.{◌≡◌, ◌==◌, cond, List, [], ◌∷◌, Option, Some, None}
+use Rattle.std.specs.FinMap as finite
+use Rattle.indexmap.specs.IndexMap.{IndexMap, get}
+use Rattle.df_value.specs.declared.cell.Cell.{Cell}
+use Rattle.df_value.specs.Rows.{row_eq}
+use Rattle.df_column.specs.Tables.{TableParts, TaggedRows, after_entries, new_rows_fit}
+use Rattle.df_column.specs.declared.entry.Entry.{Entry}
+use Rattle.df_column.specs.declared.tag.Tag.{Tag}
+use Rattle.df_delta.specs.declared.keyed.KeyChanges.{KeyChanges}
+use Rattle.df_ops.specs.Groups.{key_of}
+use Rattle.df_group.specs.Grouped.{groups_at}
+use Rattle.df_group.specs.GroupRows.{finished_row, members_of, group_output}
+use Rattle.df_group.specs.declared.group.Group.{Group}
+use Rattle.df_group.specs.declared.grouping.Grouping.{Grouping}
+
+-- the finished row of these rows of a key
+abbrev pub finished : Grouping → List Cell → List (List Cell) → List Cell
+finished g key rows = finished_row g.schema g.aggregates key rows
+
+-- the output over an input
+abbrev pub output_of : Grouping → TaggedRows → TaggedRows
+output_of g t = group_output g.schema g.indices g.aggregates t
+
+-- what the groups of these keys have at a tag
+abbrev pub output_at : Grouping → List (List Cell) → TaggedRows → Tag → Option (List Cell)
+output_at g ks t q = groups_at (key_of g.indices) row_eq (finished g) ks t q
+
+-- the group of these members
+abbrev pub group_with : Grouping → List Cell → TableParts → Group
+group_with g k members = record { members = members; row = finished g k (finite.values members.rows) }
+
+-- the group of a key in an input
+abbrev pub group_in : Grouping → List Cell → TaggedRows → Group
+group_in g k t = group_with g k (record { schema = g.schema; rows = members_of g.indices k t })
+
+-- the group, unless it has no member
+abbrev pub non_empty : Group → Option Group
+non_empty group = cond (finite.len group.members.rows == 0) None (Some group)
+
+-- the members of a group, none where there is no group
+abbrev pub members_now : Grouping → Option Group → TableParts
+members_now g None = record { schema = g.schema; rows = finite.empty }
+members_now g (Some group) = group.members
+
+-- the table after the changes of these entries, if their new rows fit its schema
+abbrev pub edited_table : TableParts → List Entry → TableParts
+edited_table t entries = cond (new_rows_fit t.schema entries) (after_entries t entries) t
+
+-- the group of a key after these changes
+abbrev pub changed_group : Grouping → List Cell → Option Group → KeyChanges → Group
+changed_group g k now changes = group_with g k (edited_table (members_now g now) changes.entries.items)
+
+-- what is staged for a key once these changes are
+abbrev pub staged_with : Grouping → List Cell → Option Group → Option KeyChanges → Option Group → Option Group
+staged_with g k now None staged = staged
+staged_with g k now (Some changes) staged = Some (changed_group g k now changes)
+
+-- the group of a key as it will be: as staged, else as it is
+abbrev pub staged_or : Option Group → Option Group → Option Group
+staged_or None now = now
+staged_or (Some group) now = non_empty group
+
+-- a row at the tag of the first of these entries
+abbrev pub first_entry : List Cell → List (Tag × List Cell) → Option (Tag × List Cell)
+first_entry row [] = None
+first_entry row (e ∷ es) = Some (e.0, row)
+
+-- what a group gives to the output
+abbrev pub entry_of : Option Group → Option (Tag × List Cell)
+entry_of None = None
+entry_of (Some group) = first_entry group.row (finite.entries group.members.rows)
+
+module _ {S : Type 0} where
+  -- the index has the group of each key that has one
+  pub record IsIndexOf (g : Grouping) (index : IndexMap (List Cell) Group S) (t : TaggedRows) : Type 0 where
+    pub at : (k : List Cell) → get row_eq index k ≡ non_empty (group_in g k t)
+
+  -- the group of a key as it will be
+  abbrev pub state_of : IndexMap (List Cell) Group S → IndexMap (List Cell) Group S → List Cell → Option Group
+  state_of index staged k = staged_or (get row_eq staged k) (get row_eq index k)
+
+  -- what is staged leads to the input t
+  pub record LeadsTo (g : Grouping) (index staged : IndexMap (List Cell) Group S) (t : TaggedRows) : Type 0 where
+    pub at : (k : List Cell) → state_of index staged k ≡ non_empty (group_in g k t)

@@ -1,0 +1,5 @@
+pub mod Grouped
+pub mod GroupRows
+pub mod NotedSides
+pub mod GroupIndex
+pub mod Work

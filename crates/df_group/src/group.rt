@@ -1,0 +1,73 @@
+//! The groups of keys: their members, and their finished rows.
+ghost use Rattle.std.specs.Prelude.{◌≡◌, ◌+◌, ◌<◌, ◌≤◌, ◌^◌, IfOk, List, OnOk, Some, cond};
+ghost use Rattle.std.specs.Option.{IfSome};
+ghost use Rattle.indexmap.specs.IndexMap.{get, index_map_len, spare};
+ghost use Rattle.df_value.specs.Rows.{row_eq};
+ghost use Rattle.df_value.specs.declared.cell.Cell.{Cell};
+ghost use Rattle.df_column.specs.Tables.{AreRising, after_entries, new_rows_fit};
+ghost use Rattle.df_delta.specs.Work.{IsWithin, plus};
+ghost use Rattle.df_group.specs.GroupIndex as index_spec;
+ghost use Rattle.df_group.specs.GroupIndex.{changed_group, edited_table, group_with, members_now, non_empty, staged_with, state_of};
+ghost use Rattle.df_group.specs.Work.{finishes};
+
+use crate::grouping::Grouping;
+use df_column::{Entry, Table};
+use df_delta::KeyChanges;
+use df_expr::Meter;
+use df_value::{Duplicate, Row};
+use indexmap::IndexMap;
+use std::alloc::{AllocError, Global};
+
+/// The rows of one key, at their tags, and the row that the output has of them.
+#[derive(Drop)]
+pub struct Group {
+    pub members: Table,
+    pub row: Row,
+}
+
+/// The table after the changes of these entries, if they fit its schema.
+fn edited(alloc: Global, table: &Table, entries: &[Entry]) -> Result<Table, AllocError>
+    requires { AreRising entries.now }
+    ensures { IfOk result (λ t. t ≡ edited_table table.now entries.now) }
+{
+    table.edited(alloc, entries)
+}
+
+/// The members of the key's group after these changes.
+pub fn changed_members(
+    alloc: Global,
+    grouping: &Grouping,
+    index: &IndexMap<Row, Group>,
+    key: &Row,
+    changes: &KeyChanges,
+) -> Result<Table, AllocError>
+    requires { AreRising changes.now.entries.items }
+    ensures { IfOk result (λ t. t ≡ edited_table
+        (members_now grouping.now (get row_eq index.now key.now)) changes.now.entries.items) }
+{
+    match index.get(key) {
+        Some(group) => edited(alloc, &group.members, &changes.entries),
+        None => {
+            let none = Table::new(alloc, grouping.schema.copy(alloc)?)?;
+            edited(alloc, &none, &changes.entries)
+        }
+    }
+}
+
+/// The group of these members, with its row.
+pub fn finished_group(
+    alloc: Global,
+    grouping: &Grouping,
+    key: &Row,
+    members: Table,
+    meter: &mut Meter,
+) -> Result<Group, AllocError>
+    requires { meter.old.finishes + 1 < 2 ^ 128 }
+    ensures group { IfOk result (λ g. g ≡ group_with grouping.now key.now members) }
+    ensures counted { meter.new ≡ plus meter.old (finishes 1) }
+{
+    meter.finishes += 1;
+    let rows = members.rows(alloc)?;
+    let row = grouping.finished_row(alloc, key, &rows)?;
+    Ok(Group { members, row })
+}

@@ -1,0 +1,13 @@
+//! The live group-by: a row for each key of its input, which follows the input by deltas.
+//!
+//! [`LiveGroup`] keeps the members of each key's group with the group's finished row. A change touches the groups of
+//! the keys that it names, and finishes each of them once.
+#![tactic(auto)]
+
+mod group;
+mod grouping;
+mod live_group;
+mod notes;
+mod staging;
+
+pub use live_group::{LiveGroup, StagedGroups};

@@ -1,0 +1,101 @@
+//! The groups that a change touches: made beside the index, and put into it.
+ghost use Rattle.std.specs.Prelude.{◌≡◌, ◌+◌, ◌<◌, ◌≤◌, ◌^◌, IfOk, List, None, OnOk, Some, cond};
+ghost use Rattle.std.specs.Option.{IfSome};
+ghost use Rattle.indexmap.specs.IndexMap.{get, index_map_len, spare};
+ghost use Rattle.df_value.specs.Rows.{row_eq};
+ghost use Rattle.df_value.specs.declared.cell.Cell.{Cell};
+ghost use Rattle.df_column.specs.Tables.{AreRising};
+ghost use Rattle.df_delta.specs.Work.{IsWithin, plus};
+ghost use Rattle.df_group.specs.GroupIndex.{changed_group, non_empty, staged_with, state_of};
+ghost use Rattle.df_group.specs.Work.{finishes};
+
+use crate::group::{Group, changed_members, finished_group};
+use crate::grouping::Grouping;
+use df_delta::KeyChanges;
+use df_expr::Meter;
+use df_value::Row;
+use indexmap::IndexMap;
+use std::alloc::{AllocError, Global};
+
+/// Stages the key's group after these changes.
+fn stage_group(
+    alloc: Global,
+    grouping: &Grouping,
+    index: &IndexMap<Row, Group>,
+    staged: &mut IndexMap<Row, Group>,
+    key: Row,
+    changes: &KeyChanges,
+    meter: &mut Meter,
+) -> Result<(), AllocError>
+    requires rising { AreRising changes.now.entries.items }
+    requires counts { meter.old.finishes + 1 < 2 ^ 128 }
+    ensures staged { OnOk result ((k : List Cell) → get row_eq staged.new k
+        ≡ cond (row_eq key k)
+        (Some (changed_group grouping.now key (get row_eq index.now key) changes.now))
+        (get row_eq staged.old k)) }
+    ensures grows { IsWithin meter.old meter.new }
+    ensures counted { IsWithin meter.new (plus meter.old (finishes 1)) }
+{
+    let members = changed_members(alloc, grouping, index, &key, changes)?;
+    let group = finished_group(alloc, grouping, &key, members, meter)?;
+    match staged.insert(key, group) {
+        Ok(_) => Ok(()),
+        Err(_) => Err(AllocError),
+    }
+}
+
+/// The groups after these changes, of each key that they name. Each is finished once.
+pub fn stage_all(
+    alloc: Global,
+    grouping: &Grouping,
+    index: &IndexMap<Row, Group>,
+    mut changes: IndexMap<Row, KeyChanges>,
+    meter: &mut Meter,
+) -> Result<IndexMap<Row, Group>, AllocError>
+    requires rising { (k : List Cell) → IfSome (get row_eq changes k)
+        (λ c. AreRising c.entries.items) }
+    requires counts { meter.old.finishes + 2 ^ 64 < 2 ^ 128 }
+    ensures staged { IfOk result (λ staged. (k : List Cell) → get row_eq staged k
+        ≡ staged_with grouping.now k (get row_eq index.now k) (get row_eq changes k) None) }
+    ensures grows { IsWithin meter.old meter.new }
+    ensures within { IsWithin meter.new (plus meter.old (finishes (2 ^ 64))) }
+    ensures counted { IsWithin meter.new (plus meter.old (finishes (index_map_len changes))) }
+{
+    let mut staged = IndexMap::with_capacity(alloc, changes.len())?;
+    while let Some((key, key_changes)) = changes.pop() {
+        stage_group(
+            alloc,
+            grouping,
+            index,
+            &mut staged,
+            key,
+            &key_changes,
+            meter,
+        )?;
+    }
+    Ok(staged)
+}
+
+/// Puts the group into the index, or takes its key out where it has no member.
+fn put_group(index: &mut IndexMap<Row, Group>, key: Row, group: Group)
+    requires { 0 < spare index.old }
+    ensures state { (k : List Cell) → get row_eq index.new k
+        ≡ cond (row_eq key k) (non_empty group) (get row_eq index.old k) }
+    ensures room { spare index.old ≤ spare index.new + 1 }
+{
+    if group.members.len() == 0 {
+        let _ = index.swap_remove(&key);
+    } else {
+        let _ = index.insert(key, group);
+    }
+}
+
+/// Puts each staged group into the index.
+pub fn put_all(index: &mut IndexMap<Row, Group>, mut staged: IndexMap<Row, Group>)
+    requires { index_map_len staged ≤ spare index.old }
+    ensures { (k : List Cell) → get row_eq index.new k ≡ state_of index.old staged k }
+{
+    while let Some((key, group)) = staged.pop() {
+        put_group(index, key, group);
+    }
+}
