@@ -13,7 +13,11 @@ mod deltas;
 #[cfg(test)]
 mod desks;
 #[cfg(test)]
+mod following;
+#[cfg(test)]
 mod given;
+#[cfg(test)]
+mod groups;
 #[cfg(test)]
 mod nodes;
 #[cfg(test)]
