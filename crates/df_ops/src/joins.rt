@@ -245,7 +245,8 @@ fn keys_match(nulls_equal: bool, left: &Row, right: &Row) -> bool
     *right == *left && (nulls_equal || !has_null(left.as_slice()))
 }
 
-fn has_null(cells: &[Cell]) -> bool
+/// Whether one of the cells is null.
+pub fn has_null(cells: &[Cell]) -> bool
     ensures { result ≡ list_any value_spec.is_null cells.now }
 {
     cells.iter().any(|cell| *cell == Cell::Null)
@@ -283,7 +284,8 @@ fn each_beside(alloc: Global, left: &Row, rests: &[Row]) -> Result<Vec<Row>, All
     Ok(rows)
 }
 
-fn row_beside(alloc: Global, left: &Row, rest: &[Cell]) -> Result<Row, AllocError>
+/// A row with further cells behind its own.
+pub fn row_beside(alloc: Global, left: &Row, rest: &[Cell]) -> Result<Row, AllocError>
     ensures { IfOk result (λ row. row ≡ left.now ++ rest.now) }
 {
     let mut row = copies(alloc, left.as_slice())?;
@@ -293,8 +295,8 @@ fn row_beside(alloc: Global, left: &Row, rest: &[Cell]) -> Result<Row, AllocErro
     Row::new(alloc, row)
 }
 
-// A null for each of these indices.
-fn nulls(alloc: Global, indices: &[Option<usize>]) -> Result<Vec<Cell>, AllocError>
+/// A null for each of these indices.
+pub fn nulls(alloc: Global, indices: &[Option<usize>]) -> Result<Vec<Cell>, AllocError>
     ensures { IfOk result (λ cells. cells.items ≡ joins.nulls_for indices.now) }
 {
     indices.iter().map(|_| Cell::Null).collect(alloc)

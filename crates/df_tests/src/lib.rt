@@ -19,6 +19,8 @@ mod given;
 #[cfg(test)]
 mod groups;
 #[cfg(test)]
+mod joins;
+#[cfg(test)]
 mod nodes;
 #[cfg(test)]
 mod openings;

@@ -1,0 +1,34 @@
+use Rattle.std.proofs.Common.{subst, sym, arith, ◌+◌}
+use Rattle.df_column.specs.Changes.{applied}
+use Rattle.df_join.specs.RowNotes.{joined_by_key}
+use Rattle.df_join.specs.Sides.{is_one}
+use Rattle.df_join.proofs.LeftSide.{Follows, follows_first, follows_more, follows_all}
+use Rattle.df_join.proofs.join.LiveJoin.note_left_all.Goals as goal
+
+pub loop-entry-init : goal.loop-entry-init
+loop-entry-init c = record {
+  short = c.entries-entry-items.ensures.len;
+  counted = (omega arith, omega arith);
+  follows = λ t r h tags fits.
+      let one = is_one c.args.self.now.left_scans in
+      let rule = c.args.self.now.rule in
+      subst (λ es. Follows one rule c.args.self.now.right c.new-notes.result (joined_by_key one rule t r) r es (applied t c.args.delta.now)) (sym c.entries-entry-items.ensures.all)
+      (follows_first one rule c.args.self.now.right c.new-notes.result t r c.args.delta.now c.new-notes.ensures h tags fits);
+}
+
+pub loop-entry-preserved : goal.loop-entry-preserved
+loop-entry-preserved c = record {
+  short = c.loop-entry.invariant.short;
+  counted = (omega (arith, c.loop-entry.invariant.counted, c.note_left_entry.ensures.counted), omega (arith, c.loop-entry.invariant.counted, c.note_left_entry.ensures.counted));
+  follows = λ t r h tags fits.
+      let one = is_one c.args.self.now.left_scans in
+      let rule = c.args.self.now.rule in
+      follows_more one rule c.args.self.now.right c.loop-entry.notes c.note_left_entry.new.notes (joined_by_key one rule t r) r c.entries-entry-items.result.now c.loop-entry.entry-index c.entry-item.result (applied t c.args.delta.now) c.loop-entry-test.true c.entry-item.is
+      (λ l. c.in_ok-note_left_entry.ensures.leads (joined_by_key one rule t r) l r) (c.loop-entry.invariant.follows t r h tags fits);
+}
+
+pub returns-clause-leads : goal.returns-clause-leads
+returns-clause-leads c t r h tags fits =
+    let one = is_one c.args.self.now.left_scans in
+    let rule = c.args.self.now.rule in
+    follows_all one rule c.args.self.now.right _ (joined_by_key one rule t r) r c.entries-entry-items.result.now c.loop-entry.entry-index _ c.loop-entry-test.false (c.loop-entry.invariant.follows t r h tags fits)

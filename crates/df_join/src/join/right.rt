@@ -1,0 +1,136 @@
+//! Notes of changed right rows, over the left side as it will be.
+ghost use Rattle.std.specs.Prelude.{◌≡◌, ◌+◌, ◌*◌, ◌≤◌, ◌<◌, ◌^◌, T, OnOk, IfOk, None, cond};
+ghost use Rattle.std.specs.FinMap as finite;
+ghost use Rattle.df_column.specs.Changes.{set_at, applied};
+ghost use Rattle.df_column.specs.Tables.{TaggedRows, new_row_fits};
+ghost use Rattle.df_delta.specs.Differences.{Fits};
+ghost use Rattle.df_join.specs.Keyed.{LeadsTo};
+ghost use Rattle.df_join.specs.Probes.{Grows};
+ghost use Rattle.df_join.specs.RowNotes.{NewFit, keyed_rows, row_after, row_before};
+ghost use Rattle.df_join.specs.Sides.{IsRowTag, LeadsOver, is_one};
+ghost use Rattle.df_join.specs.Spread.{HasKeys};
+
+use super::pairs::tagged_rows;
+use super::{LiveJoin, StagedJoin};
+use crate::keyed::KeyedTables;
+use df_column::{Entry, Tag};
+use df_delta::{Delta, Notes};
+use df_value::Row;
+use std::alloc::AllocError;
+
+impl LiveJoin {
+    /// The left rows of the key as they will be, where it is not null: as staged, else as they are. Makes at most two
+    /// probes.
+    fn left_rows(
+        &self,
+        staged: &KeyedTables,
+        key: &Row,
+        probes: &mut u128,
+    ) -> Result<Vec<(Tag, Row)>, AllocError>
+        requires { probes.old + 2 < 2 ^ 128 }
+        ensures rows { IfOk result (λ rows. (l : TaggedRows) → LeadsTo self.now.rule.indices.left self.now.left staged.now l
+            → rows.items ≡ finite.entries (keyed_rows self.now.rule self.now.rule.indices.left key.now l)) }
+        ensures counted { Grows probes.old probes.new 2 }
+    {
+        if self.rule.is_null_key(key) {
+            return Ok(Vec::new(self.alloc));
+        }
+        match staged.look(key, probes) {
+            Some(table) => table.tagged_rows(self.alloc),
+            None => tagged_rows(self.alloc, self.left.look(key, probes)),
+        }
+    }
+
+    /// Stages a right row that goes or comes, and notes its pairs. Makes at most four probes.
+    fn note_right_row(
+        &self,
+        staged: &mut StagedJoin,
+        notes: &mut Notes,
+        goes: bool,
+        tag: Tag,
+        right: &Row,
+        probes: &mut u128,
+    ) -> Result<(), AllocError>
+        requires { probes.old + 4 < 2 ^ 128 }
+        ensures leads { OnOk result ((from l r : TaggedRows) → IsRowTag (is_one self.now.left_scans) tag
+            → finite.get r tag ≡ row_before goes right.now
+            → T (new_row_fits self.now.right.empty.schema (row_after goes right.now))
+            → LeadsOver self.now staged.old notes.old from l r
+            → LeadsOver self.now staged.new notes.new from l (set_at r tag (row_after goes right.now))) }
+        ensures counted { Grows probes.old probes.new 4 }
+    {
+        let key = self.rule.right_key(self.alloc, right)?;
+        let alone = self
+            .right
+            .stage_row(&mut staged.right, goes, tag, right, &key, probes)?;
+        let matching = self.left_rows(&staged.left, &key, probes)?;
+        let lone = self.rule.keeps_alone(alone);
+        self.note_right(notes, lone, goes, tag, right, &matching)
+    }
+
+    /// Stages and notes a right row that goes or comes, where there is one.
+    fn note_right_option(
+        &self,
+        staged: &mut StagedJoin,
+        notes: &mut Notes,
+        goes: bool,
+        tag: Tag,
+        row: &Option<Row>,
+        probes: &mut u128,
+    ) -> Result<(), AllocError>
+        requires { probes.old + 4 < 2 ^ 128 }
+        ensures leads { OnOk result ((from l r : TaggedRows) → IsRowTag (is_one self.now.left_scans) tag
+            → finite.get r tag ≡ cond goes row.now None
+            → T (new_row_fits self.now.right.empty.schema (cond goes None row.now))
+            → LeadsOver self.now staged.old notes.old from l r
+            → LeadsOver self.now staged.new notes.new from l (set_at r tag (cond goes None row.now))) }
+        ensures counted { Grows probes.old probes.new 4 }
+    {
+        match row {
+            Some(row) => self.note_right_row(staged, notes, goes, tag, row, probes),
+            None => Ok(()),
+        }
+    }
+
+    /// Stages and notes one change of the right side.
+    fn note_right_entry(
+        &self,
+        staged: &mut StagedJoin,
+        notes: &mut Notes,
+        entry: &Entry,
+        probes: &mut u128,
+    ) -> Result<(), AllocError>
+        requires { probes.old + 8 < 2 ^ 128 }
+        ensures leads { OnOk result ((from l r : TaggedRows) → IsRowTag (is_one self.now.left_scans) entry.now.tag
+            → finite.get r entry.now.tag ≡ entry.now.old
+            → T (new_row_fits self.now.right.empty.schema entry.now.new)
+            → LeadsOver self.now staged.old notes.old from l r
+            → LeadsOver self.now staged.new notes.new from l (set_at r entry.now.tag entry.now.new)) }
+        ensures counted { Grows probes.old probes.new 8 }
+    {
+        self.note_right_option(staged, notes, true, entry.tag, &entry.old, probes)?;
+        self.note_right_option(staged, notes, false, entry.tag, &entry.new, probes)
+    }
+
+    /// Stages and notes all changes of the right side. Makes at most eight probes for each.
+    pub fn note_right_all(
+        &self,
+        staged: &mut StagedJoin,
+        notes: &mut Notes,
+        delta: &Delta,
+        probes: &mut u128,
+    ) -> Result<(), AllocError>
+        requires { probes.old + 2 ^ 67 < 2 ^ 128 }
+        ensures leads { OnOk result ((from l r : TaggedRows) → HasKeys (IsRowTag (is_one self.now.left_scans)) delta.now
+            → Fits r delta.now → NewFit self.now.right.empty.schema (finite.entries delta.now)
+            → LeadsOver self.now staged.old notes.old from l r
+            → LeadsOver self.now staged.new notes.new from l (applied r delta.now)) }
+        ensures within { probes.new ≤ probes.old + 2 ^ 67 }
+        ensures counted { Grows probes.old probes.new (8 * finite.len delta.now) }
+    {
+        for entry in delta.entries() {
+            self.note_right_entry(staged, notes, entry, probes)?;
+        }
+        Ok(())
+    }
+}

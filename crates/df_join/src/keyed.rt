@@ -1,0 +1,90 @@
+//! Tables by join key, in which each look-up is counted.
+ghost use Rattle.std.specs.Prelude.{◌≡◌, ◌+◌, ◌≤◌, ◌<◌, ◌^◌, cond, None, Some, OnOk};
+ghost use Rattle.std.specs.Option.{option_copied};
+ghost use Rattle.indexmap.specs.IndexMap.{get, spare, index_map_len, IsUnchanged};
+ghost use Rattle.df_value.specs.Rows.{row_eq};
+ghost use Rattle.df_join.specs.Rules.{Cells};
+ghost use Rattle.df_join.specs.Keyed.{state_of, unless_empty};
+
+use df_column::Table;
+use df_value::{Duplicate, Row};
+use indexmap::IndexMap;
+use std::alloc::{AllocError, Global};
+
+/// A table for each of some keys. Each look-up of a key is a probe, and is counted; to put a table under a key is none.
+#[derive(Drop)]
+pub struct KeyedTables {
+    tables: IndexMap<Row, Table>,
+}
+
+impl KeyedTables {
+    pub fn new(alloc: Global) -> Self
+        ensures { (k : Cells) → get row_eq result.tables k ≡ None }
+    {
+        KeyedTables {
+            tables: IndexMap::new(alloc),
+        }
+    }
+
+    /// The table of the key. Makes one probe.
+    pub fn look(&self, key: &Row, probes: &mut u128) -> Option<&Table>
+        requires { probes.old + 1 < 2 ^ 128 }
+        ensures table { option_copied result ≡ get row_eq self.now.tables key.now }
+        ensures counted { probes.new ≡ probes.old + 1 }
+    {
+        *probes += 1;
+        self.tables.get(key)
+    }
+
+    /// Takes the table of the key out. Makes one probe.
+    pub fn take(&mut self, key: &Row, probes: &mut u128) -> Option<Table>
+        requires { probes.old + 1 < 2 ^ 128 }
+        ensures table { result ≡ get row_eq self.old.tables key.now }
+        ensures rest { (k : Cells) → get row_eq self.new.tables k ≡ cond (row_eq key.now k) None (get row_eq self.old.tables k) }
+        ensures counted { probes.new ≡ probes.old + 1 }
+    {
+        *probes += 1;
+        self.tables.swap_remove(key)
+    }
+
+    /// Puts the table under the key.
+    pub fn put(&mut self, alloc: Global, key: &Row, table: Table) -> Result<(), AllocError>
+        ensures { OnOk result ((k : Cells) → get row_eq self.new.tables k ≡ cond (row_eq key.now k) (Some table) (get row_eq self.old.tables k)) }
+    {
+        match self.tables.insert(key.copy(alloc)?, table) {
+            Ok(_) => Ok(()),
+            Err(_) => Err(AllocError),
+        }
+    }
+
+    /// Makes the room that `put_all` needs.
+    pub fn make_room(&mut self, staged: &KeyedTables) -> Result<(), AllocError>
+        ensures tables { IsUnchanged self.old.tables self.new.tables }
+        ensures room { OnOk result (index_map_len staged.now.tables ≤ spare self.new.tables) }
+    {
+        self.tables.reserve(staged.tables.len())
+    }
+
+    /// Puts the table under the key, or takes the key out where the table is empty.
+    fn put_table(&mut self, key: Row, table: Table)
+        requires { 0 < spare self.old.tables }
+        ensures state { (k : Cells) → get row_eq self.new.tables k ≡ cond (row_eq key k) (unless_empty table) (get row_eq self.old.tables k) }
+        ensures room { spare self.old.tables ≤ spare self.new.tables + 1 }
+    {
+        if table.len() == 0 {
+            let _ = self.tables.swap_remove(&key);
+        } else {
+            let _ = self.tables.insert(key, table);
+        }
+    }
+
+    /// Puts each staged table in place. Takes no memory.
+    pub fn put_all(&mut self, mut staged: KeyedTables)
+        requires { index_map_len staged.tables ≤ spare self.old.tables }
+        ensures { (k : Cells) → get row_eq self.new.tables k ≡ state_of self.old.tables staged.tables k }
+    {
+        while let Some((key, table)) = staged.tables.pop() {
+            self.put_table(key, table);
+        }
+    }
+}

@@ -1,0 +1,269 @@
+//! The rows of one side of a join by their keys, and what they will be.
+ghost use Rattle.std.specs.Prelude.{◌≡◌, ℕ, ◌+◌, ◌*◌, ◌≤◌, ◌<◌, ◌^◌, ◌==◌, List, Option, Some, T, cond, None, OnOk, IfOk};
+ghost use Rattle.std.specs.Option.{option_copied};
+ghost use Rattle.std.specs.FinMap as finite;
+ghost use Rattle.indexmap.specs.IndexMap.{get, spare, index_map_len, IsUnchanged};
+ghost use Rattle.df_value.specs.Rows.{row_eq};
+ghost use Rattle.df_column.specs.Changes.{set_at, applied};
+ghost use Rattle.df_column.specs.Tables.{TaggedRows, entry_change, new_row_fits};
+ghost use Rattle.df_delta.specs.Differences.{Fits};
+ghost use Rattle.df_delta.specs.Notes.{moved};
+ghost use Rattle.df_join.specs.Keyed.{IsGroup, IsIndexOf, LeadsTo, group_of, state_of, table_or, table_or_none, unless_empty};
+ghost use Rattle.df_join.specs.Probes.{Grows};
+ghost use Rattle.df_join.specs.RowNotes.{CanMove, NewFit, row_after, without};
+ghost use Rattle.df_join.specs.Rules.{Cells};
+
+use crate::keyed::KeyedTables;
+use df_column::{Entry, Table, Tag};
+use df_delta::Delta;
+use df_ops::key_of;
+use df_value::{Duplicate, Row, Schema};
+use std::alloc::{AllocError, Global};
+
+/// The rows of one side, a table for each key that has one.
+#[derive(Drop)]
+pub struct Members {
+    alloc: Global,
+    empty: Table,
+    keyed: KeyedTables,
+}
+
+/// The change of a row that goes, or else comes.
+fn move_entry(alloc: Global, goes: bool, tag: Tag, row: &Row) -> Result<Entry, AllocError>
+    ensures { IfOk result (λ e. entry_change e ≡ (tag, moved goes row.now)) }
+{
+    let row = row.copy(alloc)?;
+    if goes {
+        Ok(Entry {
+            tag,
+            old: Some(row),
+            new: None,
+        })
+    } else {
+        Ok(Entry {
+            tag,
+            old: None,
+            new: Some(row),
+        })
+    }
+}
+
+/// The table without the row that goes, or with the row that comes.
+fn edited_by(
+    alloc: Global,
+    table: &Table,
+    goes: bool,
+    tag: Tag,
+    row: &Row,
+) -> Result<Table, AllocError>
+    ensures { T (new_row_fits table.now.schema (row_after goes row.now))
+        → IfOk result (λ t. t ≡ record { schema = table.now.schema; rows = set_at table.now.rows tag (row_after goes row.now) }) }
+{
+    let entry = move_entry(alloc, goes, tag, row)?;
+    let entries = [entry];
+    let table = table.edited(alloc, &entries)?;
+    Ok(table)
+}
+
+impl Members {
+    /// No rows, of this schema.
+    pub fn new(alloc: Global, schema: &Schema) -> Result<Members, AllocError>
+        ensures schema { IfOk result (λ m. m.empty.schema ≡ schema.now) }
+        ensures over { IfOk result (λ m. (indices : List (Option ℕ)) → IsIndexOf indices m finite.empty) }
+    {
+        Ok(Members {
+            alloc,
+            empty: Table::new(alloc, schema.copy(alloc)?)?,
+            keyed: KeyedTables::new(alloc),
+        })
+    }
+
+    /// The rows of the key. Makes one probe.
+    pub fn look(&self, key: &Row, probes: &mut u128) -> Option<&Table>
+        requires { probes.old + 1 < 2 ^ 128 }
+        ensures table { option_copied result ≡ get row_eq self.now.keyed.tables key.now }
+        ensures counted { Grows probes.old probes.new 1 }
+    {
+        self.keyed.look(key, probes)
+    }
+
+    /// The table, or where it is empty one that is of the schema.
+    fn or_empty(&self, table: Table) -> Result<Table, AllocError>
+        ensures { IfOk result (λ t. t ≡ table_or self.now.empty (unless_empty table)) }
+    {
+        if table.len() == 0 {
+            self.empty.share(self.alloc)
+        } else {
+            Ok(table)
+        }
+    }
+
+    /// The rows of the key as they are. Makes one probe.
+    fn kept_table(&self, key: &Row, probes: &mut u128) -> Result<Table, AllocError>
+        requires { probes.old + 1 < 2 ^ 128 }
+        ensures table { IfOk result (λ t. t ≡ table_or self.now.empty (get row_eq self.now.keyed.tables key.now)) }
+        ensures counted { Grows probes.old probes.new 1 }
+    {
+        match self.keyed.look(key, probes) {
+            Some(table) => table.share(self.alloc),
+            None => self.empty.share(self.alloc),
+        }
+    }
+
+    /// Takes the rows of the key out of what is staged, or shares those that are there. Makes at most two probes.
+    fn take_table(
+        &self,
+        staged: &mut KeyedTables,
+        key: &Row,
+        probes: &mut u128,
+    ) -> Result<Table, AllocError>
+        requires { probes.old + 2 < 2 ^ 128 }
+        ensures table { IfOk result (λ t. t ≡ table_or self.now.empty (state_of self.now.keyed.tables staged.old.tables key.now)) }
+        ensures rest { (k : Cells) → get row_eq staged.new.tables k ≡ cond (row_eq key.now k) None (get row_eq staged.old.tables k) }
+        ensures counted { Grows probes.old probes.new 2 }
+    {
+        match staged.take(key, probes) {
+            Some(table) => self.or_empty(table),
+            None => self.kept_table(key, probes),
+        }
+    }
+
+    /// Takes the row out of its key's rows, or puts it there. Answers whether the key has no other row.
+    fn stage_in_key(
+        &self,
+        staged: &mut KeyedTables,
+        goes: bool,
+        tag: Tag,
+        row: &Row,
+        key: &Row,
+        probes: &mut u128,
+    ) -> Result<bool, AllocError>
+        requires { probes.old + 2 < 2 ^ 128 }
+        ensures states { OnOk result ((g : TaggedRows) → IsGroup self.now staged.old key.now g
+            → T (new_row_fits self.now.empty.schema (row_after goes row.now))
+            → (k : Cells) → state_of self.now.keyed.tables staged.new.tables k
+            ≡ cond (row_eq key.now k) (table_or_none self.now.empty.schema (set_at g tag (row_after goes row.now)))
+            (state_of self.now.keyed.tables staged.old.tables k)) }
+        ensures alone { IfOk result (λ alone. (g : TaggedRows) → IsGroup self.now staged.old key.now g
+            → T (new_row_fits self.now.empty.schema (row_after goes row.now))
+            → alone ≡ (finite.len (without goes g tag) == 0)) }
+        ensures counted { Grows probes.old probes.new 2 }
+    {
+        let before = self.take_table(staged, key, probes)?;
+        let was_empty = before.len() == 0;
+        let after = edited_by(self.alloc, &before, goes, tag, row)?;
+        let alone = if goes { after.len() == 0 } else { was_empty };
+        staged.put(self.alloc, key, after)?;
+        Ok(alone)
+    }
+
+    /// Stages a row of this key that goes or comes. Answers whether the key has no other row. Makes at most two probes.
+    pub fn stage_row(
+        &self,
+        staged: &mut KeyedTables,
+        goes: bool,
+        tag: Tag,
+        row: &Row,
+        key: &Row,
+        probes: &mut u128,
+    ) -> Result<bool, AllocError>
+        requires { probes.old + 2 < 2 ^ 128 }
+        ensures leads { OnOk result ((indices : List (Option ℕ)) (t : TaggedRows)
+            → CanMove self.now.empty.schema indices goes tag row.now key.now t
+            → LeadsTo indices self.now staged.old t
+            → LeadsTo indices self.now staged.new (set_at t tag (row_after goes row.now))) }
+        ensures alone { IfOk result (λ alone. (indices : List (Option ℕ)) (t : TaggedRows)
+            → CanMove self.now.empty.schema indices goes tag row.now key.now t
+            → LeadsTo indices self.now staged.old t
+            → alone ≡ (finite.len (group_of indices key.now (without goes t tag)) == 0)) }
+        ensures counted { Grows probes.old probes.new 2 }
+    {
+        self.stage_in_key(staged, goes, tag, row, key, probes)
+    }
+
+    /// Stages the row that goes or comes, where there is one.
+    fn stage_option(
+        &self,
+        indices: &[Option<usize>],
+        staged: &mut KeyedTables,
+        goes: bool,
+        tag: Tag,
+        row: &Option<Row>,
+        probes: &mut u128,
+    ) -> Result<(), AllocError>
+        requires { probes.old + 2 < 2 ^ 128 }
+        ensures leads { OnOk result ((t : TaggedRows) → finite.get t tag ≡ cond goes row.now None
+            → T (new_row_fits self.now.empty.schema (cond goes None row.now))
+            → LeadsTo indices.now self.now staged.old t
+            → LeadsTo indices.now self.now staged.new (set_at t tag (cond goes None row.now))) }
+        ensures counted { Grows probes.old probes.new 2 }
+    {
+        match row {
+            Some(row) => {
+                let key = key_of(self.alloc, indices, row)?;
+                self.stage_row(staged, goes, tag, row, &key, probes)?;
+                Ok(())
+            }
+            None => Ok(()),
+        }
+    }
+
+    /// Stages one change of the side.
+    fn stage_entry(
+        &self,
+        indices: &[Option<usize>],
+        staged: &mut KeyedTables,
+        entry: &Entry,
+        probes: &mut u128,
+    ) -> Result<(), AllocError>
+        requires { probes.old + 4 < 2 ^ 128 }
+        ensures leads { OnOk result ((t : TaggedRows) → finite.get t entry.now.tag ≡ entry.now.old
+            → T (new_row_fits self.now.empty.schema entry.now.new)
+            → LeadsTo indices.now self.now staged.old t
+            → LeadsTo indices.now self.now staged.new (set_at t entry.now.tag entry.now.new)) }
+        ensures counted { Grows probes.old probes.new 4 }
+    {
+        self.stage_option(indices, staged, true, entry.tag, &entry.old, probes)?;
+        self.stage_option(indices, staged, false, entry.tag, &entry.new, probes)
+    }
+
+    /// What the members will be after the changes. Makes at most four probes for each of them.
+    pub fn stage_all(
+        &self,
+        indices: &[Option<usize>],
+        delta: &Delta,
+        probes: &mut u128,
+    ) -> Result<KeyedTables, AllocError>
+        requires { probes.old + 2 ^ 66 < 2 ^ 128 }
+        ensures leads { IfOk result (λ staged. (t : TaggedRows) → IsIndexOf indices.now self.now t
+            → Fits t delta.now → NewFit self.now.empty.schema (finite.entries delta.now)
+            → LeadsTo indices.now self.now staged (applied t delta.now)) }
+        ensures within { probes.new ≤ probes.old + 2 ^ 66 }
+        ensures counted { Grows probes.old probes.new (4 * finite.len delta.now) }
+    {
+        let mut staged = KeyedTables::new(self.alloc);
+        for entry in delta.entries() {
+            self.stage_entry(indices, &mut staged, entry, probes)?;
+        }
+        Ok(staged)
+    }
+
+    /// Makes the room that `put_all` needs.
+    pub fn make_room(&mut self, staged: &KeyedTables) -> Result<(), AllocError>
+        ensures empty { self.new.empty ≡ self.old.empty }
+        ensures tables { IsUnchanged self.old.keyed.tables self.new.keyed.tables }
+        ensures room { OnOk result (index_map_len staged.now.tables ≤ spare self.new.keyed.tables) }
+    {
+        self.keyed.make_room(staged)
+    }
+
+    /// Puts what is staged in place.
+    pub fn put_all(&mut self, staged: KeyedTables)
+        requires { index_map_len staged.tables ≤ spare self.old.keyed.tables }
+        ensures empty { self.new.empty ≡ self.old.empty }
+        ensures over { (indices : List (Option ℕ)) (t : TaggedRows)
+            → LeadsTo indices self.old staged t → IsIndexOf indices self.new t }
+    {
+        self.keyed.put_all(staged);
+    }
+}
