@@ -1,4 +1,4 @@
-use Rattle.std.proofs.Common.{subst, sym, ◌∙◌}
+use Rattle.std.proofs.Common.{subst, sym}
 use Rattle.df_column.specs.Changes.{applied}
 use Rattle.df_column.specs.Tables.{TaggedRows}
 use Rattle.df_delta.specs.Differences.{IsDiff}

@@ -1,4 +1,4 @@
-use Rattle.std.proofs.Common.{subst, sym, arith, ◌+◌}
+use Rattle.std.proofs.Common.{subst, sym, arith}
 use Rattle.df_column.specs.Changes.{applied}
 use Rattle.df_join.specs.RowNotes.{joined_by_key}
 use Rattle.df_join.specs.Sides.{is_one}

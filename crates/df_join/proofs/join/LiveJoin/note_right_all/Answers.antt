@@ -1,4 +1,4 @@
-use Rattle.std.proofs.Common.{subst, sym, arith, ◌+◌}
+use Rattle.std.proofs.Common.{subst, sym, arith}
 use Rattle.df_column.specs.Changes.{applied}
 use Rattle.df_join.proofs.RightSide.{Follows, follows_first, follows_more, follows_all}
 use Rattle.df_join.proofs.join.LiveJoin.note_right_all.Goals as goal

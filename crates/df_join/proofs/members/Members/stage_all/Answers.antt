@@ -1,4 +1,4 @@
-use Rattle.std.proofs.Common.{subst, sym, arith, ◌+◌}
+use Rattle.std.proofs.Common.{subst, sym, arith}
 use Rattle.df_column.specs.Changes.{applied}
 use Rattle.df_join.proofs.Staging.{Follows, follows_first, follows_more, follows_all, leads_at_first}
 use Rattle.df_join.proofs.members.Members.stage_all.Goals as goal

@@ -1,5 +1,4 @@
-use Rattle.std.proofs.Common.{None, cond, subst, sym, ap, ◌∙◌}
-use Rattle.df_column.specs.Changes.{set_at}
+use Rattle.std.proofs.Common.{subst}
 use Rattle.df_join.specs.Keyed.{LeadsTo}
 use Rattle.df_join.proofs.Staging.{set_none}
 use Rattle.df_join.proofs.members.Members.stage_option.Goals as goal
