@@ -9,7 +9,7 @@ ghost use Rattle.df_column.specs.Tables.{TaggedRows, entry_change, new_row_fits}
 ghost use Rattle.df_delta.specs.Differences.{Fits};
 ghost use Rattle.df_delta.specs.Notes.{moved};
 ghost use Rattle.df_join.specs.Keyed.{IsGroup, IsIndexOf, LeadsTo, group_of, state_of, table_or, table_or_none, unless_empty};
-ghost use Rattle.df_join.specs.Probes.{Grows};
+ghost use Rattle.df_join.specs.Probes.{Grows, is_staged, probes_over};
 ghost use Rattle.df_join.specs.RowNotes.{CanMove, NewFit, row_after, without};
 ghost use Rattle.df_join.specs.Rules.{Cells};
 
@@ -82,7 +82,7 @@ impl Members {
     pub fn look(&self, key: &Row, probes: &mut u128) -> Option<&Table>
         requires { probes.old + 1 < 2 ^ 128 }
         ensures table { option_copied result ≡ get row_eq self.now.keyed.tables key.now }
-        ensures counted { Grows probes.old probes.new 1 }
+        ensures counted { probes.new ≡ probes.old + 1 }
     {
         self.keyed.look(key, probes)
     }
@@ -102,7 +102,7 @@ impl Members {
     fn kept_table(&self, key: &Row, probes: &mut u128) -> Result<Table, AllocError>
         requires { probes.old + 1 < 2 ^ 128 }
         ensures table { IfOk result (λ t. t ≡ table_or self.now.empty (get row_eq self.now.keyed.tables key.now)) }
-        ensures counted { Grows probes.old probes.new 1 }
+        ensures counted { probes.new ≡ probes.old + 1 }
     {
         match self.keyed.look(key, probes) {
             Some(table) => table.share(self.alloc),
@@ -120,6 +120,7 @@ impl Members {
         requires { probes.old + 2 < 2 ^ 128 }
         ensures table { IfOk result (λ t. t ≡ table_or self.now.empty (state_of self.now.keyed.tables staged.old.tables key.now)) }
         ensures rest { (k : Cells) → get row_eq staged.new.tables k ≡ cond (row_eq key.now k) None (get row_eq staged.old.tables k) }
+        ensures exact { probes.new ≡ probes.old + probes_over (is_staged staged.old key.now) }
         ensures counted { Grows probes.old probes.new 2 }
     {
         match staged.take(key, probes) {
@@ -147,6 +148,7 @@ impl Members {
         ensures alone { IfOk result (λ alone. (g : TaggedRows) → IsGroup self.now staged.old key.now g
             → T (new_row_fits self.now.empty.schema (row_after goes row.now))
             → alone ≡ (finite.len (without goes g tag) == 0)) }
+        ensures exact { probes.new ≡ probes.old + probes_over (is_staged staged.old key.now) }
         ensures counted { Grows probes.old probes.new 2 }
     {
         let before = self.take_table(staged, key, probes)?;
@@ -176,6 +178,7 @@ impl Members {
             → CanMove self.now.empty.schema indices goes tag row.now key.now t
             → LeadsTo indices self.now staged.old t
             → alone ≡ (finite.len (group_of indices key.now (without goes t tag)) == 0)) }
+        ensures exact { probes.new ≡ probes.old + probes_over (is_staged staged.old key.now) }
         ensures counted { Grows probes.old probes.new 2 }
     {
         self.stage_in_key(staged, goes, tag, row, key, probes)

@@ -4,8 +4,9 @@ ghost use Rattle.std.specs.FinMap as finite;
 ghost use Rattle.df_column.specs.Changes.{set_at, applied};
 ghost use Rattle.df_column.specs.Tables.{TaggedRows, new_row_fits};
 ghost use Rattle.df_delta.specs.Differences.{Fits};
+ghost use Rattle.df_ops.specs.Groups.{key_of as key_cells};
 ghost use Rattle.df_join.specs.Keyed.{LeadsTo};
-ghost use Rattle.df_join.specs.Probes.{Grows};
+ghost use Rattle.df_join.specs.Probes.{Grows, is_staged, probes_left, probes_over};
 ghost use Rattle.df_join.specs.RowNotes.{NewFit, keyed_rows, row_after, row_before};
 ghost use Rattle.df_join.specs.Sides.{IsRowTag, LeadsOver, is_one};
 ghost use Rattle.df_join.specs.Spread.{HasKeys};
@@ -30,6 +31,8 @@ impl LiveJoin {
         requires { probes.old + 2 < 2 ^ 128 }
         ensures rows { IfOk result (λ rows. (l : TaggedRows) → LeadsTo self.now.rule.indices.left self.now.left staged.now l
             → rows.items ≡ finite.entries (keyed_rows self.now.rule self.now.rule.indices.left key.now l)) }
+        ensures exact { probes.new ≡ probes.old
+            + probes_left self.now.rule key.now (is_staged staged.now key.now) }
         ensures counted { Grows probes.old probes.new 2 }
     {
         if self.rule.is_null_key(key) {
@@ -57,6 +60,10 @@ impl LiveJoin {
             → T (new_row_fits self.now.right.empty.schema (row_after goes right.now))
             → LeadsOver self.now staged.old notes.old from l r
             → LeadsOver self.now staged.new notes.new from l (set_at r tag (row_after goes right.now))) }
+        ensures exact { OnOk result (probes.new ≡ probes.old
+            + (probes_over (is_staged staged.old.right (key_cells self.now.rule.indices.right right.now))
+            + probes_left self.now.rule (key_cells self.now.rule.indices.right right.now)
+            (is_staged staged.old.left (key_cells self.now.rule.indices.right right.now)))) }
         ensures counted { Grows probes.old probes.new 4 }
     {
         let key = self.rule.right_key(self.alloc, right)?;
