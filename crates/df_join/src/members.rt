@@ -1,5 +1,5 @@
 //! The rows of one side of a join by their keys, and what they will be.
-ghost use Rattle.std.specs.Prelude.{◌≡◌, ℕ, ◌+◌, ◌*◌, ◌≤◌, ◌<◌, ◌^◌, ◌==◌, List, Option, Some, T, cond, None, OnOk, IfOk};
+ghost use Rattle.std.specs.Prelude.{◌≡◌, ℕ, ◌+◌, ◌*◌, ◌≤◌, ◌<◌, ◌^◌, ◌==◌, ◌||◌, List, Option, Some, T, cond, None, OnOk, IfOk};
 ghost use Rattle.std.specs.Option.{option_copied};
 ghost use Rattle.std.specs.FinMap as finite;
 ghost use Rattle.indexmap.specs.IndexMap.{get, spare, index_map_len, IsUnchanged};
@@ -9,7 +9,7 @@ ghost use Rattle.df_column.specs.Tables.{TaggedRows, entry_change, new_row_fits}
 ghost use Rattle.df_delta.specs.Differences.{Fits};
 ghost use Rattle.df_delta.specs.Notes.{moved};
 ghost use Rattle.df_join.specs.Keyed.{IsGroup, IsIndexOf, LeadsTo, group_of, state_of, table_or, table_or_none, unless_empty};
-ghost use Rattle.df_join.specs.Probes.{Grows, is_staged, probes_over};
+ghost use Rattle.df_join.specs.Probes.{Grows, all_probes, change_probes, is_staged, nothing_staged, probes_over, stage_probes, with_key, with_keys};
 ghost use Rattle.df_join.specs.RowNotes.{CanMove, NewFit, row_after, without};
 ghost use Rattle.df_join.specs.Rules.{Cells};
 
@@ -149,6 +149,7 @@ impl Members {
             → T (new_row_fits self.now.empty.schema (row_after goes row.now))
             → alone ≡ (finite.len (without goes g tag) == 0)) }
         ensures exact { probes.new ≡ probes.old + probes_over (is_staged staged.old key.now) }
+        ensures touched { OnOk result ((k : Cells) → is_staged staged.new k ≡ (row_eq key.now k || is_staged staged.old k)) }
         ensures counted { Grows probes.old probes.new 2 }
     {
         let before = self.take_table(staged, key, probes)?;
@@ -179,6 +180,7 @@ impl Members {
             → LeadsTo indices self.now staged.old t
             → alone ≡ (finite.len (group_of indices key.now (without goes t tag)) == 0)) }
         ensures exact { probes.new ≡ probes.old + probes_over (is_staged staged.old key.now) }
+        ensures touched { OnOk result ((k : Cells) → is_staged staged.new k ≡ (row_eq key.now k || is_staged staged.old k)) }
         ensures counted { Grows probes.old probes.new 2 }
     {
         self.stage_in_key(staged, goes, tag, row, key, probes)
@@ -199,6 +201,8 @@ impl Members {
             → T (new_row_fits self.now.empty.schema (cond goes None row.now))
             → LeadsTo indices.now self.now staged.old t
             → LeadsTo indices.now self.now staged.new (set_at t tag (cond goes None row.now))) }
+        ensures touched { OnOk result (is_staged staged.new ≡ with_key indices.now row.now (is_staged staged.old)) }
+        ensures exact { OnOk result (probes.new ≡ probes.old + stage_probes indices.now (is_staged staged.old) row.now) }
         ensures counted { Grows probes.old probes.new 2 }
     {
         match row {
@@ -224,6 +228,10 @@ impl Members {
             → T (new_row_fits self.now.empty.schema entry.now.new)
             → LeadsTo indices.now self.now staged.old t
             → LeadsTo indices.now self.now staged.new (set_at t entry.now.tag entry.now.new)) }
+        ensures touched { OnOk result (is_staged staged.new
+            ≡ with_key indices.now entry.now.new (with_key indices.now entry.now.old (is_staged staged.old))) }
+        ensures exact { OnOk result (probes.new ≡ probes.old
+            + change_probes indices.now (stage_probes indices.now) (is_staged staged.old) entry.now.old entry.now.new) }
         ensures counted { Grows probes.old probes.new 4 }
     {
         self.stage_option(indices, staged, true, entry.tag, &entry.old, probes)?;
@@ -242,6 +250,10 @@ impl Members {
             → Fits t delta.now → NewFit self.now.empty.schema (finite.entries delta.now)
             → LeadsTo indices.now self.now staged (applied t delta.now)) }
         ensures within { probes.new ≤ probes.old + 2 ^ 66 }
+        ensures touched { IfOk result (λ staged. is_staged staged
+            ≡ with_keys indices.now nothing_staged (finite.entries delta.now)) }
+        ensures exact { OnOk result (probes.new ≡ probes.old
+            + all_probes indices.now (stage_probes indices.now) nothing_staged (finite.entries delta.now)) }
         ensures counted { Grows probes.old probes.new (4 * finite.len delta.now) }
     {
         let mut staged = KeyedTables::new(self.alloc);
