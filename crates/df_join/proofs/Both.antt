@@ -1,17 +1,16 @@
 -- Both sides change together.
-use Rattle.std.proofs.Common.{◌≡◌, ◌≤◌, ◌+◌, ◌*◌, ℕ, Bool, List, [], ◌∷◌, Option, Some, None, IsTrue, nat_eq, refl, sym, ap, subst, ◌∙◌, arith}
+use Rattle.std.proofs.Common.{◌≡◌, ◌≤◌, ◌+◌, ◌*◌, ℕ, Bool, List, Option, Some, None, IsTrue, refl, sym, ap, subst, ◌∙◌, arith}
 use Rattle.std.specs.Prelude.{T}
 use Rattle.std.specs.Option.{IfSome}
 use Rattle.std.specs.Map.{lookup}
 use Rattle.std.specs.FinMap as finite
-use Rattle.indexmap.specs.IndexMap.{IndexMap, get, IsUnchanged}
+use Rattle.indexmap.specs.IndexMap.{get, IsUnchanged}
 use Rattle.df_expr.specs.declared.meter.Meter.{Meter}
 use Rattle.df_value.specs.Rows.{row_eq, row_fits}
 use Rattle.df_value.specs.declared.cell.CellType.{CellType}
-use Rattle.df_column.specs.Changes.{Change, set_at, applied_list, applied}
+use Rattle.df_column.specs.Changes.{Change, applied}
 use Rattle.df_column.specs.TagOrder.{tag_total, tag_same}
 use Rattle.df_column.specs.Tables.{TableParts, TaggedRows, new_row_fits}
-use Rattle.df_column.specs.Tags.{tag_cmp}
 use Rattle.df_column.specs.declared.tag.Tag.{Tag}
 use Rattle.df_delta.specs.Deltas.{Changes, RowsFit}
 use Rattle.df_delta.specs.Diff.{diff}
@@ -29,14 +28,12 @@ use Rattle.df_join.specs.Probes.{Grows, probes}
 use Rattle.df_join.specs.RowNotes.{AreSides, Leads, NewFit, joined_by_key}
 use Rattle.df_join.specs.Rules.{Cells, by_key}
 use Rattle.df_join.specs.Sides.{AreInputs, AreScans, IsAsBefore, IsOver, IsRowTag, LeadsOver, LeadsToBoth, is_one, join_output}
-use Rattle.df_join.specs.Spread.{AllKeys, HasKeys, IsLeftTag, IsTagOver}
+use Rattle.df_join.specs.Spread.{HasKeys, IsLeftTag, IsTagOver}
 use Rattle.df_join.specs.declared.join.LiveJoin.{LiveJoin}
 use Rattle.df_join.specs.declared.join.StagedJoin.{StagedJoin}
 use Rattle.df_join.specs.declared.keyed.KeyedTables.{KeyedTables}
 use Rattle.df_join.specs.declared.members.Members.{Members}
-use Rattle.df_join.proofs.Moves.{keys_set_at}
 use Rattle.df_join.proofs.Shape.{keys_from, left_keys, right_keys}
-use Rattle.df_join.proofs.Spread.{all_keys}
 use Rattle.df_join.proofs.Tags.{left_tag, right_tag}
 
 -- the keys of a diff are keys of the tables that it leads between

@@ -1,5 +1,5 @@
 -- The join of two tables gives the rows that the operator gives of their rows.
-use Rattle.std.proofs.Common.{◌≡◌, ◌+◌, ℕ, Bool, true, false, cond, not, List, [], ◌∷◌, ◌++◌, map, Option, Some, None, refl, sym, ap, subst, ◌∙◌}
+use Rattle.std.proofs.Common.{◌≡◌, ◌+◌, ℕ, Bool, true, false, cond, not, List, [], ◌∷◌, ◌++◌, map, Some, None, refl, ap, subst, ◌∙◌}
 use Rattle.std.specs.Prelude.{◌||◌, ◌&&◌}
 use Rattle.std.specs.List.{flat_map, filter, list_any}
 use Rattle.std.specs.FinMap as finite
@@ -13,7 +13,7 @@ use Rattle.df_ops.specs.Tables.{join_table}
 use Rattle.df_ops.specs.declared.joins.How.{How}
 use Rattle.df_ops.specs.declared.joins.How.TheVariants as how
 use Rattle.df_join.specs.Joined.{join, matches, or_alone}
-use Rattle.df_join.specs.Rules.{Cells, by_key, is_null_key, joined_row, keeps_left, key_or_null}
+use Rattle.df_join.specs.Rules.{Cells, by_key, joined_row, key_or_null}
 use Rattle.df_join.specs.RowNotes.{joined_by_key}
 use Rattle.df_join.specs.Sides.{AreScans, is_one}
 use Rattle.df_join.specs.Spread.{HasKeys, IsLeftTag, IsRightTag, IsTagOver}

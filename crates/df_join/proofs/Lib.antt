@@ -14,3 +14,4 @@ pub mod LeftSide
 pub mod RightSide
 pub mod Both
 pub mod JoinRows
+pub mod Counted

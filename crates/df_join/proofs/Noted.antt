@@ -1,6 +1,6 @@
 -- Making notes one after another.
 use Rattle.std.proofs.Common.{◌≡◌, ◌<◌, ◌+◌, ℕ, Bool, true, false, cond, not, List, [], ◌∷◌, ◌++◌, length, take, get_or, Option, Some, None, refl, sym, ap, subst, ◌∙◌, append-nil}
-use Rattle.std.specs.Prelude.{T, ◌==◌}
+use Rattle.std.specs.Prelude.{◌==◌}
 use Rattle.std.proofs.lemmas.Bool.{eqb-true}
 use Rattle.std.specs.List.{flat_map}
 use Rattle.std.specs.Ordering.{eq_by_cmp}
@@ -13,7 +13,7 @@ use Rattle.df_column.specs.Changes.{Change}
 use Rattle.df_column.specs.Tags.{tag_cmp}
 use Rattle.df_column.specs.Changes.{set_at, applied_list}
 use Rattle.df_delta.specs.Notes.{IsNote}
-use Rattle.df_column.specs.TagOrder.{tag_total, tag_same}
+use Rattle.df_column.specs.TagOrder.{tag_total}
 use Rattle.df_delta.proofs.Changes.{get-set_at}
 use Rattle.df_join.specs.Spread.{combine, no_tag}
 use Rattle.df_delta.specs.Deltas.{Changes}

@@ -1,5 +1,5 @@
 -- How what is staged follows the changes of its side.
-use Rattle.std.proofs.Common.{◌≡◌, ◌≤◌, ◌<◌, ◌+◌, ℕ, Bool, true, false, cond, List, [], ◌∷◌, map, length, drop, get_or, Option, Some, None, Result, Ok, Err, OnOk, IfOk, refl, sym, ap, subst, ◌∙◌, drop-cons, add-one}
+use Rattle.std.proofs.Common.{◌≡◌, ◌≤◌, ◌<◌, ◌+◌, ℕ, Bool, true, false, cond, List, [], ◌∷◌, map, length, drop, get_or, Option, None, Result, Ok, Err, OnOk, IfOk, refl, sym, ap, subst, ◌∙◌, drop-cons, add-one}
 use Rattle.std.specs.Prelude.{T, ◌==◌}
 use Rattle.std.specs.Option.{IfSome}
 use Rattle.std.proofs.Math.ListN.{drop_of_length-le}
@@ -19,7 +19,6 @@ use Rattle.df_delta.specs.Differences.{Fits}
 use Rattle.df_delta.specs.Notes.{moved}
 use Rattle.df_delta.proofs.Changes.{get-set_at}
 use Rattle.df_delta.proofs.Collected.{T-both, T-first, T-second}
-use Rattle.df_ops.specs.Groups.{key_of}
 use Rattle.df_join.specs.Keyed.{IsGroup, IsIndexOf, LeadsTo, group_of, staged_or, state_of, table_or, table_or_none}
 use Rattle.df_join.specs.RowNotes.{CanMove, FitsList, NewFit, Note, row_after, without}
 use Rattle.df_join.specs.Rules.{Cells}

@@ -1,5 +1,5 @@
 -- The rows of one side of a join by their keys, as they are and as they are staged.
-use Rattle.std.specs.Prelude.{◌≡◌, ℕ, ◌≤◌, ◌==◌, cond, Bool, List, Option, Some, None}
+use Rattle.std.specs.Prelude.{◌≡◌, ℕ, ◌==◌, cond, List, Option, Some, None}
 use Rattle.std.specs.FinMap as finite
 use Rattle.indexmap.specs.IndexMap.{IndexMap, get}
 use Rattle.df_value.specs.Rows.{row_eq}

@@ -6,7 +6,6 @@ use Rattle.df_value.specs.Rows.{row_eq}
 use Rattle.df_value.specs.declared.cell.CellType.{CellType}
 use Rattle.df_column.specs.Changes.{Change, set_at, applied_list}
 use Rattle.df_column.specs.Tables.{TaggedRows, new_row_fits}
-use Rattle.df_column.specs.Tags.{tag_cmp}
 use Rattle.df_column.specs.declared.tag.Tag.{Tag}
 use Rattle.df_delta.specs.Collected.{kept}
 use Rattle.df_delta.specs.Deltas.{Changes}

@@ -1,5 +1,5 @@
 -- How a live join takes the keys of its rows and makes rows of pairs.
-use Rattle.std.specs.Prelude.{ℕ, Bool, true, false, cond, not, ◌&&◌, List, ◌++◌, Option, Some, None}
+use Rattle.std.specs.Prelude.{Bool, true, false, cond, not, ◌&&◌, List, ◌++◌, Option, Some, None}
 use Rattle.std.specs.List.{list_any}
 use Rattle.df_value.specs.Rows.{row_eq}
 use Rattle.df_value.specs.declared.cell.Cell.{Cell}

@@ -9,7 +9,7 @@ ghost use Rattle.df_delta.specs.Inputs.{MayFollowBoth};
 ghost use Rattle.df_delta.specs.SameRows.{same_row};
 ghost use Rattle.df_ops.specs.Joins.{join_indices_of as indices_of_join};
 ghost use Rattle.df_ops.specs.Tables as tables;
-ghost use Rattle.df_join.specs.Probes.{Grows, probes as probe_count};
+ghost use Rattle.df_join.specs.Probes.{Grows, probes as probe_count, probes_made};
 ghost use Rattle.df_join.specs.RowNotes.{joined_by_key};
 ghost use Rattle.df_join.specs.Sides as sides;
 ghost use Rattle.df_join.specs.Sides.{AreInputs, AreScans, IsAsBefore, LeadsToBoth, is_one, join_output};
@@ -117,6 +117,7 @@ impl LiveJoin {
             → MayFollowBoth (sides.IsOver self.now) (AreInputs self.now) l left.now r right.now
             → LeadsToBoth self.now x.0 (applied l left.now) (applied r right.now)) }
         ensures within { probes.new ≤ probes.old + 2 ^ 68 }
+        ensures exact { OnOk result (probes.new ≡ probes.old + probes_made self.now.rule left.now right.now) }
         ensures counted { Grows probes.old probes.new (8 * (finite.len left.now + finite.len right.now)) }
     {
         let mut notes = self.note_left_all(left, probes)?;

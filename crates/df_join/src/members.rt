@@ -1,5 +1,5 @@
 //! The rows of one side of a join by their keys, and what they will be.
-ghost use Rattle.std.specs.Prelude.{◌≡◌, ℕ, ◌+◌, ◌*◌, ◌≤◌, ◌<◌, ◌^◌, ◌==◌, List, Option, Some, T, cond, None, OnOk, IfOk};
+ghost use Rattle.std.specs.Prelude.{◌≡◌, ℕ, ◌+◌, ◌*◌, ◌≤◌, ◌<◌, ◌^◌, ◌==◌, ◌||◌, List, Option, Some, T, cond, None, OnOk, IfOk};
 ghost use Rattle.std.specs.Option.{option_copied};
 ghost use Rattle.std.specs.FinMap as finite;
 ghost use Rattle.indexmap.specs.IndexMap.{get, spare, index_map_len, IsUnchanged};
@@ -9,7 +9,7 @@ ghost use Rattle.df_column.specs.Tables.{TaggedRows, entry_change, new_row_fits}
 ghost use Rattle.df_delta.specs.Differences.{Fits};
 ghost use Rattle.df_delta.specs.Notes.{moved};
 ghost use Rattle.df_join.specs.Keyed.{IsGroup, IsIndexOf, LeadsTo, group_of, state_of, table_or, table_or_none, unless_empty};
-ghost use Rattle.df_join.specs.Probes.{Grows};
+ghost use Rattle.df_join.specs.Probes.{Grows, all_probes, change_probes, is_staged, nothing_staged, probes_over, stage_probes, with_key, with_keys};
 ghost use Rattle.df_join.specs.RowNotes.{CanMove, NewFit, row_after, without};
 ghost use Rattle.df_join.specs.Rules.{Cells};
 
@@ -82,7 +82,7 @@ impl Members {
     pub fn look(&self, key: &Row, probes: &mut u128) -> Option<&Table>
         requires { probes.old + 1 < 2 ^ 128 }
         ensures table { option_copied result ≡ get row_eq self.now.keyed.tables key.now }
-        ensures counted { Grows probes.old probes.new 1 }
+        ensures counted { probes.new ≡ probes.old + 1 }
     {
         self.keyed.look(key, probes)
     }
@@ -102,7 +102,7 @@ impl Members {
     fn kept_table(&self, key: &Row, probes: &mut u128) -> Result<Table, AllocError>
         requires { probes.old + 1 < 2 ^ 128 }
         ensures table { IfOk result (λ t. t ≡ table_or self.now.empty (get row_eq self.now.keyed.tables key.now)) }
-        ensures counted { Grows probes.old probes.new 1 }
+        ensures counted { probes.new ≡ probes.old + 1 }
     {
         match self.keyed.look(key, probes) {
             Some(table) => table.share(self.alloc),
@@ -120,6 +120,7 @@ impl Members {
         requires { probes.old + 2 < 2 ^ 128 }
         ensures table { IfOk result (λ t. t ≡ table_or self.now.empty (state_of self.now.keyed.tables staged.old.tables key.now)) }
         ensures rest { (k : Cells) → get row_eq staged.new.tables k ≡ cond (row_eq key.now k) None (get row_eq staged.old.tables k) }
+        ensures exact { probes.new ≡ probes.old + probes_over (is_staged staged.old key.now) }
         ensures counted { Grows probes.old probes.new 2 }
     {
         match staged.take(key, probes) {
@@ -147,6 +148,8 @@ impl Members {
         ensures alone { IfOk result (λ alone. (g : TaggedRows) → IsGroup self.now staged.old key.now g
             → T (new_row_fits self.now.empty.schema (row_after goes row.now))
             → alone ≡ (finite.len (without goes g tag) == 0)) }
+        ensures exact { probes.new ≡ probes.old + probes_over (is_staged staged.old key.now) }
+        ensures touched { OnOk result ((k : Cells) → is_staged staged.new k ≡ (row_eq key.now k || is_staged staged.old k)) }
         ensures counted { Grows probes.old probes.new 2 }
     {
         let before = self.take_table(staged, key, probes)?;
@@ -176,6 +179,8 @@ impl Members {
             → CanMove self.now.empty.schema indices goes tag row.now key.now t
             → LeadsTo indices self.now staged.old t
             → alone ≡ (finite.len (group_of indices key.now (without goes t tag)) == 0)) }
+        ensures exact { probes.new ≡ probes.old + probes_over (is_staged staged.old key.now) }
+        ensures touched { OnOk result ((k : Cells) → is_staged staged.new k ≡ (row_eq key.now k || is_staged staged.old k)) }
         ensures counted { Grows probes.old probes.new 2 }
     {
         self.stage_in_key(staged, goes, tag, row, key, probes)
@@ -196,6 +201,8 @@ impl Members {
             → T (new_row_fits self.now.empty.schema (cond goes None row.now))
             → LeadsTo indices.now self.now staged.old t
             → LeadsTo indices.now self.now staged.new (set_at t tag (cond goes None row.now))) }
+        ensures touched { OnOk result (is_staged staged.new ≡ with_key indices.now row.now (is_staged staged.old)) }
+        ensures exact { OnOk result (probes.new ≡ probes.old + stage_probes indices.now (is_staged staged.old) row.now) }
         ensures counted { Grows probes.old probes.new 2 }
     {
         match row {
@@ -221,6 +228,10 @@ impl Members {
             → T (new_row_fits self.now.empty.schema entry.now.new)
             → LeadsTo indices.now self.now staged.old t
             → LeadsTo indices.now self.now staged.new (set_at t entry.now.tag entry.now.new)) }
+        ensures touched { OnOk result (is_staged staged.new
+            ≡ with_key indices.now entry.now.new (with_key indices.now entry.now.old (is_staged staged.old))) }
+        ensures exact { OnOk result (probes.new ≡ probes.old
+            + change_probes indices.now (stage_probes indices.now) (is_staged staged.old) entry.now.old entry.now.new) }
         ensures counted { Grows probes.old probes.new 4 }
     {
         self.stage_option(indices, staged, true, entry.tag, &entry.old, probes)?;
@@ -239,6 +250,10 @@ impl Members {
             → Fits t delta.now → NewFit self.now.empty.schema (finite.entries delta.now)
             → LeadsTo indices.now self.now staged (applied t delta.now)) }
         ensures within { probes.new ≤ probes.old + 2 ^ 66 }
+        ensures touched { IfOk result (λ staged. is_staged staged
+            ≡ with_keys indices.now nothing_staged (finite.entries delta.now)) }
+        ensures exact { OnOk result (probes.new ≡ probes.old
+            + all_probes indices.now (stage_probes indices.now) nothing_staged (finite.entries delta.now)) }
         ensures counted { Grows probes.old probes.new (4 * finite.len delta.now) }
     {
         let mut staged = KeyedTables::new(self.alloc);

@@ -6,7 +6,7 @@ ghost use Rattle.df_column.specs.Tables.{TaggedRows};
 ghost use Rattle.df_delta.specs.Differences.{Fits};
 ghost use Rattle.df_ops.specs.Groups.{key_of as key_cells};
 ghost use Rattle.df_join.specs.Keyed.{IsIndexOf};
-ghost use Rattle.df_join.specs.Probes.{Grows};
+ghost use Rattle.df_join.specs.Probes.{Grows, all_probes, note_probes, nothing_staged, probes_right};
 ghost use Rattle.df_join.specs.RowNotes.{AreSides, Leads, Noted, joined_by_key, keyed_rows, left_list};
 ghost use Rattle.df_join.specs.Rules.{keeps_left};
 ghost use Rattle.df_join.specs.Sides.{is_one};
@@ -25,6 +25,7 @@ impl LiveJoin {
         requires { probes.old + 1 < 2 ^ 128 }
         ensures rows { IfOk result (λ rows. (r : TaggedRows) → IsIndexOf self.now.rule.indices.right self.now.right r
             → rows.items ≡ finite.entries (keyed_rows self.now.rule self.now.rule.indices.right key.now r)) }
+        ensures exact { probes.new ≡ probes.old + probes_right self.now.rule key.now }
         ensures counted { Grows probes.old probes.new 1 }
     {
         if self.rule.is_null_key(key) {
@@ -48,6 +49,8 @@ impl LiveJoin {
             (left_list self.now.rule (is_one self.now.left_scans) (keeps_left self.now.rule.how) goes tag left.now
             (finite.entries (keyed_rows self.now.rule self.now.rule.indices.right
             (key_cells self.now.rule.indices.left left.now) r)))) }
+        ensures exact { OnOk result (probes.new ≡ probes.old
+            + probes_right self.now.rule (key_cells self.now.rule.indices.left left.now)) }
         ensures counted { Grows probes.old probes.new 1 }
     {
         let key = self.rule.left_key(self.alloc, left)?;
@@ -71,6 +74,7 @@ impl LiveJoin {
             → Leads notes.old from (joined_by_key (is_one self.now.left_scans) self.now.rule l r)
             → Leads notes.new from (joined_by_key (is_one self.now.left_scans) self.now.rule
             (set_at l tag (cond goes None row.now)) r)) }
+        ensures exact { OnOk result (probes.new ≡ probes.old + note_probes self.now.rule row.now) }
         ensures counted { Grows probes.old probes.new 1 }
     {
         match row {
@@ -93,6 +97,8 @@ impl LiveJoin {
             → Leads notes.old from (joined_by_key (is_one self.now.left_scans) self.now.rule l r)
             → Leads notes.new from (joined_by_key (is_one self.now.left_scans) self.now.rule
             (set_at l entry.now.tag entry.now.new) r)) }
+        ensures exact { OnOk result (probes.new ≡ probes.old
+            + (note_probes self.now.rule entry.now.old + note_probes self.now.rule entry.now.new)) }
         ensures counted { Grows probes.old probes.new 2 }
     {
         self.note_left_option(notes, true, entry.tag, &entry.old, probes)?;
@@ -108,6 +114,8 @@ impl LiveJoin {
             → Leads notes (joined_by_key (is_one self.now.left_scans) self.now.rule l r)
             (joined_by_key (is_one self.now.left_scans) self.now.rule (applied l delta.now) r)) }
         ensures within { probes.new ≤ probes.old + 2 ^ 65 }
+        ensures exact { OnOk result (probes.new ≡ probes.old
+            + all_probes self.now.rule.indices.left (λ _. note_probes self.now.rule) nothing_staged (finite.entries delta.now)) }
         ensures counted { Grows probes.old probes.new (2 * finite.len delta.now) }
     {
         let mut notes = Notes::new(self.alloc);

@@ -1,12 +1,15 @@
 //! Notes of changed right rows, over the left side as it will be.
-ghost use Rattle.std.specs.Prelude.{◌≡◌, ◌+◌, ◌*◌, ◌≤◌, ◌<◌, ◌^◌, T, OnOk, IfOk, None, cond};
+ghost use Rattle.std.specs.Prelude.{◌≡◌, ◌+◌, ◌*◌, ◌≤◌, ◌<◌, ◌^◌, ◌||◌, T, OnOk, IfOk, None, cond};
 ghost use Rattle.std.specs.FinMap as finite;
 ghost use Rattle.df_column.specs.Changes.{set_at, applied};
 ghost use Rattle.df_column.specs.Tables.{TaggedRows, new_row_fits};
 ghost use Rattle.df_delta.specs.Differences.{Fits};
+ghost use Rattle.df_ops.specs.Groups.{key_of as key_cells};
 ghost use Rattle.df_join.specs.Keyed.{LeadsTo};
-ghost use Rattle.df_join.specs.Probes.{Grows};
+ghost use Rattle.df_join.specs.Probes.{Grows, all_probes, change_probes, is_staged, probes_left, probes_over, right_probes, with_key};
 ghost use Rattle.df_join.specs.RowNotes.{NewFit, keyed_rows, row_after, row_before};
+ghost use Rattle.df_join.specs.Rules.{Cells};
+ghost use Rattle.df_value.specs.Rows.{row_eq};
 ghost use Rattle.df_join.specs.Sides.{IsRowTag, LeadsOver, is_one};
 ghost use Rattle.df_join.specs.Spread.{HasKeys};
 
@@ -30,6 +33,8 @@ impl LiveJoin {
         requires { probes.old + 2 < 2 ^ 128 }
         ensures rows { IfOk result (λ rows. (l : TaggedRows) → LeadsTo self.now.rule.indices.left self.now.left staged.now l
             → rows.items ≡ finite.entries (keyed_rows self.now.rule self.now.rule.indices.left key.now l)) }
+        ensures exact { probes.new ≡ probes.old
+            + probes_left self.now.rule key.now (is_staged staged.now key.now) }
         ensures counted { Grows probes.old probes.new 2 }
     {
         if self.rule.is_null_key(key) {
@@ -57,6 +62,13 @@ impl LiveJoin {
             → T (new_row_fits self.now.right.empty.schema (row_after goes right.now))
             → LeadsOver self.now staged.old notes.old from l r
             → LeadsOver self.now staged.new notes.new from l (set_at r tag (row_after goes right.now))) }
+        ensures exact { OnOk result (probes.new ≡ probes.old
+            + (probes_over (is_staged staged.old.right (key_cells self.now.rule.indices.right right.now))
+            + probes_left self.now.rule (key_cells self.now.rule.indices.right right.now)
+            (is_staged staged.old.left (key_cells self.now.rule.indices.right right.now)))) }
+        ensures left { OnOk result (staged.new.left ≡ staged.old.left) }
+        ensures touched { OnOk result ((k : Cells) → is_staged staged.new.right k
+            ≡ (row_eq (key_cells self.now.rule.indices.right right.now) k || is_staged staged.old.right k)) }
         ensures counted { Grows probes.old probes.new 4 }
     {
         let key = self.rule.right_key(self.alloc, right)?;
@@ -84,6 +96,11 @@ impl LiveJoin {
             → T (new_row_fits self.now.right.empty.schema (cond goes None row.now))
             → LeadsOver self.now staged.old notes.old from l r
             → LeadsOver self.now staged.new notes.new from l (set_at r tag (cond goes None row.now))) }
+        ensures left { OnOk result (staged.new.left ≡ staged.old.left) }
+        ensures touched { OnOk result (is_staged staged.new.right
+            ≡ with_key self.now.rule.indices.right row.now (is_staged staged.old.right)) }
+        ensures exact { OnOk result (probes.new ≡ probes.old
+            + right_probes self.now.rule (is_staged staged.old.left) (is_staged staged.old.right) row.now) }
         ensures counted { Grows probes.old probes.new 4 }
     {
         match row {
@@ -106,6 +123,13 @@ impl LiveJoin {
             → T (new_row_fits self.now.right.empty.schema entry.now.new)
             → LeadsOver self.now staged.old notes.old from l r
             → LeadsOver self.now staged.new notes.new from l (set_at r entry.now.tag entry.now.new)) }
+        ensures left { OnOk result (staged.new.left ≡ staged.old.left) }
+        ensures touched { OnOk result (is_staged staged.new.right
+            ≡ with_key self.now.rule.indices.right entry.now.new
+            (with_key self.now.rule.indices.right entry.now.old (is_staged staged.old.right))) }
+        ensures exact { OnOk result (probes.new ≡ probes.old
+            + change_probes self.now.rule.indices.right (right_probes self.now.rule (is_staged staged.old.left))
+            (is_staged staged.old.right) entry.now.old entry.now.new) }
         ensures counted { Grows probes.old probes.new 8 }
     {
         self.note_right_option(staged, notes, true, entry.tag, &entry.old, probes)?;
@@ -126,6 +150,9 @@ impl LiveJoin {
             → LeadsOver self.now staged.old notes.old from l r
             → LeadsOver self.now staged.new notes.new from l (applied r delta.now)) }
         ensures within { probes.new ≤ probes.old + 2 ^ 67 }
+        ensures exact { OnOk result (probes.new ≡ probes.old
+            + all_probes self.now.rule.indices.right (right_probes self.now.rule (is_staged staged.old.left))
+            (is_staged staged.old.right) (finite.entries delta.now)) }
         ensures counted { Grows probes.old probes.new (8 * finite.len delta.now) }
     {
         for entry in delta.entries() {

@@ -1,10 +1,13 @@
-use Rattle.std.proofs.Common.{subst, sym, ◌∙◌}
+use Rattle.std.proofs.Common.{◌≡◌, ◌+◌, is_some, subst, sym}
+use Rattle.std.specs.FinMap as finite
 use Rattle.df_column.specs.Changes.{applied}
 use Rattle.df_column.specs.Tables.{TaggedRows}
 use Rattle.df_delta.specs.Differences.{IsDiff}
 use Rattle.df_delta.specs.Inputs.{MayFollowBoth}
 use Rattle.df_join.specs.Keyed.{IsIndexOf, LeadsTo}
 use Rattle.df_join.specs.Sides.{AreInputs, IsOver, LeadsOver, join_output}
+use Rattle.df_join.specs.Probes.{all_probes, is_staged, nothing_staged, stage_probes, with_keys}
+use Rattle.df_join.proofs.Counted.{counts_made}
 use Rattle.df_join.proofs.Both.{over_both, leads_to_both, diff_from_notes}
 use Rattle.df_join.proofs.Staging.{leads_at_first}
 use Rattle.df_join.proofs.join.LiveJoin.changes.Goals as goal
@@ -30,3 +33,15 @@ returns-clause-diff c l r h =
 
 pub returns-clause-staged : goal.returns-clause-staged
 returns-clause-staged c l r h = leads_to_both c.args.self.now l r c.args.left.now c.args.right.now h c.note_right_all.new.staged c.note_right_all.new.notes (over c l r h)
+
+none : (c : goal.In_ok-into_delta) → is_staged c.new.result ≡ nothing_staged
+none c = λ i k. is_some (c.new.ensures k i)
+
+pub returns-clause-exact : goal.returns-clause-exact
+returns-clause-exact c =
+    let j = c.args.self.now in
+    counts_made j.rule c.in_ok-stage_all.field-0 c.new.result c.args.left.now c.args.right.now c.args.probes.now _ _ _
+    (subst (λ indices. is_staged c.in_ok-stage_all.field-0 ≡ with_keys indices nothing_staged (finite.entries c.args.left.now)) c.as_slice.ensures c.in_ok-stage_all.ensures.touched)
+    (none c) c.in_ok-notes.ensures.exact
+    (subst (λ indices. c.stage_all.new.probes ≡ c.note_left_all.new.probes + all_probes indices (stage_probes indices) nothing_staged (finite.entries c.args.left.now)) c.as_slice.ensures c.in_ok-stage_all.ensures.exact)
+    c.in_ok-note_right_all.ensures.exact

@@ -1,7 +1,7 @@
-use Rattle.std.proofs.Common.{ap, refl, sym, ◌∙◌}
+use Rattle.std.proofs.Common.{ap}
 use Rattle.df_delta.specs.Notes.{moved}
 use Rattle.df_join.specs.Sides.{is_one}
-use Rattle.df_join.proofs.Noted.{noted_as, alone_stays, alone_goes}
+use Rattle.df_join.proofs.Noted.{noted_as, alone_stays}
 use Rattle.df_join.proofs.Staging.{on_ok_then}
 use Rattle.df_join.proofs.join.LiveJoin.note_alone.Goals as goal
 

@@ -1,4 +1,4 @@
-use Rattle.std.proofs.Common.{ap, ◌∙◌, sym, subst}
+use Rattle.std.proofs.Common.{ap, ◌∙◌, subst}
 use Rattle.std.specs.FinMap as finite
 use Rattle.df_join.specs.RowNotes.{Noted, left_list, keyed_rows}
 use Rattle.df_join.specs.Rules.{keeps_left}

@@ -1,4 +1,4 @@
-use Rattle.std.proofs.Common.{◌≡◌, cond, Some, ap, sym, ◌∙◌}
+use Rattle.std.proofs.Common.{cond, Some, ap, ◌∙◌}
 use Rattle.indexmap.specs.IndexMap.{get}
 use Rattle.df_value.specs.Rows.{row_eq}
 use Rattle.df_join.proofs.keyed.KeyedTables.put.Goals as goal

@@ -1,4 +1,4 @@
-use Rattle.std.proofs.Common.{◌≡◌, cond, ap, sym, ◌∙◌}
+use Rattle.std.proofs.Common.{cond, ap, sym, ◌∙◌}
 use Rattle.indexmap.specs.IndexMap.{get}
 use Rattle.df_value.specs.Rows.{row_eq}
 use Rattle.df_join.proofs.Groups.{is_empty, not_empty, on_ok_here}

@@ -1,0 +1,74 @@
+-- Counting look-ups over a loop.
+use Rattle.std.proofs.Common.{◌≡◌, ◌<◌, ◌≤◌, ◌+◌, ℕ, Bool, List, ◌∷◌, map, length, drop, get_or, Option, sym, ap, subst, ◌∙◌, drop-cons, add-one, arith}
+use Rattle.std.proofs.Math.ListN.{drop_of_length-le}
+use Rattle.std.specs.FinMap as finite
+use Rattle.df_column.specs.Tables.{entry_change}
+use Rattle.df_column.specs.declared.entry.Entry.{Entry}
+use Rattle.df_delta.specs.Deltas.{Changes}
+use Rattle.df_join.specs.Probes.{is_staged, nothing_staged, with_key, with_keys, stage_probes, note_probes, right_probes, change_probes, all_probes, probes_made}
+use Rattle.df_join.specs.Rules.{Cells}
+use Rattle.df_join.specs.declared.keyed.KeyedTables.{KeyedTables}
+use Rattle.df_join.specs.declared.rule.JoinRule.{JoinRule}
+
+-- n probes were made of m, and what is left is the cost of the rest over the keys that are staged now
+module _ (indices : List (Option ℕ)) (cost : (Cells → Bool) → Option Cells → ℕ) where
+  pub probes_more : (s t : Cells → Bool) (items : List Entry) (i : ℕ) (d : Entry) (m n p : ℕ) → i < length items → d ≡ get_or items i d
+      → n ≡ m + change_probes indices cost s d.old d.new
+      → t ≡ with_key indices d.new (with_key indices d.old s)
+      → m + all_probes indices cost s (map entry_change (drop i items)) ≡ p → n + all_probes indices cost t (map entry_change (drop (i + 1) items)) ≡ p
+  probes_more s t items i d m n p lt is grown keys before =
+      let e = d in
+      let first : drop i items ≡ get_or items i d ∷ drop (i + 1) items = rw add-one (drop-cons items i d lt) in
+      let here : drop i items ≡ e ∷ drop (i + 1) items = first ∙ ap (λ x. x ∷ drop (i + 1) items) (sym is) in
+      let rest : ℕ = all_probes indices cost (with_key indices e.new (with_key indices e.old s)) (map entry_change (drop (i + 1) items)) in
+      let now : all_probes indices cost t (map entry_change (drop (i + 1) items)) ≡ rest = ap (λ t. all_probes indices cost t (map entry_change (drop (i + 1) items))) keys in
+      let whole : m + (change_probes indices cost s e.old e.new + rest) ≡ p = subst (λ es. m + all_probes indices cost s (map entry_change es) ≡ p) here before in
+      ap (λ r. n + r) now ∙ sums n m (change_probes indices cost s e.old e.new) rest grown ∙ whole
+    where
+      sums : (n m a r : ℕ) → n ≡ m + a → n + r ≡ m + (a + r)
+      sums n m a r e = omega (arith, e)
+
+  pub probes_end : (s : Cells → Bool) (items : List Entry) (i m p : ℕ) → length items ≤ i → m + all_probes indices cost s (map entry_change (drop i items)) ≡ p → m ≡ p
+  probes_end s items i m p le h =
+      let none : m + 0 ≡ p = subst (λ es. m + all_probes indices cost s (map entry_change es) ≡ p) (drop_of_length-le items le) h in
+      omega (arith, none)
+
+-- the keys that are staged at the end
+pub keys_more : (indices : List (Option ℕ)) (s t u : Cells → Bool) (items : List Entry) (i : ℕ) (d : Entry) → i < length items → d ≡ get_or items i d
+    → t ≡ with_key indices d.new (with_key indices d.old s)
+    → with_keys indices s (map entry_change (drop i items)) ≡ u → with_keys indices t (map entry_change (drop (i + 1) items)) ≡ u
+keys_more indices s t u items i d lt is keys before =
+    let e = d in
+    let first : drop i items ≡ get_or items i d ∷ drop (i + 1) items = rw add-one (drop-cons items i d lt) in
+    let here : drop i items ≡ e ∷ drop (i + 1) items = first ∙ ap (λ x. x ∷ drop (i + 1) items) (sym is) in
+    ap (λ t. with_keys indices t (map entry_change (drop (i + 1) items))) keys ∙ subst (λ es. with_keys indices s (map entry_change es) ≡ u) here before
+
+pub keys_end : (indices : List (Option ℕ)) (s u : Cells → Bool) (items : List Entry) (i : ℕ) → length items ≤ i → with_keys indices s (map entry_change (drop i items)) ≡ u → s ≡ u
+keys_end indices s u items i le h = subst (λ es. with_keys indices s (map entry_change es) ≡ u) (drop_of_length-le items le) h
+
+-- one count after another
+pub counts_add : (m n p a b c : ℕ) → n ≡ m + a → p ≡ n + b → b ≡ c → p ≡ m + (a + c)
+counts_add m n p a b c e f g = omega (arith, e, f, g)
+
+-- a right change, over the left members as they were staged before the loop
+pub right_more : (rule : JoinRule) (u v : KeyedTables) (s t : Cells → Bool) (items : List Entry) (i : ℕ) (d : Entry) (m n p : ℕ) → i < length items → d ≡ get_or items i d → v ≡ u
+    → n ≡ m + change_probes rule.indices.right (right_probes rule (is_staged v)) s d.old d.new
+    → t ≡ with_key rule.indices.right d.new (with_key rule.indices.right d.old s)
+    → m + all_probes rule.indices.right (right_probes rule (is_staged u)) s (map entry_change (drop i items)) ≡ p → n + all_probes rule.indices.right (right_probes rule (is_staged u)) t (map entry_change (drop (i + 1) items)) ≡ p
+right_more rule u v s t items i d m n p lt is same grown keys before =
+    probes_more rule.indices.right (right_probes rule (is_staged u)) s t items i d m n p lt is
+    (grown ∙ ap (λ (w : KeyedTables). m + change_probes rule.indices.right (right_probes rule (is_staged w)) s d.old d.new) same)
+    keys before
+
+-- the counts of both phases
+pub counts_made : (rule : JoinRule) (l r : KeyedTables) (d e : Changes) (m a b n : ℕ) → is_staged l ≡ with_keys rule.indices.left nothing_staged (finite.entries d) → is_staged r ≡ nothing_staged
+    → a ≡ m + all_probes rule.indices.left (λ _. note_probes rule) nothing_staged (finite.entries d)
+    → b ≡ a + all_probes rule.indices.left (stage_probes rule.indices.left) nothing_staged (finite.entries d)
+    → n ≡ b + all_probes rule.indices.right (right_probes rule (is_staged l)) (is_staged r) (finite.entries e)
+    → n ≡ m + probes_made rule d e
+counts_made rule l r d e m a b n lk rk first second third =
+    let last : n ≡ b + all_probes rule.indices.right (right_probes rule (with_keys rule.indices.left nothing_staged (finite.entries d))) nothing_staged (finite.entries e) = third ∙ (λ i. b + all_probes rule.indices.right (right_probes rule (lk i)) (rk i) (finite.entries e)) in
+    add m a b n (all_probes rule.indices.left (λ _. note_probes rule) nothing_staged (finite.entries d)) (all_probes rule.indices.left (stage_probes rule.indices.left) nothing_staged (finite.entries d)) (all_probes rule.indices.right (right_probes rule (with_keys rule.indices.left nothing_staged (finite.entries d))) nothing_staged (finite.entries e)) first second last
+  where
+    add : (m a b n x y z : ℕ) → a ≡ m + x → b ≡ a + y → n ≡ b + z → n ≡ m + (x + y + z)
+    add m a b n x y z e f g = omega (arith, e, f, g)
