@@ -3,6 +3,7 @@
 //! A [`Delta`] names rows of a table by their tags, each with what stood there and what stands there afterwards. A
 //! [`LiveNode`] is an operator that follows its input by deltas: [`prepare`](LiveNode::prepare) gives the delta of its
 //! output, and [`commit`](LiveNode::commit) puts in place what the prepare made. A [`TwoSidedNode`] follows two inputs.
+//! [`keyed_changes`] splits a delta by a key of its rows.
 #![tactic(auto)]
 
 mod delta;

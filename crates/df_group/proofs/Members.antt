@@ -1,5 +1,5 @@
 -- The members of a group, before and after a change.
-use Rattle.std.proofs.Common.{◌≡◌, Bool, true, false, cond, not, List, [], ◌∷◌, map, length, get_or, Option, Some, None, Result, IfOk, IsTrue, refl, sym, ap, subst, ◌∙◌}
+use Rattle.std.proofs.Common.{◌≡◌, Bool, true, false, cond, List, [], ◌∷◌, map, length, get_or, Option, Some, None, IsTrue, refl, sym, ap, subst, ◌∙◌}
 use Rattle.std.specs.Prelude.{◌==◌, T}
 use Rattle.std.specs.Option.{IfSome, option_and_then}
 use Rattle.std.proofs.lemmas.Bool.{eqb-true}
@@ -9,7 +9,7 @@ use Rattle.df_value.specs.declared.cell.Cell.{Cell}
 use Rattle.df_value.specs.Rows.{row_eq, row_fits}
 use Rattle.df_column.specs.Changes.{applied}
 use Rattle.df_column.specs.TagOrder.{tag_total, tag_same}
-use Rattle.df_column.specs.Tables.{NewRowsFit, TableParts, TaggedRows, after_entries, entry_change, new_rows_fit}
+use Rattle.df_column.specs.Tables.{TableParts, TaggedRows, after_entries, entry_change, new_rows_fit}
 use Rattle.df_column.specs.Tags.{tag_cmp}
 use Rattle.df_column.specs.declared.entry.Entry.{Entry}
 use Rattle.df_column.specs.declared.tag.Tag.{Tag}
@@ -18,19 +18,11 @@ use Rattle.df_delta.specs.Keyed.{of_key}
 use Rattle.df_delta.proofs.Collected.{get-collected}
 use Rattle.df_delta.proofs.Fitting.{changes_of, new_rows_of}
 use Rattle.df_ops.specs.Groups.{key_of}
-use Rattle.df_group.specs.GroupIndex.{edited_table, entry_of, finished, first_entry, group_in, group_with, members_now, non_empty}
+use Rattle.df_group.specs.GroupIndex.{edited_table, entry_of, row_of_group, first_entry, group_in, group_with, members_now, non_empty}
 use Rattle.df_group.specs.GroupRows.{members_of}
 use Rattle.df_group.specs.Grouped.{group_entry}
 use Rattle.df_group.specs.declared.group.Group.{Group}
 use Rattle.df_group.specs.declared.grouping.Grouping.{Grouping}
-
--- a table that was edited, by whether the new rows fit
-pub edited_is : {E : Type 0} (made : Result TableParts E) (t : TableParts) (entries : List Entry) → (NewRowsFit t.schema entries → IfOk made (λ m. m ≡ after_entries t entries))
-    → (not (new_rows_fit t.schema entries) ≡ true → IfOk made (λ m. m ≡ t)) → IfOk made (λ m. m ≡ edited_table t entries)
-edited_is {E} made t entries fit unlike = elim (new_rows_fit t.schema entries) as (λ b. (T b → IfOk made (λ m. m ≡ after_entries t entries)) → (not b ≡ true → IfOk made (λ m. m ≡ t)) → IfOk made (λ m. m ≡ cond b (after_entries t entries) t)) [
-  | true ↦ λ f n. f tt
-  | false ↦ λ f n. n refl
-] fit unlike
 
 module _ (g : Grouping) (k : List Cell) where
   abbrev parts : TaggedRows → TableParts
@@ -69,12 +61,12 @@ module _ (g : Grouping) (k : List Cell) where
   pub no_group : non_empty (group_in g k finite.empty) ≡ None
   no_group = ap (λ m. non_empty (group_with g k (parts m))) no_members ∙ ap (λ n. cond (n == 0) None (Some (group_with g k (parts finite.empty)))) (finite.len-empty tag_cmp (List Cell))
 
-  first_is : (es : List (Tag × List Cell)) → first_entry (finished g k (map (λ e. e.1) es)) es ≡ group_entry (finished g) k es
+  first_is : (es : List (Tag × List Cell)) → first_entry (row_of_group g k (map (λ e. e.1) es)) es ≡ group_entry (row_of_group g) k es
   first_is [] = refl
   first_is (e ∷ es) = refl
 
   -- what the group gives to the output
-  pub entry_is : (m : TaggedRows) → entry_of (Some (group_with g k (parts m))) ≡ group_entry (finished g) k (finite.entries m)
+  pub entry_is : (m : TaggedRows) → entry_of (Some (group_with g k (parts m))) ≡ group_entry (row_of_group g) k (finite.entries m)
   entry_is m = first_is (finite.entries m)
 
 pub entry_of-non_empty : (group : Group) → entry_of (non_empty group) ≡ entry_of (Some group)

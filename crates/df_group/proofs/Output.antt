@@ -18,7 +18,7 @@ use Rattle.df_delta.specs.SameRows.{same_row}
 use Rattle.df_delta.proofs.NoteDiffs.{diff_of_notes}
 use Rattle.df_delta.proofs.SameRows.{same_row_yes, same_row_no}
 use Rattle.df_ops.specs.Groups.{key_of}
-use Rattle.df_group.specs.GroupIndex.{IsIndexOf, LeadsTo, entry_of, finished, group_in, members_now, non_empty, output_at, output_of, staged_or}
+use Rattle.df_group.specs.GroupIndex.{IsIndexOf, LeadsTo, entry_of, row_of_group, group_in, members_now, non_empty, output_at, output_of, staged_or}
 use Rattle.df_group.specs.GroupRows.{members_of}
 use Rattle.df_group.specs.Grouped.{at_tag, group_entry}
 use Rattle.df_group.specs.NotedSides.{both_sides, noted_new, noted_old}
@@ -38,7 +38,7 @@ row_eq-itself a = (row_eq-Decides a a).1 refl
 module _ (g : Grouping) {S : Type 0} where
   -- a group that is not staged stays
   touches : (index staged : IndexMap (List Cell) Group S) (t u : TaggedRows) → IsIndexOf g index t → LeadsTo g index staged u
-      → Touches tag_total tag_same (key_of g.indices) row_eq row_eq-yes row_eq-itself (finished g) (keys staged) t u
+      → Touches tag_total tag_same (key_of g.indices) row_eq row_eq-yes row_eq-itself (row_of_group g) (keys staged) t u
   touches index staged t u over leads = record {
     at = λ k n.
         let same : non_empty (group_in g k t) ≡ non_empty (group_in g k u) = sym (over.at k) ∙ sym (ap (λ s. staged_or s (get row_eq index k)) (not_among staged k n)) ∙ leads.at k in
@@ -51,8 +51,8 @@ module _ (g : Grouping) {S : Type 0} where
       → IsDiff (output_of g t) (output_of g u) (leaned same_row notes)
   output_diff index staged t u notes over leads noted = diff_of_notes tag_total tag_same same_row same_row_yes same_row_no (output_of g t) (output_of g u) notes (λ q.
       subst (λ c. IsNote c (finite.get (output_of g t) q) (finite.get (output_of g u) q)) (sym (noted q))
-      (groups_lead tag_total tag_same (key_of g.indices) row_eq row_eq-yes row_eq-itself (finished g) (keys staged) t u
-      (covers_of tag_total tag_same (key_of g.indices) row_eq row_eq-yes row_eq-itself (finished g) (keys staged) t u (touches index staged t u over leads)) q))
+      (groups_lead tag_total tag_same (key_of g.indices) row_eq row_eq-yes row_eq-itself (row_of_group g) (keys staged) t u
+      (covers_of tag_total tag_same (key_of g.indices) row_eq row_eq-yes row_eq-itself (row_of_group g) (keys staged) t u (touches index staged t u over leads)) q))
 
   -- the notes of one more group
   pub noted_more : (index staged : IndexMap (List Cell) Group S) (t u : TaggedRows) (i : ℕ) (k : List Cell) (group : Group) (q : Tag) (old new : Option (Change (List Cell)))
@@ -61,7 +61,7 @@ module _ (g : Grouping) {S : Type 0} where
       → new ≡ noted_new (noted_old old (at_tag tag_cmp q (entry_of (get row_eq index k)))) (at_tag tag_cmp q (entry_of (Some group)))
       → new ≡ both_sides (output_at g (drop i (keys staged)) t q) (output_at g (drop i (keys staged)) u q)
   noted_more index staged t u i k group q old new over leads place is e f =
-      let row_in = λ (m : TaggedRows). group_entry (finished g) k (finite.entries m) in
+      let row_in = λ (m : TaggedRows). group_entry (row_of_group g) k (finite.entries m) in
       let mt = members_of g.indices k t in
       let mu = members_of g.indices k u in
       let before : entry_of (get row_eq index k) ≡ row_in mt = ap entry_of (over.at k) ∙ entry_of-non_empty (group_in g k t) ∙ entry_is g k mt in

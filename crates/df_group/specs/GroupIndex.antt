@@ -15,8 +15,8 @@ use Rattle.df_group.specs.declared.group.Group.{Group}
 use Rattle.df_group.specs.declared.grouping.Grouping.{Grouping}
 
 -- the finished row of these rows of a key
-abbrev pub finished : Grouping → List Cell → List (List Cell) → List Cell
-finished g key rows = finished_row g.schema g.aggregates key rows
+abbrev pub row_of_group : Grouping → List Cell → List (List Cell) → List Cell
+row_of_group g key rows = finished_row g.schema g.aggregates key rows
 
 -- the output over an input
 abbrev pub output_of : Grouping → TaggedRows → TaggedRows
@@ -24,11 +24,11 @@ output_of g t = group_output g.schema g.indices g.aggregates t
 
 -- what the groups of these keys have at a tag
 abbrev pub output_at : Grouping → List (List Cell) → TaggedRows → Tag → Option (List Cell)
-output_at g ks t q = groups_at (key_of g.indices) row_eq (finished g) ks t q
+output_at g ks t q = groups_at (key_of g.indices) row_eq (row_of_group g) ks t q
 
 -- the group of these members
 abbrev pub group_with : Grouping → List Cell → TableParts → Group
-group_with g k members = record { members = members; row = finished g k (finite.values members.rows) }
+group_with g k members = record { members = members; row = row_of_group g k (finite.values members.rows) }
 
 -- the group of a key in an input
 abbrev pub group_in : Grouping → List Cell → TaggedRows → Group

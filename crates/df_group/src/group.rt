@@ -26,7 +26,7 @@ pub struct Group {
 }
 
 /// The table after the changes of these entries, if they fit its schema.
-fn edited(alloc: Global, table: &Table, entries: &[Entry]) -> Result<Table, AllocError>
+fn edit_table(alloc: Global, table: &Table, entries: &[Entry]) -> Result<Table, AllocError>
     requires { AreRising entries.now }
     ensures { IfOk result (λ t. t ≡ edited_table table.now entries.now) }
 {
@@ -46,10 +46,10 @@ pub fn changed_members(
         (members_now grouping.now (get row_eq index.now key.now)) changes.now.entries.items) }
 {
     match index.get(key) {
-        Some(group) => edited(alloc, &group.members, &changes.entries),
+        Some(group) => edit_table(alloc, &group.members, &changes.entries),
         None => {
             let none = Table::new(alloc, grouping.schema.copy(alloc)?)?;
-            edited(alloc, &none, &changes.entries)
+            edit_table(alloc, &none, &changes.entries)
         }
     }
 }

@@ -39,7 +39,7 @@ impl Grouping {
 
     /// The row of a group of these rows: the key, and after it the aggregates.
     pub fn finished_row(&self, alloc: Global, key: &Row, rows: &[Row]) -> Result<Row, AllocError>
-        ensures { IfOk result (λ r. r ≡ index_spec.finished self.now key.now rows.now) }
+        ensures { IfOk result (λ r. r ≡ index_spec.row_of_group self.now key.now rows.now) }
     {
         let columns = self.schema.columns().as_slice();
         let mut cells = copies(alloc, key.as_slice())?;

@@ -1,7 +1,6 @@
-use Rattle.std.proofs.Common.{◌∙◌, ap, sym}
+use Rattle.std.proofs.Common.{◌∙◌, ap}
 use Rattle.indexmap.specs.IndexMap.{get}
 use Rattle.df_value.specs.Rows.{row_eq}
-use Rattle.df_delta.specs.Keyed.{kept_changes}
 use Rattle.df_delta.specs.SameRows.{with_change}
 use Rattle.df_delta.proofs.KeyedChanges.{change_added}
 use Rattle.df_delta.proofs.keyed.add_change.Goals as goal

@@ -1,4 +1,4 @@
-use Rattle.std.proofs.Common.{◌∙◌, ◌++◌, ◌≡◌, ap, sym, List, map, length, arith}
+use Rattle.std.proofs.Common.{◌++◌, ap, List, map, length, arith}
 use Rattle.std.specs.Map.{lookup}
 use Rattle.indexmap.specs.IndexMap.{get}
 use Rattle.df_value.specs.Rows.{row_eq}
