@@ -13,7 +13,8 @@ matches same_key None k = false
 matches same_key (Some j) None = false
 matches same_key (Some j) (Some k) = same_key j k
 
--- how a join takes its keys and makes its rows: `key` and `with_key` of a left and a right row, none where a part is null; `row` of a left row and its match, or of a left row alone; `alone` where a left row without a match stays
+-- how a join takes the keys of its rows, none where a key matches nothing; when two keys are equal; the row that it makes
+-- of a left row and its match, or of a left row alone; and whether a left row without a match stays
 pub record Join (X Y Z G : Type 0) : Type 0 where
   pub left_key : X → Option G
   pub right_key : Y → Option G

@@ -127,10 +127,7 @@ pub fn has_changes(
 }
 
 /// The node after this delta, the delta of its output, and the work that it counted.
-pub fn after<N: LiveNode + Drop>(
-    mut node: N,
-    delta: Delta,
-) -> Result<(N, Delta, Meter), AllocError>
+pub fn after<N: LiveNode + Drop>(mut node: N, delta: Delta) -> Result<(N, Delta, Meter), AllocError>
     requires { IsBelow (N.budget node) (2 ^ 128) }
     ensures { IfOk result (λ r. N.budget r.0 ≡ N.budget node) }
 {

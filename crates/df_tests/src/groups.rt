@@ -8,6 +8,7 @@ use std::alloc::{AllocError, Global};
 use std::test::Fail;
 
 const KEY: [CellType; 1] = [CellType::Int];
+
 const KEY_AND_VALUE: [CellType; 2] = [CellType::Int, CellType::Int];
 
 // The number of rows of each key k, as the column n.

@@ -12,6 +12,7 @@ use std::alloc::{AllocError, Global};
 use std::test::Fail;
 
 const KEY: [CellType; 1] = [CellType::Int];
+
 const KEY_AND_VALUE: [CellType; 2] = [CellType::Int, CellType::Int];
 
 fn pair_comes(left: u64, right: u64, row: Pair) -> PairChange {
@@ -54,10 +55,22 @@ fn a_row_joined_with_itself_comes_once(rt: HostRuntime) -> Result<(), Fail> {
     let alloc = rt.alloc();
     let row = (Some(7), None);
     let join = join(alloc, &["k"], &["k"], How::Inner, false)?;
-    let (join, out, _) = after_both(join, keys(alloc, &[comes(1, row)])?, keys(alloc, &[comes(1, row)])?)?;
+    let (join, out, _) = after_both(
+        join,
+        keys(alloc, &[comes(1, row)])?,
+        keys(alloc, &[comes(1, row)])?,
+    )?;
     assert!(rt; has_changes(alloc, &out, &KEY, &[pair_comes(1, 1, row)])?);
-    let (_, out, meter) = after_both(join, keys(alloc, &[comes(2, row)])?, keys(alloc, &[comes(2, row)])?)?;
-    let want = [pair_comes(1, 2, row), pair_comes(2, 1, row), pair_comes(2, 2, row)];
+    let (_, out, meter) = after_both(
+        join,
+        keys(alloc, &[comes(2, row)])?,
+        keys(alloc, &[comes(2, row)])?,
+    )?;
+    let want = [
+        pair_comes(1, 2, row),
+        pair_comes(2, 1, row),
+        pair_comes(2, 2, row),
+    ];
     assert!(rt; has_changes(alloc, &out, &KEY, &want)?);
     assert!(rt; meter.probes <= 16);
     Ok(())
@@ -73,7 +86,10 @@ fn the_null_row_gives_way_to_a_match_and_comes_back(rt: HostRuntime) -> Result<(
     assert!(rt; has_changes(alloc, &out, &KEY_AND_VALUE, &[alone])?);
     let right = delta(alloc, &KEY_AND_VALUE, &[comes(5, (Some(7), Some(1)))])?;
     let (join, out, _) = after_both(join, Delta::empty(alloc), right)?;
-    let want = [pair_goes(1, 0, (Some(7), None)), pair_comes(1, 5, (Some(7), Some(1)))];
+    let want = [
+        pair_goes(1, 0, (Some(7), None)),
+        pair_comes(1, 5, (Some(7), Some(1))),
+    ];
     assert!(rt; has_changes(alloc, &out, &KEY_AND_VALUE, &want)?);
     let right = delta(alloc, &KEY_AND_VALUE, &[goes(5, (Some(7), Some(1)))])?;
     let (_, out, _) = after_both(join, Delta::empty(alloc), right)?;
@@ -87,14 +103,21 @@ fn with_null_keys(alloc: Global, nulls_equal: bool) -> Result<Delta, AllocError>
     let join = join(alloc, &["k", "v"], &["k"], How::Inner, nulls_equal)?;
     let left = [comes(1, (Some(1), Some(1))), comes(2, (None, Some(2)))];
     let right = [comes(1, (Some(1), None)), comes(2, (None, None))];
-    let (_, out, _) = after_both(join, delta(alloc, &KEY_AND_VALUE, &left)?, keys(alloc, &right)?)?;
+    let (_, out, _) = after_both(
+        join,
+        delta(alloc, &KEY_AND_VALUE, &left)?,
+        keys(alloc, &right)?,
+    )?;
     Ok(out)
 }
 
 #[test]
 fn null_keys_match_where_nulls_are_equal(rt: HostRuntime) -> Result<(), Fail> {
     let alloc = rt.alloc();
-    let want = [pair_comes(1, 1, (Some(1), Some(1))), pair_comes(2, 2, (None, Some(2)))];
+    let want = [
+        pair_comes(1, 1, (Some(1), Some(1))),
+        pair_comes(2, 2, (None, Some(2))),
+    ];
     let out = with_null_keys(alloc, true)?;
     assert!(rt; has_changes(alloc, &out, &KEY_AND_VALUE, &want)?);
     let out = with_null_keys(alloc, false)?;

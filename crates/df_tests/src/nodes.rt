@@ -14,7 +14,9 @@ use std::alloc::{AllocError, Global};
 use std::test::Fail;
 
 const INT: [CellType; 1] = [CellType::Int];
+
 const RANKED: [CellType; 2] = [CellType::Int, CellType::Int];
+
 const SUMMED: [CellType; 2] = [CellType::Int, CellType::Wide];
 
 // Whether these changes make no delta, and their entries come back.
