@@ -1,5 +1,5 @@
 //! Lists of changes.
-ghost use Rattle.std.specs.Prelude.{◌≡◌};
+ghost use Rattle.std.specs.Prelude.{◌≡◌, OnOk};
 ghost use Rattle.df_catalogue.specs.Desks.{AreInOrder};
 ghost use Rattle.df_catalogue.specs.Ledgers as ledgers;
 
@@ -31,27 +31,31 @@ enum Step {
 
 fn change(alloc: Global, step: Step) -> Result<Change, AllocError> {
     match step {
-        Step::Append(frame) => {
-            let chunk = chunk(alloc, 0, &[Some(7), Some(8)])?;
-            Ok(Change::Append(frame, chunk))
-        }
-        Step::AppendUnlike => {
-            let rows = List::from_vec(Vec::new(alloc));
-            let unlike = Chunk::new(alloc, &schema(alloc, Bool)?, 0, rows);
-            Ok(Change::Append(0, unlike.map_err(|_| AllocError)?))
-        }
-        Step::Delete(frame, number) => {
-            let numbers = vec![in alloc; number]?;
-            Ok(Change::Delete(frame, List::from_vec(numbers)))
-        }
+        Step::Append(frame) => Ok(Change::Append(frame, chunk(alloc, 0, &[Some(7), Some(8)])?)),
+        Step::AppendUnlike => Ok(Change::Append(0, unlike_chunk(alloc)?)),
+        Step::Delete(frame, number) => Ok(Change::Delete(frame, one(alloc, number)?)),
         Step::Replace(frame, numbers) => Ok(Change::Replace(frame, nines(alloc, numbers)?)),
         Step::ReplaceUnlike => Ok(Change::Replace(0, unlike_rows(alloc)?)),
         Step::Drop => Ok(Change::DropView(Text::from_str(alloc, "v")?)),
-        Step::Register => {
-            let plan = scan(alloc, &[Int])?;
-            Ok(Change::Register(Text::from_str(alloc, "v")?, plan))
-        }
+        Step::Register => registration(alloc),
     }
+}
+
+// A chunk without rows, of another schema than the first frame's.
+fn unlike_chunk(alloc: Global) -> Result<Chunk, AllocError> {
+    let schema = schema(alloc, Bool)?;
+    let rows = List::from_vec(Vec::new(alloc));
+    Chunk::new(alloc, &schema, 0, rows).map_err(|_| AllocError)
+}
+
+fn one(alloc: Global, number: u32) -> Result<List<u32>, AllocError> {
+    Ok(List::from_vec(vec![in alloc; number]?))
+}
+
+// Of the view `v`, of the first frame itself.
+fn registration(alloc: Global) -> Result<Change, AllocError> {
+    let plan = scan(alloc, &[Int])?;
+    Ok(Change::Register(Text::from_str(alloc, "v")?, plan))
 }
 
 // A row of 9 behind each of the numbers.
@@ -97,6 +101,22 @@ fn changes(alloc: Global) -> Result<List<Change>, AllocError> {
     Ok(List::from_vec(changes))
 }
 
+// Whether a replay of one change answers this.
+fn answers<Acc: Ledger, Del: Ledger>(
+    alloc: Global,
+    catalogue: &mut Catalogue<Acc, Del>,
+    desks: &mut [Desk<Acc, Del>],
+    step: Step,
+    fault: CatalogueFault,
+) -> Result<bool, AllocError>
+    requires { AreInOrder desks.old catalogue.old }
+    ensures { OnOk result (AreInOrder desks.new catalogue.new) }
+{
+    let changes = List::from_vec(vec![in alloc; change(alloc, step)?]?);
+    let answers = catalogue.replay(alloc, desks, changes)?;
+    Ok(answers.as_slice() == [Some(fault)].as_slice())
+}
+
 // A replay can follow a replay, and the desks of all frames are audited.
 fn again<Acc: Ledger, Del: Ledger, R: Abort>(
     rt: &R,
@@ -106,13 +126,52 @@ fn again<Acc: Ledger, Del: Ledger, R: Abort>(
 ) -> Result<(), Fail>
     requires { AreInOrder desks.old catalogue.old }
 {
-    let first = List::from_vec(vec![in alloc; change(alloc, Step::Delete(0, 0))?]?);
-    let second = List::from_vec(vec![in alloc; change(alloc, Step::Append(9))?]?);
-    let of_delete = catalogue.replay(alloc, desks, first)?;
-    assert!(rt; of_delete.as_slice() == [Some(CatalogueFault::NotLive(0))].as_slice());
-    let of_append = catalogue.replay(alloc, desks, second)?;
-    assert!(rt; of_append.as_slice() == [Some(CatalogueFault::NoFrame)].as_slice());
+    let fault = CatalogueFault::NotLive(0);
+    assert!(rt; answers(alloc, catalogue, desks, Step::Delete(0, 0), fault)?);
+    let fault = CatalogueFault::NoFrame;
+    assert!(rt; answers(alloc, catalogue, desks, Step::Append(9), fault)?);
     catalogue.audit_all(desks);
+    Ok(())
+}
+
+// All steps are answered as they say.
+fn all_answered<Acc: Ledger, Del: Ledger>(
+    alloc: Global,
+    catalogue: &mut Catalogue<Acc, Del>,
+    desks: &mut [Desk<Acc, Del>],
+) -> Result<bool, AllocError>
+    requires { AreInOrder desks.old catalogue.old }
+    ensures { OnOk result (AreInOrder desks.new catalogue.new) }
+{
+    let answers = catalogue.replay(alloc, desks, changes(alloc)?)?;
+    let wanted = STEPS.iter().map(|step| &step.1);
+    Ok(answers.as_slice().iter().eq(wanted))
+}
+
+// The first frame has one row, of 9, at the number 1.
+fn one_row_stays<Acc: Ledger, Del: Ledger, R: Abort>(
+    rt: &R,
+    alloc: Global,
+    catalogue: &Catalogue<Acc, Del>,
+) -> Result<(), Fail> {
+    assert!(rt; catalogue.frame_numbers(alloc, 0)?.as_slice() == [1].as_slice());
+    assert!(rt; catalogue.frame_rows(alloc, 0)? == rows(alloc, &[Some(9)])?);
+    assert!(rt; books(catalogue, 0) == [Some(2), Some(1), Some(1)]);
+    is_found(rt, catalogue, &row(alloc, Some(9))?, &row(alloc, Some(8))?)
+}
+
+// The one row of the first frame is told apart by its frame, place, number and cells.
+fn is_found<Acc: Ledger, Del: Ledger, R: Abort>(
+    rt: &R,
+    catalogue: &Catalogue<Acc, Del>,
+    there: &Row,
+    other: &Row,
+) -> Result<(), Fail> {
+    assert!(rt; catalogue.is_row(0, 0, 1, there));
+    assert!(rt; !catalogue.is_row(0, 0, 1, other));
+    assert!(rt; !catalogue.is_row(0, 0, 0, there));
+    assert!(rt; !catalogue.is_row(0, 1, 1, there));
+    assert!(rt; !catalogue.is_row(1, 0, 1, there));
     Ok(())
 }
 
@@ -130,12 +189,8 @@ fn replayed<Acc: Ledger, Del: Ledger, R: Abort>(
         × (deleted.parts ≡ ledgers.parts_of_ledger) }
 {
     let (mut catalogue, mut desks) = opened::<Acc, Del>(alloc, accepted, deleted, &[Int])?;
-    let answers = catalogue.replay(alloc, desks.as_mut_slice(), changes(alloc)?)?;
-    let wanted = STEPS.iter().map(|step| &step.1);
-    assert!(rt; answers.as_slice().iter().eq(wanted));
-    assert!(rt; catalogue.frame_numbers(alloc, 0)?.as_slice() == [1].as_slice());
-    assert!(rt; catalogue.frame_rows(alloc, 0)? == rows(alloc, &[Some(9)])?);
-    assert!(rt; books(&catalogue, 0) == [Some(2), Some(1), Some(1)]);
+    assert!(rt; all_answered(alloc, &mut catalogue, desks.as_mut_slice())?);
+    one_row_stays(rt, alloc, &catalogue)?;
     again(rt, alloc, &mut catalogue, desks.as_mut_slice())?;
     let desk = desks.pop().ok_or("a desk")?;
     assert!(rt; desk.accepted() == 2 && desk.deleted() == 1);

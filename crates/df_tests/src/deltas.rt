@@ -126,6 +126,27 @@ pub fn has_changes(
     Ok(found.len() == want.len() && same)
 }
 
+/// What a node is given, what it is to tell, and the most that a counter of its work is then to show.
+#[derive(Clone, Copy)]
+pub struct Step<'a> {
+    pub given: &'a [PairChange],
+    pub told: &'a [PairChange],
+    pub most: u128,
+}
+
+/// The same of a node of two inputs.
+#[derive(Clone, Copy)]
+pub struct TwoSidedStep<'a> {
+    pub left: &'a [PairChange],
+    pub right: &'a [PairChange],
+    pub told: &'a [PairChange],
+    pub most: u128,
+}
+
+fn is_at_most(meter: &Meter, most: u128) -> bool {
+    meter.evals <= most && meter.finishes <= most && meter.probes <= most && meter.windows <= most
+}
+
 /// The node after this delta, the delta of its output, and the work that it counted.
 pub fn after<N: LiveNode + Drop>(mut node: N, delta: Delta) -> Result<(N, Delta, Meter), AllocError>
     requires { IsBelow (N.budget node) (2 ^ 128) }
@@ -137,7 +158,45 @@ pub fn after<N: LiveNode + Drop>(mut node: N, delta: Delta) -> Result<(N, Delta,
     Ok((node, out, meter))
 }
 
-/// The same over two inputs, whose deltas come together.
+/// The node after a step, and whether it told what the step says. The cells that it is given and that it tells are of
+/// these types.
+fn after_step<N: LiveNode + Drop>(
+    alloc: Global,
+    node: N,
+    given: &[CellType],
+    told: &[CellType],
+    step: Step<'_>,
+) -> Result<(N, bool), AllocError>
+    requires { IsBelow (N.budget node) (2 ^ 128) }
+    ensures { IfOk result (λ r. N.budget r.0 ≡ N.budget node) }
+{
+    let (node, out, meter) = after(node, delta(alloc, given, step.given)?)?;
+    let same = has_changes(alloc, &out, told, step.told)?;
+    Ok((node, same && is_at_most(&meter, step.most)))
+}
+
+/// Whether the node tells what the steps say, one after another.
+pub fn follows<N: LiveNode + Drop>(
+    alloc: Global,
+    node: N,
+    given: &[CellType],
+    told: &[CellType],
+    steps: &[Step<'_>],
+) -> Result<bool, AllocError>
+    requires { IsBelow (N.budget node) (2 ^ 128) }
+{
+    let mut node = node;
+    for step in steps {
+        let (next, same) = after_step(alloc, node, given, told, *step)?;
+        if !same {
+            return Ok(false);
+        }
+        node = next;
+    }
+    Ok(true)
+}
+
+/// The node after these deltas, which come together, the delta of its output, and the work that it counted.
 pub fn after_both<N: TwoSidedNode + Drop>(
     mut node: N,
     left: Delta,
@@ -150,4 +209,48 @@ pub fn after_both<N: TwoSidedNode + Drop>(
     let (staged, out) = node.prepare(&left, &right, &mut meter)?;
     node.commit(staged);
     Ok((node, out, meter))
+}
+
+/// The types of the cells of the rows of a join's two sides, and of its own.
+#[derive(Clone, Copy)]
+pub struct JoinDtypes<'a> {
+    pub left: &'a [CellType],
+    pub right: &'a [CellType],
+    pub told: &'a [CellType],
+}
+
+fn after_step_of_both<N: TwoSidedNode + Drop>(
+    alloc: Global,
+    node: N,
+    dtypes: JoinDtypes<'_>,
+    step: TwoSidedStep<'_>,
+) -> Result<(N, bool), AllocError>
+    requires { IsBelow (N.budget node) (2 ^ 128) }
+    ensures { IfOk result (λ r. N.budget r.0 ≡ N.budget node) }
+{
+    let left = delta(alloc, dtypes.left, step.left)?;
+    let right = delta(alloc, dtypes.right, step.right);
+    let (node, out, meter) = after_both(node, left, right?)?;
+    let same = has_changes(alloc, &out, dtypes.told, step.told)?;
+    Ok((node, same && is_at_most(&meter, step.most)))
+}
+
+/// Whether the node of two inputs tells what the steps say, one after another.
+pub fn follows_both<N: TwoSidedNode + Drop>(
+    alloc: Global,
+    node: N,
+    dtypes: JoinDtypes<'_>,
+    steps: &[TwoSidedStep<'_>],
+) -> Result<bool, AllocError>
+    requires { IsBelow (N.budget node) (2 ^ 128) }
+{
+    let mut node = node;
+    for step in steps {
+        let (next, same) = after_step_of_both(alloc, node, dtypes, *step)?;
+        if !same {
+            return Ok(false);
+        }
+        node = next;
+    }
+    Ok(true)
 }

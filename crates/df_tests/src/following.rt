@@ -85,21 +85,26 @@ struct Followed {
     output: Table,
 }
 
+// The schema of a plain table.
+fn schema_of(table: PlainTable) -> Result<Schema, AllocError> {
+    Schema::new(table.columns).map_err(|_| AllocError)
+}
+
 impl Followed {
+    // Over no rows of the columns j, k and v.
     fn new(
         alloc: Global,
-        schema: Schema,
         keys: &[Text],
         aggregates: &[(Text, Agg)],
     ) -> Result<Followed, AllocError> {
-        let groups = LiveGroup::new(alloc, &schema, keys, aggregates)?;
-        let input = Table::new(alloc, schema)?;
-        let made = plain(alloc, &input, keys, aggregates)?;
-        let schema = Schema::new(made.columns).map_err(|_| AllocError)?;
+        let input = Table::new(alloc, columns(alloc, &["j", "k", "v"])?)?;
+        let schema = schema_of(plain(alloc, &input, keys, aggregates)?)?;
+        let output = Table::new(alloc, schema)?;
+        let groups = LiveGroup::new(alloc, input.schema(), keys, aggregates)?;
         Ok(Followed {
             groups,
             input,
-            output: Table::new(alloc, schema)?,
+            output,
         })
     }
 
@@ -146,33 +151,50 @@ fn plain(
     group_by(alloc, &table, keys, aggregates)
 }
 
+// One more random delta, and whether the groups follow it.
+fn step(
+    alloc: Global,
+    followed: Followed,
+    numbers: &mut Numbers,
+    keys: &[Text],
+    aggregates: &[(Text, Agg)],
+) -> Result<(Followed, bool), AllocError> {
+    let delta = numbers.delta(alloc, &followed.input)?;
+    let followed = followed.after(alloc, delta)?;
+    let same = followed.is_plain(alloc, keys, aggregates)?;
+    Ok((followed, same))
+}
+
 // Whether the groups by these keys follow their input through all steps.
-fn groups_follow(alloc: Global, keys: &[Text]) -> Result<bool, AllocError> {
-    let schema = columns(alloc, &["j", "k", "v"])?;
-    let aggregates = aggregates(alloc)?;
+fn groups_follow(
+    alloc: Global,
+    keys: &[Text],
+    aggregates: &[(Text, Agg)],
+) -> Result<bool, AllocError> {
     let mut numbers = Numbers { state: 20_261_123 };
-    let mut followed = Followed::new(alloc, schema, keys, &aggregates)?;
+    let mut followed = Followed::new(alloc, keys, aggregates)?;
     for _ in 0..STEPS {
-        let delta = numbers.delta(alloc, &followed.input)?;
-        followed = followed.after(alloc, delta)?;
-        if !followed.is_plain(alloc, keys, &aggregates)? {
+        let (next, same) = step(alloc, followed, &mut numbers, keys, aggregates)?;
+        if !same {
             return Ok(false);
         }
+        followed = next;
     }
     Ok(true)
 }
 
-#[test]
-fn groups_follow_random_deltas(rt: HostRuntime) -> Result<(), Fail> {
-    let alloc = rt.alloc();
-    assert!(rt; groups_follow(alloc, &[Text::from_str(alloc, "k")?])?);
-    Ok(())
+// The same, by one key or by two.
+fn groups_follow_by(alloc: Global, keys: &[&str]) -> Result<bool, AllocError> {
+    let mut names = Vec::new(alloc);
+    for key in keys {
+        names.push(Text::from_str(alloc, *key)?)?;
+    }
+    groups_follow(alloc, &names, &aggregates(alloc)?)
 }
 
 #[test]
-fn groups_of_two_keys_follow_random_deltas(rt: HostRuntime) -> Result<(), Fail> {
-    let alloc = rt.alloc();
-    let keys = [Text::from_str(alloc, "k")?, Text::from_str(alloc, "j")?];
-    assert!(rt; groups_follow(alloc, &keys)?);
+fn groups_follow_random_deltas(rt: HostRuntime) -> Result<(), Fail> {
+    assert!(rt; groups_follow_by(rt.alloc(), &["k"])?);
+    assert!(rt; groups_follow_by(rt.alloc(), &["k", "j"])?);
     Ok(())
 }

@@ -1,5 +1,5 @@
 //! Live groups under deltas.
-use crate::deltas::{after, comes, delta, gives_way, goes, has_changes};
+use crate::deltas::{Step, comes, follows, gives_way, goes};
 use crate::given::columns;
 use df_group::LiveGroup;
 use df_ops::Agg;
@@ -23,20 +23,27 @@ fn lengths(alloc: Global) -> Result<LiveGroup, AllocError> {
 #[test]
 fn a_group_stands_at_its_first_row(rt: HostRuntime) -> Result<(), Fail> {
     let alloc = rt.alloc();
-    let later = [comes(3, (Some(2), None)), comes(4, (Some(1), None))];
-    let (groups, _, _) = after(lengths(alloc)?, delta(alloc, &KEY, &later)?)?;
-    let earlier = [comes(1, (Some(1), None)), comes(2, (Some(3), None))];
-    let (groups, out, _) = after(groups, delta(alloc, &KEY, &earlier)?)?;
-    let want = [
-        comes(1, (Some(1), Some(2))),
-        comes(2, (Some(3), Some(1))),
-        goes(4, (Some(1), Some(1))),
-    ];
-    assert!(rt; has_changes(alloc, &out, &KEY_AND_VALUE, &want)?);
-    let (_, out, meter) = after(groups, delta(alloc, &KEY, &[goes(1, (Some(1), None))])?)?;
-    let want = [goes(1, (Some(1), Some(2))), comes(4, (Some(1), Some(1)))];
-    assert!(rt; has_changes(alloc, &out, &KEY_AND_VALUE, &want)?);
-    assert!(rt; meter.finishes <= 2);
+    let later = Step {
+        given: &[comes(3, (Some(2), None)), comes(4, (Some(1), None))],
+        told: &[comes(3, (Some(2), Some(1))), comes(4, (Some(1), Some(1)))],
+        most: 4,
+    };
+    let earlier = Step {
+        given: &[comes(1, (Some(1), None)), comes(2, (Some(3), None))],
+        told: &[
+            comes(1, (Some(1), Some(2))),
+            comes(2, (Some(3), Some(1))),
+            goes(4, (Some(1), Some(1))),
+        ],
+        most: 4,
+    };
+    let first_goes = Step {
+        given: &[goes(1, (Some(1), None))],
+        told: &[goes(1, (Some(1), Some(2))), comes(4, (Some(1), Some(1)))],
+        most: 2,
+    };
+    let steps = [later, earlier, first_goes];
+    assert!(rt; follows(alloc, lengths(alloc)?, &KEY, &KEY_AND_VALUE, &steps)?);
     Ok(())
 }
 
@@ -52,19 +59,23 @@ fn least(alloc: Global) -> Result<LiveGroup, AllocError> {
 #[test]
 fn the_least_value_follows_its_rows(rt: HostRuntime) -> Result<(), Fail> {
     let alloc = rt.alloc();
-    let rows = [
-        comes(1, (Some(7), Some(5))),
-        comes(2, (Some(7), Some(5))),
-        comes(3, (Some(7), Some(2))),
-    ];
-    let (groups, _, _) = after(least(alloc)?, delta(alloc, &KEY_AND_VALUE, &rows)?)?;
-    let gone = delta(alloc, &KEY_AND_VALUE, &[goes(3, (Some(7), Some(2)))])?;
-    let (groups, out, _) = after(groups, gone)?;
-    let want = [gives_way(1, (Some(7), Some(2)), (Some(7), Some(5)))];
-    assert!(rt; has_changes(alloc, &out, &KEY_AND_VALUE, &want)?);
-    let gone = delta(alloc, &KEY_AND_VALUE, &[goes(1, (Some(7), Some(5)))])?;
-    let (_, out, _) = after(groups, gone)?;
-    let want = [goes(1, (Some(7), Some(5))), comes(2, (Some(7), Some(5)))];
-    assert!(rt; has_changes(alloc, &out, &KEY_AND_VALUE, &want)?);
+    let (five, two) = ((Some(7), Some(5)), (Some(7), Some(2)));
+    let three_come = Step {
+        given: &[comes(1, five), comes(2, five), comes(3, two)],
+        told: &[comes(1, two)],
+        most: 6,
+    };
+    let least_goes = Step {
+        given: &[goes(3, two)],
+        told: &[gives_way(1, two, five)],
+        most: 2,
+    };
+    let first_goes = Step {
+        given: &[goes(1, five)],
+        told: &[goes(1, five), comes(2, five)],
+        most: 2,
+    };
+    let steps = [three_come, least_goes, first_goes];
+    assert!(rt; follows(alloc, least(alloc)?, &KEY_AND_VALUE, &KEY_AND_VALUE, &steps)?);
     Ok(())
 }

@@ -2,7 +2,7 @@
 ghost use Rattle.std.specs.Prelude.{◌≡◌, IfOk};
 ghost use Rattle.df_nodes.specs.RowOperators.{evaluations_of};
 
-use crate::deltas::{PairChange, after, comes, delta, entries, gives_way, goes, has_changes};
+use crate::deltas::{Pair, PairChange, Step, comes, entries, follows, gives_way, goes};
 use crate::given::schema;
 use df_delta::Delta;
 use df_expr::{ArithOp, CompareOp, Expr};
@@ -48,18 +48,19 @@ fn an_entry_of_no_row_comes_back(rt: HostRuntime) -> Result<(), Fail> {
     Ok(())
 }
 
+// A row of a number alone.
+fn of(number: i64) -> Pair {
+    (Some(number), None)
+}
+
+const NULL: Pair = (None, None);
+
 fn x(alloc: Global) -> Result<Expr, AllocError> {
     Ok(Expr::Column(Text::from_str(alloc, "x")?))
 }
 
 fn number(n: i64) -> Expr {
     Expr::Literal(Cell::Int(n), CellType::Int)
-}
-
-// The delta of a number that gives way to another, at the tag 1.
-fn replaced(alloc: Global, old: i64, new: Option<i64>) -> Result<Delta, AllocError> {
-    let change = gives_way(1, (Some(old), None), (new, None));
-    delta(alloc, &INT, &[change])
 }
 
 // The rows whose number is above 1.
@@ -72,18 +73,19 @@ fn filter(alloc: Global) -> Result<LiveFilter, AllocError>
 }
 
 #[test]
-fn a_filter_is_silent_of_rows_that_it_drops(rt: HostRuntime) -> Result<(), Fail> {
+fn a_filter_tells_of_the_rows_that_it_keeps(rt: HostRuntime) -> Result<(), Fail> {
     let alloc = rt.alloc();
-    let (_, out, meter) = after(filter(alloc)?, replaced(alloc, 1, None)?)?;
-    assert!(rt; out.len() == 0 && meter.evals == 2);
-    Ok(())
-}
-
-#[test]
-fn a_filter_lets_a_row_in(rt: HostRuntime) -> Result<(), Fail> {
-    let alloc = rt.alloc();
-    let (_, out, _) = after(filter(alloc)?, replaced(alloc, 1, Some(2))?)?;
-    assert!(rt; has_changes(alloc, &out, &INT, &[comes(1, (Some(2), None))])?);
+    let dropped = Step {
+        given: &[gives_way(1, of(1), NULL)],
+        told: &[],
+        most: 2,
+    };
+    let comes_in = Step {
+        given: &[gives_way(1, NULL, of(2))],
+        told: &[comes(1, of(2))],
+        most: 2,
+    };
+    assert!(rt; follows(alloc, filter(alloc)?, &INT, &INT, &[dropped, comes_in])?);
     Ok(())
 }
 
@@ -101,20 +103,13 @@ fn select(alloc: Global) -> Result<LiveMap, AllocError>
 #[test]
 fn a_select_is_silent_where_its_values_stay(rt: HostRuntime) -> Result<(), Fail> {
     let alloc = rt.alloc();
-    let (_, out, meter) = after(select(alloc)?, replaced(alloc, 3, Some(4))?)?;
-    assert!(rt; out.len() == 0 && meter.evals == 2);
+    let stays = Step {
+        given: &[gives_way(1, of(3), of(4))],
+        told: &[],
+        most: 2,
+    };
+    assert!(rt; follows(alloc, select(alloc)?, &INT, &INT, &[stays])?);
     Ok(())
-}
-
-// The delta of three numbers that come at the tags 1, 2 and 3.
-fn three(alloc: Global, numbers: [Option<i64>; 3]) -> Result<Delta, AllocError> {
-    let [first, second, third] = numbers;
-    let changes = [
-        comes(1, (first, None)),
-        comes(2, (second, None)),
-        comes(3, (third, None)),
-    ];
-    delta(alloc, &INT, &changes)
 }
 
 // The sums of x over two rows.
@@ -131,15 +126,25 @@ fn window(alloc: Global) -> Result<LiveWindow, AllocError>
 #[test]
 fn a_row_that_goes_changes_the_windows_behind_it(rt: HostRuntime) -> Result<(), Fail> {
     let alloc = rt.alloc();
-    let (window, _, _) = after(window(alloc)?, three(alloc, [Some(1), Some(2), Some(3)])?)?;
-    let gone = delta(alloc, &INT, &[goes(2, (Some(2), None))])?;
-    let (_, out, meter) = after(window, gone)?;
-    let want = [
-        goes(2, (Some(2), Some(3))),
-        gives_way(3, (Some(3), Some(5)), (Some(3), Some(4))),
-    ];
-    assert!(rt; has_changes(alloc, &out, &SUMMED, &want)?);
-    assert!(rt; meter.windows <= 2);
+    let three_come = Step {
+        given: &[comes(1, of(1)), comes(2, of(2)), comes(3, of(3))],
+        told: &[
+            comes(1, (Some(1), Some(1))),
+            comes(2, (Some(2), Some(3))),
+            comes(3, (Some(3), Some(5))),
+        ],
+        most: 6,
+    };
+    let second_goes = Step {
+        given: &[goes(2, of(2))],
+        told: &[
+            goes(2, (Some(2), Some(3))),
+            gives_way(3, (Some(3), Some(5)), (Some(3), Some(4))),
+        ],
+        most: 2,
+    };
+    let steps = [three_come, second_goes];
+    assert!(rt; follows(alloc, window(alloc)?, &INT, &SUMMED, &steps)?);
     Ok(())
 }
 
@@ -155,14 +160,30 @@ fn sum(alloc: Global) -> Result<LiveSum, AllocError> {
 #[test]
 fn a_row_that_goes_changes_the_sums_behind_it(rt: HostRuntime) -> Result<(), Fail> {
     let alloc = rt.alloc();
-    let (sum, _, _) = after(sum(alloc)?, three(alloc, [Some(1), None, Some(2)])?)?;
-    let gone = delta(alloc, &INT, &[goes(1, (Some(1), None))])?;
-    let (_, out, _) = after(sum, gone)?;
-    let want = [
-        goes(1, (Some(1), Some(1))),
-        gives_way(3, (Some(2), Some(3)), (Some(2), Some(2))),
-    ];
-    assert!(rt; has_changes(alloc, &out, &SUMMED, &want)?);
+    let three_come = Step {
+        given: &[comes(1, of(1)), comes(2, NULL), comes(3, of(2))],
+        told: &[
+            comes(1, (Some(1), Some(1))),
+            comes(2, NULL),
+            comes(3, (Some(2), Some(3))),
+        ],
+        most: 0,
+    };
+    let first_goes = Step {
+        given: &[goes(1, of(1))],
+        told: &[
+            goes(1, (Some(1), Some(1))),
+            gives_way(3, (Some(2), Some(3)), (Some(2), Some(2))),
+        ],
+        most: 0,
+    };
+    let one_comes_behind_the_null = Step {
+        given: &[goes(3, of(2)), comes(4, of(5))],
+        told: &[goes(3, (Some(2), Some(2))), comes(4, (Some(5), Some(5)))],
+        most: 0,
+    };
+    let steps = [three_come, first_goes, one_comes_behind_the_null];
+    assert!(rt; follows(alloc, sum(alloc)?, &INT, &SUMMED, &steps)?);
     Ok(())
 }
 
@@ -178,14 +199,25 @@ fn ranks(alloc: Global) -> Result<LiveRank, AllocError> {
 #[test]
 fn a_value_that_comes_raises_the_ranks_above_it(rt: HostRuntime) -> Result<(), Fail> {
     let alloc = rt.alloc();
-    let (ranks, _, _) = after(ranks(alloc)?, three(alloc, [Some(3), Some(6), Some(1)])?)?;
-    let come = delta(alloc, &INT, &[comes(4, (Some(2), None))])?;
-    let (_, out, _) = after(ranks, come)?;
-    let want = [
-        gives_way(1, (Some(3), Some(2)), (Some(3), Some(3))),
-        gives_way(2, (Some(6), Some(3)), (Some(6), Some(4))),
-        comes(4, (Some(2), Some(2))),
-    ];
-    assert!(rt; has_changes(alloc, &out, &RANKED, &want)?);
+    let three_come = Step {
+        given: &[comes(1, of(3)), comes(2, of(6)), comes(3, of(1))],
+        told: &[
+            comes(1, (Some(3), Some(2))),
+            comes(2, (Some(6), Some(3))),
+            comes(3, (Some(1), Some(1))),
+        ],
+        most: 0,
+    };
+    let one_comes_between = Step {
+        given: &[comes(4, of(2))],
+        told: &[
+            gives_way(1, (Some(3), Some(2)), (Some(3), Some(3))),
+            gives_way(2, (Some(6), Some(3)), (Some(6), Some(4))),
+            comes(4, (Some(2), Some(2))),
+        ],
+        most: 0,
+    };
+    let steps = [three_come, one_comes_between];
+    assert!(rt; follows(alloc, ranks(alloc)?, &INT, &RANKED, &steps)?);
     Ok(())
 }
