@@ -14,6 +14,7 @@ pub mod PartLemmas
 pub mod BehindLemmas
 pub mod TableLemmas
 pub mod SpotLemmas
+mod SharedLemmas
 pub mod ReadLemmas
 pub mod Bounds
 pub mod FitLemmas
