@@ -2,7 +2,7 @@ pub mod Bools
 pub mod Places
 pub mod Parts
 pub mod Pools
-pub mod PoolOrder
+mod PoolLemmas
 pub mod Masks
 pub mod PickedCells
 pub mod RowLemmas
@@ -22,3 +22,4 @@ pub mod BlockLemmas
 pub mod ChangeRuns
 pub mod MergeLemmas
 pub mod TextPlaces
+mod KnownLemmas
