@@ -2,7 +2,7 @@ pub mod Bools
 pub mod Places
 pub mod Parts
 pub mod Pools
-pub mod PoolOrder
+mod PoolLemmas
 pub mod Masks
 pub mod PickedCells
 pub mod RowLemmas
@@ -14,6 +14,7 @@ pub mod PartLemmas
 pub mod BehindLemmas
 pub mod TableLemmas
 pub mod SpotLemmas
+mod SharedLemmas
 pub mod ReadLemmas
 pub mod Bounds
 pub mod FitLemmas
@@ -21,3 +22,4 @@ pub mod BlockLemmas
 pub mod ChangeRuns
 pub mod MergeLemmas
 pub mod TextPlaces
+mod KnownLemmas

@@ -47,7 +47,7 @@ there_more u ts t n h =
     let e : n + 1 ≡ suc n = omega arith in
     record { within = omega (arith, h.within); here = ap (λ n. get_or (u ∷ ts) n []) e ∙ h.here }
 
-found : (ts : List (List ℕ)) (t : List ℕ) (n : ℕ) → place_of t ts ≡ Some n → IsThere ts t n
+pub found : (ts : List (List ℕ)) (t : List ℕ) (n : ℕ) → place_of t ts ≡ Some n → IsThere ts t n
 found [] t n e = absurd (cc e)
 found (u ∷ ts) t n e = step (found ts t) (pointwise ◌==◌ u t) (place_of t ts) refl refl e where
   step : ((m : ℕ) → place_of t ts ≡ Some m → IsThere ts t m) → (b : Bool) (o : Option ℕ) → pointwise ◌==◌ u t ≡ b → place_of t ts ≡ o → cond b (Some 0) (option_map (λ n. n + 1) o) ≡ Some n → IsThere (u ∷ ts) t n

@@ -35,11 +35,11 @@ get_back (x ∷ xs) ys zero j d h = absurd (omega arith)
 get_back (x ∷ xs) ys (suc i) j d h = get_back xs ys i j d (omega arith)
 
 module _ {S : Type 0} where
-  length_ends : (n : ℕ) (bs : List (Arc BlockParts S)) → length (ends_of n bs) ≡ length bs
+  pub length_ends : (n : ℕ) (bs : List (Arc BlockParts S)) → length (ends_of n bs) ≡ length bs
   length_ends n [] = refl
   length_ends n (b ∷ bs) = ap suc (length_ends (n + length (arc_value b).tags) bs)
 
-  block_length : (b : Arc BlockParts S) → length (block_rows (arc_value b)) ≡ length (arc_value b).tags
+  pub block_length : (b : Arc BlockParts S) → length (block_rows (arc_value b)) ≡ length (arc_value b).tags
   block_length b = length_rows (arc_value b).tags (map column_cells (arc_value b).columns)
 
   -- a row by the count of the ends before it

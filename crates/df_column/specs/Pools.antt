@@ -1,12 +1,9 @@
 -- The distinct texts of a pool, and where each stands.
-use Rattle.std.specs.Prelude.{◌≡◌, ℕ, ◌<◌, ◌≤◌, ◌+◌, ◌==◌, T, List, [], ◌∷◌, ◌++◌, Option, Some, None, cond, map, length, nat_lt, slice_range, slice_index_or}
+use Rattle.std.specs.Prelude.{◌≡◌, ℕ, ◌≤◌, ◌+◌, ◌==◌, T, List, [], ◌∷◌, ◌++◌, Option, Some, None, cond, length, slice_range, slice_index_or}
 use Rattle.std.specs.List.{list_all}
 use Rattle.std.specs.Option.{option_map}
-use Rattle.std.specs.Ordering.{nat_cmp}
 use Rattle.std.specs.Str.{is_utf8}
-use Rattle.std.specs.FinMap.{find, is_sorted}
-use Rattle.std.specs.declared.cmp.Ordering.{Ordering}
-use Rattle.std.specs.Cmp.Lexicographic.{pointwise, slice_cmp}
+use Rattle.std.specs.Cmp.Lexicographic.{pointwise}
 
 -- the place of a text, if it is there
 abbrev pub place_of : List ℕ → List (List ℕ) → Option ℕ
@@ -37,29 +34,7 @@ IsRising start len (e ∷ ends) = (start ≤ e) × IsRising e len ends
 abbrev pub start_at : ℕ → List ℕ → ℕ → ℕ
 start_at start ends place = slice_index_or (start ∷ ends) place 0
 
--- how two texts compare: by their bytes
-abbrev pub text_cmp : List ℕ → List ℕ → Ordering
-text_cmp = slice_cmp nat_cmp
-
--- the places in this order, each with its text
-abbrev pub places_by_text : List (List ℕ) → List ℕ → List (List ℕ × ℕ)
-places_by_text texts order = map (λ p. (slice_index_or texts p [], p)) order
-
--- the order lists the places of these texts by rising text, each text's once, so that no two texts are equal; and a
--- look-up in it finds what a search of the texts does
-pub record IsOrder (texts : List (List ℕ)) (order : List ℕ) : Type 0 where
-  pub whole : length order ≡ length texts
-  pub within : T (list_all (λ p. nat_lt p (length texts)) order)
-  pub sorted : T (is_sorted text_cmp (places_by_text texts order))
-  pub finds : (t : List ℕ) → find text_cmp t (places_by_text texts order) ≡ place_of t texts
-
--- the text's place stands at this index of the order
-pub record IsPlaceOf (t : List ℕ) (texts : List (List ℕ)) (order : List ℕ) (i : ℕ) : Type 0 where
-  pub in_range : i < length order
-  pub here : place_of t texts ≡ Some (slice_index_or order i 0)
-
--- the fields of a pool: its texts one behind the other, where each ends, and the places by rising text
-pub record IsPool (bytes ends order : List ℕ) : Type 0 where
+-- the fields of a pool: its texts one behind the other, and where each ends
+pub record IsPool (bytes ends : List ℕ) : Type 0 where
   pub rising : IsRising 0 (length bytes) ends
   pub utf8 : T (list_all is_utf8 (parts 0 bytes ends))
-  pub ordered : IsOrder (parts 0 bytes ends) order

@@ -27,7 +27,7 @@ use std::alloc::{AllocError, Global};
 use std::sync::Arc;
 
 /// Adds the block itself.
-pub fn push_shared(out: &mut Vec<Arc<Block>>, block: &Arc<Block>) -> Result<(), AllocError>
+fn push_shared(out: &mut Vec<Arc<Block>>, block: &Arc<Block>) -> Result<(), AllocError>
     ensures { OnOk result (AddsRows (map dtype_of_column (arc_value block.now).columns)
         (block_rows (arc_value block.now)) out.old.items out.new.items) }
 {
@@ -230,7 +230,7 @@ fn first_tag(blocks: &[Arc<Block>]) -> Option<Tag>
     }
 }
 
-/// Adds the first block after its changes, and gives the changes of the others.
+/// Adds the first block after its changes, and gives the changes of the others. Where there are none, nothing is read.
 fn push_first<'a>(
     alloc: Global,
     out: &mut Vec<Arc<Block>>,
@@ -249,6 +249,10 @@ fn push_first<'a>(
         (block_rows (arc_value block.now)) (rows_of_blocks later.now) entries.now rest.now
         out.old.items out.new.items) }
 {
+    if entries.is_empty() {
+        push_shared(out, block)?;
+        return Ok(entries);
+    }
     let (mine, others) = entries.split_at(count_before(entries, first_tag(later)));
     push_changed(alloc, out, block, mine, later.is_empty())?;
     Ok(others)

@@ -18,6 +18,7 @@ mod merge;
 mod picks;
 mod pool;
 mod reads;
+mod sharing;
 mod spots;
 mod table;
 mod tag;

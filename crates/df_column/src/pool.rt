@@ -1,11 +1,9 @@
 //! The texts of one column of a block.
-ghost use Rattle.std.specs.Prelude.{◌≡◌, ℕ, ◌<◌, ◌≤◌, ◌++◌, ◌∷◌, [], length, slice_index_or, insert, List, IfOk, IfErr, OnOk, OnErr};
-ghost use Rattle.df_column.specs.Places.{IsGap};
+ghost use Rattle.std.specs.Prelude.{◌≡◌, ℕ, ◌<◌, ◌≤◌, ◌++◌, ◌∷◌, [], length, slice_index_or, List, IfOk, OnOk, OnErr};
 ghost use Rattle.df_column.specs.Pools as pools;
-ghost use Rattle.df_column.specs.Pools.{IsOrder, IsPlaceOf, IsRising, parts, place_of, places_by_text, text_cmp};
+ghost use Rattle.df_column.specs.Pools.{IsRising, parts, place_of};
 
 use std::alloc::{AllocError, Global};
-use std::cmp::Ordering;
 use std::marker::Model;
 
 /// The dictionary of one column of texts: each distinct text once, in order of first appearance.
@@ -14,7 +12,6 @@ use std::marker::Model;
 pub struct TextPool {
     bytes: Vec<u8>,
     ends: Vec<usize>,
-    order: Vec<u32>,
 }
 
 impl Model for TextPool {
@@ -25,7 +22,7 @@ impl Model for TextPool {
 
     ghost view = { λ p. parts 0 p.bytes.items p.ends.items };
 
-    ghost invariant = { λ p. IsPool p.bytes.items p.ends.items p.order.items };
+    ghost invariant = { λ p. IsPool p.bytes.items p.ends.items };
 }
 
 /// Where the part at this place begins.
@@ -58,64 +55,33 @@ fn part<'a>(bytes: &'a [u8], ends: &[usize], place: usize) -> &'a [u8]
     &bytes[start..end]
 }
 
-/// The bytes of the part at this place, none where there is no such part.
-fn part_or_empty<'a>(bytes: &'a [u8], ends: &[usize], place: u32) -> &'a [u8]
+/// The place of the text, if it is there.
+fn place_in(bytes: &[u8], ends: &[usize], text: &[u8]) -> Option<usize>
     requires { IsRising 0 (length bytes.now) ends.now }
-    ensures { result.now ≡ slice_index_or (parts 0 bytes.now ends.now) place [] }
+    ensures { result ≡ place_of text.now (parts 0 bytes.now ends.now) }
 {
-    let place = place as usize;
-    if place < ends.len() {
-        part(bytes, ends, place)
-    } else {
-        &[]
+    for place in 0..ends.len() {
+        if part(bytes, ends, place) == text {
+            return Some(place);
+        }
     }
+    None
 }
 
-/// How the part at this place compares with the text.
-fn compare_part(bytes: &[u8], ends: &[usize], place: u32, text: &[u8]) -> Ordering
-    requires { IsRising 0 (length bytes.now) ends.now }
-    ensures { result ≡ text_cmp (slice_index_or (parts 0 bytes.now ends.now) place []) text.now }
-{
-    part_or_empty(bytes, ends, place).cmp(text)
-}
-
-/// The index of the text's place in the order, or where it would stand.
-fn search(bytes: &[u8], ends: &[usize], order: &[u32], text: &[u8]) -> Result<usize, usize>
-    requires rising { IsRising 0 (length bytes.now) ends.now }
-    requires ordered { IsOrder (parts 0 bytes.now ends.now) order.now }
-    ensures found { IfOk result (IsPlaceOf text.now (parts 0 bytes.now ends.now) order.now) }
-    ensures absent { IfErr result
-        (IsGap text_cmp (places_by_text (parts 0 bytes.now ends.now) order.now) text.now) }
-{
-    order.binary_search_by(|place| compare_part(bytes, ends, *place, text))
-}
-
-/// Adds the text, whose place stands at this index of the order, and gives the place.
-fn push_text(
-    bytes: &mut Vec<u8>,
-    ends: &mut Vec<usize>,
-    order: &mut Vec<u32>,
-    text: &[u8],
-    at: usize,
-) -> Result<u32, AllocError>
-    requires few { length ends.old.items < 1024 }
-    requires at { at ≤ length order.old.items }
+/// Adds the text, and gives its place.
+fn push_text(bytes: &mut Vec<u8>, ends: &mut Vec<usize>, text: &[u8]) -> Result<u32, AllocError>
+    requires { length ends.old.items < 1024 }
     ensures place { IfOk result (λ p. p ≡ length ends.old.items) }
     ensures ok_bytes { OnOk result (bytes.new.items ≡ bytes.old.items ++ text.now) }
     ensures ok_ends { OnOk result (ends.new.items ≡
         ends.old.items ++ length (bytes.old.items ++ text.now) ∷ []) }
-    ensures ok_order { OnOk result (order.new.items ≡
-        insert order.old.items at (length ends.old.items)) }
     ensures err_bytes { OnErr result (bytes.new.items ≡ bytes.old.items) }
     ensures err_ends { OnErr result (ends.new.items ≡ ends.old.items) }
-    ensures err_order { OnErr result (order.new.items ≡ order.old.items) }
 {
     let place = ends.len() as u32;
     ends.reserve(1)?;
-    order.reserve(1)?;
     bytes.extend_from_slice(text)?;
     let _ = ends.push(bytes.len());
-    let _ = order.insert(at, place);
     Ok(place)
 }
 
@@ -127,7 +93,6 @@ impl TextPool {
         TextPool {
             bytes: Vec::new(alloc),
             ends: Vec::new(alloc),
-            order: Vec::new(alloc),
         }
     }
 
@@ -148,7 +113,25 @@ impl TextPool {
         unsafe { str::from_utf8_unchecked(text) }
     }
 
-    /// The place of the text, which goes to the end if it is not there.
+    /// The place of the text, if it is there. Each text may be looked at.
+    fn find(&self, text: &str) -> Option<usize>
+        ensures { result ≡ place_of text.now self.now }
+    {
+        place_in(&self.bytes, &self.ends, text.as_bytes())
+    }
+
+    /// Adds the text at the end, and gives its place.
+    pub(crate) fn push(&mut self, text: &str) -> Result<u32, AllocError>
+        requires { length self.old < 1024 }
+        ensures place { IfOk result (λ p. p ≡ length self.old) }
+        ensures texts { OnOk result (self.new ≡ self.old ++ text.now ∷ []) }
+        ensures err { OnErr result (self.new ≡ self.old) }
+    {
+        let place = push_text(&mut self.bytes, &mut self.ends, text.as_bytes())?;
+        Ok(place)
+    }
+
+    /// The place of the text, which goes to the end if it is not there. Each text may be looked at.
     pub fn put(&mut self, text: &str) -> Result<u32, AllocError>
         requires { length self.old < 1024 }
         ensures place { IfOk result (λ p. p ≡
@@ -157,11 +140,10 @@ impl TextPool {
             pools.with_text (place_of text.now self.old) self.old text.now) }
         ensures err { OnErr result (self.new ≡ self.old) }
     {
-        match search(&self.bytes, &self.ends, &self.order, text.as_bytes()) {
-            Ok(at) => Ok(self.order[at]),
-            Err(at) => {
-                let text = text.as_bytes();
-                let place = push_text(&mut self.bytes, &mut self.ends, &mut self.order, text, at)?;
+        match self.find(text) {
+            Some(place) => Ok(place as u32),
+            None => {
+                let place = self.push(text)?;
                 Ok(place)
             }
         }
@@ -174,7 +156,6 @@ impl TextPool {
         Ok(TextPool {
             bytes: Vec::from_slice(alloc, &self.bytes)?,
             ends: Vec::from_slice(alloc, &self.ends)?,
-            order: Vec::from_slice(alloc, &self.order)?,
         })
     }
 }

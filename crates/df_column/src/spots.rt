@@ -1,10 +1,12 @@
 //! Rows of a list of blocks by their index among all rows.
-ghost use Rattle.std.specs.Prelude.{◌≡◌, ℕ, ◌<◌, ◌≤◌, T, List, IfErr, IfOk, length, slice_index_or};
+ghost use Rattle.std.specs.Prelude.{◌≡◌, ℕ, ◌<◌, ◌≤◌, T, List, IfErr, IfOk, length, slice_index_or, take};
 ghost use Rattle.std.specs.FinMap as finite;
 ghost use Rattle.std.specs.List.Sorted.{IsNonDecreasing};
 ghost use Rattle.df_value.specs.Rows.{row_eq};
 ghost use Rattle.df_value.specs.declared.cell.Cell.{Cell};
 ghost use Rattle.df_column.specs.Blocks.{ends_of, rows_of_blocks};
+ghost use Rattle.df_column.specs.Bounds.{IsLowerBound};
+ghost use Rattle.df_column.specs.Changes.{all_under};
 ghost use Rattle.df_column.specs.Places.{IsGap, IsPlace};
 ghost use Rattle.df_column.specs.TableBlocks.{IsEndCount, IsSpot, IsWindow};
 ghost use Rattle.df_column.specs.Tags.{tag_cmp};
@@ -117,4 +119,36 @@ pub fn search(
         Ordering::Equal => Ok(middle),
         Ordering::Greater => search(blocks, ends, tag, low, middle),
     }
+}
+
+/// The index of the row at this tag, or where it would stand.
+pub fn find(blocks: &[Arc<Block>], ends: &[usize], tag: Tag) -> Result<usize, usize>
+    requires ends { ends.now ≡ ends_of 0 blocks.now }
+    requires sorted { T (finite.is_sorted tag_cmp (rows_of_blocks blocks.now)) }
+    ensures found { IfOk result (IsPlace tag_cmp (rows_of_blocks blocks.now) tag) }
+    ensures absent { IfErr result (IsGap tag_cmp (rows_of_blocks blocks.now) tag) }
+{
+    search(blocks, ends, tag, 0, count(blocks, ends))
+}
+
+/// How many rows have a tag below this one.
+fn rows_below(blocks: &[Arc<Block>], ends: &[usize], tag: Tag) -> usize
+    requires ends { ends.now ≡ ends_of 0 blocks.now }
+    requires sorted { T (finite.is_sorted tag_cmp (rows_of_blocks blocks.now)) }
+    ensures { IsLowerBound tag (rows_of_blocks blocks.now) result }
+{
+    match find(blocks, ends, tag) {
+        Ok(at) => at,
+        Err(at) => at,
+    }
+}
+
+/// How many of the first blocks have only rows with tags below this one.
+pub fn whole_blocks_below(blocks: &[Arc<Block>], ends: &[usize], tag: Tag) -> usize
+    requires ends { ends.now ≡ ends_of 0 blocks.now }
+    requires sorted { T (finite.is_sorted tag_cmp (rows_of_blocks blocks.now)) }
+    ensures { (n : ℕ) → n ≤ result →
+        T (all_under tag_cmp tag (rows_of_blocks (take n blocks.now))) }
+{
+    ends_up_to(ends, rows_below(blocks, ends, tag))
 }

@@ -17,11 +17,12 @@ ghost use Rattle.df_column.specs.Tags.{tag_cmp};
 ghost use Rattle.df_column.specs.declared.tag.Tag.{Tag};
 
 use crate::block::{Block, MOST_ROWS};
-use crate::blocks::{changed_blocks, push_parts, push_shared};
+use crate::blocks::push_parts;
 use crate::column::Column;
 use crate::entry::{Entry, are_fitting};
 use crate::picks::{Origin, Pick};
 use crate::reads::{push_rows, push_tagged_rows};
+use crate::sharing::{block_ends, edited_blocks, shared_blocks};
 use crate::spots;
 use crate::tag::Tag;
 use df_value::{Row, Schema};
@@ -52,40 +53,6 @@ impl Model for Table {
         { schema = arc_value t.schema; rows = finite.from_sorted (rows_of_blocks t.blocks.items) } };
 
     ghost invariant = { λ t. IsTable (arc_value t.schema) t.blocks.items t.ends.items };
-}
-
-/// The most rows of a table: more would take more memory than an allocator has.
-const MOST_ROWS_OF_TABLE: usize = 1 << 60;
-
-/// How many rows stand up to the end of each block.
-fn block_ends(alloc: Global, blocks: &[Arc<Block>]) -> Result<Vec<usize>, AllocError>
-    ensures ends { IfOk result (λ v. v.items ≡ ends_of 0 blocks.now) }
-    ensures few { IfOk result (λ _. length (rows_of_blocks blocks.now) ≤ 2 ^ 60) }
-{
-    let mut ends = Vec::with_capacity(alloc, blocks.len())?;
-    let mut end = 0;
-    for block in blocks {
-        let rows = block.tags().len();
-        if rows > MOST_ROWS_OF_TABLE - end {
-            return Err(AllocError);
-        }
-        end += rows;
-        ends.push(end)?;
-    }
-    Ok(ends)
-}
-
-/// The same blocks, shared.
-fn shared_blocks(alloc: Global, blocks: &[Arc<Block>]) -> Result<Vec<Arc<Block>>, AllocError>
-    ensures rows { IfOk result (λ v. rows_of_blocks v.items ≡ rows_of_blocks blocks.now) }
-    ensures types { IfOk result (λ v. (dtypes : List CellType) → AreOfDtypes dtypes blocks.now →
-        AreOfDtypes dtypes v.items) }
-{
-    let mut out = Vec::with_capacity(alloc, blocks.len())?;
-    for block in blocks {
-        push_shared(&mut out, block)?;
-    }
-    Ok(out)
 }
 
 /// A column of no cells for each column of the schema.
@@ -164,10 +131,14 @@ impl Table {
     pub fn share(&self, alloc: Global) -> Result<Table, AllocError>
         ensures { IfOk result (λ t. t ≡ self.now) }
     {
-        let blocks = shared_blocks(alloc, self.blocks())?;
+        let blocks = shared_blocks(alloc, &self.blocks, 0)?;
+        let ends = Vec::from_slice(alloc, &self.ends)?;
         let schema = self.shared_schema()?;
-        let table = from_blocks(alloc, schema, blocks)?;
-        Ok(table)
+        Ok(Table {
+            schema,
+            blocks,
+            ends,
+        })
     }
 
     /// The table after the changes of these entries: at each tag that they name stands the new row, or nothing. Where
@@ -193,10 +164,13 @@ impl Table {
         ensures { IfOk result (λ t. t ≡ after_entries self.now entries.now) }
     {
         let columns = empty_columns(alloc, self.schema())?;
-        let blocks = changed_blocks(alloc, self.blocks(), &columns, entries)?;
+        let (blocks, ends) = edited_blocks(alloc, &self.blocks, &self.ends, &columns, entries)?;
         let schema = self.shared_schema()?;
-        let table = from_blocks(alloc, schema, blocks)?;
-        Ok(table)
+        Ok(Table {
+            schema,
+            blocks,
+            ends,
+        })
     }
 
     /// The table of these rows. Their tags rise, and each fits the schema.
@@ -268,7 +242,7 @@ impl Table {
             Some (slice_index_or (finite.entries self.now.rows) i d).1) }
         ensures absent { IfNone result (finite.get self.now.rows tag ≡ None) }
     {
-        match find_in(&self.blocks, &self.ends, tag) {
+        match spots::find(&self.blocks, &self.ends, tag) {
             Ok(at) => Some(at),
             Err(_) => None,
         }
@@ -288,7 +262,7 @@ impl Table {
     pub fn lower_bound(&self, tag: Tag) -> usize
         ensures { IsLowerBound tag (finite.entries self.now.rows) result }
     {
-        match find_in(&self.blocks, &self.ends, tag) {
+        match spots::find(&self.blocks, &self.ends, tag) {
             Ok(at) => at,
             Err(at) => at,
         }
@@ -298,7 +272,7 @@ impl Table {
     pub fn upper_bound(&self, tag: Tag) -> usize
         ensures { IsUpperBound tag (finite.entries self.now.rows) result }
     {
-        match find_in(&self.blocks, &self.ends, tag) {
+        match spots::find(&self.blocks, &self.ends, tag) {
             Ok(at) => at + 1,
             Err(at) => at,
         }
@@ -346,16 +320,6 @@ impl Table {
         }
         Ok(out)
     }
-}
-
-/// The index of the row at this tag, or where it would stand.
-fn find_in(blocks: &[Arc<Block>], ends: &[usize], tag: Tag) -> Result<usize, usize>
-    requires ends { ends.now ≡ ends_of 0 blocks.now }
-    requires sorted { T (finite.is_sorted tag_cmp (rows_of_blocks blocks.now)) }
-    ensures found { IfOk result (IsPlace tag_cmp (rows_of_blocks blocks.now) tag) }
-    ensures absent { IfErr result (IsGap tag_cmp (rows_of_blocks blocks.now) tag) }
-{
-    spots::search(blocks, ends, tag, 0, spots::count(blocks, ends))
 }
 
 /// Blocks of these rows.

@@ -1,10 +1,12 @@
 //! The texts of one column of a block.
-ghost use Rattle.std.specs.Prelude.{◌≡◌, ◌<◌, ◌≤◌, ◌+◌, ◌++◌, ◌∷◌, [], T, List, ℕ, length, map, slice_index_or, IfOk, IsTrue, OnOk, Option};
+ghost use Rattle.std.specs.Prelude.{◌≡◌, ◌<◌, ◌≤◌, ◌+◌, ◌++◌, ◌∷◌, [], T, List, ℕ, length, map, slice_index_or, take, IfOk, IsTrue, OnOk, Option};
 ghost use Rattle.df_value.specs.CellEq.{cell_eq};
 ghost use Rattle.df_value.specs.Cells.{fits_dtype};
 ghost use Rattle.df_value.specs.declared.cell.Cell.{Cell};
 ghost use Rattle.df_value.specs.declared.cell.CellType.TheVariants as dtype_as;
 ghost use Rattle.df_column.specs.Picks.{AreFit, AreWithin, is_fit, is_within, origin_cell, picked_cells, all_or_none};
+ghost use Rattle.df_column.specs.Pools as pools;
+ghost use Rattle.df_column.specs.Pools.{place_of};
 ghost use Rattle.df_column.specs.Texts.{ArePlaces, pool_text, text_now};
 ghost use Rattle.df_column.specs.ValueCells.{text_cell};
 
@@ -12,8 +14,12 @@ use crate::masked::Masked;
 use crate::picks::{Origin, Pick};
 use crate::pool::TextPool;
 use df_value::{Cell, Text, both};
+use indexmap::IndexSet;
 use std::alloc::{AllocError, Global};
 use std::marker::Model;
+
+/// The most texts that are looked for along the pool. For more of them their hashes are made.
+const MOST_LOOKED_UP: usize = 16;
 
 /// Texts or nulls: the places of the texts in a pool. Contracts see a list of options.
 #[derive(Drop)]
@@ -57,6 +63,135 @@ fn push_text(
             Ok(())
         }
     }
+}
+
+/// Adds the text to the pool if it is none of the known ones, which are those of the pool, and gives its place.
+fn put_known<'a>(
+    pool: &mut TextPool,
+    known: &mut IndexSet<&'a str>,
+    text: &'a str,
+) -> Result<u32, AllocError>
+    requires few { length pool.old < 1024 }
+    requires known { map (λ t. t.now) known.old.keys ≡ pool.old }
+    ensures place { IfOk result (λ p. p ≡ pools.place_or_end (place_of text.now pool.old) pool.old) }
+    ensures texts { OnOk result (pool.new ≡
+        pools.with_text (place_of text.now pool.old) pool.old text.now) }
+    ensures known { OnOk result (map (λ t. t.now) known.new.keys ≡ pool.new) }
+{
+    let (place, is_new) = known.insert_full(text)?;
+    if !is_new {
+        return Ok(place as u32);
+    }
+    let place = pool.push(text)?;
+    Ok(place)
+}
+
+/// Adds the text or a null to the places, and a new text to the pool, whose texts are the known ones.
+fn push_known<'a>(
+    places: &mut Masked<u16>,
+    pool: &mut TextPool,
+    known: &mut IndexSet<&'a str>,
+    text: Option<&'a str>,
+) -> Result<(), AllocError>
+    requires sound { ArePlaces pool.old places.old }
+    requires few { length places.old < 1024 }
+    requires known { map (λ t. t.now) known.old.keys ≡ pool.old }
+    ensures sound { OnOk result (ArePlaces pool.new places.new) }
+    ensures len { OnOk result (length places.new ≡ length places.old + 1) }
+    ensures texts { OnOk result (map (pool_text pool.new) places.new ≡
+        map (pool_text pool.old) places.old ++ text_now text.entry ∷ []) }
+    ensures known { OnOk result (map (λ t. t.now) known.new.keys ≡ pool.new) }
+{
+    match text {
+        Some(text) => {
+            let place = put_known(pool, known, text)?;
+            places.push(Some(place as u16), 0)?;
+            Ok(())
+        }
+        None => {
+            places.push(None, 0)?;
+            Ok(())
+        }
+    }
+}
+
+/// The number of these texts and nulls, or 0.
+fn len_if(whole: bool, texts: &Texts) -> usize
+    ensures { result ≡ length (all_or_none whole texts.now) }
+{
+    if whole { texts.len() } else { 0 }
+}
+
+/// Adds the first texts of a column, as [`push_known`] does each.
+fn push_column<'a>(
+    places: &mut Masked<u16>,
+    pool: &mut TextPool,
+    known: &mut IndexSet<&'a str>,
+    old: &'a Texts,
+    count: usize,
+) -> Result<(), AllocError>
+    requires sound { ArePlaces pool.old places.old }
+    requires within { count ≤ length old.now }
+    requires few { length places.old + count ≤ 1024 }
+    requires known { map (λ t. t.now) known.old.keys ≡ pool.old }
+    ensures sound { OnOk result (ArePlaces pool.new places.new) }
+    ensures texts { OnOk result (map (pool_text pool.new) places.new ≡
+        map (pool_text pool.old) places.old ++ take count old.now) }
+    ensures known { OnOk result (map (λ t. t.now) known.new.keys ≡ pool.new) }
+{
+    for at in 0..count {
+        push_known(places, pool, known, old.get(at))?;
+    }
+    Ok(())
+}
+
+/// Adds the texts of the picked rows, in the old column or at this index of a new row, as [`push_known`] does each.
+fn push_rows<'a>(
+    places: &mut Masked<u16>,
+    pool: &mut TextPool,
+    known: &mut IndexSet<&'a str>,
+    old: &'a Texts,
+    column: usize,
+    picks: &[Pick<'a>],
+) -> Result<(), AllocError>
+    requires sound { ArePlaces pool.old places.old }
+    requires known { map (λ t. t.now) known.old.keys ≡ pool.old }
+    requires within { AreWithin (length old.now) picks.now }
+    requires fits { AreFit dtype_as.Text column picks.now }
+    requires few { length places.old + length picks.now ≤ 1024 }
+    ensures sound { OnOk result (ArePlaces pool.new places.new) }
+    ensures texts { OnOk result (map text_cell (map (pool_text pool.new) places.new) ≡
+        map text_cell (map (pool_text pool.old) places.old)
+        ++ picked_cells (map text_cell old.now) column picks.now) }
+{
+    for pick in picks {
+        push_known(places, pool, known, text_from(old, column, pick.origin))?;
+    }
+    Ok(())
+}
+
+/// The texts of the picked rows, behind all texts of the column if `whole` says so. Each is looked up by its hash.
+fn picked_by_hash<'a>(
+    alloc: Global,
+    old: &'a Texts,
+    whole: bool,
+    column: usize,
+    picks: &[Pick<'a>],
+) -> Result<Texts, AllocError>
+    requires within { AreWithin (length old.now) picks.now }
+    requires fits { AreFit dtype_as.Text column picks.now }
+    requires few { length (all_or_none whole old.now) + length picks.now ≤ 1024 }
+    ensures { IfOk result (λ t. map text_cell t ≡ map text_cell (all_or_none whole old.now)
+        ++ picked_cells (map text_cell old.now) column picks.now) }
+{
+    let first = len_if(whole, old);
+    let room = first + picks.len();
+    let mut known = IndexSet::with_capacity(alloc, room)?;
+    let mut places = Masked::with_capacity(alloc, room)?;
+    let mut pool = TextPool::new(alloc);
+    push_column(&mut places, &mut pool, &mut known, old, first)?;
+    push_rows(&mut places, &mut pool, &mut known, old, column, picks)?;
+    Ok(Texts { places, pool })
 }
 
 /// The text of the cell, none for a null.
@@ -182,6 +317,10 @@ impl Texts {
             all_or_none whole (map text_cell self.now)
             ++ picked_cells (map text_cell self.now) column picks.now) }
     {
+        if picks.len() > MOST_LOOKED_UP {
+            let texts = picked_by_hash(alloc, self, whole, column, picks)?;
+            return Ok(texts);
+        }
         let start = self.start(alloc, whole, picks.len())?;
         let texts = start.with_picked(self, column, picks)?;
         Ok(texts)

@@ -1,7 +1,7 @@
 //! Tables of blocks: rows across several blocks, look-ups between tags, changes at the ends of blocks, and the
 //! dictionary of texts.
 use df_column::{Entry, Table, Tag, TextPool};
-use df_delta::{Delta, apply};
+use df_delta::{Delta, apply, push_change};
 use df_value::{Cell, CellType, Duplicate, List, Row, Schema, Text};
 use std::alloc::{AllocError, Global};
 use std::test::Fail;
@@ -102,6 +102,83 @@ fn a_tag_between_two_is_not_found(rt: HostRuntime) -> Result<(), Fail> {
     Ok(())
 }
 
+fn is_row(table: &Table, at: usize, row: &Row) -> bool {
+    at < table.len() && table.is_row(at, row)
+}
+
+fn of_cells(alloc: Global, key: Option<&str>, value: Option<i64>) -> Result<Row, AllocError> {
+    let key = match key {
+        Some(key) => Cell::Text(Text::from_str(alloc, key)?),
+        None => Cell::Null,
+    };
+    let value = match value {
+        Some(value) => Cell::Int(value),
+        None => Cell::Null,
+    };
+    Row::new(alloc, vec![in alloc; key, value]?)
+}
+
+// Whether the row at this index has these cells.
+fn has_cells(
+    alloc: Global,
+    table: &Table,
+    at: usize,
+    key: Option<&str>,
+    value: Option<i64>,
+) -> Result<bool, AllocError> {
+    let row = of_cells(alloc, key, value)?;
+    Ok(is_row(table, at, &row))
+}
+
+#[test]
+fn a_row_is_compared_cell_by_cell(rt: HostRuntime) -> Result<(), Fail> {
+    let alloc = rt.alloc();
+    let table = table(alloc, &rows(alloc, 12)?)?;
+    assert!(rt; has_cells(alloc, &table, 0, Some("a"), Some(0))?);
+    assert!(rt; !has_cells(alloc, &table, 0, Some("b"), Some(0))?);
+    assert!(rt; !has_cells(alloc, &table, 0, Some("a"), Some(1))?);
+    assert!(rt; !has_cells(alloc, &table, 0, None, Some(0))?);
+    assert!(rt; has_cells(alloc, &table, 1, None, Some(1))?);
+    assert!(rt; !has_cells(alloc, &table, 1, Some("b"), Some(1))?);
+    assert!(rt; has_cells(alloc, &table, 8, Some("a"), None)?);
+    assert!(rt; !has_cells(alloc, &table, 8, Some("a"), Some(8))?);
+    Ok(())
+}
+
+// The text of row 0 stands in row 6 too, and that of row 3 in row 9.
+#[test]
+fn a_repeated_text_is_the_same(rt: HostRuntime) -> Result<(), Fail> {
+    let alloc = rt.alloc();
+    let table = table(alloc, &rows(alloc, 12)?)?;
+    assert!(rt; has_cells(alloc, &table, 6, Some("a"), Some(6))?);
+    assert!(rt; !has_cells(alloc, &table, 6, Some("b"), Some(6))?);
+    assert!(rt; has_cells(alloc, &table, 9, Some("b"), Some(9))?);
+    assert!(rt; !has_cells(alloc, &table, 9, Some("a"), Some(9))?);
+    Ok(())
+}
+
+#[test]
+fn rows_are_compared_at_the_end_of_a_block(rt: HostRuntime) -> Result<(), Fail> {
+    let alloc = rt.alloc();
+    let table = table(alloc, &rows(alloc, 1026)?)?;
+    assert!(rt; has_cells(alloc, &table, 1023, Some("b"), Some(23))?);
+    assert!(rt; !has_cells(alloc, &table, 1023, None, Some(24))?);
+    assert!(rt; has_cells(alloc, &table, 1024, None, Some(24))?);
+    assert!(rt; !has_cells(alloc, &table, 1024, Some("b"), None)?);
+    assert!(rt; has_cells(alloc, &table, 1025, Some("b"), None)?);
+    Ok(())
+}
+
+#[test]
+fn a_row_of_fewer_cells_is_another(rt: HostRuntime) -> Result<(), Fail> {
+    let alloc = rt.alloc();
+    let table = table(alloc, &rows(alloc, 1)?)?;
+    let text = Cell::Text(Text::from_str(alloc, "a")?);
+    let shorter = Row::new(alloc, vec![in alloc; text]?)?;
+    assert!(rt; !is_row(&table, 0, &shorter));
+    Ok(())
+}
+
 // A change by its tag: which row stood there and which comes, by their numbers.
 type Edit = (Tag, Option<u64>, Option<u64>);
 
@@ -161,6 +238,67 @@ fn changes_at_the_ends_of_blocks(rt: HostRuntime) -> Result<(), Fail> {
     let want = rows_after(alloc, &[5, 7, 1025, 1026])?;
     assert!(rt; has_rows(alloc, &after, &want)?);
     assert!(rt; has_rows(alloc, &table, &before)?);
+    Ok(())
+}
+
+// A number that looks random, from the one before.
+fn next(state: u64) -> u64 {
+    state
+        .wrapping_mul(6_364_136_223_846_793_005)
+        .wrapping_add(1_442_695_040_888_963_407)
+}
+
+// At the tags of even first numbers, and at those between them, stand rows of these numbers or none. About half of
+// 700 places in a row change: a third of these lose their row, if they have one.
+fn step(
+    alloc: Global,
+    state: &mut u64,
+    places: &mut [Option<u64>],
+    table: &Table,
+) -> Result<Table, AllocError> {
+    let mut entries = Vec::new(alloc);
+    *state = next(*state);
+    let low = (*state >> 33) as usize % places.len().max(1);
+    for at in low..low.saturating_add(700).min(places.len()) {
+        *state = next(*state);
+        let drawn = *state >> 33;
+        if drawn % 2 == 0 {
+            let new = if drawn % 3 == 0 { None } else { Some(drawn) };
+            let tag = Tag {
+                first: at as u64,
+                second: 0,
+                third: 0,
+            };
+            let old = row_of(alloc, places[at])?;
+            push_change(&mut entries, tag, old, row_of(alloc, new)?)?;
+            places[at] = new;
+        }
+    }
+    changed(alloc, table, entries)
+}
+
+fn rows_at(alloc: Global, places: &[Option<u64>]) -> Result<Vec<Row>, AllocError> {
+    let mut rows = Vec::new(alloc);
+    for number in places {
+        if let Some(row) = row_of(alloc, *number)? {
+            rows.push(row)?;
+        }
+    }
+    Ok(rows)
+}
+
+#[test]
+fn random_changes_beside_a_plain_list(rt: HostRuntime) -> Result<(), Fail> {
+    let alloc = rt.alloc();
+    let mut places = Vec::new(alloc);
+    places.resize(6000, None)?;
+    let mut table = Table::new(alloc, schema(alloc)?)?;
+    let mut state = 19;
+    for _ in 0..60 {
+        table = step(alloc, &mut state, &mut places, &table)?;
+        assert!(rt; has_rows(alloc, &table, &rows_at(alloc, &places)?)?);
+    }
+    assert!(rt; table.len() > 2048);
     Ok(())
 }
 

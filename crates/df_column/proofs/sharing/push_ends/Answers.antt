@@ -1,6 +1,6 @@
 use Rattle.std.proofs.Common.{◌∙◌, ap, sym, ◌++◌, append_assoc, arith}
 use Rattle.df_column.proofs.TableLemmas.{ends_step, count_step}
-use Rattle.df_column.proofs.table.block_ends.Goals as goal
+use Rattle.df_column.proofs.sharing.push_ends.Goals as goal
 
 pub loop-block-preserved : goal.loop-block-preserved
 loop-block-preserved c =
