@@ -1,5 +1,6 @@
 //! The live cumulative sum.
-ghost use Rattle.std.specs.Prelude.{◌≡◌, ◌+◌, ◌-◌, ◌^◌, ◌<◌, ◌≤◌, ◌+ℤ◌, ◌≤ℤ◌, ◌∷◌, ◌++◌, [], Some, T, IfOk, IfSome, IsTrue, OnOk, drop, length, map, not, pos, slice_get, take};
+ghost use Rattle.std.specs.Prelude.{◌≡◌, ◌+◌, ◌-◌, ◌^◌, ◌<◌, ◌≤◌, ◌+ℤ◌, ◌≤ℤ◌, ◌∷◌, ◌++◌, []};
+ghost use Rattle.std.specs.Prelude.{Some, T, IfOk, IfSome, IsTrue, OnOk, drop, length, map, not, pos, slice_get, take};
 ghost use Rattle.std.specs.FinMap as finite;
 ghost use Rattle.std.specs.List.{list_all};
 ghost use Rattle.df_value.specs.Schemas.{IsSchema};
@@ -17,7 +18,8 @@ ghost use Rattle.df_delta.specs.SameRows.{with_change};
 ghost use Rattle.df_delta.specs.Work.{no_work};
 ghost use Rattle.df_nodes.specs.Outputs.{summed};
 ghost use Rattle.df_nodes.specs.Rolling.{reached_by};
-ghost use Rattle.df_nodes.specs.Sums.{AreSums, HasSumsBefore, cell_in, made_output, shift_of, sum_output, sum_to, summed_row};
+ghost use Rattle.df_nodes.specs.Sums.{AreSums, HasSumsBefore, cell_in, made_output};
+ghost use Rattle.df_nodes.specs.Sums.{shift_of, sum_output, sum_to, summed_row};
 
 use crate::added_column::schema_with;
 use crate::changed_tables::{ChangedTables, rows_before_entry};
