@@ -6,3 +6,4 @@ pub mod IndexMaps
 pub mod Members
 pub mod Staged
 pub mod Output
+pub mod GroupTags

@@ -1,5 +1,6 @@
 -- What the index of groups holds of an input, and what a change stages for it.
-use Rattle.std.specs.Prelude.{◌≡◌, ◌==◌, cond, List, [], ◌∷◌, Option, Some, None}
+use Rattle.std.specs.Prelude.{◌≡◌, ◌==◌, true, cond, List, [], ◌∷◌, Option, Some, None, is_some}
+use Rattle.std.specs.Option.{IfSome}
 use Rattle.std.specs.FinMap as finite
 use Rattle.indexmap.specs.IndexMap.{IndexMap, get}
 use Rattle.df_value.specs.declared.cell.Cell.{Cell}
@@ -25,6 +26,10 @@ output_of g t = group_output g.schema g.indices g.aggregates t
 -- what the groups of these keys have at a tag
 abbrev pub output_at : Grouping → List (List Cell) → TaggedRows → Tag → Option (List Cell)
 output_at g ks t q = groups_at (key_of g.indices) row_eq (row_of_group g) ks t q
+
+-- each tag of the rows u is a tag of the rows t
+abbrev pub HasTagsOf : TaggedRows → TaggedRows → Type 0
+HasTagsOf t u = (q : Tag) → IfSome (finite.get u q) (λ _. is_some (finite.get t q) ≡ true)
 
 -- the group of these members
 abbrev pub group_with : Grouping → List Cell → TableParts → Group

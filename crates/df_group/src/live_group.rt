@@ -12,7 +12,7 @@ ghost use Rattle.df_delta.specs.Differences.{Fits, IsDiff};
 ghost use Rattle.df_delta.specs.SameRows.{same_row};
 ghost use Rattle.df_delta.specs.Work.{IsBelow, IsWithin, plus};
 ghost use Rattle.df_group.specs.GroupIndex as index_spec;
-ghost use Rattle.df_group.specs.GroupIndex.{IsIndexOf, output_of};
+ghost use Rattle.df_group.specs.GroupIndex.{HasTagsOf, IsIndexOf, output_of};
 ghost use Rattle.df_group.specs.GroupRows.{group_output};
 ghost use Rattle.df_group.specs.Work.{finishes};
 
@@ -58,6 +58,9 @@ impl LiveGroup {
             finite.values (output_of n.grouping t)
             ≡ (tables.group_by_table (record { columns = schema.now; rows = finite.values t })
             keys.now aggregates.now).rows) }
+
+        // A group has its first row's tag: so its tag has what all tags of the input have.
+        ensures tags { IfOk result (λ n. (t : TaggedRows) → HasTagsOf t (output_of n.grouping t)) }
         ensures over { IfOk result (λ n. IsIndexOf n.grouping n.index finite.empty) }
         ensures schema { IfOk result (λ n. n.grouping.schema ≡ schema.now) }
     {

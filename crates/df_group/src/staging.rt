@@ -84,10 +84,19 @@ fn put_group(index: &mut IndexMap<Row, Group>, key: Row, group: Group)
     ensures room { spare index.old ≤ spare index.new + 1 }
 {
     if group.members.len() == 0 {
-        let _ = index.swap_remove(&key);
+        take_out(index, &key);
     } else {
         let _ = index.insert(key, group);
     }
+}
+
+/// Takes the key out of the index.
+fn take_out(index: &mut IndexMap<Row, Group>, key: &Row)
+    ensures state { (k : List Cell) → get row_eq index.new k
+        ≡ cond (row_eq key.now k) None (get row_eq index.old k) }
+    ensures room { spare index.old ≤ spare index.new }
+{
+    let _ = index.swap_remove(key);
 }
 
 /// Puts each staged group into the index.

@@ -13,4 +13,6 @@ pub mod WindowValues
 pub mod WindowReach
 pub mod WindowCounts
 pub mod WindowDiff
+pub mod ShiftedSums
+pub mod SumStarts
 pub mod Sums

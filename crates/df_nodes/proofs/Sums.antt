@@ -1,21 +1,21 @@
 -- Cumulative sums over tagged rows, by their definitions over plain rows, and where a delta changes them.
-use Rattle.std.proofs.Common.{◌≡◌, ℕ, ◌+◌, ◌-◌, ◌<◌, ◌≤◌, min, max, List, [], ◌∷◌, length, map, take, drop, filter, get_or, Option, Some, None, IfSome, IfNone, refl, sym, ap, subst, ◌∙◌, arith, zero-add}
-use Rattle.std.specs.Prelude.{T}
+use Rattle.std.proofs.Common.{◌≡◌, ℕ, ◌+◌, ◌-◌, ◌<◌, ◌≤◌, min, max, List, [], ◌∷◌, length, map, take, drop, filter, get_or, Option, Some, None, IfSome, IfNone, refl, sym, ap, subst, ◌∙◌, arith, length-drop, pos, not}
+use Rattle.std.specs.Prelude.{T, ◌-ℤ◌}
 use Rattle.std.specs.Cmp.{tied_itself}
 use Rattle.std.specs.FinMap as finite
-use Rattle.std.proofs.lemmas.List.{length-map, take-map, take_all}
-use Rattle.std.proofs.lemmas.List.FromFn.{get_or-map-range_with_len, length-map-range_with_len}
+use Rattle.std.proofs.lemmas.List.{drop-map, get_or-drop, length-map, take-map, take_all}
 use Rattle.df_value.specs.declared.cell.Cell.{Cell}
 use Rattle.df_value.specs.declared.cell.Cell.TheVariants as cell
 use Rattle.df_value.specs.declared.cell.CellType.{CellType}
 use Rattle.df_value.specs.declared.cell.CellType.TheVariants as dtype
 use Rattle.df_value.specs.Rows.{cell_at}
 use Rattle.df_value.specs.Schemas.{column_index}
-use Rattle.df_ops.specs.Aggregates.{cells_of}
+use Rattle.df_ops.specs.Aggregates.{cells_of, sum_of}
+use Rattle.df_ops.specs.LoopStates.{cum_sum_after}
 use Rattle.df_ops.specs.Places.{places_of}
 use Rattle.df_ops.specs.RowWise.{with_column_row}
 use Rattle.df_ops.specs.Tables.{cum_sum_table, with_column_table}
-use Rattle.df_ops.specs.Windows.{cum_sum, cum_sum_at}
+use Rattle.df_ops.specs.Windows.{cum_sum_at}
 use Rattle.df_ops.specs.declared.places.Place.{Place}
 use Rattle.df_ops.proofs.PlacesFacts.{placed_column}
 use Rattle.df_column.specs.Bounds.{IsUpperBound, is_below}
@@ -33,12 +33,15 @@ use Rattle.df_delta.proofs.Reached.{reached_diff}
 use Rattle.df_nodes.specs.Outputs.{summed}
 use Rattle.df_nodes.specs.Prefixes.{with_each_prefix}
 use Rattle.df_nodes.specs.Rolling.{put_at, reached, reached_by}
-use Rattle.df_nodes.specs.Sums.{AreSums, sum_output, summed_row}
+use Rattle.df_nodes.specs.Sums.{AreSums, made_output, shift_of, shifted_sum, sum_output, summed_row}
+use Rattle.df_nodes.specs.declared.tail_sums.TailSums.{TailSums}
 use Rattle.df_nodes.proofs.Bounds.{reached_run}
 use Rattle.df_nodes.proofs.Filters.{filter_length}
 use Rattle.df_nodes.proofs.PrefixLaws.{prefix_rows}
 use Rattle.df_nodes.proofs.PrefixValues.{at_place, no_row, none_at, same_before}
 use Rattle.df_nodes.proofs.RisingReach.{rising_reached}
+use Rattle.df_nodes.proofs.ShiftedSums.{after_length, shifted_at, unshifted}
+use Rattle.df_nodes.proofs.SumStarts.{bound_behind, place_behind}
 use Rattle.df_nodes.proofs.TagTests.{not_below_itself}
 use Rattle.df_nodes.proofs.Unreached.{IsNear, found_behind, near_parts, same_unreached}
 use Rattle.df_nodes.proofs.UpTo.{Rows}
@@ -55,45 +58,54 @@ pub summed_rows : (columns : List (List ℕ × CellType)) (name column : List �
 unfolding cum_sum_table with_column_table
 summed_rows columns name column t = prefix_rows (with_column_row columns name) cum_sum_at (column_index column columns) t
 
--- the sum at an index
-sum_at : (index : Option ℕ) (rows : List (List Cell)) (at : ℕ) → at < length rows → get_or (cum_sum (cells_of index rows)) at cell.Null ≡ cum_sum_at (cells_of index (take (at + 1) rows))
-sum_at index rows at lt =
-    let cells = cells_of index rows in
-    let long = length-map rows (cell_at index) in
-    get_or-map-range_with_len (λ i. cum_sum_at (take (i + 1) cells)) 0 (length cells) at at cell.Null (omega arith) (zero-add at)
-    ∙ ap cum_sum_at (take-map (cell_at index) (at + 1) rows)
-
-module _ (places : List Place) (index : Option ℕ) (u : TaggedRows) (rows : List (List Cell)) (sums : List Cell) (h : AreSums index (finite.values u) rows sums) where
-  pub index_inside : (at : ℕ) → at < length (finite.entries u) → (at < length rows) × (at < length sums)
-  index_inside at lt =
+-- a row behind the start, with its sum
+module _ (places : List Place) (index : Option ℕ) (u : TaggedRows) (s : TailSums) (h : AreSums index u s) where
+  pub index_inside : (at : ℕ) → s.start ≤ at → at < length (finite.entries u) → (s.start ≤ at) × (at - s.start < length s.rows.items) × (at - s.start < length s.sums.items)
+  index_inside at low lt =
       let all = finite.values u in
       let long = length-map (finite.entries u) (λ x. x.1) in
-      let cells = length-map all (cell_at index) in
-      let many = length-map-range_with_len (λ i. cum_sum_at (take (i + 1) (cells_of index all))) 0 (length (cells_of index all)) in
+      let later = length-drop s.start all in
+      let cells = length-map (drop s.start all) (cell_at index) in
       let a = ap length h.rows_are in
-      let b = ap length h.sums_are in
-      (omega arith, omega arith)
+      let b = ap length h.sums_are ∙ after_length s.before (cells_of index (drop s.start all)) in
+      (low, omega (arith, low, lt, long, later, a), omega (arith, low, lt, long, later, cells, b))
 
-  pub place_row : (at : ℕ) (q : Tag) → IsPlace tag_cmp (finite.entries u) q at → summed_row places rows sums (Some at) ≡ finite.get (sum_output places index u) q
-  place_row at q p =
+  sum_here : (at : ℕ) → s.start ≤ at → at < length (finite.entries u) → get_or s.sums.items (at - s.start) cell.Null ≡ shifted_sum (shift_of index u s) (cells_of index (take (at + 1) (finite.values u)))
+  sum_here at low lt =
       let all = finite.values u in
+      let cells = cells_of index all in
       let long = length-map (finite.entries u) (λ x. x.1) in
-      let in_range = p.in_range in
-      ap (λ l. Some (put_at places (get_or l at []) (get_or sums at cell.Null))) h.rows_are
-      ∙ ap (λ l. Some (put_at places (get_or all at []) (get_or l at cell.Null))) h.sums_are
-      ∙ ap (λ c. Some (put_at places (get_or all at []) c)) (sum_at index all at (omega arith))
-      ∙ sym (at_place (put_at places) cum_sum_at index u at q p)
+      let many = length-map all (cell_at index) in
+      ap (λ l. get_or l (at - s.start) cell.Null) (h.sums_are ∙ ap (cum_sum_after s.before) (sym (drop-map (cell_at index) s.start all)))
+      ∙ shifted_at s.before cells s.start at low (omega (arith, lt, long, many))
+      ∙ (λ i. shifted_sum (s.before -ℤ sum_of (take-map (cell_at index) s.start all i)) (take-map (cell_at index) (at + 1) all i))
 
-  pub tagged_row : (at : ℕ) (q : Tag) → at < length (finite.entries u) → ((d : Tag × List Cell) → q ≡ (get_or (finite.entries u) at d).0) → summed_row places rows sums (Some at) ≡ finite.get (sum_output places index u) q
-  tagged_row at q lt is = place_row at q (record { in_range = lt; here = λ d. ap (λ k. tag_cmp k q) (sym (is d)) ∙ tied_itself tag_total q })
+  pub place_row : (at : ℕ) (q : Tag) → s.start ≤ at → IsPlace tag_cmp (finite.entries u) q at → summed_row places s (Some at) ≡ finite.get (made_output places index u s) q
+  place_row at q low p =
+      let all = finite.values u in
+      let place : s.start + (at - s.start) ≡ at = omega (arith, low) in
+      let row : get_or s.rows.items (at - s.start) [] ≡ get_or all at [] = ap (λ l. get_or l (at - s.start) []) h.rows_are ∙ get_or-drop s.start all (at - s.start) [] ∙ ap (λ n. get_or all n []) place in
+      (λ i. Some (put_at places (row i) (sum_here at low p.in_range i)))
+      ∙ sym (at_place (put_at places) (shifted_sum (shift_of index u s)) index u at q p)
 
-  pub found_inside : (q : Tag) (o : Option ℕ) → IfSome o (IsPlace tag_cmp (finite.entries u) q) → IfSome o (λ i. (i < length rows) × (i < length sums))
-  found_inside q None p = tt
-  found_inside q (Some at) p = index_inside at p.in_range
+  pub tagged_row : (at : ℕ) (q : Tag) → s.start ≤ at → at < length (finite.entries u) → ((d : Tag × List Cell) → q ≡ (get_or (finite.entries u) at d).0) → summed_row places s (Some at) ≡ finite.get (made_output places index u s) q
+  tagged_row at q low lt is = place_row at q low (record { in_range = lt; here = λ d. ap (λ k. tag_cmp k q) (sym (is d)) ∙ tied_itself tag_total q })
 
-  pub found_row : (q : Tag) (o : Option ℕ) → IfSome o (IsPlace tag_cmp (finite.entries u) q) → IfNone o (finite.get u q ≡ None) → summed_row places rows sums o ≡ finite.get (sum_output places index u) q
-  found_row q None p none = sym (no_row (put_at places) cum_sum_at index u q none)
-  found_row q (Some at) p none = place_row at q p
+  module _ (q : Tag) (behind : T (not (is_below q s.first))) where
+    pub found_inside : (o : Option ℕ) → IfSome o (IsPlace tag_cmp (finite.entries u) q) → IfSome o (λ i. (s.start ≤ i) × (i - s.start < length s.rows.items) × (i - s.start < length s.sums.items))
+    found_inside None p = tt
+    found_inside (Some at) p = index_inside at (place_behind (finite.entries u) s.first s.start h.front q behind at p) p.in_range
+
+    pub found_row : (o : Option ℕ) → IfSome o (IsPlace tag_cmp (finite.entries u) q) → IfNone o (finite.get u q ≡ None) → summed_row places s o ≡ finite.get (made_output places index u s) q
+    found_row None p none = sym (no_row (put_at places) (shifted_sum (shift_of index u s)) index u q none)
+    found_row (Some at) p none = place_row at q (place_behind (finite.entries u) s.first s.start h.front q behind at p) p
+
+  pub start_behind : (q : Tag) (from : ℕ) → T (not (is_below q s.first)) → IsUpperBound q (finite.entries u) from → s.start ≤ from
+  start_behind q from behind bound = bound_behind (finite.entries u) s.first s.start h.front q behind from h.within bound
+
+-- with sums that begin right it is the output
+pub made_is : (places : List Place) (index : Option ℕ) (u : TaggedRows) (s : TailSums) → shift_of index u s ≡ pos 0 → made_output places index u s ≡ sum_output places index u
+made_is places index u s e = ap (λ (f : List Cell → Cell). with_each_prefix (put_at places) f index u) (unshifted (shift_of index u s) e)
 
 -- a change reaches all rows behind it, up to the next one
 pub reached_rest : (q : Tag) (rows : Rows) (from stop : ℕ) → IsUpperBound q rows from → stop ≤ length rows

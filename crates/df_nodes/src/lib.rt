@@ -13,6 +13,7 @@ mod rolling;
 mod row_operator;
 mod row_wise;
 mod sum;
+mod tail_sums;
 mod window;
 
 pub use changed_tables::ChangedTables;

@@ -6,6 +6,8 @@ pub mod RiseSteps
 pub mod CountChanges
 pub mod Outputs
 pub mod WeightSums
+pub mod RankNumbers
+pub mod MinRanks
 pub mod ChangedValues
 pub mod OutputSteps
 pub mod TagLists

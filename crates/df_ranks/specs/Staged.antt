@@ -3,7 +3,7 @@ use Rattle.std.specs.Prelude.{◌≡◌, ℕ, Bool, true, List, Option}
 use Rattle.std.specs.FinMap as finite
 use Rattle.df_value.specs.declared.cell.Cell.{Cell}
 use Rattle.df_value.specs.declared.cell.CellType.{CellType}
-use Rattle.df_ops.specs.declared.ranks.RankKind.TheVariants as rank
+use Rattle.df_ops.specs.declared.ranks.RankKind.{RankKind}
 use Rattle.df_column.specs.Tables.{TaggedRows}
 use Rattle.df_column.specs.declared.tag.Tag.{Tag}
 use Rattle.df_delta.specs.Deltas.{Changes}
@@ -26,9 +26,9 @@ can_take counts (staged.Recounts rs) = have_counts counts rs.items
 can_take counts (staged.Counts new) = true
 
 -- changes at tags that reach all rows whose rank differs by the new counts
-pub record LooksAgain (columns : List (List ℕ × CellType)) (name : List ℕ) (index : Option ℕ) (old new : List (Cell × ℕ)) (delta : Changes) (output input : TaggedRows) (changes : Changes) : Type 0 where
+pub record LooksAgain (columns : List (List ℕ × CellType)) (name : List ℕ) (kind : RankKind) (index : Option ℕ) (old new : List (Cell × ℕ)) (delta : Changes) (output input : TaggedRows) (changes : Changes) : Type 0 where
   pub least : Option Cell
   pub tags : List Tag
-  pub stay : RanksStay rank.Dense old new least
+  pub stay : RanksStay kind old new least
   pub reach : Reaches tags delta input index least
-  pub made : changes ≡ finite.from_sorted (changes_at output (with_ranks columns name index (counted_rank rank.Dense new) input) tags)
+  pub made : changes ≡ finite.from_sorted (changes_at output (with_ranks columns name index (counted_rank kind new) input) tags)

@@ -17,4 +17,4 @@ pub record IsStage (n : LiveRank) (delta : Changes) (input : TaggedRows) (rises 
   pub rising : T (is_sorted cell_cmp rises.entries)
   pub room : can_take n.counts.items.items s ≡ true
   pub counts : staged_counts n.counts.items.items s ≡ after_changes cell_cmp n.counts.items.items (map (count_change n.counts.items.items) rises.entries)
-  pub again : LooksAgain n.column.schema n.column.name n.column.index n.counts.items.items (after_changes cell_cmp n.counts.items.items (map (count_change n.counts.items.items) rises.entries)) delta n.output.rows input changes
+  pub again : LooksAgain n.column.schema n.column.name n.column.kind n.column.index n.counts.items.items (after_changes cell_cmp n.counts.items.items (map (count_change n.counts.items.items) rises.entries)) delta n.output.rows input changes

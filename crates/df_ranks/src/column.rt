@@ -1,40 +1,43 @@
-//! Which column is ranked, and where its ranks stand in a row.
-ghost use Rattle.std.specs.Prelude.{◌≡◌, ◌+◌, ◌^◌, ◌<◌, ◌∷◌, [], IfOk, pos};
-ghost use Rattle.df_value.specs.declared.cell.Cell.TheVariants as cell;
+//! Which column is ranked, how, and where its ranks stand in a row.
+ghost use Rattle.std.specs.Prelude.{◌≡◌, ◌∷◌, [], IfOk};
 ghost use Rattle.df_value.specs.Rows.{cell_at};
 ghost use Rattle.df_value.specs.Schemas as schemas;
+ghost use Rattle.df_value.specs.Schemas.{IsSchema};
 ghost use Rattle.df_value.specs.declared.cell.CellType.TheVariants as dtype;
+ghost use Rattle.df_ops.specs.NamedColumns.{with_columns as columns_with_new};
 ghost use Rattle.df_ops.specs.Places as places_spec;
 ghost use Rattle.df_ops.specs.RowWise as row_wise;
-ghost use Rattle.df_ops.specs.declared.ranks.RankKind.TheVariants as kinds;
-ghost use Rattle.df_ranks.specs.Counts.{counted_rank};
+ghost use Rattle.df_ranks.specs.Counts.{ServeRanks, counted_rank};
 
 use crate::counts::Counts;
-use crate::rises::value_at;
-use df_ops::{Place, places_with, with_column_row};
-use df_value::{Cell, CellType, Duplicate, Row, Schema, Text, column_index};
+use crate::numbers::rank_at;
+use df_ops::{Place, RankKind, columns_with, places_with, with_column_row};
+use df_value::{CellType, Duplicate, Row, Schema, Text, column_index};
 use std::alloc::{AllocError, Global};
 
-/// A column of rows of a schema, and the name under which its ranks are put among their cells.
+/// A column of rows of a schema, the kind of its ranks, and the name under which they are put among the cells.
 #[derive(Drop)]
 pub struct RankColumn {
     schema: Schema,
     name: Text,
+    kind: RankKind,
     index: Option<usize>,
     places: Vec<Place>,
     ghost placed: { places.items ≡ places_spec.places_of schema ((name, dtype.Int) ∷ []) },
 }
 
 impl RankColumn {
-    /// The column in rows of this schema, whose ranks get this name.
+    /// The column in rows of this schema, whose ranks are of this kind and get this name.
     pub fn new(
         alloc: Global,
         schema: &Schema,
         name: &Text,
         column: &Text,
+        kind: RankKind,
     ) -> Result<RankColumn, AllocError>
         ensures schema { IfOk result (λ c. c.schema ≡ schema.now) }
         ensures name { IfOk result (λ c. c.name ≡ name.now) }
+        ensures kind { IfOk result (λ c. c.kind ≡ kind) }
         ensures index { IfOk result (λ c. c.index ≡ schemas.column_index column.now schema.now) }
     {
         let columns = schema.columns().as_slice();
@@ -42,6 +45,7 @@ impl RankColumn {
         Ok(RankColumn {
             schema: schema.copy(alloc)?,
             name: name.copy(alloc)?,
+            kind,
             index: column_index(column, columns),
             places,
         })
@@ -54,31 +58,39 @@ impl RankColumn {
         self.index
     }
 
-    /// The row with its rank by these counts.
-    pub fn ranked_row(&self, alloc: Global, counts: &Counts, row: &Row) -> Result<Row, AllocError>
-        ensures { IfOk result (λ r. r ≡ row_wise.with_column_row self.now.schema self.now.name row.now
-            (counted_rank kinds.Dense counts.now.items.items (cell_at self.now.index row.now))) }
+    /// How the ranks count equal values.
+    pub fn kind(&self) -> RankKind
+        ensures { result ≡ self.now.kind }
     {
-        let rank = rank_at(self.index, counts, row);
+        self.kind
+    }
+
+    /// The row with its rank by these counts, and by their sums where its kind reads ranks from these.
+    pub fn ranked_row(
+        &self,
+        alloc: Global,
+        counts: &Counts,
+        sums: &[u64],
+        row: &Row,
+    ) -> Result<Row, AllocError>
+        requires { ServeRanks self.now.kind counts.now.items.items sums.now }
+        ensures { IfOk result (λ r. r ≡ row_wise.with_column_row self.now.schema self.now.name row.now
+            (counted_rank self.now.kind counts.now.items.items (cell_at self.now.index row.now))) }
+    {
+        let rank = rank_at(self.kind, self.index, counts, sums, row);
         let row = with_column_row(alloc, &self.places, row, &rank)?;
         Ok(row)
     }
 }
 
-/// The rank by these counts of the row's cell at an index.
-fn rank_at(index: Option<usize>, counts: &Counts, row: &Row) -> Cell
-    ensures { result ≡ counted_rank kinds.Dense counts.now.items.items (cell_at index row.now) }
+/// The schema with a column of ranks of this name put among its columns.
+pub fn schema_with_ranks(alloc: Global, schema: &Schema, name: &Text) -> Result<Schema, AllocError>
+    requires { IsSchema (columns_with_new schema.now ((name.now, dtype.Int) ∷ [])) }
+    ensures { IfOk result (λ s. s ≡ columns_with_new schema.now ((name.now, dtype.Int) ∷ [])) }
 {
-    match value_at(index, row) {
-        Some(value) => rank_of_count(counts.count_below(value)),
-        None => Cell::Null,
+    let columns = columns_with(alloc, schema.columns().as_slice(), name, CellType::Int)?;
+    match Schema::new(columns) {
+        Ok(schema) => Ok(schema),
+        Err(_) => unreachable!(),
     }
-}
-
-/// The dense rank of a value with so many smaller values.
-fn rank_of_count(count: usize) -> Cell
-    requires { count + 1 < 2 ^ 63 }
-    ensures { result ≡ cell.Int (pos (1 + count)) }
-{
-    Cell::Int((count + 1) as i64)
 }

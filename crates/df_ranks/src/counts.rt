@@ -7,7 +7,7 @@ ghost use Rattle.std.specs.FinMap.Entries.{below_all};
 ghost use Rattle.df_value.specs.CellOrder.{cell_cmp};
 ghost use Rattle.df_value.specs.declared.cell.Cell.{Cell as AnyCell};
 ghost use Rattle.df_column.specs.Changes.{Change, after_changes, one_at, rest_after};
-ghost use Rattle.df_ranks.specs.Counts.{some_count};
+ghost use Rattle.df_ranks.specs.Counts.{AreSums, some_count};
 ghost use Rattle.df_ranks.specs.Recounts.{IsRecount, count_after, have_counts, with_recounts};
 ghost use Rattle.df_ranks.specs.Rises.{count_change};
 
@@ -35,9 +35,17 @@ impl Counts {
     /// How many of the values are less than this one.
     pub fn count_below(&self, value: &Cell) -> usize
         ensures value { result ≡ prefix_len (λ e. is_lt (cell_cmp e.0 value.now)) self.now.items.items }
+        ensures within { result ≤ length self.now.items.items }
         ensures few { result + 1 < 2 ^ 63 }
     {
         values_below(&self.items, value)
+    }
+
+    /// How many rows are counted before each value, and how many in all, modulo 2^64.
+    pub fn sums(&self, alloc: Global) -> Result<Vec<u64>, AllocError>
+        ensures { IfOk result (λ v. AreSums self.now.items.items v.items) }
+    {
+        sums_of(alloc, &self.items)
     }
 
     /// How many rows have this value, if one has it.
@@ -132,6 +140,20 @@ pub fn is_less(a: &Cell, b: &Cell) -> bool
     ensures { result ≡ is_lt (cell_cmp a.now b.now) }
 {
     *a < *b
+}
+
+/// The sums of the first counts, from none of them up to all, modulo 2^64.
+fn sums_of(alloc: Global, counts: &[(Cell, u64)]) -> Result<Vec<u64>, AllocError>
+    ensures { IfOk result (λ v. AreSums counts.now v.items) }
+{
+    let mut sums = Vec::with_capacity(alloc, counts.len().saturating_add(1))?;
+    let mut sum: u64 = 0;
+    sums.push(sum)?;
+    for count in counts {
+        sum = sum.wrapping_add(count.1);
+        sums.push(sum)?;
+    }
+    Ok(sums)
 }
 
 /// How many of the values are less than this one.

@@ -1,12 +1,13 @@
 //! The live rank: a column of ranks that follows its input by deltas.
 //!
 //! [`LiveRank`] keeps its input and its output as tables, which share blocks from one change to the next, and how many
-//! rows have each value of the ranked column. A change that neither brings a value nor takes one away touches its own
-//! rows alone.
+//! rows have each value of the ranked column. Under dense ranks a change that neither brings a value nor takes one away
+//! touches its own rows alone.
 #![tactic(auto)]
 
 mod column;
 mod counts;
+mod numbers;
 mod rank;
 mod reach;
 mod rises;

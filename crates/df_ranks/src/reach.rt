@@ -1,11 +1,10 @@
 //! The tags at which a rank looks again.
-ghost use Rattle.std.specs.Prelude.{◌≡◌, ◌++◌, ◌∷◌, [], T, IfOk, OnOk, map};
+ghost use Rattle.std.specs.Prelude.{◌≡◌, ◌==◌, ◌++◌, ◌∷◌, [], T, IfOk, OnOk, map, not};
 ghost use Rattle.std.specs.Option.{option_copied};
 ghost use Rattle.std.specs.FinMap as finite;
 ghost use Rattle.df_value.specs.CellOrder.{cell_cmp};
 ghost use Rattle.df_column.specs.Changes.{after_changes};
-ghost use Rattle.df_ops.specs.declared.ranks.RankKind.TheVariants as kinds;
-ghost use Rattle.df_ranks.specs.Counts.{RanksStay, SameBelow, changes_weight};
+ghost use Rattle.df_ranks.specs.Counts.{RanksStay, SameBelow, changes_weight, weight};
 ghost use Rattle.df_ranks.specs.Reach.{Reaches, is_row_above, tags_above, tags_above_any};
 ghost use Rattle.df_ranks.specs.Rises.{count_change};
 
@@ -13,21 +12,23 @@ use crate::counts::{Counts, is_less};
 use crate::rises::value_at;
 use df_column::{Table, Tag};
 use df_delta::Delta;
+use df_ops::RankKind;
 use df_value::{Cell, Row};
 use std::alloc::{AllocError, Global};
 use std::collections::BTreeMap;
 
 /// The least value above which ranks change, if there is one.
 pub fn least_change<'a>(
+    kind: RankKind,
     old: &Counts,
     new: &Counts,
     rises: &'a BTreeMap<Cell, u64>,
 ) -> Option<&'a Cell>
     requires { new.now.items.items ≡ after_changes cell_cmp old.now.items.items
         (map (count_change old.now.items.items) rises.now.entries) }
-    ensures { RanksStay kinds.Dense old.now.items.items new.now.items.items (option_copied result) }
+    ensures { RanksStay kind old.now.items.items new.now.items.items (option_copied result) }
 {
-    let Some(least) = first_change(old, new, rises) else {
+    let Some(least) = first_change(kind, old, new, rises) else {
         return None;
     };
     if new.has_none_above(least) {
@@ -36,25 +37,43 @@ pub fn least_change<'a>(
     Some(least)
 }
 
-/// The least value that appears or disappears, if one does.
-fn first_change<'a>(old: &Counts, new: &Counts, rises: &'a BTreeMap<Cell, u64>) -> Option<&'a Cell>
+/// The least value that adds something else to the ranks above it, if one does.
+fn first_change<'a>(
+    kind: RankKind,
+    old: &Counts,
+    new: &Counts,
+    rises: &'a BTreeMap<Cell, u64>,
+) -> Option<&'a Cell>
     requires { new.now.items.items ≡ after_changes cell_cmp old.now.items.items
         (map (count_change old.now.items.items) rises.now.entries) }
-    ensures { SameBelow kinds.Dense old.now.items.items new.now.items.items (option_copied result) }
+    ensures { SameBelow kind old.now.items.items new.now.items.items (option_copied result) }
 {
     for value in rises.keys() {
-        if is_changed(old.find(value), new.find(value)) {
+        if is_changed(kind, old.find(value), new.find(value)) {
             return Some(value);
         }
     }
     None
 }
 
-/// Whether a value with the first count, if any, appears or disappears where it gets the second.
-fn is_changed(old: Option<u64>, new: Option<u64>) -> bool
-    ensures { result ≡ changes_weight kinds.Dense old new }
+/// Whether a value with the first count, if any, adds something else to the ranks above it where it gets the second.
+fn is_changed(kind: RankKind, old: Option<u64>, new: Option<u64>) -> bool
+    ensures { result ≡ changes_weight kind old new }
 {
-    old.is_some() != new.is_some()
+    match (old, new) {
+        (Some(old), Some(new)) => is_other_weight(kind, old, new),
+        _ => old.is_some() != new.is_some(),
+    }
+}
+
+/// Whether these counts add different numbers to ranks.
+fn is_other_weight(kind: RankKind, old: u64, new: u64) -> bool
+    ensures { result ≡ not (weight kind old == weight kind new) }
+{
+    match kind {
+        RankKind::Dense => false,
+        RankKind::Min => old != new,
+    }
 }
 
 /// The tags of the delta, and those of the rows whose value is above the least one, in order.

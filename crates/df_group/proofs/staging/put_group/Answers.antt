@@ -7,7 +7,7 @@ use Rattle.df_group.proofs.staging.put_group.Goals as goal
 
 pub returns-then-len-eq0-clause-state : goal.returns-then-len-eq0-clause-state
 returns-then-len-eq0-clause-state c k =
-    c.swap_remove.ensures.updates.0 k
+    c.take_out.ensures.state k
     ∙ ap (λ x. cond (row_eq c.args.key k) x (get row_eq c.args.index.now k)) (sym (empty_group c.args.group (sym c.len.ensures.value ∙ c.if-len-eq0.true)))
 
 pub returns-else-len-eq0-clause-state : goal.returns-else-len-eq0-clause-state

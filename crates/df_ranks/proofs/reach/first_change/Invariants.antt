@@ -1,4 +1,3 @@
-use Rattle.df_ops.specs.declared.ranks.RankKind.TheVariants as kinds
 use Rattle.df_ranks.proofs.ChangedValues.{AreAmong}
 use Rattle.df_ranks.proofs.reach.first_change.Given as goal
 
@@ -7,5 +6,5 @@ invariant-loop-value l =
     record {
       can_next : (goal.iterator-loop-value).can_next l.value-iterator;
       is_finite : (goal.iterator-loop-value).is_finite l.value-iterator;
-      among : AreAmong kinds.Dense l.old.items.items l.new.items.items l.value-iterator;
+      among : AreAmong l.kind l.old.items.items l.new.items.items l.value-iterator;
     }

@@ -1,6 +1,7 @@
 use Rattle.std.proofs.Common.{◌∙◌, ap, sym}
 use Rattle.std.specs.FinMap as finite
 use Rattle.df_group.specs.GroupRows.{group_output}
+use Rattle.df_group.proofs.GroupTags.{group_tags}
 use Rattle.df_group.proofs.IndexMaps.{get_of_none}
 use Rattle.df_group.proofs.KeyOrder.{group_table_rows}
 use Rattle.df_group.proofs.Members.{no_group}
@@ -14,3 +15,6 @@ returns-clause-rows c t = ap finite.values (returns-clause-output c t) ∙ group
 
 pub returns-clause-over : goal.returns-clause-over
 returns-clause-over c = record { at = λ k. get_of_none c.new-2.result k c.new-2.ensures.empty ∙ sym (no_group c.in_ok-new.field-0 k) }
+
+pub returns-clause-tags : goal.returns-clause-tags
+returns-clause-tags c t = group_tags c.in_ok-new.field-0 t

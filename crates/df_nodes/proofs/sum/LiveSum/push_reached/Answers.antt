@@ -2,8 +2,8 @@ use Rattle.std.proofs.Common.{◌+◌, ◌∙◌, ◌∷◌, ap, sym, arith, len
 use Rattle.std.specs.FinMap as finite
 use Rattle.df_column.specs.Tables.{entry_change}
 use Rattle.df_nodes.specs.Rolling.{reached_by}
-use Rattle.df_nodes.specs.Sums.{sum_output, summed_row}
-use Rattle.df_nodes.proofs.Sums.{found_inside, found_row, reached_rest}
+use Rattle.df_nodes.specs.Sums.{made_output, summed_row}
+use Rattle.df_nodes.proofs.Sums.{found_inside, found_row, reached_rest, start_behind}
 use Rattle.df_nodes.proofs.WindowReach.{all_reached}
 use Rattle.df_nodes.proofs.sum.LiveSum.push_reached.Goals as goal
 
@@ -11,7 +11,10 @@ pub push_at-requires : goal.push_at-requires
 push_at-requires c =
     let n = c.args.self.now in
     let all = c.args.all.now in
-    found_inside n.places n.index c.args.input.now.rows all.rows.items all.sums.items c.requires.sums c.args.tag c.find.result c.find.ensures.found
+    found_inside n.places n.index c.args.input.now.rows all c.requires.sums c.args.tag c.requires.behind c.find.result c.find.ensures.found
+
+pub push_run-requires-clause-from : goal.push_run-requires-clause-from
+push_run-requires-clause-from c = start_behind c.args.self.now.places c.args.self.now.index c.args.input.now.rows c.args.all.now c.requires.sums c.args.tag c.upper_bound-from.result c.requires.behind c.upper_bound-from.ensures
 
 pub push_run-requires-clause-in_range : goal.push_run-requires-clause-in_range
 push_run-requires-clause-in_range c =
@@ -27,12 +30,12 @@ returns-clause-added c =
     let rows = finite.entries u in
     let len = finite.len-entries u in
     let from = c.upper_bound-from.result in
-    all_reached n.output.rows (sum_output n.places n.index u)
+    all_reached n.output.rows (made_output n.places n.index u all)
     (map entry_change c.push_run.new.entries.items) (map entry_change c.push_at.new.entries.items) (map entry_change c.args.entries.now.items)
     c.args.tag (map (λ x. x.0) (drop from (take c.max.result rows))) (reached_by (length rows + 1) c.args.tag (take c.args.stop rows))
-    (summed_row n.places all.rows.items all.sums.items c.find.result)
+    (summed_row n.places all c.find.result)
     c.in_ok-push_at.ensures.added
-    (found_row n.places n.index u all.rows.items all.sums.items c.requires.sums c.args.tag c.find.result c.find.ensures.found c.find.ensures.absent)
+    (found_row n.places n.index u all c.requires.sums c.args.tag c.requires.behind c.find.result c.find.ensures.found c.find.ensures.absent)
     c.in_ok-push_run.ensures.added
     (reached_rest c.args.tag rows from c.args.stop c.upper_bound-from.ensures (omega arith)
     ∙ ap (λ k. c.args.tag ∷ map (λ x. x.0) (drop from (take k rows))) (sym c.max.ensures))

@@ -1,7 +1,7 @@
 use Rattle.std.proofs.Common.{◌+◌, Some, arith, map, drop, take}
 use Rattle.std.specs.FinMap as finite
 use Rattle.df_column.specs.Tables.{entry_change}
-use Rattle.df_nodes.specs.Sums.{sum_output, summed_row}
+use Rattle.df_nodes.specs.Sums.{made_output, summed_row}
 use Rattle.df_nodes.proofs.Sums.{index_inside, tagged_row}
 use Rattle.df_nodes.proofs.WindowValues.{next_tag, one_more}
 use Rattle.df_nodes.proofs.sum.LiveSum.push_run.Goals as goal
@@ -9,7 +9,8 @@ use Rattle.df_nodes.proofs.sum.LiveSum.push_run.Goals as goal
 pub push_at-requires : goal.push_at-requires
 push_at-requires c =
     let len = finite.len-entries c.args.input.now.rows in
-    index_inside c.args.self.now.places c.args.self.now.index c.args.input.now.rows c.args.all.now.rows.items c.args.all.now.sums.items c.requires.sums c.loop-at.at (omega arith)
+    let from = c.requires.from in
+    index_inside c.args.self.now.places c.args.self.now.index c.args.input.now.rows c.args.all.now c.requires.sums c.loop-at.at (omega arith) (omega arith)
 
 pub loop-at-preserved : goal.loop-at-preserved
 loop-at-preserved c =
@@ -20,14 +21,15 @@ loop-at-preserved c =
     let at = c.loop-at.at in
     let from = c.args.from in
     let len = finite.len-entries u in
+    let behind = c.requires.from in
     let q = c.tag.result in
     record {
-      added = one_more n.output.rows (sum_output n.places n.index u)
+      added = one_more n.output.rows (made_output n.places n.index u all)
           (map entry_change c.push_at.new.entries.items) (map entry_change c.loop-at.entries.items) (map entry_change c.args.entries.now.items)
           (map (λ x. x.0) (drop from (take at rows))) (map (λ x. x.0) (drop from (take (at + 1) rows))) q
-          (summed_row n.places all.rows.items all.sums.items (Some at))
+          (summed_row n.places all (Some at))
           c.in_ok-push_at.ensures.added
-          (tagged_row n.places n.index u all.rows.items all.sums.items c.requires.sums at q (omega arith) c.tag.ensures)
+          (tagged_row n.places n.index u all c.requires.sums at q (omega arith) (omega arith) c.tag.ensures)
           c.loop-at.invariant.added
           (next_tag rows from at q (omega arith) (omega arith) c.tag.ensures);
       rows = λ h. c.in_ok-push_at.ensures.rows (c.loop-at.invariant.rows h);

@@ -5,13 +5,13 @@ use Rattle.std.specs.FinMap as finite
 use Rattle.df_column.specs.Tables.{entry_change}
 use Rattle.df_delta.specs.Deltas.{has_row}
 use Rattle.df_delta.specs.Reached.{changes_at}
-use Rattle.df_nodes.specs.Sums.{sum_output}
+use Rattle.df_nodes.specs.Sums.{made_output}
 use Rattle.df_nodes.proofs.sum.LiveSum.push_run.Given as goal
 
 abbrev pub invariant-loop-at : goal.invariant-loop-at
 invariant-loop-at l =
     record {
       added : map entry_change l.entries.items ≡ map entry_change l.fn.entries.items
-          ++ changes_at l.self.output.rows (sum_output l.self.places l.self.index l.input.rows) (map (λ r. r.0) (drop l.from (take l.at (finite.entries l.input.rows))));
+          ++ changes_at l.self.output.rows (made_output l.self.places l.self.index l.input.rows l.all) (map (λ r. r.0) (drop l.from (take l.at (finite.entries l.input.rows))));
       rows : T (list_all has_row l.fn.entries.items) → T (list_all has_row l.entries.items);
     }

@@ -1,6 +1,5 @@
 use Rattle.std.proofs.Common.{Some, ap, sym, ◌∙◌}
 use Rattle.std.specs.Option.{option_and_then}
-use Rattle.df_ops.specs.declared.ranks.RankKind.TheVariants as kinds
 use Rattle.df_ranks.specs.Counts.{counted_rank}
 use Rattle.df_ranks.proofs.Outputs.{get_ranked, rank_row}
 use Rattle.df_ranks.proofs.rank.LiveRank.new_row.Goals as goal
@@ -8,7 +7,7 @@ use Rattle.df_ranks.proofs.rank.LiveRank.new_row.Goals as goal
 pub returns-in_ok-ranked_row-in-Some : goal.returns-in_ok-ranked_row-in-Some
 returns-in_ok-ranked_row-in-Some c =
     let column = c.args.self.now.column in
-    let number = counted_rank kinds.Dense c.args.counts.now.items.items in
+    let number = counted_rank column.kind c.args.counts.now.items.items in
     ap Some c.in_ok-ranked_row-in-Some.ensures
     ∙ ap (option_and_then (rank_row column.schema column.name column.index number)) (sym c.in-Some.is ∙ c.in_ok-row.ensures)
     ∙ sym (get_ranked column.schema column.name column.index number c.args.input.now.rows c.args.tag)
@@ -16,6 +15,6 @@ returns-in_ok-ranked_row-in-Some c =
 pub returns-in-None : goal.returns-in-None
 returns-in-None c =
     let column = c.args.self.now.column in
-    let number = counted_rank kinds.Dense c.args.counts.now.items.items in
+    let number = counted_rank column.kind c.args.counts.now.items.items in
     ap (option_and_then (rank_row column.schema column.name column.index number)) (sym c.in-None.is ∙ c.in_ok-row.ensures)
     ∙ sym (get_ranked column.schema column.name column.index number c.args.input.now.rows c.args.tag)

@@ -1,4 +1,4 @@
-use Rattle.std.proofs.Common.{◌≡◌, ◌+◌, ◌∙◌, None, ap, cond, map, pos, refl, subst}
+use Rattle.std.proofs.Common.{◌≡◌, ◌+◌, ◌∙◌, None, ap, cond, map, pos, refl, subst, sym}
 use Rattle.std.specs.FinMap as finite
 use Rattle.df_value.specs.CellOrder.{cell_cmp, cell_cmp_total}
 use Rattle.df_value.specs.declared.cell.Cell.TheVariants as cell
@@ -10,6 +10,7 @@ use Rattle.df_ranks.specs.Counts.{counted_rank}
 use Rattle.df_ranks.specs.Ranked.{with_ranks}
 use Rattle.df_ranks.specs.Reach.{Reaches}
 use Rattle.df_ranks.specs.Rises.{count_change}
+use Rattle.df_ranks.specs.Staged.{LooksAgain}
 use Rattle.df_ranks.proofs.Entries.{sorted_after, truth}
 use Rattle.df_ranks.proofs.Orders.{cell_same}
 use Rattle.df_ranks.proofs.Recounts.{same_values}
@@ -30,14 +31,15 @@ returns c =
       rising = c.requires.rising;
       room = c.requires.recounts.there;
       counts = c.requires.recounts.leads;
-      again = record {
+      again = subst (λ k. LooksAgain s.column.schema s.column.name k s.column.index old new c.args.delta.now s.output.rows c.args.input.now.rows c.in_ok-changes.changes) (sym c.requires.dense) (record {
         least = None;
         tags = c.in_ok-tags.tags.items;
         stay = ranks_stay kinds.Dense old new None sorted sorted_new same;
         reach = subst (λ i. Reaches c.in_ok-tags.tags.items c.args.delta.now c.args.input.now.rows i None) c.index.ensures c.in_ok-tags.ensures;
         made =
             c.in_ok-changes.ensures
+            ∙ ap (λ k. finite.from_sorted (changes_at s.output.rows (with_ranks s.column.schema s.column.name s.column.index (counted_rank k old) c.args.input.now.rows) c.deref.result.now)) c.requires.dense
             ∙ ap (λ tags. finite.from_sorted (changes_at s.output.rows (with_ranks s.column.schema s.column.name s.column.index (counted_rank kinds.Dense old) c.args.input.now.rows) tags)) c.deref.ensures.value
             ∙ ap (λ f. finite.from_sorted (changes_at s.output.rows (with_ranks s.column.schema s.column.name s.column.index f c.args.input.now.rows) c.in_ok-tags.tags.items)) number;
-      };
+      });
     }

@@ -18,7 +18,7 @@ returns-clause-diff c t h =
     let stage = c.in_ok-counts.ensures in
     let few = subst (λ n. n ≤ 2 ^ 60) c.len.ensures.value c.len.ensures.few in
     let fit = subst (λ m. RowsFit s.input.schema (applied m d)) (sym h.over.rows) h.after.rows in
-    let p = prepared s.column.schema s.column.name s.column.index t d s.input.rows s.output.rows old c.entries.result.now rises c.in_ok-input.input.rows
+    let p = prepared s.column.schema s.column.name s.column.kind s.column.index t d s.input.rows s.output.rows old c.entries.result.now rises c.in_ok-input.input.rows
     (after_changes cell_cmp old (map (count_change old) rises.entries)) stage.again.least stage.again.tags c.in_ok-counts.changes
     (truth _ s.counts.rising) h.over.few h.over.rows h.over.ranks h.over.values h.fits c.entries.ensures.all (subst (λ i. AreRises rises i c.entries.result.now) c.index.ensures c.in_ok-rises.ensures) stage.rising
     (c.in_ok-input.ensures.rows fit) few refl stage.again.stay stage.again.reach stage.again.made in
@@ -33,7 +33,7 @@ returns-clause-staged c t h =
     let stage = c.in_ok-counts.ensures in
     let few = subst (λ n. n ≤ 2 ^ 60) c.len.ensures.value c.len.ensures.few in
     let fit = subst (λ m. RowsFit s.input.schema (applied m d)) (sym h.over.rows) h.after.rows in
-    let p = prepared s.column.schema s.column.name s.column.index t d s.input.rows s.output.rows old c.entries.result.now rises c.in_ok-input.input.rows
+    let p = prepared s.column.schema s.column.name s.column.kind s.column.index t d s.input.rows s.output.rows old c.entries.result.now rises c.in_ok-input.input.rows
     (after_changes cell_cmp old (map (count_change old) rises.entries)) stage.again.least stage.again.tags c.in_ok-counts.changes
     (truth _ s.counts.rising) h.over.few h.over.rows h.over.ranks h.over.values h.fits c.entries.ensures.all (subst (λ i. AreRises rises i c.entries.result.now) c.index.ensures c.in_ok-rises.ensures) stage.rising
     (c.in_ok-input.ensures.rows fit) few refl stage.again.stay stage.again.reach stage.again.made in
