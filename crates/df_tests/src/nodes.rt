@@ -7,7 +7,7 @@ use crate::given::schema;
 use df_delta::Delta;
 use df_expr::{ArithOp, CompareOp, Expr};
 use df_nodes::{LiveFilter, LiveMap, LiveSum, LiveWindow};
-use df_ops::RollKind;
+use df_ops::{RankKind, RollKind};
 use df_ranks::LiveRank;
 use df_value::{Boxed, Cell, CellType, Text};
 use std::alloc::{AllocError, Global};
@@ -187,12 +187,12 @@ fn a_row_that_goes_changes_the_sums_behind_it(rt: HostRuntime) -> Result<(), Fai
     Ok(())
 }
 
-// The dense ranks of x.
-fn ranks(alloc: Global) -> Result<LiveRank, AllocError> {
+// The ranks of x.
+fn ranks(alloc: Global, kind: RankKind) -> Result<LiveRank, AllocError> {
     let schema = schema(alloc, CellType::Int)?;
     let output = Text::from_str(alloc, "r")?;
     let column = Text::from_str(alloc, "x")?;
-    let made = LiveRank::dense(alloc, &schema, &output, &column)?;
+    let made = LiveRank::new(alloc, &schema, &output, &column, kind)?;
     Ok(made)
 }
 
@@ -218,6 +218,53 @@ fn a_value_that_comes_raises_the_ranks_above_it(rt: HostRuntime) -> Result<(), F
         most: 0,
     };
     let steps = [three_come, one_comes_between];
-    assert!(rt; follows(alloc, ranks(alloc)?, &INT, &RANKED, &steps)?);
+    assert!(rt; follows(alloc, ranks(alloc, RankKind::Dense)?, &INT, &RANKED, &steps)?);
+    Ok(())
+}
+
+#[test]
+fn a_row_that_comes_raises_the_min_ranks_above_it(rt: HostRuntime) -> Result<(), Fail> {
+    let alloc = rt.alloc();
+    let three_come = Step {
+        given: &[comes(1, of(3)), comes(2, of(6)), comes(3, of(3))],
+        told: &[
+            comes(1, (Some(3), Some(1))),
+            comes(2, (Some(6), Some(3))),
+            comes(3, (Some(3), Some(1))),
+        ],
+        most: 0,
+    };
+    let an_equal_comes = Step {
+        given: &[comes(4, of(3))],
+        told: &[
+            gives_way(2, (Some(6), Some(3)), (Some(6), Some(4))),
+            comes(4, (Some(3), Some(1))),
+        ],
+        most: 0,
+    };
+    let null_comes = Step {
+        given: &[comes(5, NULL)],
+        told: &[comes(5, NULL)],
+        most: 0,
+    };
+    let steps = [three_come, an_equal_comes, null_comes];
+    assert!(rt; follows(alloc, ranks(alloc, RankKind::Min)?, &INT, &RANKED, &steps)?);
+    Ok(())
+}
+
+#[test]
+fn a_sum_goes_on_behind_nulls(rt: HostRuntime) -> Result<(), Fail> {
+    let alloc = rt.alloc();
+    let nulls_come = Step {
+        given: &[comes(1, of(5)), comes(2, NULL), comes(3, NULL)],
+        told: &[comes(1, (Some(5), Some(5))), comes(2, NULL), comes(3, NULL)],
+        most: 0,
+    };
+    let one_comes = Step {
+        given: &[comes(4, of(7))],
+        told: &[comes(4, (Some(7), Some(12)))],
+        most: 0,
+    };
+    assert!(rt; follows(alloc, sum(alloc)?, &INT, &SUMMED, &[nulls_come, one_comes])?);
     Ok(())
 }
