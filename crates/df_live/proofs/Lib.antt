@@ -1,0 +1,16 @@
+pub mod Scans
+pub mod KeptTags
+pub mod FitRows
+pub mod JoinSteps
+pub mod NodeLaws
+pub mod PlanLaws
+pub mod Folding
+pub mod Parts
+pub mod FreshTrees
+pub mod NoRows
+pub mod NodeCosts
+pub mod FreshJoins
+pub mod PartColumns
+pub mod RowWiseTrees
+pub mod WindowTrees
+pub mod JoinTrees

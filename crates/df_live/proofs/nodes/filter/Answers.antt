@@ -1,0 +1,18 @@
+use Rattle.std.proofs.Common.{◌≤◌, ap, subst, sym, arith}
+use Rattle.df_delta.specs.Work.{evaluations}
+use Rattle.df_live.specs.Meaning.{differences}
+use Rattle.df_live.specs.Operators.{is_operator_over, operator_allowed, operator_budget, operator_output, operator_takes}
+use Rattle.df_live.proofs.NodeCosts.{few_evaluations, once}
+use Rattle.df_live.proofs.nodes.filter.Goals as goal
+
+pub returns : goal.returns
+unfolding is_operator_over operator_allowed operator_budget operator_output operator_takes
+returns c =
+    let counts = c.in_ok-node.ensures.counts in
+    record {
+      gives = c.in_ok-node.ensures.output;
+      work = λ t u. ap evaluations (once (differences t u) _ counts);
+      takes = λ t f g. tt;
+      over = tt;
+      budgeted = few_evaluations _ (subst (λ n. n ≤ 32) (sym counts) (omega arith));
+    }

@@ -1,0 +1,122 @@
+//! The tree of live nodes of a plan.
+ghost use Rattle.std.specs.Prelude.{◌≡◌, ◌^◌, IfOk, List};
+ghost use Rattle.df_column.specs.Tables.{TaggedRows};
+ghost use Rattle.df_delta.specs.Differences.{IsDiff};
+ghost use Rattle.df_delta.specs.Work.{IsBelow, IsWithin, plus};
+ghost use Rattle.df_live.specs.Frames.{changed};
+ghost use Rattle.df_live.specs.Staged.{HasRoomFor, LeadsTo};
+ghost use Rattle.df_live.specs.Trees.{IsOver, MayFollow, Takes, allowed, budget, output};
+
+use crate::joined::JoinOperator;
+use crate::operator::{LiveOperator, StagedOperator};
+use crate::scan::scanned;
+use df_delta::{Delta, LiveNode, TwoSidedNode};
+use df_expr::Meter;
+use df_join::StagedJoin;
+use std::alloc::{AllocError, Global};
+
+/// A live node for each node of a plan, over the trees of its inputs.
+#[derive(Drop)]
+pub enum LiveTree {
+    /// The frame of this index. It keeps nothing.
+    Scan(usize),
+    /// A node of one input.
+    Operator(Box<LiveTree>, LiveOperator),
+    /// A join of two inputs.
+    Join(Box<LiveTree>, Box<LiveTree>, JoinOperator),
+}
+
+/// What a prepare of each node staged.
+#[derive(Drop)]
+pub enum StagedTree {
+    /// Nothing.
+    Scan,
+    /// By the input, and by its node.
+    Operator(Box<StagedTree>, StagedOperator),
+    /// By both inputs, and by their join.
+    Join(Box<StagedTree>, Box<StagedTree>, StagedJoin),
+}
+
+impl LiveTree {
+    /// Makes the delta of the output under a delta of one frame, and all that a commit needs. The delta reaches every
+    /// scan of the frame at once. The tree stands over the frames that it stood over, also where memory was refused.
+    pub fn prepare(
+        &mut self,
+        alloc: Global,
+        frame: usize,
+        delta: &Delta,
+        meter: &mut Meter,
+    ) -> Result<(StagedTree, Delta), AllocError>
+        requires counts { IsBelow (plus meter.old (budget self.old)) (2 ^ 128) }
+        ensures grows { IsWithin meter.old meter.new }
+        ensures within { IsWithin meter.new (plus meter.old (budget self.old)) }
+        ensures meter { (frames : List TaggedRows) → MayFollow self.old frames frame delta.now
+            → IsWithin meter.new (plus meter.old
+            (allowed self.old frames (changed frames frame delta.now))) }
+        ensures contents { (frames : List TaggedRows) → IsOver self.old frames
+            → IsOver self.new frames }
+        ensures operator { (frames : List TaggedRows) →
+            output self.new frames ≡ output self.old frames }
+        ensures takes { (frames : List TaggedRows) → Takes self.old frames
+            → Takes self.new frames }
+        ensures same_budget { budget self.new ≡ budget self.old }
+        ensures same_bound { (frames after : List TaggedRows) →
+            allowed self.new frames after ≡ allowed self.old frames after }
+        ensures diff { IfOk result (λ r. (frames : List TaggedRows)
+            → MayFollow self.old frames frame delta.now
+            → IsDiff (output self.old frames)
+            (output self.old (changed frames frame delta.now)) r.1) }
+        ensures staged { IfOk result (λ r. (frames : List TaggedRows)
+            → MayFollow self.old frames frame delta.now
+            → LeadsTo self.new r.0 (changed frames frame delta.now)) }
+        ensures room { IfOk result (λ r. HasRoomFor self.new r.0) }
+    {
+        match self {
+            LiveTree::Scan(scan) => {
+                let changes = scanned(alloc, *scan, frame, delta)?;
+                Ok((StagedTree::Scan, changes))
+            }
+            LiveTree::Operator(input, node) => {
+                let (below, between) = input.prepare(alloc, frame, delta, meter)?;
+                let below = Box::new(alloc, below)?;
+                let (staged, changes) = node.prepare(&between, meter)?;
+                Ok((StagedTree::Operator(below, staged), changes))
+            }
+            LiveTree::Join(left, right, node) => {
+                let (on_left, from_left) = left.prepare(alloc, frame, delta, meter)?;
+                let on_left = Box::new(alloc, on_left)?;
+                let (on_right, from_right) = right.prepare(alloc, frame, delta, meter)?;
+                let on_right = Box::new(alloc, on_right)?;
+                let (staged, changes) = node.prepare(&from_left, &from_right, meter)?;
+                Ok((StagedTree::Join(on_left, on_right, staged), changes))
+            }
+        }
+    }
+
+    /// Puts the staged tree in place.
+    pub fn commit(&mut self, staged: StagedTree)
+        requires { HasRoomFor self.old staged }
+        ensures over { (frames : List TaggedRows) → LeadsTo self.old staged frames
+            → IsOver self.new frames }
+        ensures operator { (frames : List TaggedRows) →
+            output self.new frames ≡ output self.old frames }
+        ensures takes { (frames : List TaggedRows) → Takes self.old frames
+            → Takes self.new frames }
+        ensures same_budget { budget self.new ≡ budget self.old }
+        ensures same_bound { (frames after : List TaggedRows) →
+            allowed self.new frames after ≡ allowed self.old frames after }
+    {
+        match (self, staged) {
+            (LiveTree::Operator(input, node), StagedTree::Operator(below, staged)) => {
+                input.commit(Box::into_inner(below));
+                node.commit(staged);
+            }
+            (LiveTree::Join(left, right, node), StagedTree::Join(on_left, on_right, staged)) => {
+                left.commit(Box::into_inner(on_left));
+                right.commit(Box::into_inner(on_right));
+                node.commit(staged);
+            }
+            _ => {}
+        }
+    }
+}
