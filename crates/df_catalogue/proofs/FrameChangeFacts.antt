@@ -1,7 +1,7 @@
 -- What a catalogue's parts are after a change of one frame that is not refused: the parts of the state after it, and sound.
 use Rattle.std.proofs.Common.{◌≡◌, ℕ, ◌+◌, ◌<◌, zero, suc, ◌∙◌, List, [], ◌∷◌, map, length, refl, ap, sym, subst, arith, get_or}
 use Rattle.std.specs.Prelude.{IsTrue, Option, Some, None, Result, option_map, slice_get, slice_index_or, slice_set}
-use Rattle.std.specs.List.{AllZip}
+use Rattle.std.specs.List.{AllByRecursion, AllZip}
 use Rattle.std.proofs.lemmas.Result.{on_err_weaker, on_ok_weaker}
 use Rattle.std.proofs.lemmas.List.{set-get_or}
 use Rattle.std.proofs.lemmas.Option.{slice_get_read, slice_get_within}
@@ -10,6 +10,9 @@ use Rattle.df_value.specs.declared.cell.Cell.{Cell}
 use Rattle.df_value.specs.declared.cell.CellType.{CellType}
 use Rattle.df_value.specs.Chunks.{ChunkParts}
 use Rattle.df_value.specs.Rows.{rows_fit}
+use Rattle.df_delta.specs.Deltas.{Changes}
+use Rattle.df_delta.specs.Differences.{IsDiff}
+use Rattle.df_live.specs.Frames.{changed}
 use Rattle.df_catalogue.specs.declared.state.State.{State}
 use Rattle.df_catalogue.specs.declared.state.FrameState.{FrameState}
 use Rattle.df_catalogue.specs.declared.views.View.{View}
@@ -18,25 +21,25 @@ use Rattle.df_catalogue.specs.declared.frame_change.FrameChange.{FrameChange}
 use Rattle.df_catalogue.specs.declared.frame_change.FrameChange.TheVariants.{Append, Delete, Replace}
 use Rattle.df_catalogue.specs.declared.fault.CatalogueFault.{CatalogueFault}
 use Rattle.df_catalogue.specs.declared.fault.CatalogueFault.TheVariants as fault
-use Rattle.df_catalogue.specs.Changes.{accepted_rows, after, change_at, deleted_rows, refreshed_views, IsSound}
+use Rattle.df_catalogue.specs.Changes.{accepted_rows, after, change_at, deleted_rows, refreshed_views, view_over, IsSound}
 use Rattle.df_catalogue.specs.Desks.{DeskParts, accepted_in, deleted_in, desk_after, desks_after}
 use Rattle.df_catalogue.specs.FrameChanges.{change_of, frame_after, FrameTakes, TakesNumbers}
 use Rattle.df_catalogue.specs.FrameParts.{FrameParts, schemas_of, states_of}
 use Rattle.df_catalogue.specs.Frames.{rows_of, IsFrame, IsNumbered}
+use Rattle.df_catalogue.specs.FrameTables.{tagged_rows_of}
+use Rattle.df_catalogue.specs.LiveViews.{headings, tagged_frames, view_state, AreChangesOf, AreLive}
 use Rattle.df_catalogue.specs.Parts.{state_of, IsCatalogue}
 use Rattle.df_catalogue.specs.Refusals.{refusal_of, append_refusal, delete_refusal, first_reason, doubled_number_after, first_not_live, numbers_refusal, replace_refusal}
-use Rattle.df_catalogue.specs.States.{value_over, IsLegal}
+use Rattle.df_catalogue.specs.States.{IsLegal, IsPlanOver}
 use Rattle.df_catalogue.specs.Transitions.{IsTransitionOfDesk, IsTransitionOfDesks}
 use Rattle.df_catalogue.proofs.Counting.{accepted-few, deleted-few, deleted-more, sum-change}
 use Rattle.df_catalogue.proofs.FrameFacts.{accepted-more, numbered-at, numbered-with_chunk, numbered-with_replaced_rows, numbered-without_rows}
 use Rattle.df_catalogue.proofs.Legal.{append-accepted, legal-after, replace-accepted}
-use Rattle.df_catalogue.proofs.StateFacts.{change-set, state-frames}
+use Rattle.df_catalogue.proofs.LiveFacts.{are-changes, headings-plans, is-change, refreshed-headings, tagged-changed, views-live}
+use Rattle.df_catalogue.proofs.StateFacts.{change-set}
 
 abbrev Columns : Type 0
 Columns = List (List ℕ × CellType)
-
-abbrev Rows : Type 0
-Rows = List (List Cell)
 
 append-there :
     (c : ChunkParts) (o : Option Columns) (p : Option FrameState) → append_refusal c o p ≡ None →
@@ -112,11 +115,11 @@ lent-map g (y ∷ ys) zero x e = ap g e
 lent-map g (y ∷ ys) (suc i) x e = lent-map g ys i x e
 
 pub changeable-of :
-    (frames : List FrameParts) (views : List View) (tables : List Rows) (t : State) (f g : ℕ) (c : FrameChange) (x : FrameParts) →
-    state_of (schemas_of frames) (states_of frames) views tables ≡ t → f ≡ g → IsLegal (state_of (schemas_of frames) (states_of frames) views tables) →
-    refusal_of t (change_of g c) ≡ None → x ≡ get_or frames f x → IsChangeable (state_of (schemas_of frames) (states_of frames) views tables) f c x.state
-changeable-of frames views tables t f g c x same place h free lent =
-    changeable (state_of (schemas_of frames) (states_of frames) views tables) f c x.state h (free-of _ t f g c same place free)
+    (frames : List FrameParts) (views : List View) (t : State) (f g : ℕ) (c : FrameChange) (x : FrameParts) →
+    state_of (schemas_of frames) (states_of frames) views ≡ t → f ≡ g → IsLegal (state_of (schemas_of frames) (states_of frames) views) →
+    refusal_of t (change_of g c) ≡ None → x ≡ get_or frames f x → IsChangeable (state_of (schemas_of frames) (states_of frames) views) f c x.state
+changeable-of frames views t f g c x same place h free lent =
+    changeable (state_of (schemas_of frames) (states_of frames) views) f c x.state h (free-of _ t f g c same place free)
     (lent-map (λ y. y.state) frames f x lent)
 
 -- a frame is sound after it
@@ -143,13 +146,13 @@ sound-after (y ∷ ys) (suc f) change x h lent within = sound-after ys f change 
 
 -- and its rows fit its schema
 pub fits-after :
-    (frames : List FrameParts) (views : List View) (tables : List Rows) (f : ℕ) (c : FrameChange) (x : FrameParts) →
-    IsLegal (state_of (schemas_of frames) (states_of frames) views tables) → IsSound (change_of f c) →
-    refusal_of (state_of (schemas_of frames) (states_of frames) views tables) (change_of f c) ≡ None →
-    IsChangeable (state_of (schemas_of frames) (states_of frames) views tables) f c x.state → x ≡ get_or frames f x →
+    (frames : List FrameParts) (views : List View) (f : ℕ) (c : FrameChange) (x : FrameParts) →
+    IsLegal (state_of (schemas_of frames) (states_of frames) views) → IsSound (change_of f c) →
+    refusal_of (state_of (schemas_of frames) (states_of frames) views) (change_of f c) ≡ None →
+    IsChangeable (state_of (schemas_of frames) (states_of frames) views) f c x.state → x ≡ get_or frames f x →
     IsTrue (rows_fit x.schema (rows_of (frame_after x.state c)))
-fits-after frames views tables f c x h sound free known lent =
-    let s : State = state_of (schemas_of frames) (states_of frames) views tables in
+fits-after frames views f c x h sound free known lent =
+    let s : State = state_of (schemas_of frames) (states_of frames) views in
     let legal : IsLegal (after s (change_of f c)) = legal-after s (change_of f c) h sound free in
     let within : f < length frames = let long = length-map frames (λ y. y.state) in omega (arith, long, known.within) in
     let sound-frames : AllZip IsFrame (schemas_of frames) (change_at f (λ y. frame_after y c) (states_of frames)) =
@@ -238,29 +241,37 @@ room s f c x h sound free known =
     let deleted = books.deleted in
     record { accepted = omega (arith, few, frames, accepted); deleted = omega (arith, few, fewer, frames, deleted) }
 
--- the parts with the changed frame and the tables over it
+-- the parts with the changed frame and the views over it
 pub frame-changed :
-    (schemas : List Columns) (frames : List FrameState) (views : List View) (tables now : List Rows) (f : ℕ) (c : FrameChange) (x changed : FrameState)
+    (schemas : List Columns) (frames : List FrameState) (views now : List View) (f : ℕ) (c : FrameChange) (x changed : FrameState)
     (accepted deleted more_accepted more_deleted : ℕ) (of_accepted of_deleted : ℕ × ℕ) →
-    IsCatalogue (state_of schemas frames views tables) (length views) (length tables) accepted deleted of_accepted of_deleted →
-    IsSound (change_of f c) → refusal_of (state_of schemas frames views tables) (change_of f c) ≡ None →
-    IsChangeable (state_of schemas frames views tables) f c x → changed ≡ frame_after x c →
-    now ≡ map (λ v. value_over (slice_set frames f changed) v.plan) views →
+    IsCatalogue (state_of schemas frames views) views accepted deleted of_accepted of_deleted →
+    IsSound (change_of f c) → refusal_of (state_of schemas frames views) (change_of f c) ≡ None →
+    IsChangeable (state_of schemas frames views) f c x → changed ≡ frame_after x c →
+    headings now ≡ headings views → AreLive now (tagged_frames (slice_set frames f changed)) →
     more_accepted ≡ accepted + accepted_rows (change_of f c) → more_deleted ≡ deleted + deleted_rows (change_of f c) →
-    (state_of schemas (slice_set frames f changed) views now ≡ after (state_of schemas frames views tables) (change_of f c))
-    × IsCatalogue (state_of schemas (slice_set frames f changed) views now) (length views) (length now) more_accepted more_deleted of_accepted of_deleted
-frame-changed schemas frames views tables now f c x changed accepted deleted more_accepted more_deleted of_accepted of_deleted h sound free known is new counted gone =
-    let s : State = state_of schemas frames views tables in
+    (state_of schemas (slice_set frames f changed) now ≡ after (state_of schemas frames views) (change_of f c))
+    × IsCatalogue (state_of schemas (slice_set frames f changed) now) now more_accepted more_deleted of_accepted of_deleted
+frame-changed schemas frames views now f c x changed accepted deleted more_accepted more_deleted of_accepted of_deleted h sound free known is same_views live counted gone =
+    let s : State = state_of schemas frames views in
     let change : FrameState → FrameState = λ x. frame_after x c in
-    let new' : now ≡ map (λ v. value_over (slice_set frames f (change x)) v.plan) views = rw (← is) new in
-    let same : state_of schemas (slice_set frames f changed) views now ≡ after s (change_of f c) =
-    ap (λ y. state_of schemas (slice_set frames f y) views now) is
-    ∙ (state-frames schemas frames views tables now f change x known.at h.in_step new' ∙ sym (after-frame s f c)) in
+    let frames' : List FrameState = slice_set frames f changed in
+    let legal : IsLegal (after s (change_of f c)) = legal-after s (change_of f c) h.legal sound free in
+    let at : frames' ≡ change_at f change frames = ap (slice_set frames f) is ∙ sym (change-set change frames f x known.at) in
+    let frames_sound : AllZip IsFrame schemas frames' =
+    subst (AllZip IsFrame schemas) (sym at) (subst (λ (t : State). AllZip IsFrame t.schemas t.frames) (after-frame s f c) legal.frames) in
+    let plans = subst (AllByRecursion (λ h. IsPlanOver schemas h.1)) (sym same_views) (headings-plans (IsPlanOver schemas) views h.legal.plans) in
+    let tables : map view_state now ≡ refreshed_views frames' (map view_state views) =
+    views-live schemas frames' now frames_sound plans live
+    ∙ (ap (map (λ h. view_over frames' h.0 h.1)) same_views ∙ sym (refreshed-headings frames' views)) in
+    let same : state_of schemas frames' now ≡ after s (change_of f c) =
+    ap (λ ws. record { schemas = schemas; frames = frames'; views = ws }) tables
+    ∙ (ap (λ fs. record { schemas = schemas; frames = fs; views = refreshed_views fs (map view_state views) }) at ∙ sym (after-frame s f c)) in
     let books = booked s f c x known in (
       same,
       record {
-        legal = subst IsLegal (sym same) (legal-after s (change_of f c) h.legal sound free);
-        in_step = sym (ap length new ∙ length-map views (λ v. value_over (slice_set frames f changed) v.plan));
+        legal = subst IsLegal (sym same) legal;
+        live = live;
         books_accepted = counted ∙ (ap (λ n. n + accepted_rows (change_of f c)) h.books_accepted ∙ (sym books.accepted ∙ ap accepted_in (sym same)));
         books_deleted = gone ∙ (ap (λ n. n + deleted_rows (change_of f c)) h.books_deleted ∙ (sym books.deleted ∙ ap deleted_in (sym same)));
         accepted_of_no_desk = h.accepted_of_no_desk;
@@ -269,30 +280,83 @@ frame-changed schemas frames views tables now f c x changed accepted deleted mor
     )
 
 -- the parts with schemas and states of these frames
-abbrev pub IsChangedParts : List Columns → List FrameState → List View → List Rows → State → (accepted deleted : ℕ) (of_accepted of_deleted : ℕ × ℕ) → Type 0
-IsChangedParts schemas frames views tables s accepted deleted of_accepted of_deleted =
-    (state_of schemas frames views tables ≡ s)
-    × IsCatalogue (state_of schemas frames views tables) (length views) (length tables) accepted deleted of_accepted of_deleted
+abbrev pub IsChangedParts : List Columns → List FrameState → List View → State → (accepted deleted : ℕ) (of_accepted of_deleted : ℕ × ℕ) → Type 0
+IsChangedParts schemas frames views s accepted deleted of_accepted of_deleted =
+    (state_of schemas frames views ≡ s)
+    × IsCatalogue (state_of schemas frames views) views accepted deleted of_accepted of_deleted
+
+-- the schemas and states of the frames, of which one is changed and keeps its schema
+pub schemas-set :
+    (frames : List FrameParts) (f : ℕ) (x changed : FrameParts) → x ≡ get_or frames f x → changed.schema ≡ x.schema →
+    schemas_of (slice_set frames f changed) ≡ schemas_of frames
+schemas-set frames f x changed lent same =
+    map-set (λ y. y.schema) frames f changed
+    ∙ (ap (slice_set (schemas_of frames) f) (same ∙ lent-map (λ y. y.schema) frames f x lent) ∙ set-get_or (schemas_of frames) f x.schema)
+
+pub states-set : (frames : List FrameParts) (f : ℕ) (changed : FrameParts) → states_of (slice_set frames f changed) ≡ slice_set (states_of frames) f changed.state
+states-set frames f changed = map-set (λ y. y.state) frames f changed
 
 -- the same of the frames with their schemas, where that of the changed one stays
 pub parts-changed :
-    (frames : List FrameParts) (views : List View) (tables now : List Rows) (f : ℕ) (c : FrameChange) (x changed : FrameParts)
+    (frames : List FrameParts) (views now : List View) (f : ℕ) (c : FrameChange) (x changed : FrameParts)
     (accepted deleted more_accepted more_deleted : ℕ) (of_accepted of_deleted : ℕ × ℕ) →
-    IsCatalogue (state_of (schemas_of frames) (states_of frames) views tables) (length views) (length tables) accepted deleted of_accepted of_deleted →
-    IsSound (change_of f c) → refusal_of (state_of (schemas_of frames) (states_of frames) views tables) (change_of f c) ≡ None →
-    IsChangeable (state_of (schemas_of frames) (states_of frames) views tables) f c x.state → x ≡ get_or frames f x →
+    IsCatalogue (state_of (schemas_of frames) (states_of frames) views) views accepted deleted of_accepted of_deleted →
+    IsSound (change_of f c) → refusal_of (state_of (schemas_of frames) (states_of frames) views) (change_of f c) ≡ None →
+    IsChangeable (state_of (schemas_of frames) (states_of frames) views) f c x.state → x ≡ get_or frames f x →
     changed.schema ≡ x.schema → changed.state ≡ frame_after x.state c →
-    now ≡ map (λ v. value_over (states_of (slice_set frames f changed)) v.plan) views →
+    headings now ≡ headings views → AreLive now (tagged_frames (states_of (slice_set frames f changed))) →
     more_accepted ≡ accepted + accepted_rows (change_of f c) → more_deleted ≡ deleted + deleted_rows (change_of f c) →
-    IsChangedParts (schemas_of (slice_set frames f changed)) (states_of (slice_set frames f changed)) views now
-    (after (state_of (schemas_of frames) (states_of frames) views tables) (change_of f c)) more_accepted more_deleted of_accepted of_deleted
-parts-changed frames views tables now f c x changed accepted deleted more_accepted more_deleted of_accepted of_deleted h sound free known lent same is new counted gone =
-    let s : State = state_of (schemas_of frames) (states_of frames) views tables in
-    let schemas : schemas_of (slice_set frames f changed) ≡ schemas_of frames =
-    map-set (λ y. y.schema) frames f changed
-    ∙ (ap (slice_set (schemas_of frames) f) (same ∙ lent-map (λ y. y.schema) frames f x lent) ∙ set-get_or (schemas_of frames) f x.schema) in
-    let states : states_of (slice_set frames f changed) ≡ slice_set (states_of frames) f changed.state = map-set (λ y. y.state) frames f changed in
-    let new' : now ≡ map (λ v. value_over (slice_set (states_of frames) f changed.state) v.plan) views = rw (← states) new in
-    let made = frame-changed (schemas_of frames) (states_of frames) views tables now f c x.state changed.state accepted deleted more_accepted more_deleted of_accepted of_deleted h sound free known is new' counted gone in
-    subst (λ ss. IsChangedParts ss (states_of (slice_set frames f changed)) views now (after s (change_of f c)) more_accepted more_deleted of_accepted of_deleted) (sym schemas)
-    (subst (λ fs. IsChangedParts (schemas_of frames) fs views now (after s (change_of f c)) more_accepted more_deleted of_accepted of_deleted) (sym states) made)
+    IsChangedParts (schemas_of (slice_set frames f changed)) (states_of (slice_set frames f changed)) now
+    (after (state_of (schemas_of frames) (states_of frames) views) (change_of f c)) more_accepted more_deleted of_accepted of_deleted
+parts-changed frames views now f c x changed accepted deleted more_accepted more_deleted of_accepted of_deleted h sound free known lent same is same_views live counted gone =
+    let s : State = state_of (schemas_of frames) (states_of frames) views in
+    let schemas = schemas-set frames f x changed lent same in
+    let states = states-set frames f changed in
+    let live' : AreLive now (tagged_frames (slice_set (states_of frames) f changed.state)) = subst (λ fs. AreLive now (tagged_frames fs)) states live in
+    let made = frame-changed (schemas_of frames) (states_of frames) views now f c x.state changed.state accepted deleted more_accepted more_deleted of_accepted of_deleted h sound free known is same_views live' counted gone in
+    subst (λ ss. IsChangedParts ss (states_of (slice_set frames f changed)) now (after s (change_of f c)) more_accepted more_deleted of_accepted of_deleted) (sym schemas)
+    (subst (λ fs. IsChangedParts (schemas_of frames) fs now (after s (change_of f c)) more_accepted more_deleted of_accepted of_deleted) (sym states) made)
+
+-- the delta of the frame's change is one of the frames, and each view's plan is over them
+pub delta-changes :
+    (frames : List FrameParts) (views : List View) (f : ℕ) (c : FrameChange) (x : FrameParts) (d : Changes) →
+    IsLegal (state_of (schemas_of frames) (states_of frames) views) → IsSound (change_of f c) →
+    refusal_of (state_of (schemas_of frames) (states_of frames) views) (change_of f c) ≡ None →
+    IsChangeable (state_of (schemas_of frames) (states_of frames) views) f c x.state →
+    IsDiff (tagged_rows_of x.state) (tagged_rows_of (frame_after x.state c)) d →
+    AreChangesOf views (tagged_frames (states_of frames)) f d
+    × (changed (tagged_frames (states_of frames)) f d ≡ tagged_frames (slice_set (states_of frames) f (frame_after x.state c)))
+delta-changes frames views f c x d h sound free known diff =
+    let s : State = state_of (schemas_of frames) (states_of frames) views in
+    let change : FrameState → FrameState = λ x. frame_after x c in
+    let legal : IsLegal (after s (change_of f c)) = legal-after s (change_of f c) h sound free in
+    let at : slice_set (states_of frames) f (frame_after x.state c) ≡ change_at f change (states_of frames) = sym (change-set change (states_of frames) f x.state known.at) in
+    let after_sound : AllZip IsFrame (schemas_of frames) (slice_set (states_of frames) f (frame_after x.state c)) =
+    subst (AllZip IsFrame (schemas_of frames)) (sym at) (subst (λ (t : State). AllZip IsFrame t.schemas t.frames) (after-frame s f c) legal.frames) in
+    let is = is-change (schemas_of frames) (states_of frames) f x.state (frame_after x.state c) d h.frames after_sound known.within known.at diff in (
+      are-changes (schemas_of frames) views (tagged_frames (states_of frames)) f d (headings-plans (IsPlanOver (schemas_of frames)) views h.plans) is,
+      tagged-changed (states_of frames) f x.state (frame_after x.state c) d known.at diff,
+    )
+
+-- the parts where the views stand as they stood
+pub views-kept :
+    (schemas : List Columns) (frames : List FrameState) (views now : List View) (accepted deleted : ℕ) (of_accepted of_deleted : ℕ × ℕ) →
+    IsCatalogue (state_of schemas frames views) views accepted deleted of_accepted of_deleted → headings now ≡ headings views → AreLive now (tagged_frames frames) →
+    (state_of schemas frames now ≡ state_of schemas frames views) × IsCatalogue (state_of schemas frames now) now accepted deleted of_accepted of_deleted
+views-kept schemas frames views now accepted deleted of_accepted of_deleted h same_views live =
+    let old_plans = headings-plans (IsPlanOver schemas) views h.legal.plans in
+    let plans = subst (AllByRecursion (λ h. IsPlanOver schemas h.1)) (sym same_views) old_plans in
+    let tables : map view_state now ≡ map view_state views =
+    views-live schemas frames now h.legal.frames plans live
+    ∙ (ap (map (λ h. view_over frames h.0 h.1)) same_views ∙ sym (views-live schemas frames views h.legal.frames old_plans h.live)) in
+    let same : state_of schemas frames now ≡ state_of schemas frames views = ap (λ ws. record { schemas = schemas; frames = frames; views = ws }) tables in (
+      same,
+      record {
+        legal = subst IsLegal (sym same) h.legal;
+        live = live;
+        books_accepted = h.books_accepted;
+        books_deleted = h.books_deleted;
+        accepted_of_no_desk = h.accepted_of_no_desk;
+        deleted_of_no_desk = h.deleted_of_no_desk;
+      },
+    )

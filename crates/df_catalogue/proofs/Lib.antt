@@ -15,6 +15,9 @@ pub mod RangeFacts
 pub mod RangesApart
 pub mod RangeSearch
 pub mod StateFacts
+pub mod Partners
+pub mod ViewLists
+pub mod LiveFacts
 pub mod RunFacts
 pub mod PartFacts
 pub mod ViewChangeFacts

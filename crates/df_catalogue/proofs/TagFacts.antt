@@ -20,7 +20,7 @@ use Rattle.df_catalogue.specs.Numbers.{is_rising}
 abbrev pub is_tag : Tag → ℕ → Bool
 is_tag q n = eq_by_cmp tag_cmp q (row_tag n)
 
-tag-is : (q : Tag) (n : ℕ) → is_tag q n ≡ true → q ≡ row_tag n
+pub tag-is : (q : Tag) (n : ℕ) → is_tag q n ≡ true → q ≡ row_tag n
 tag-is q n e = tag_same q (row_tag n) (equal_from_is_eq _ (subst T (sym e) tt))
 
 pub one-number : (q : Tag) (a b : ℕ) → is_tag q a ≡ true → is_tag q b ≡ true → a ≡ b

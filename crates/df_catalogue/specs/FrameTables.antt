@@ -4,12 +4,12 @@ use Rattle.std.specs.FinMap as finite
 use Rattle.std.specs.BTreeMap.{BTreeMap, IsOrdered, get}
 use Rattle.df_value.specs.declared.cell.Cell.{Cell}
 use Rattle.df_column.specs.Changes.{Change, set_at}
-use Rattle.df_column.specs.Tables.{TaggedRows}
+use Rattle.df_column.specs.Tables.{TableParts, TaggedRows}
 use Rattle.df_column.specs.Tags.{tag_cmp}
 use Rattle.df_column.specs.declared.tag.Tag.{Tag}
 use Rattle.df_delta.specs.Deltas.{coming}
 use Rattle.df_catalogue.specs.declared.state.FrameState.{FrameState}
-use Rattle.df_catalogue.specs.FrameParts.{deleted_numbers}
+use Rattle.df_catalogue.specs.FrameParts.{FrameParts, deleted_numbers}
 
 -- the tag of a row number
 abbrev pub row_tag : ℕ → Tag
@@ -22,6 +22,10 @@ at_tag r = (row_tag r.0, r.1)
 -- the rows of a frame by their tags
 abbrev pub tagged_rows_of : FrameState → TaggedRows
 tagged_rows_of f = finite.from_sorted (map at_tag f.rows)
+
+-- the table of a frame
+abbrev pub table_parts : FrameParts → TableParts
+table_parts f = record { schema = f.schema; rows = tagged_rows_of f.state }
 
 -- a row of a table behind the number of its tag
 abbrev pub numbered_row : Tag × List Cell → ℕ × List Cell

@@ -11,7 +11,7 @@ use crate::desk::{Desk, audit_all};
 use crate::fault::NewFault;
 use crate::frame::Frame;
 use crate::views::View;
-use df_value::{List, MOST_FRAMES, Row, Schema};
+use df_value::{List, MOST_FRAMES, Schema};
 use std::alloc::{AllocError, Global};
 use std::marker::Model;
 use std::sync::ledger::{Blank, Book, Ledger, Share};
@@ -25,7 +25,6 @@ use std::sync::ledger::{Blank, Book, Ledger, Share};
 pub struct Catalogue<Acc: Ledger, Del: Ledger> {
     pub(crate) frames: Vec<Frame>,
     pub(crate) views: Vec<View>,
-    pub(crate) tables: Vec<List<Row>>,
     pub(crate) accepted: Book<Acc>,
     pub(crate) deleted: Book<Del>,
     pub(crate) accepted_of_no_desk: Share<Acc>,
@@ -33,7 +32,6 @@ pub struct Catalogue<Acc: Ledger, Del: Ledger> {
 }
 
 impl<Acc: Ledger, Del: Ledger> Model for Catalogue<Acc, Del> {
-    ghost use Rattle.std.specs.Prelude.{length};
     ghost use Rattle.df_catalogue.specs.declared.state.State.{State};
     ghost use Rattle.df_catalogue.specs.FrameParts.{schemas_of, states_of};
     ghost use Rattle.df_catalogue.specs.Parts.{IsCatalogue, state_of};
@@ -45,12 +43,11 @@ impl<Acc: Ledger, Del: Ledger> Model for Catalogue<Acc, Del> {
     ghost coded = { Prim.hlevel (codes, plan_type.the_row.coded) };
 
     ghost view = { λ c. state_of (schemas_of c.frames.items) (states_of c.frames.items)
-        c.views.items c.tables.items };
+        c.views.items };
 
     ghost invariant = { λ c.
-        IsCatalogue (state_of (schemas_of c.frames.items) (states_of c.frames.items)
-        c.views.items c.tables.items)
-        (length c.views.items) (length c.tables.items) c.accepted.total c.deleted.total
+        IsCatalogue (state_of (schemas_of c.frames.items) (states_of c.frames.items) c.views.items)
+        c.views.items c.accepted.total c.deleted.total
         (c.accepted_of_no_desk.parts, c.accepted_of_no_desk.amount)
         (c.deleted_of_no_desk.parts, c.deleted_of_no_desk.amount) };
 }
@@ -98,7 +95,6 @@ impl<Acc: Ledger, Del: Ledger> Catalogue<Acc, Del> {
         let catalogue = Catalogue {
             frames,
             views: Vec::new(alloc),
-            tables: Vec::new(alloc),
             accepted,
             deleted,
             accepted_of_no_desk,

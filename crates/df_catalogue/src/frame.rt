@@ -2,7 +2,7 @@
 ghost use Rattle.std.specs.Prelude.{◌≡◌, ◌≤◌, ◌<◌, IfOk, IsTrue, length, map, slice_index};
 ghost use Rattle.df_catalogue.specs.FrameChanges as frame_changes;
 ghost use Rattle.df_catalogue.specs.FrameParts.{empty_parts};
-ghost use Rattle.df_catalogue.specs.FrameTables.{tagged_rows_of};
+ghost use Rattle.df_catalogue.specs.FrameTables.{table_parts, tagged_rows_of};
 ghost use Rattle.df_catalogue.specs.Frames as frames;
 ghost use Rattle.df_catalogue.specs.Frames.{IsNumbered, numbers_of, rows_of};
 ghost use Rattle.df_catalogue.specs.Refusals as refusals;
@@ -56,6 +56,13 @@ impl Frame {
             accepted_rows: 0,
             deleted_rows: 0,
         })
+    }
+
+    /// A table that shares the rows, each at the tag of its number.
+    pub fn share(&self, alloc: Global) -> Result<Table, AllocError>
+        ensures { IfOk result (λ t. t ≡ table_parts self.now) }
+    {
+        self.table.share(alloc)
     }
 
     /// The schema of its rows.
@@ -176,26 +183,29 @@ impl Frame {
         }
     }
 
-    /// The frame after a change that nothing in it refuses, and after which the rows fit. Blocks of
-    /// rows that do not change are shared.
-    pub fn changed(&self, alloc: Global, change: FrameChange) -> Result<Frame, AllocError>
+    /// The frame after a change that nothing in it refuses, and after which the rows fit, and the change's delta. Blocks
+    /// of rows that do not change are shared.
+    pub fn changed(&self, alloc: Global, change: FrameChange) -> Result<(Frame, Delta), AllocError>
         requires sound { IsNumbered self.now.state }
         requires free { frame_changes.FrameTakes self.now.state change }
         requires fits { IsTrue (rows_fit self.now.schema
             (rows_of (frame_changes.frame_after self.now.state change))) }
-        ensures schema { IfOk result (λ frame. frame.schema ≡ self.now.schema) }
-        ensures state { IfOk result (λ frame.
-            frame.state ≡ frame_changes.frame_after self.now.state change.entry) }
+        ensures schema { IfOk result (λ made. made.0.schema ≡ self.now.schema) }
+        ensures state { IfOk result (λ made.
+            made.0.state ≡ frame_changes.frame_after self.now.state change.entry) }
+        ensures diff { IfOk result (λ made. IsDiff (tagged_rows_of self.now.state)
+            (tagged_rows_of (frame_changes.frame_after self.now.state change.entry)) made.1) }
     {
         let delta = self.delta(alloc, change)?;
         let table = apply(alloc, &self.table, &delta)?;
         let accepted = self.accepted_after(alloc, change)?;
-        Ok(Frame {
+        let frame = Frame {
             accepted,
             table,
             accepted_rows: self.accepted_rows + change.accepted_rows(),
             deleted_rows: self.deleted_rows + change.deleted_rows(),
-        })
+        };
+        Ok((frame, delta))
     }
 
     // The numbers that were accepted after the change.

@@ -14,6 +14,7 @@ mod desk;
 mod fault;
 mod frame;
 mod frame_change;
+mod live_views;
 mod number_sets;
 mod numbered;
 mod ranges;

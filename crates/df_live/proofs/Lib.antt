@@ -13,4 +13,8 @@ pub mod FreshJoins
 pub mod PartColumns
 pub mod RowWiseTrees
 pub mod WindowTrees
+pub mod Sizes
+pub mod Filling
+pub mod ViewLaws
 pub mod JoinTrees
+pub mod InputChecks

@@ -6,3 +6,5 @@ pub mod Staged
 pub mod Meaning
 pub mod Lawful
 pub mod Fresh
+pub mod Tables
+pub mod Views

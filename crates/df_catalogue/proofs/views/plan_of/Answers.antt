@@ -9,5 +9,5 @@ returns-in_err-at c =
 
 pub returns : goal.returns
 returns c =
-    ap (λ v. Some v.plan) (sym c.index-views-at.is)
-    ∙ sym (ap (option_map (λ v. v.plan)) (placed-found (λ v. bytes_eq v.name c.args.name.now) c.args.views.now c.in_ok-at.at c.index-views-at.result (sym c.view_index.ensures.value ∙ c.in_ok-at.was) c.index-views-at.is))
+    ap Some c.plan.ensures ∙ ap (λ v. Some v.live.plan) (sym c.index-views-at.is)
+    ∙ sym (ap (option_map (λ v. v.live.plan)) (placed-found (λ v. bytes_eq v.name c.args.name.now) c.args.views.now c.in_ok-at.at c.index-views-at.result (sym c.view_index.ensures.value ∙ c.in_ok-at.was) c.index-views-at.is))

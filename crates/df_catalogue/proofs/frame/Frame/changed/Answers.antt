@@ -9,8 +9,8 @@ use Rattle.df_catalogue.proofs.FrameChangeFacts.{frame-accepted, frame-deleted, 
 use Rattle.df_catalogue.proofs.FrameTableFacts.{frame-tabled, frame-tables, table-fits, table-is}
 use Rattle.df_catalogue.proofs.frame.Frame.changed.Goals as goal
 
-pub overflow_add-result : goal.overflow_add-result
-overflow_add-result c =
+pub overflow_add-frame : goal.overflow_add-frame
+overflow_add-frame c =
     let f = c.args.self.now.state in
     let sound = numbered-after 0 c.args.change f (c.accepted_rows.ensures.sound 0) c.requires.sound c.requires.free in
     let before = c.self.invariant.counts_accepted ∙ ap (λ (x : FrameParts). length x.state.accepted) c.self.view_is in
@@ -18,8 +18,8 @@ overflow_add-result c =
     let few = sound.few in
     omega (arith, before, more, few, c.accepted_rows.ensures.value 0)
 
-pub overflow_add-result-2 : goal.overflow_add-result-2
-overflow_add-result-2 c =
+pub overflow_add-frame-2 : goal.overflow_add-frame-2
+overflow_add-frame-2 c =
     let f = c.args.self.now.state in
     let sound = numbered-after 0 c.args.change f (c.accepted_rows.ensures.sound 0) c.requires.sound c.requires.free in
     let before = c.self.invariant.counts_deleted ∙ ap (λ (x : FrameParts). length x.state.deleted) c.self.view_is in
@@ -28,8 +28,8 @@ overflow_add-result-2 c =
     let few = sound.few in
     omega (arith, before, more, part, few, c.deleted_rows.ensures 0)
 
-pub invariant_of-result : goal.invariant_of-result
-invariant_of-result c =
+pub invariant_of-frame : goal.invariant_of-frame
+invariant_of-frame c =
     let f = c.args.self.now.state in
     let change = c.args.change in
     let sound = numbered-after 0 change f (c.accepted_rows.ensures.sound 0) c.requires.sound c.requires.free in

@@ -1,0 +1,153 @@
+#!/usr/bin/env python3
+"""views.py PROGRAM [ROWS ..]: what a change of one row costs under a view, behind so many rows.
+
+PROGRAM is dfshell. Each kind of view stands alone over a frame of a group, a key of its own in each row, and a whole
+number. The rows come in chunks of 1,000; then single rows are appended, replaced and deleted. Each session runs a
+second time with changes that are refused, which is what reading them costs, and that is taken off. Prints the
+microseconds that a row of the chunks and each kind of change take, for a group-by also in SQLite: in memory, with
+triggers that keep the sums, through Python's own library.
+"""
+
+import os
+import pathlib
+import random
+import sqlite3
+import subprocess
+import sys
+import tempfile
+import time
+
+CHUNK = 1000
+SINGLES = 1000
+GROUPS = 64
+STEPS = {
+    "none": None,
+    "filter": '["filter", [">", ["col", "v"], 0]]',
+    "group-by": '["group_by", ["g"], ["n", "len"], ["total", "sum", "v"]]',
+    "unique groups": '["group_by", ["k"], ["n", "len"], ["total", "sum", "v"]]',
+    "least and most": '["group_by", ["g"], ["least", "min", "v"], ["most", "max", "v"]]',
+    "self-join": '["join", "left", ["k"], "rows"]',
+    "rolling sum": '["rolling_sum", "s", "v", 8, 1]',
+    "cumulative sum": '["cum_sum", "s", "v"]',
+    "dense rank": '["rank", "r", "dense", "g"]',
+}
+DOCUMENT = """[[frame]]
+name = "rows"
+columns = [["g", "Int"], ["k", "Int"], ["v", "Int"]]
+text = "g,k,v\\n"
+"""
+VIEW = """[[view]]
+name = "view"
+from = "rows"
+steps = [STEP]
+"""
+
+
+def row(source, number):
+    return f"{source.randrange(GROUPS)},{number},{source.randrange(-1000, 1000)}\n"
+
+
+def chunks(source, rows, refused):
+    for first in range(0, rows, CHUNK):
+        lines = "".join(row(source, number) for number in range(first, first + CHUNK))
+        yield f"append rows {0 if refused else first} {CHUNK}\n{lines}"
+
+
+def changes(kind, source, rows, refused):
+    """Single changes behind so many rows. A refused one is of a number that was accepted, or that is not there."""
+    places = random.Random(rows).sample(range(rows), SINGLES)
+    for at in range(SINGLES):
+        if kind == "append":
+            yield f"append rows {0 if refused else rows + at} 1\n{row(source, rows + at)}"
+        number = 4294967295 if refused else places[at]
+        if kind == "replace":
+            yield f"replace rows {number}\n{row(source, number)}"
+        if kind == "delete":
+            yield f"delete rows {number}\n"
+
+
+def seconds(program, folder, parts):
+    """The processor seconds of a session of these commands."""
+    typed = folder / "typed"
+    with open(typed, "w", encoding="ascii") as file:
+        file.writelines(parts)
+    with open(typed, "rb") as file:
+        shell = subprocess.Popen([program, "rows.toml"], cwd=folder, stdin=file, stdout=subprocess.DEVNULL)
+        _, status, used = os.wait4(shell.pid, 0)
+    if status != 0:
+        sys.exit("a session failed")
+    return used.ru_utime + used.ru_stime
+
+
+def measured(program, folder, rows):
+    """Microseconds: of a row of the chunks, and of each kind of single change."""
+    source = random.Random(20260101)
+    loaded = list(chunks(source, rows, False))
+    made = [loaded[0], *chunks(random.Random(20260101), rows, True)]
+    load = seconds(program, folder, loaded)
+    result = [(load - seconds(program, folder, made)) / rows * 1e6]
+    for kind in ("append", "replace", "delete"):
+        each = seconds(program, folder, [*loaded, *changes(kind, source, rows, False)])
+        read = seconds(program, folder, [*loaded, *changes(kind, source, rows, True)])
+        result.append((each - read) / SINGLES * 1e6)
+    return result
+
+
+TRIGGERS = """
+create table rows (id integer primary key, g integer, v integer);
+create table totals (g integer primary key, n integer, total integer);
+create trigger come after insert on rows begin
+  insert into totals values (new.g, 1, new.v) on conflict (g) do update set n = n + 1, total = total + new.v; end;
+create trigger go after delete on rows begin
+  update totals set n = n - 1, total = total - old.v where g = old.g; end;
+create trigger become after update on rows begin
+  update totals set n = n - 1, total = total - old.v where g = old.g;
+  insert into totals values (new.g, 1, new.v) on conflict (g) do update set n = n + 1, total = total + new.v; end;
+"""
+
+
+def in_sqlite(rows):
+    """The same of the group-by in SQLite."""
+    source, base = random.Random(20260101), sqlite3.connect(":memory:", isolation_level=None)
+    base.executescript(TRIGGERS)
+
+    def timed(statement, many):
+        start = time.process_time()
+        for values in many:
+            base.execute(statement, values)
+        return (time.process_time() - start) / len(many) * 1e6
+
+    def cells(number):
+        return number, source.randrange(GROUPS), source.randrange(-1000, 1000)
+
+    places = random.Random(rows).sample(range(rows), 2 * SINGLES)
+    base.execute("begin")
+    load = timed("insert into rows values (?, ?, ?)", [cells(number) for number in range(rows)])
+    base.execute("commit")
+    append = timed("insert into rows values (?, ?, ?)", [cells(rows + at) for at in range(SINGLES)])
+    replace = timed("update rows set g = ?2, v = ?3 where id = ?1", [cells(number) for number in places[:SINGLES]])
+    delete = timed("delete from rows where id = ?", [(number,) for number in places[SINGLES:]])
+    return [load, append, replace, delete]
+
+
+def main():
+    program = os.path.abspath(sys.argv[1])
+    sizes = [int(word) for word in sys.argv[2:]] or [10_000, 100_000]
+    print(f"{'view':16}{'rows':>9}{'row':>9}{'append':>9}{'replace':>9}{'delete':>9}   microseconds")
+    with tempfile.TemporaryDirectory() as name:
+        folder = pathlib.Path(name)
+        for kind, steps in STEPS.items():
+            view = VIEW.replace("STEP", steps) if steps else ""
+            (folder / "rows.toml").write_text(DOCUMENT + view)
+            for rows in sizes:
+                report(kind, rows, measured(program, folder, rows))
+    for rows in sizes:
+        report("SQLite", rows, in_sqlite(rows))
+
+
+def report(kind, rows, numbers):
+    print(f"{kind:16}{rows:9}" + "".join(f"{number:9.1f}" for number in numbers), flush=True)
+
+
+if __name__ == "__main__":
+    main()

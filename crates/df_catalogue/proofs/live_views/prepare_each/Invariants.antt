@@ -1,0 +1,14 @@
+use Rattle.std.proofs.Common.{◌≡◌, List, length}
+use Rattle.df_column.specs.Tables.{TaggedRows}
+use Rattle.df_live.specs.Frames.{changed}
+use Rattle.df_catalogue.specs.LiveViews.{headings, AreChangesOf, AreLive, AreStaged, HaveRoom}
+use Rattle.df_catalogue.proofs.live_views.prepare_each.Given as goal
+
+abbrev pub invariant-loop-at : goal.invariant-loop-at
+invariant-loop-at l = record {
+  headings : headings l.views ≡ headings l.fn.views;
+  live : (frames : List TaggedRows) → AreLive l.fn.views frames → AreLive l.views frames;
+  count : length l.staged.items ≡ l.at;
+  staged : (frames : List TaggedRows) → AreLive l.fn.views frames → AreChangesOf l.fn.views frames l.frame l.delta → AreStaged l.views l.staged.items (changed frames l.frame l.delta);
+  room : HaveRoom l.views l.staged.items;
+}

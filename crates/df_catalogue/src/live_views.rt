@@ -1,0 +1,119 @@
+//! The views follow a change of a frame: all of them prepare before any commits.
+ghost use Rattle.std.specs.Prelude.{◌≡◌, IfOk, List, length, map};
+ghost use Rattle.df_column.specs.Tables.{TaggedRows};
+ghost use Rattle.df_live.specs.Frames.{changed};
+ghost use Rattle.df_live.specs.Views.{HasRoomFor, IsChangeOf, IsLive, LeadsTo};
+ghost use Rattle.df_catalogue.specs.FrameTables.{table_parts};
+ghost use Rattle.df_catalogue.specs.LiveViews.{AreChangesOf, AreLive, AreStaged, HaveRoom, headings};
+
+use crate::frame::Frame;
+use crate::views::View;
+use df_column::Table;
+use df_delta::Delta;
+use df_expr::Meter;
+use df_live::StagedView;
+use std::alloc::{AllocError, Global};
+
+/// Tables that share the rows of the frames.
+pub fn shared_tables(alloc: Global, frames: &[Frame]) -> Result<Vec<Table>, AllocError>
+    ensures { IfOk result (λ tables. tables.items ≡ map table_parts frames.now) }
+{
+    let mut tables = Vec::with_capacity(alloc, frames.len())?;
+    for frame in frames {
+        tables.push(frame.share(alloc)?)?;
+    }
+    Ok(tables)
+}
+
+// Prepares one view for the delta of a frame. The view stands as it stood, also where memory is refused.
+fn prepare_view(view: &mut View, frame: usize, delta: &Delta) -> Result<StagedView, AllocError>
+    ensures name { view.new.name ≡ view.old.name }
+    ensures plan { view.new.live.plan ≡ view.old.live.plan }
+    ensures live { (frames : List TaggedRows) → IsLive view.old.live frames → IsLive view.new.live frames }
+    ensures staged { IfOk result (λ s. (frames : List TaggedRows) → IsLive view.old.live frames
+        → IsChangeOf view.old.live.plan.frames frames frame delta.now
+        → LeadsTo view.new.live s (changed frames frame delta.now)) }
+    ensures room { IfOk result (λ s. HasRoomFor view.new.live s) }
+{
+    view.live.prepare(frame, delta, &mut Meter::new())
+}
+
+// Puts what one view staged in place.
+fn commit_view(view: &mut View, staged: StagedView)
+    requires { HasRoomFor view.old.live staged }
+    ensures name { view.new.name ≡ view.old.name }
+    ensures plan { view.new.live.plan ≡ view.old.live.plan }
+    ensures live { (frames : List TaggedRows) → LeadsTo view.old.live staged frames
+        → IsLive view.new.live frames }
+{
+    view.live.commit(staged);
+}
+
+/// Prepares each view for the delta of a frame. The views stand as they stood, also where memory is refused.
+pub fn prepare_all(
+    alloc: Global,
+    views: &mut Vec<View>,
+    frame: usize,
+    delta: &Delta,
+) -> Result<Vec<StagedView>, AllocError>
+    ensures headings { headings views.new.items ≡ headings views.old.items }
+    ensures live { (frames : List TaggedRows) → AreLive views.old.items frames
+        → AreLive views.new.items frames }
+    ensures count { IfOk result (λ s. length s.items ≡ length views.new.items) }
+    ensures staged { IfOk result (λ s. (frames : List TaggedRows) → AreLive views.old.items frames
+        → AreChangesOf views.old.items frames frame delta.now
+        → AreStaged views.new.items s.items (changed frames frame delta.now)) }
+    ensures room { IfOk result (λ s. HaveRoom views.new.items s.items) }
+{
+    prepare_each(alloc, views.as_mut_slice(), frame, delta)
+}
+
+/// Puts in place what was staged for each view.
+pub fn commit_all(views: &mut Vec<View>, staged: Vec<StagedView>)
+    requires count { length staged.items ≡ length views.old.items }
+    requires room { HaveRoom views.old.items staged.items }
+    ensures headings { headings views.new.items ≡ headings views.old.items }
+    ensures live { (frames : List TaggedRows) → AreStaged views.old.items staged.items frames
+        → AreLive views.new.items frames }
+{
+    commit_each(views.as_mut_slice(), staged)
+}
+
+// Prepares each of the views.
+fn prepare_each(
+    alloc: Global,
+    views: &mut [View],
+    frame: usize,
+    delta: &Delta,
+) -> Result<Vec<StagedView>, AllocError>
+    ensures headings { headings views.new ≡ headings views.old }
+    ensures live { (frames : List TaggedRows) → AreLive views.old frames
+        → AreLive views.new frames }
+    ensures count { IfOk result (λ s. length s.items ≡ length views.new) }
+    ensures staged { IfOk result (λ s. (frames : List TaggedRows) → AreLive views.old frames
+        → AreChangesOf views.old frames frame delta.now
+        → AreStaged views.new s.items (changed frames frame delta.now)) }
+    ensures room { IfOk result (λ s. HaveRoom views.new s.items) }
+{
+    let mut staged = Vec::with_capacity(alloc, views.len())?;
+    for at in 0..views.len() {
+        let made = prepare_view(&mut views[at], frame, delta)?;
+        staged.push(made)?;
+    }
+    Ok(staged)
+}
+
+// Puts what was staged in place, from the last view to the first.
+fn commit_each(views: &mut [View], staged: Vec<StagedView>)
+    requires count { length staged.items ≡ length views.old }
+    requires room { HaveRoom views.old staged.items }
+    ensures headings { headings views.new ≡ headings views.old }
+    ensures live { (frames : List TaggedRows) → AreStaged views.old staged.items frames
+        → AreLive views.new frames }
+{
+    let mut staged = staged;
+    while let Some(last) = staged.pop() {
+        let at = staged.len();
+        commit_view(&mut views[at], last);
+    }
+}
