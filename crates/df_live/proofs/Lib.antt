@@ -18,3 +18,4 @@ pub mod Filling
 pub mod ViewLaws
 pub mod JoinTrees
 pub mod InputChecks
+pub mod MadeTrees

@@ -237,13 +237,13 @@ module _ (schemas : List Columns) (i p : Plan) (is cs : Columns) (below : plan_c
 
 -- a made tree of the node over the tree below, where the node's columns are those that the check found
 pub tree_over :
-    {E : Type 0} (r : Result Fresh E) (node : LiveOperator) (input : Fresh) (schemas : List Columns) (i p : Plan) (made schema : Columns)
+    {E F : Type 0} (r : Result Fresh E) (node : Result LiveOperator F) (input : Fresh) (schemas : List Columns) (i p : Plan) (made schema : Columns)
     (operator : TaggedRows → TaggedRows) (cost : ℕ → Meter) →
     IfOk r (λ f.
     (schemas : List Columns) (i p : Plan) (operator : TaggedRows → TaggedRows) (cost : ℕ → Meter) → IsFreshFor input i schemas →
-    plan_check p schemas ≡ Ok schema → IsPlanOver schemas i p operator cost → IsNodeOf node input.schema schema operator cost → IsFreshFor f p schemas) →
+    plan_check p schemas ≡ Ok schema → IsPlanOver schemas i p operator cost → IfOk node (λ n. IsNodeOf n input.schema schema operator cost) → IsFreshFor f p schemas) →
     IsFreshFor input i schemas → plan_check p schemas ≡ Ok schema → IsPlanOver schemas i p operator cost →
-    made ≡ schema → IsNodeOf node input.schema made operator cost → IfOk r (λ f. IsFreshFor f p schemas)
+    made ≡ schema → IfOk node (λ n. IsNodeOf n input.schema made operator cost) → IfOk r (λ f. IsFreshFor f p schemas)
 tree_over (Ok f) node input schemas i p made schema operator cost h below checks plan same is =
-    h schemas i p operator cost below checks plan (subst (λ (columns : Columns). IsNodeOf node input.schema columns operator cost) same is)
+    h schemas i p operator cost below checks plan (subst (λ (columns : Columns). IfOk node (λ n. IsNodeOf n input.schema columns operator cost)) same is)
 tree_over (Err e) node input schemas i p made schema operator cost h below checks plan same is = tt

@@ -290,18 +290,24 @@ fn fresh_join(
     ensures { IfOk result (λ made. IsFreshFor made plan.now schemas.now) }
 {
     let (left, right) = (left.get(), right.get());
-    let second = fresh_tree(alloc, right, schemas)?;
-    join_tree(
-        alloc,
-        schemas,
-        plan,
-        left,
-        right,
-        first,
-        second,
-        schema,
-        how,
-        keys.as_slice(),
-        nulls_equal,
-    )
+    match fresh_tree(alloc, right, schemas) {
+        Ok(second) => join_tree(
+            alloc,
+            schemas,
+            plan,
+            left,
+            right,
+            first,
+            second,
+            schema,
+            how,
+            keys.as_slice(),
+            nulls_equal,
+        ),
+        Err(refused) => {
+            drop(first);
+            drop(schema);
+            Err(refused)
+        }
+    }
 }

@@ -27,7 +27,7 @@ pub fn filter_tree(
     requires checks { plan_check plan.now schemas.now ≡ Ok schema }
     ensures { IfOk result (λ made. IsFreshFor made plan.now schemas.now) }
 {
-    let node = filter(alloc, &input.schema, predicate)?;
+    let node = filter(alloc, &input.schema, predicate);
     over_one(alloc, input, schema, node)
 }
 
@@ -46,7 +46,7 @@ pub fn select_tree(
     requires checks { plan_check plan.now schemas.now ≡ Ok schema }
     ensures { IfOk result (λ made. IsFreshFor made plan.now schemas.now) }
 {
-    let node = select(alloc, &input.schema, items)?;
+    let node = select(alloc, &input.schema, items);
     over_one(alloc, input, schema, node)
 }
 
@@ -65,7 +65,7 @@ pub fn with_columns_tree(
     requires checks { plan_check plan.now schemas.now ≡ Ok schema }
     ensures { IfOk result (λ made. IsFreshFor made plan.now schemas.now) }
 {
-    let node = with_columns(alloc, &input.schema, items)?;
+    let node = with_columns(alloc, &input.schema, items);
     over_one(alloc, input, schema, node)
 }
 
@@ -85,6 +85,6 @@ pub fn group_tree(
     requires checks { plan_check plan.now schemas.now ≡ Ok schema }
     ensures { IfOk result (λ made. IsFreshFor made plan.now schemas.now) }
 {
-    let node = group(alloc, &input.schema, keys, aggregates)?;
+    let node = group(alloc, &input.schema, keys, aggregates);
     over_one(alloc, input, schema, node)
 }

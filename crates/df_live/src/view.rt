@@ -39,11 +39,12 @@ pub struct StagedView {
 }
 
 impl LiveView {
-    ghost use Rattle.std.specs.Prelude.{◌≡◌, IfOk, List, OnOk, slice_set};
+    ghost use Rattle.std.specs.Prelude.{◌≡◌, IfOk, List, Ok, OnOk, slice_set};
     ghost use Rattle.df_column.specs.Tables.{TaggedRows};
     ghost use Rattle.df_delta.specs.Work.{IsBelow, IsWithin, plus};
     ghost use Rattle.df_live.specs.Frames.{AreFrames, changed};
-    ghost use Rattle.df_live.specs.Fresh.{AreEmpty};
+    ghost use Rattle.df_live.specs.Fresh.{AreEmpty, IsFreshFor};
+    ghost use Rattle.df_plan.specs.Checks.{plan_check};
     ghost use Rattle.df_live.specs.Tables.{MayBeFilled, schemas_of, tables_of};
     ghost use Rattle.df_live.specs.Views.{HasRoomFor, IsChangeOf, IsLive, LeadsTo, most_work, work};
 
@@ -135,14 +136,38 @@ impl LiveView {
         ensures live { IfOk result (λ v. (frames : List TaggedRows) → AreEmpty frames
             → AreFrames plan.frames frames → IsLive v frames) }
     {
-        let Fresh { tree, schema, .. } = fresh_tree(alloc, plan.plan(), plan.frames().as_slice())?;
-        let table = Table::new(alloc, schema)?;
-        Ok(LiveView {
-            alloc,
-            plan,
-            tree,
-            table,
-        })
+        let (root, frames) = (plan.plan(), plan.frames());
+        match fresh_tree(alloc, root, frames.as_slice()) {
+            Ok(fresh) => LiveView::of_tree(alloc, plan, fresh),
+            Err(refused) => {
+                drop(plan);
+                Err(refused)
+            }
+        }
+    }
+
+    /// The view of this tree of the plan, over empty frames.
+    fn of_tree(alloc: Global, plan: CheckedPlan, fresh: Fresh) -> Result<LiveView, AllocError>
+        requires fresh { IsFreshFor fresh plan.plan plan.frames }
+        requires checks { plan_check plan.plan plan.frames ≡ Ok plan.schema }
+        ensures plan { IfOk result (λ v. v.plan ≡ plan) }
+        ensures live { IfOk result (λ v. (frames : List TaggedRows) → AreEmpty frames
+            → AreFrames plan.frames frames → IsLive v frames) }
+    {
+        let Fresh { tree, schema, .. } = fresh;
+        match Table::new(alloc, schema) {
+            Ok(table) => Ok(LiveView {
+                alloc,
+                plan,
+                tree,
+                table,
+            }),
+            Err(refused) => {
+                drop(tree);
+                drop(plan);
+                Err(refused)
+            }
+        }
     }
 }
 

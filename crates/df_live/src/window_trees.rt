@@ -29,7 +29,7 @@ pub fn rank_tree(
     ensures { IfOk result (λ made. IsFreshFor made plan.now schemas.now) }
 {
     let _columns = schema.columns();
-    let node = nodes::rank(alloc, &input.schema, output, kind, column)?;
+    let node = nodes::rank(alloc, &input.schema, output, kind, column);
     over_one(alloc, input, schema, node)
 }
 
@@ -50,7 +50,7 @@ pub fn sum_tree(
     ensures { IfOk result (λ made. IsFreshFor made plan.now schemas.now) }
 {
     let _columns = schema.columns();
-    let node = nodes::sum(alloc, &input.schema, output, column)?;
+    let node = nodes::sum(alloc, &input.schema, output, column);
     over_one(alloc, input, schema, node)
 }
 
@@ -75,6 +75,6 @@ pub fn rolling_tree(
 {
     let _columns = schema.columns();
     let (rows, least) = (size_of(w), size_of(m));
-    let node = nodes::window(alloc, &input.schema, output, kind, column, rows, least)?;
+    let node = nodes::window(alloc, &input.schema, output, kind, column, rows, least);
     over_one(alloc, input, schema, node)
 }

@@ -12,9 +12,9 @@ returns c =
     let below = c.args.below.now in
     let plan = c.args.plan.now in
     let is = c.args.input.schema in
-    tree_over c.over_one.result c.in_ok-node.node c.args.input schemas below plan (group_by_columns is c.args.keys.now c.args.aggregates.now) c.args.schema
+    tree_over c.over_one.result c.group-node.result c.args.input schemas below plan (group_by_columns is c.args.keys.now c.args.aggregates.now) c.args.schema
     (group_output is (column_indices is c.args.keys.now) c.args.aggregates.now)
     (λ d. finishes (2 * d)) c.over_one.ensures c.requires.input c.requires.checks
     (group_over schemas below plan is c.args.schema c.requires.input.schema c.requires.checks c.args.keys.now c.args.aggregates.now c.requires.is)
     (group_columns schemas below plan is c.args.schema c.requires.input.schema c.requires.checks c.args.keys.now c.args.aggregates.now c.requires.is)
-    c.in_ok-node.ensures
+    c.group-node.ensures

@@ -11,14 +11,14 @@ returns c =
     let below = c.args.below.now in
     let plan = c.args.plan.now in
     let is = c.args.input.schema in
-    tree_over c.over_one.result c.in_ok-node.node c.args.input schemas below plan (map (item_column is) c.args.items.now) c.args.schema
+    tree_over c.over_one.result c.select-node.result c.args.input schemas below plan (map (item_column is) c.args.items.now) c.args.schema
     (mapped (select_row is c.args.items.now))
     (λ d. evaluations (2 * d * length c.args.items.now)) c.over_one.ensures c.requires.input c.requires.checks
     (select_over schemas below plan is c.args.schema c.requires.input.schema c.requires.checks c.args.items.now c.requires.is)
     (select_columns schemas below plan is c.args.schema c.requires.input.schema c.requires.checks c.args.items.now c.requires.is)
-    c.in_ok-node.ensures
+    c.select-node.ensures
 
-pub select-requires : goal.select-requires
-select-requires c =
+pub select-node-requires : goal.select-node-requires
+select-node-requires c =
     select_items c.args.schemas.now c.args.below.now c.args.plan.now c.args.input.schema c.args.schema c.requires.input.schema c.requires.checks
     c.args.items.now c.requires.is

@@ -11,14 +11,14 @@ returns c =
     let below = c.args.below.now in
     let plan = c.args.plan.now in
     let is = c.args.input.schema in
-    tree_over c.over_one.result c.in_ok-node.node c.args.input schemas below plan (with_columns_schema is c.args.items.now) c.args.schema
+    tree_over c.over_one.result c.with_columns-node.result c.args.input schemas below plan (with_columns_schema is c.args.items.now) c.args.schema
     (mapped (with_columns_row is c.args.items.now))
     (λ d. evaluations (2 * d * length c.args.items.now)) c.over_one.ensures c.requires.input c.requires.checks
     (with_over schemas below plan is c.args.schema c.requires.input.schema c.requires.checks c.args.items.now c.requires.is)
     (added_columns schemas below plan is c.args.schema c.requires.input.schema c.requires.checks c.args.items.now c.requires.is)
-    c.in_ok-node.ensures
+    c.with_columns-node.ensures
 
-pub with_columns-requires : goal.with_columns-requires
-with_columns-requires c =
+pub with_columns-node-requires : goal.with_columns-node-requires
+with_columns-node-requires c =
     with_items c.args.schemas.now c.args.below.now c.args.plan.now c.args.input.schema c.args.schema c.requires.input.schema c.requires.checks
     c.args.items.now c.requires.is

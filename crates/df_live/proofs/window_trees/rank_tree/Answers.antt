@@ -6,8 +6,8 @@ use Rattle.df_live.proofs.PartColumns.{meant_columns}
 use Rattle.df_live.proofs.WindowTrees.{made_as, rank_columns, rank_over}
 use Rattle.df_live.proofs.window_trees.rank_tree.Goals as goal
 
-pub rank-requires : goal.rank-requires
-rank-requires c =
+pub rank-node-requires : goal.rank-node-requires
+rank-node-requires c =
     let a = c.args in
     let input = c.requires.input in
     subst IsSchema
@@ -21,4 +21,4 @@ returns c =
     let made = rank_columns a.schemas.now a.plan.now a.below.now a.output.now a.kind a.column.now c.requires.is a.input.schema a.schema input.schema c.requires.checks in
     let over = rank_over a.schemas.now a.plan.now a.below.now a.output.now a.kind a.column.now c.requires.is a.input.schema (meant_columns a.schemas.now a.below.now a.input.schema input.schema) in
     IfOk-weaker c.over_one.result _ (λ made. IsFreshFor made a.plan.now a.schemas.now)
-    (λ r h. h a.schemas.now a.below.now a.plan.now _ _ input c.requires.checks over (made_as c.in_ok-node.node a.input.schema _ a.schema _ _ made c.in_ok-node.ensures)) c.over_one.ensures
+    (λ r h. h a.schemas.now a.below.now a.plan.now _ _ input c.requires.checks over (IfOk-weaker c.rank-node.result _ _ (λ n k. made_as n a.input.schema _ a.schema _ _ made k) c.rank-node.ensures)) c.over_one.ensures

@@ -9,16 +9,16 @@ use Rattle.df_live.proofs.PartColumns.{meant_columns}
 use Rattle.df_live.proofs.WindowTrees.{made_as, rolling_columns, rolling_few, rolling_over, windows_as}
 use Rattle.df_live.proofs.window_trees.rolling_tree.Goals as goal
 
-pub window-requires-clause-schema : goal.window-requires-clause-schema
-window-requires-clause-schema c =
+pub window-node-requires-clause-schema : goal.window-node-requires-clause-schema
+window-node-requires-clause-schema c =
     let a = c.args in
     let input = c.requires.input in
     subst IsSchema
     (rolling_columns a.schemas.now a.plan.now a.below.now a.output.now a.kind a.column.now a.w a.m c.requires.is a.input.schema a.schema input.schema c.requires.checks)
     c.columns-columns.ensures.sound
 
-pub window-requires-clause-few : goal.window-requires-clause-few
-window-requires-clause-few c =
+pub window-node-requires-clause-few : goal.window-node-requires-clause-few
+window-node-requires-clause-few c =
     let a = c.args in
     subst (λ w. w ≤ 65536) (sym (c.size_of-rows.ensures ∙ ap ops.size_of (to_z-of_z w64 a.w c.ranges.w)))
     (rolling_few a.schemas.now a.plan.now a.below.now a.output.now a.kind a.column.now a.w a.m c.requires.is a.schema c.requires.checks)
@@ -30,8 +30,10 @@ returns c =
     let made = rolling_columns a.schemas.now a.plan.now a.below.now a.output.now a.kind a.column.now a.w a.m c.requires.is a.input.schema a.schema input.schema c.requires.checks in
     let over = rolling_over a.schemas.now a.plan.now a.below.now a.output.now a.kind a.column.now a.w a.m c.requires.is a.input.schema (meant_columns a.schemas.now a.below.now a.input.schema input.schema) in
     let node =
-    windows_as c.in_ok-node.node a.input.schema _ a.output.now a.kind a.column.now c.size_of-rows.result c.size_of-least.result (ops.size_of a.w) (ops.size_of a.m)
-    (c.size_of-rows.ensures ∙ ap ops.size_of (to_z-of_z w64 a.w c.ranges.w)) (c.size_of-least.ensures ∙ ap ops.size_of (to_z-of_z w64 a.m c.ranges.m))
-    c.in_ok-node.ensures in
+    IfOk-weaker c.window-node.result _ _
+    (λ n k. made_as n a.input.schema _ a.schema _ _ made
+    (windows_as n a.input.schema _ a.output.now a.kind a.column.now c.size_of-rows.result c.size_of-least.result (ops.size_of a.w) (ops.size_of a.m)
+    (c.size_of-rows.ensures ∙ ap ops.size_of (to_z-of_z w64 a.w c.ranges.w)) (c.size_of-least.ensures ∙ ap ops.size_of (to_z-of_z w64 a.m c.ranges.m)) k))
+    c.window-node.ensures in
     IfOk-weaker c.over_one.result _ (λ made. IsFreshFor made a.plan.now a.schemas.now)
-    (λ r h. h a.schemas.now a.below.now a.plan.now _ _ input c.requires.checks over (made_as c.in_ok-node.node a.input.schema _ a.schema _ _ made node)) c.over_one.ensures
+    (λ r h. h a.schemas.now a.below.now a.plan.now _ _ input c.requires.checks over node) c.over_one.ensures
