@@ -8,7 +8,7 @@ use Rattle.df_value.specs.Schemas.{column_index}
 use Rattle.df_value.specs.declared.cell.Cell.TheVariants as cell
 use Rattle.df_ops.specs.Aggregates.{cells_of, count_of, mean_at}
 use Rattle.df_ops.specs.Tables.{aggregate_cell}
-use Rattle.df_group.specs.Totals.{counted_index, total_of}
+use Rattle.df_group.specs.Totals.{total_for}
 use Rattle.df_group.proofs.Members.{cells_length, values_length}
 use Rattle.df_group.proofs.grouping.finished_cell.Goals as goal
 
@@ -24,9 +24,9 @@ returns-in-Mean c own =
     let rows = finite.values c.args.members.now.rows in
     let columns = c.args.columns.now in
     let cells = cells_of (column_index c.in-Mean.field-0 columns) rows in
-    let whole = own ∙ ap (λ a. total_of (counted_index columns a) rows) c.in-Mean.is in
-    c.mean.ensures (count_of cells) (ap (λ t. t.count) whole)
-    ∙ ap (λ t. mean_at t.sum (count_of cells)) whole
+    let whole = own ∙ ap (λ a. total_for columns a rows) c.in-Mean.is in
+    c.mean.ensures (count_of cells) (ap (λ t. t.sums.count) whole)
+    ∙ ap (λ t. mean_at t.sums.sum (count_of cells)) whole
     ∙ ap (aggregate_cell columns rows) (sym c.in-Mean.is)
 
 pub returns-in-Last : goal.returns-in-Last
