@@ -15,7 +15,7 @@ use Rattle.df_counts.specs.Counts.{some_count}
 use Rattle.df_ops.specs.Aggregates.{cells_of, count_of, n_unique_of, non_null}
 use Rattle.df_ops.specs.Groups.{distinct_after, key_of}
 use Rattle.df_group.specs.Totals.{count_in, counts_of, with_row}
-use Rattle.df_group.proofs.ValueCounts.{counts_from, counts_have, find_edit, length_more, some_more, sorted_more}
+use Rattle.df_group.proofs.ValueCounts.{counts_from, few_values, find_edit, length_more, some_more, sorted_more}
 
 -- whether a cell was seen, of the counts of the values seen and whether null was
 abbrev was_seen : List (Cell × ℕ) → Bool → Cell → Bool
@@ -202,3 +202,11 @@ null_unless index rows le = by_null (has_null index rows) (null_counts index row
   by_null : (b : Bool) → cond b (count_of (cells_of index rows) + 1) (count_of (cells_of index rows)) ≤ length rows → b ≡ false
   by_null true h = absurd (omega (arith, le, h))
   by_null false h = refl
+
+-- there are few distinct cells
+pub few_distinct : (index : Option ℕ) (rows : List (List Cell)) → n_unique_of index rows ≤ length rows + 1
+few_distinct index rows =
+    let is = distinct_is index rows in
+    let few = few_values index rows in
+    let one : one_if (has_null index rows) ≤ 1 = elim (has_null index rows) as (λ b. one_if b ≤ 1) [ true ↦ omega arith | false ↦ omega arith ] in
+    omega (arith, is, few, one)
