@@ -1,5 +1,5 @@
 -- The least and the greatest value of some counts are those of the cells.
-use Rattle.std.proofs.Common.{◌≡◌, ℕ, zero, suc, ◌+◌, Bool, true, false, cond, not, List, [], ◌∷◌, Option, Some, None, find, is_some, refl, sym, ap, subst, ◌∙◌, arith}
+use Rattle.std.proofs.Common.{◌≡◌, ℕ, suc, ◌+◌, Bool, true, false, cond, not, List, [], ◌∷◌, Option, Some, None, find, is_some, refl, sym, ap, subst, ◌∙◌, arith}
 use Rattle.std.specs.Prelude.{T, ◌&&◌, ◌||◌, unwrap_or}
 use Rattle.std.specs.List.{list_all, list_any}
 use Rattle.std.specs.Ordering.{eq_by_cmp, is_eq, is_gt, is_lt, ordering_reverse}
@@ -15,13 +15,13 @@ use Rattle.df_value.specs.declared.cell.Cell.{Cell}
 use Rattle.df_value.specs.declared.cell.Cell.TheVariants as cell
 use Rattle.df_expr.specs.Value.{is_null}
 use Rattle.df_column.proofs.Bools.{T-first, T-second, equal_from_is_eq, less_from_is_lt}
-use Rattle.df_counts.specs.Counts.{first_value, last_value, some_count, value_count, value_in}
+use Rattle.df_counts.specs.Counts.{first_value, last_value, some_count, value_count}
 use Rattle.df_ops.specs.Aggregates.{cells_of, is_beyond, is_min_or_max, min_or_max_of, non_null}
 use Rattle.df_ops.specs.declared.min_max.MinMax.{MinMax}
 use Rattle.df_ops.specs.declared.min_max.MinMax.TheVariants as min_max
 use Rattle.df_ops.proofs.MinMaxFacts.{strict}
 use Rattle.df_group.specs.Totals.{counts_of}
-use Rattle.df_group.proofs.ValueCounts.{counts_have, is_value, one, value_is, value_more}
+use Rattle.df_group.proofs.ValueCounts.{counts_have, value_is, value_more}
 
 -- whether the cell is one of these
 abbrev among : Cell → List Cell → Bool
