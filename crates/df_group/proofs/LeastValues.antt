@@ -93,13 +93,13 @@ among_values index (row ∷ rows) v =
     ∙ ap (λ b. is_some (some_count (cond b 1 0 + value_count index rows v))) (sym (value_is (cell_at index row) v))
     ∙ ap (λ n. is_some (some_count n)) (sym (value_more index row rows v))
   where
-  by_null : (m e : Bool) → list_any (λ c. cell_eq c v) (cond (not m) (cell_at index row ∷ non_null (cells_of index rows)) (non_null (cells_of index rows))) ≡ ((not m && cell_eq (cell_at index row) v) || among v (non_null (cells_of index rows)))
-  by_null true e = refl
-  by_null false e = refl
+    by_null : (m e : Bool) → list_any (λ c. cell_eq c v) (cond (not m) (cell_at index row ∷ non_null (cells_of index rows)) (non_null (cells_of index rows))) ≡ ((not m && cell_eq (cell_at index row) v) || among v (non_null (cells_of index rows)))
+    by_null true e = refl
+    by_null false e = refl
 
-  more : (b : Bool) (n : ℕ) → (b || is_some (some_count n)) ≡ is_some (some_count (cond b 1 0 + n))
-  more true n = let e : suc n ≡ 1 + n = omega arith in ap (λ k. is_some (some_count k)) e
-  more false n = let e : n ≡ 0 + n = omega arith in ap (λ k. is_some (some_count k)) e
+    more : (b : Bool) (n : ℕ) → (b || is_some (some_count n)) ≡ is_some (some_count (cond b 1 0 + n))
+    more true n = let e : suc n ≡ 1 + n = omega arith in ap (λ k. is_some (some_count k)) e
+    more false n = let e : n ≡ 0 + n = omega arith in ap (λ k. is_some (some_count k)) e
 
 -- the value at an end of counts by rising value
 abbrev pub end_of : MinMax → List (Cell × ℕ) → Option Cell
@@ -138,9 +138,9 @@ last_end (e ∷ []) a sorted is =
       counted = ap (λ r. is_some (cond (is_eq r) (Some e.1) None)) (to_itself e.0);
       within = λ v is. by_tie v (eq_by_cmp cell_cmp v e.0) refl is;
     }) where
-  by_tie : (v : Cell) (b : Bool) → eq_by_cmp cell_cmp v e.0 ≡ b → is_some (cond b (Some e.1) None) ≡ true → is_gt (cell_cmp v e.0) ≡ false
-  by_tie v true t is = ap is_gt (equal_from_is_eq _ (subst T (sym t) tt))
-  by_tie v false t is = cc
+      by_tie : (v : Cell) (b : Bool) → eq_by_cmp cell_cmp v e.0 ≡ b → is_some (cond b (Some e.1) None) ≡ true → is_gt (cell_cmp v e.0) ≡ false
+      by_tie v true t is = ap is_gt (equal_from_is_eq _ (subst T (sym t) tt))
+      by_tie v false t is = cc
 last_end (e ∷ f ∷ es) a sorted is =
     let rest = last_end (f ∷ es) a (T-second _ _ sorted) is in
     record {
@@ -148,15 +148,15 @@ last_end (e ∷ f ∷ es) a sorted is =
       within = λ v is. by_tie rest v (eq_by_cmp cell_cmp v e.0) refl is;
     }
   where
-  still : (b : Bool) → is_some (finite.find cell_cmp a (f ∷ es)) ≡ true → is_some (cond b (Some e.1) (finite.find cell_cmp a (f ∷ es))) ≡ true
-  still true h = refl
-  still false h = h
+    still : (b : Bool) → is_some (finite.find cell_cmp a (f ∷ es)) ≡ true → is_some (cond b (Some e.1) (finite.find cell_cmp a (f ∷ es))) ≡ true
+    still true h = refl
+    still false h = h
 
-  by_tie : IsEnd min_max.Max (f ∷ es) a → (v : Cell) (b : Bool) → eq_by_cmp cell_cmp v e.0 ≡ b → is_some (cond b (Some e.1) (finite.find cell_cmp v (f ∷ es))) ≡ true → is_gt (cell_cmp v a) ≡ false
-  by_tie rest v true t is =
-      ap (λ x. is_gt (cell_cmp x a)) (exact v e.0 (equal_from_is_eq _ (subst T (sym t) tt)))
-      ∙ ap is_gt (found_above e.0 a (f ∷ es) (T-first _ _ sorted) rest.counted)
-  by_tie rest v false t is = rest.within v is
+    by_tie : IsEnd min_max.Max (f ∷ es) a → (v : Cell) (b : Bool) → eq_by_cmp cell_cmp v e.0 ≡ b → is_some (cond b (Some e.1) (finite.find cell_cmp v (f ∷ es))) ≡ true → is_gt (cell_cmp v a) ≡ false
+    by_tie rest v true t is =
+        ap (λ x. is_gt (cell_cmp x a)) (exact v e.0 (equal_from_is_eq _ (subst T (sym t) tt)))
+        ∙ ap is_gt (found_above e.0 a (f ∷ es) (T-first _ _ sorted) rest.counted)
+    by_tie rest v false t is = rest.within v is
 
 is_end : (e : MinMax) (counts : List (Cell × ℕ)) (a : Cell) → T (is_sorted cell_cmp counts) → end_of e counts ≡ Some a → IsEnd e counts a
 is_end min_max.Min [] a sorted is = cc

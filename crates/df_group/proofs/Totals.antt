@@ -1,8 +1,8 @@
 -- Totals follow the changes of rows.
-use Rattle.std.proofs.Common.{◌≡◌, ℕ, pos, ◌+ℤ◌, ◌+◌, List, [], ◌∷◌, map, length, get_or, ◌<◌, Option, Some, None, refl, sym, ap, ◌∙◌}
+use Rattle.std.proofs.Common.{◌≡◌, ℕ, pos, ◌+ℤ◌, ◌+◌, List, [], ◌∷◌, ◌++◌, map, length, take, get_or, ◌<◌, Option, Some, None, refl, sym, ap, subst, ◌∙◌}
 use Rattle.std.specs.Prelude.{ℤ, ◌-ℤ◌, fold}
 use Rattle.std.specs.FinMap as finite
-use Rattle.std.proofs.lemmas.List.{get_or-map}
+use Rattle.std.proofs.lemmas.List.{get_or-map, length-map}
 use Rattle.df_value.specs.declared.cell.Cell.{Cell}
 use Rattle.df_value.specs.declared.cell.CellType.{CellType}
 use Rattle.df_value.specs.Rows.{cell_at}
@@ -16,8 +16,9 @@ use Rattle.df_delta.specs.Differences.{Fits}
 use Rattle.df_ops.specs.Aggregates.{cells_of, count_of}
 use Rattle.df_ops.specs.declared.agg.Agg.{Agg}
 use Rattle.df_ops.proofs.AggregateLaws.{count_is_count, sum_is_sum}
+use Rattle.df_ops.proofs.Steps.{mapped_more}
 use Rattle.df_group.specs.GroupIndex.{totals_of}
-use Rattle.df_group.specs.Totals.{Lead, alone, sums_after, sums_after_entry, sums_of, total_for, total_of, totals_over}
+use Rattle.df_group.specs.Totals.{HaveValuesOf, Lead, alone, sums_after, sums_after_entry, sums_of, total_for, total_of, totals_over, values_of}
 use Rattle.df_group.specs.declared.grouping.Grouping.{Grouping}
 use Rattle.df_group.specs.declared.sums.Sums.{Sums}
 use Rattle.df_group.specs.declared.total.Total.{Total}
@@ -107,9 +108,27 @@ totals_moved g totals moved old new e follows =
     ∙ totals_over_others g old new
 
 -- one of the totals
-pub one_total : (totals : List Total) (i : ℕ) (x : Total) (old : List (List Cell)) → i < length totals → x ≡ get_or totals i x → totals ≡ totals_over totals old → x ≡ total_of x.sums.index x.values.index old
+one_total : (totals : List Total) (i : ℕ) (x : Total) (old : List (List Cell)) → i < length totals → x ≡ get_or totals i x → totals ≡ totals_over totals old → x ≡ total_of x.sums.index x.values.index old
 one_total totals i x old lt is e =
     is
     ∙ ap (λ ts. get_or ts i x) e
     ∙ get_or-map (λ t. total_of t.sums.index t.values.index old) totals i x x lt
     ∙ ap (λ t. total_of t.sums.index t.values.index old) (sym is)
+
+-- totals of some rows have the counts of their values
+have_values : (totals : List Total) (rows : List (List Cell)) → HaveValuesOf (totals_over totals rows) rows
+have_values totals rows = record {
+  each = λ k d lt.
+      subst (λ t. t.values ≡ values_of t.values.index rows)
+      (sym (get_or-map (λ t. total_of t.sums.index t.values.index rows) totals k d d (subst (λ n. k < n) (length-map totals (λ t. total_of t.sums.index t.values.index rows)) lt)))
+      refl;
+}
+
+-- one total more is moved, beside those that are
+pub one_moved : (totals moved beside more : List Total) (i : ℕ) (x t : Total) (old new : List (List Cell)) → i < length totals → x ≡ get_or totals i x → totals ≡ totals_over totals old
+    → (x ≡ total_of x.sums.index x.values.index old → HaveValuesOf beside new → t ≡ total_of x.sums.index x.values.index new) → beside ≡ moved → moved ≡ totals_over (take i totals) new → more ≡ moved ++ t ∷ []
+    → more ≡ totals_over (take (i + 1) totals) new
+one_moved totals moved beside more i x t old new lt here own made same so_far pushed =
+    mapped_more (λ t. total_of t.sums.index t.values.index new) totals i moved more x t lt here so_far
+    (made (one_total totals i x old lt here own) (subst (λ ts. HaveValuesOf ts new) (sym (same ∙ so_far)) (have_values (take i totals) new)))
+    pushed

@@ -93,17 +93,17 @@ value_more index row rows v =
     by_tests (is_null c) (is_null v) (cell_eq c v) (λ e. ap is_null ((cell_eq-Decides c v).0 e))
     ∙ ap (λ b. cond b 1 0 + value_count index rows v) (sym (value_is c v))
   where
-  same_value : List (List Cell)
-  same_value = filter (λ r. cell_eq (cell_at index r) v) rows
+    same_value : List (List Cell)
+    same_value = filter (λ r. cell_eq (cell_at index r) v) rows
 
-  by_tests : (m n e : Bool) → (e ≡ true → m ≡ n) → cond n 0 (length (cond e (row ∷ same_value) same_value)) ≡ cond (not m && e) 1 0 + cond n 0 (length same_value)
-  by_tests true true e same = omega arith
-  by_tests true false true same = let f : true ≡ false = same refl in cc f
-  by_tests true false false same = omega arith
-  by_tests false true true same = let f : false ≡ true = same refl in cc f
-  by_tests false true false same = omega arith
-  by_tests false false true same = omega arith
-  by_tests false false false same = omega arith
+    by_tests : (m n e : Bool) → (e ≡ true → m ≡ n) → cond n 0 (length (cond e (row ∷ same_value) same_value)) ≡ cond (not m && e) 1 0 + cond n 0 (length same_value)
+    by_tests true true e same = omega arith
+    by_tests true false true same = let f : true ≡ false = same refl in cc f
+    by_tests true false false same = omega arith
+    by_tests false true true same = let f : false ≡ true = same refl in cc f
+    by_tests false true false same = omega arith
+    by_tests false false true same = omega arith
+    by_tests false false false same = omega arith
 
 pub no_rows : (index : Option ℕ) (v : Cell) → value_count index [] v ≡ 0
 no_rows index v = elim (is_null v) as (λ m. ◌≡◌ {A = ℕ} (cond m 0 0) 0) [ true ↦ refl | false ↦ refl ]

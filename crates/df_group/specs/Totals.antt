@@ -1,6 +1,6 @@
 -- Running totals: the count and the sum of the cells that rows have at an index, the number of rows that have each value at an index, and
 -- how all of these follow changes of the rows.
-use Rattle.std.specs.Prelude.{◌≡◌, ℕ, pos, ◌+◌, ◌-◌, ◌+ℤ◌, ◌-ℤ◌, List, [], ◌∷◌, Option, Some, None, fold, map, unwrap_or}
+use Rattle.std.specs.Prelude.{◌≡◌, ℕ, pos, ◌+◌, ◌-◌, ◌+ℤ◌, ◌-ℤ◌, List, [], ◌∷◌, Option, Some, None, All, fold, map, unwrap_or}
 use Rattle.std.specs.FinMap.{find}
 use Rattle.df_value.specs.CellOrder.{cell_cmp}
 use Rattle.df_value.specs.Rows.{cell_at}
@@ -81,6 +81,10 @@ total_of summed valued rows = record { sums = sums_of summed rows; values = valu
 pub record Lead (old : List (List Cell)) (entries : List Entry) (new : List (List Cell)) : Type 0 where
   pub sums : (index : Option ℕ) → sums_after (sums_of index old) entries ≡ sums_of index new
   pub counts : (index : Option ℕ) → counts_after index (counts_of index old) entries ≡ counts_of index new
+
+-- each of these totals has the counts of these rows at the index whose values it counts
+pub record HaveValuesOf (totals : List Total) (rows : List (List Cell)) : Type 0 where
+  pub each : All (λ t. t.values ≡ values_of t.values.index rows) totals
 
 -- these totals, each of its own indices, over other rows
 abbrev pub totals_over : List Total → List (List Cell) → List Total

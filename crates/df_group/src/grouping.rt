@@ -58,10 +58,7 @@ impl Grouping {
         let mut totals = Vec::with_capacity(alloc, self.aggregates.len())?;
         for named in self.aggregates.as_slice() {
             let agg = &named.1;
-            totals.push(Total::of_none(
-                summed_index(columns, agg),
-                valued_index(columns, agg),
-            ))?;
+            totals.push(Total::of_none(summed_index(columns, agg), valued_index(columns, agg)))?;
         }
         Ok(List::from_vec(totals))
     }

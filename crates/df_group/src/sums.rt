@@ -79,12 +79,7 @@ impl Sums {
     }
 
     /// The sums after these entries lead to these rows. The rows are read only where a number grows past its type.
-    pub fn moved(
-        self,
-        alloc: Global,
-        entries: &[Entry],
-        rows: &Table,
-    ) -> Result<Sums, AllocError>
+    pub fn moved(self, alloc: Global, entries: &[Entry], rows: &Table) -> Result<Sums, AllocError>
         ensures { IfOk result (λ s. (old : List (List Cell)) → self ≡ sums_of self.index old
             → Lead old entries.now (finite.values rows.now.rows)
             → s ≡ sums_of self.index (finite.values rows.now.rows)) }

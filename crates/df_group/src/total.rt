@@ -1,9 +1,9 @@
 //! Running totals of a group for an aggregate.
-ghost use Rattle.std.specs.Prelude.{◌≡◌, ℕ, ◌≤◌, ◌^◌, [], pos, IfOk, List, Option, length};
+ghost use Rattle.std.specs.Prelude.{◌≡◌, ℕ, ◌≤◌, ◌^◌, [], pos, IfOk, IfSome, List, Option, length};
 ghost use Rattle.std.specs.FinMap as finite;
 ghost use Rattle.df_value.specs.declared.cell.Cell.{Cell};
 ghost use Rattle.df_ops.specs.Aggregates.{n_unique_of};
-ghost use Rattle.df_group.specs.Totals.{Lead, total_of, totals_over};
+ghost use Rattle.df_group.specs.Totals.{HaveValuesOf, Lead, total_of, totals_over, values_of};
 
 use crate::sums::Sums;
 use crate::values::Values;
@@ -33,21 +33,23 @@ impl Total {
         }
     }
 
-    /// The total after these entries lead to these rows.
+    /// The total after these entries lead to these rows, beside totals that are of these rows already.
     fn moved(
         &self,
         alloc: Global,
         entries: &[Entry],
         rows: &Table,
+        beside: &[Total],
     ) -> Result<Total, AllocError>
         ensures { IfOk result (λ t. (old : List (List Cell)) →
             self.now ≡ total_of self.now.sums.index self.now.values.index old
             → Lead old entries.now (finite.values rows.now.rows)
+            → HaveValuesOf beside.now (finite.values rows.now.rows)
             → t ≡ total_of self.now.sums.index self.now.values.index (finite.values rows.now.rows)) }
     {
         Ok(Total {
             sums: self.sums.moved(alloc, entries, rows)?,
-            values: self.values.moved(alloc, entries, rows)?,
+            values: moved_values(alloc, &self.values, entries, rows, beside)?,
         })
     }
 
@@ -67,7 +69,39 @@ impl Total {
     }
 }
 
-/// The totals after these entries lead to these rows.
+/// The values at an index that one of these totals has, if one has them.
+fn values_at(totals: &[Total], index: Option<usize>) -> Option<&Values>
+    ensures { (rows : List (List Cell)) → HaveValuesOf totals.now rows
+        → IfSome result (λ v. v.now ≡ values_of index rows) }
+{
+    for total in totals {
+        if total.values.index == index {
+            return Some(&total.values);
+        }
+    }
+    None
+}
+
+/// The values after these entries lead to these rows. They are shared where a total beside them has them already.
+fn moved_values(
+    alloc: Global,
+    values: &Values,
+    entries: &[Entry],
+    rows: &Table,
+    beside: &[Total],
+) -> Result<Values, AllocError>
+    ensures { IfOk result (λ v. (old : List (List Cell)) → values.now ≡ values_of values.now.index old
+        → Lead old entries.now (finite.values rows.now.rows)
+        → HaveValuesOf beside.now (finite.values rows.now.rows)
+        → v ≡ values_of values.now.index (finite.values rows.now.rows)) }
+{
+    match values_at(beside, values.index) {
+        Some(moved) => moved.share(),
+        None => values.moved(alloc, entries, rows),
+    }
+}
+
+/// The totals after these entries lead to these rows. Totals of one column share the counts of its values.
 pub fn moved_totals(
     alloc: Global,
     totals: &[Total],
@@ -80,7 +114,7 @@ pub fn moved_totals(
 {
     let mut moved = Vec::with_capacity(alloc, totals.len())?;
     for total in totals {
-        let total = total.moved(alloc, entries, rows)?;
+        let total = total.moved(alloc, entries, rows, &moved)?;
         moved.push(total)?;
     }
     Ok(List::from_vec(moved))

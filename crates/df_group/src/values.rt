@@ -22,15 +22,21 @@ pub struct Values {
 
 impl Values {
     /// The values of these rows.
-    pub fn of_rows(
-        alloc: Global,
-        index: Option<usize>,
-        rows: &[Row],
-    ) -> Result<Values, AllocError>
+    pub fn of_rows(alloc: Global, index: Option<usize>, rows: &[Row]) -> Result<Values, AllocError>
         ensures { IfOk result (λ v. v ≡ values_of index rows.now) }
     {
         let counts = counts_of(alloc, index, rows)?;
         Ok(Values { index, counts })
+    }
+
+    /// The same values once more. It takes no memory.
+    pub fn share(&self) -> Result<Values, AllocError>
+        ensures { IfOk result (λ v. v ≡ self.now) }
+    {
+        Ok(Values {
+            index: self.index,
+            counts: self.counts.share()?,
+        })
     }
 
     /// The values after these entries lead to these rows. The rows are read only where a count grows past its type.
