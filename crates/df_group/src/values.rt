@@ -4,7 +4,7 @@ ghost use Rattle.std.specs.Option.{option_copied};
 ghost use Rattle.std.specs.FinMap as finite;
 ghost use Rattle.df_value.specs.Rows.{cell_at};
 ghost use Rattle.df_value.specs.declared.cell.Cell.{Cell as AnyCell};
-ghost use Rattle.df_counts.specs.Counts.{value_in};
+ghost use Rattle.df_counts.specs.Counts.{AreCounts, value_in};
 ghost use Rattle.df_group.specs.Totals as totals_spec;
 ghost use Rattle.df_group.specs.Totals.{Lead, count_in, value_of, values_of};
 
@@ -23,7 +23,10 @@ pub struct Values {
 impl Values {
     /// The values of these rows.
     pub fn of_rows(alloc: Global, index: Option<usize>, rows: &[Row]) -> Result<Values, AllocError>
-        ensures { IfOk result (λ v. v ≡ values_of index rows.now) }
+        ensures value { IfOk result (λ v. v ≡ values_of index rows.now) }
+
+        // Each value that a row has is counted with the number of its rows, and no other.
+        ensures counts { IfOk result (λ v. AreCounts v.counts index rows.now) }
     {
         let counts = counts_of(alloc, index, rows)?;
         Ok(Values { index, counts })
