@@ -8,7 +8,7 @@ use Rattle.df_ops.specs.Tables.{aggregate_cell}
 use Rattle.df_ops.specs.declared.agg.Agg.{Agg}
 use Rattle.df_ops.proofs.Steps.{made_has, mapped_behind}
 use Rattle.df_group.specs.GroupIndex.{row_of_group, totals_of}
-use Rattle.df_group.specs.Totals.{counted_index, total_of}
+use Rattle.df_group.specs.Totals.{total_for}
 use Rattle.df_group.specs.declared.grouping.Grouping.{Grouping}
 use Rattle.df_group.specs.declared.total.Total.{Total}
 
@@ -20,17 +20,17 @@ module _ (g : Grouping) (key : List Cell) (rows : List (List Cell)) (totals : Li
   -- one cell more
   pub cell_more : {E : Type 0} (columns : List (List ℕ × CellType)) (n m : ℕ) (out more : List Cell) (a : List ℕ × Agg) (t : Total) (made : Result Cell E) (cell : Cell)
       → columns ≡ g.schema → n < length g.aggregates → ((d : List ℕ × Agg) → a ≡ get_or g.aggregates n d) → ((d : Total) → t ≡ get_or totals n d) → m ≡ n + 1
-      → IfOk made (λ c. t ≡ total_of (counted_index columns a.1) rows → c ≡ aggregate_cell columns rows a.1) → made ≡ Ok cell
+      → IfOk made (λ c. t ≡ total_for columns a.1 rows → c ≡ aggregate_cell columns rows a.1) → made ≡ Ok cell
       → out ≡ first_cells n → more ≡ out ++ cell ∷ [] → more ≡ first_cells m
   cell_more columns n m out more a t made cell of lt here beside next is ok so_far pushed =
-      let total : t ≡ total_of (counted_index columns a.1) rows =
+      let total : t ≡ total_for columns a.1 rows =
       beside t
       ∙ ap (λ ts. get_or ts n t) own
-      ∙ get_or-map (λ a. total_of (counted_index g.schema a.1) rows) g.aggregates n a t lt
-      ∙ ap (λ b. total_of (counted_index g.schema b.1) rows) (sym (here a))
-      ∙ ap (λ cs. total_of (counted_index cs a.1) rows) (sym of) in
+      ∙ get_or-map (λ a. total_for g.schema a.1 rows) g.aggregates n a t lt
+      ∙ ap (λ b. total_for g.schema b.1 rows) (sym (here a))
+      ∙ ap (λ cs. total_for cs a.1 rows) (sym of) in
       let value : cell ≡ aggregate_cell g.schema rows a.1 =
-      made_has (λ c. t ≡ total_of (counted_index columns a.1) rows → c ≡ aggregate_cell columns rows a.1) made cell is ok total
+      made_has (λ c. t ≡ total_for columns a.1 rows → c ≡ aggregate_cell columns rows a.1) made cell is ok total
       ∙ ap (λ cs. aggregate_cell cs rows a.1) of in
       mapped_behind key (λ a. aggregate_cell g.schema rows a.1) g.aggregates n out more a cell lt (here a) so_far value pushed
       ∙ ap first_cells (sym next)
@@ -38,6 +38,6 @@ module _ (g : Grouping) (key : List Cell) (rows : List (List Cell)) (totals : Li
   -- all cells
   pub cells_done : (n : ℕ) (out : List Cell) → n ≡ min (length g.aggregates) (length totals) → out ≡ first_cells n → out ≡ row_of_group g key rows
   cells_done n out count so_far =
-      let same : length totals ≡ length g.aggregates = ap length own ∙ length-map g.aggregates (λ a. total_of (counted_index g.schema a.1) rows) in
+      let same : length totals ≡ length g.aggregates = ap length own ∙ length-map g.aggregates (λ a. total_for g.schema a.1 rows) in
       let all : length g.aggregates ≤ n = omega (arith, same, count) in
       so_far ∙ ap (λ taken. key ++ map (λ a. aggregate_cell g.schema rows a.1) taken) (take_all n g.aggregates all)

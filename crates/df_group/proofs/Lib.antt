@@ -4,6 +4,10 @@ pub mod Appearance
 pub mod KeyOrder
 pub mod IndexMaps
 pub mod RowSums
+pub mod ValueCounts
+pub mod CountedChanges
+pub mod LeastValues
+pub mod DistinctValues
 pub mod Totals
 pub mod Followed
 pub mod FinishedRow

@@ -45,7 +45,7 @@ module _ {K X : Type 0} {R : K → K → Ordering} (o : IsTotalOrder R) (same : 
     by_case Equal p rest = omega (arith, ints)
     by_case Greater p rest = omega (arith, ints, rest)
 
-  itself : (k : K) → eq_by_cmp R k k ≡ true
+  pub itself : (k : K) → eq_by_cmp R k k ≡ true
   itself k = ap is_eq (tied_itself o k)
 
   tied : (q k : K) → eq_by_cmp R q k ≡ true → q ≡ k
@@ -65,13 +65,13 @@ module _ {K X : Type 0} {R : K → K → Ordering} (o : IsTotalOrder R) (same : 
     by_case q true e = sym (ap (get t) (tied q k e) ∙ some)
     by_case q false e = refl
 
-  sum_insert : (t : FinMap R X) (k : K) (v : X) → row_sum f (entries (insert t k v)) +ℤ part f (get t k) ≡ row_sum f (entries t) +ℤ f v
+  pub sum_insert : (t : FinMap R X) (k : K) (v : X) → row_sum f (entries (insert t k v)) +ℤ part f (get t k) ≡ row_sum f (entries t) +ℤ f v
   sum_insert t k v =
       ap (λ es. row_sum f es +ℤ part f (get t k)) (entries-insert o t k v)
       ∙ ap (λ x. row_sum f (put R k v (entries t)) +ℤ part f x) (get-entries t k)
       ∙ sum_put k v (entries t) (entries_sorted t)
 
-  sum_remove : (t : FinMap R X) (k : K) (a : Option X) → get t k ≡ a → row_sum f (entries (remove t k)) +ℤ part f a ≡ row_sum f (entries t) +ℤ pos 0
+  pub sum_remove : (t : FinMap R X) (k : K) (a : Option X) → get t k ≡ a → row_sum f (entries (remove t k)) +ℤ part f a ≡ row_sum f (entries t) +ℤ pos 0
   sum_remove t k None e = ap (λ m. row_sum f (entries m) +ℤ pos 0) (remove_none t k e)
   sum_remove t k (Some x) e =
       let back : row_sum f (entries (insert (remove t k) k x)) ≡ row_sum f (entries t) = ap (λ m. row_sum f (entries m)) (put_back t k x e) in
@@ -84,20 +84,26 @@ module _ {K X : Type 0} {R : K → K → Ordering} (o : IsTotalOrder R) (same : 
   sum_set t k None = sum_remove t k (get t k) refl
   sum_set t k (Some x) = sum_insert t k x
 
+  -- the first change of a list that fits, and the others once it is made
+  pub fits_first : (t : FinMap R X) (e : K × Change X) (es : List (K × Change X)) → ((q : K) → IfSome (find R q (e ∷ es)) (λ c. c.old ≡ get t q)) → e.1.old ≡ get t e.0
+  fits_first t e es fits = subst (λ b. IfSome (cond b (Some e.1) (find R e.0 es)) (λ c. c.old ≡ get t e.0)) (itself e.0) (fits e.0)
+
+  pub fits_later : (t : FinMap R X) (e : K × Change X) (es : List (K × Change X)) → T (is_sorted R (e ∷ es)) → ((q : K) → IfSome (find R q (e ∷ es)) (λ c. c.old ≡ get t q))
+      → (q : K) → IfSome (find R q es) (λ c. c.old ≡ get (set_at t e.0 e.1.new) q)
+  fits_later t e es h fits q = later (eq_by_cmp R q e.0) refl (fits q) where
+    later : (b : Bool) → eq_by_cmp R q e.0 ≡ b → IfSome (cond b (Some e.1) (find R q es)) (λ c. c.old ≡ get t q) → IfSome (find R q es) (λ c. c.old ≡ get (set_at t e.0 e.1.new) q)
+    later true p k = subst (λ o. IfSome o (λ c. c.old ≡ get (set_at t e.0 e.1.new) q)) (sym (find_below_all R q es (subst (λ k. T (below_all R k es)) (sym (tied q e.0 p)) (T-first _ _ h)))) tt
+    later false p k = subst (λ x. IfSome (find R q es) (λ c. c.old ≡ x)) (sym (get-set_at o t e.0 e.1.new q ∙ ap (λ b. cond b e.1.new (get t q)) p)) k
+
   -- all changes of a list that fits
   sum_list : (t : FinMap R X) (es : List (K × Change X)) → T (is_sorted R es) → ((q : K) → IfSome (find R q es) (λ c. c.old ≡ get t q)) → fold (λ n e. sum_after f n e.1) (row_sum f (entries t)) es ≡ row_sum f (entries (applied_list t es))
   sum_list t [] h fits = refl
   sum_list t (e ∷ es) h fits =
-      let here : e.1.old ≡ get t e.0 = subst (λ b. IfSome (cond b (Some e.1) (find R e.0 es)) (λ c. c.old ≡ get t e.0)) (itself e.0) (fits e.0) in
-      let old : part f e.1.old ≡ part f (get t e.0) = ap (part f) here in
+      let old : part f e.1.old ≡ part f (get t e.0) = ap (part f) (fits_first t e es fits) in
       let one = sum_set t e.0 e.1.new in
       let next : sum_after f (row_sum f (entries t)) e.1 ≡ row_sum f (entries (set_at t e.0 e.1.new)) = omega (arith, ints, old, one) in
       ap (λ n. fold (λ n e. sum_after f n e.1) n es) next
-      ∙ sum_list (set_at t e.0 e.1.new) es (T-second (below_all R e.0 es) (is_sorted R es) h) (λ q. later q (eq_by_cmp R q e.0) refl (fits q))
-    where
-      later : (q : K) (b : Bool) → eq_by_cmp R q e.0 ≡ b → IfSome (cond b (Some e.1) (find R q es)) (λ c. c.old ≡ get t q) → IfSome (find R q es) (λ c. c.old ≡ get (set_at t e.0 e.1.new) q)
-      later q true p k = subst (λ o. IfSome o (λ c. c.old ≡ get (set_at t e.0 e.1.new) q)) (sym (find_below_all R q es (subst (λ k. T (below_all R k es)) (sym (tied q e.0 p)) (T-first _ _ h)))) tt
-      later q false p k = subst (λ x. IfSome (find R q es) (λ c. c.old ≡ x)) (sym (get-set_at o t e.0 e.1.new q ∙ ap (λ b. cond b e.1.new (get t q)) p)) k
+      ∙ sum_list (set_at t e.0 e.1.new) es (T-second (below_all R e.0 es) (is_sorted R es) h) (fits_later t e es h fits)
 
   -- the sum before, moved by each change of a delta that fits, is the sum afterwards
   pub sum_applied : (t : FinMap R X) (d : FinMap R (Change X)) → Fits t d → fold (λ n e. sum_after f n e.1) (row_sum f (entries t)) (entries d) ≡ row_sum f (entries (applied t d))

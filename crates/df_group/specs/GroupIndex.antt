@@ -12,7 +12,7 @@ use Rattle.df_delta.specs.declared.keyed.KeyChanges.{KeyChanges}
 use Rattle.df_ops.specs.Groups.{key_of}
 use Rattle.df_group.specs.Grouped.{groups_at}
 use Rattle.df_group.specs.GroupRows.{finished_row, members_of, group_output}
-use Rattle.df_group.specs.Totals.{Lead, counted_index, total_of}
+use Rattle.df_group.specs.Totals.{Lead, total_for}
 use Rattle.df_group.specs.declared.group.Group.{Group}
 use Rattle.df_group.specs.declared.grouping.Grouping.{Grouping}
 use Rattle.df_group.specs.declared.total.Total.{Total}
@@ -35,7 +35,7 @@ HasTagsOf t u = (q : Tag) → IfSome (finite.get u q) (λ _. is_some (finite.get
 
 -- the total of these rows for each aggregate
 abbrev pub totals_of : Grouping → List (List Cell) → List Total
-totals_of g rows = map (λ a. total_of (counted_index g.schema a.1) rows) g.aggregates
+totals_of g rows = map (λ a. total_for g.schema a.1 rows) g.aggregates
 
 -- the group of these members
 abbrev pub group_with : Grouping → List Cell → TableParts → Group

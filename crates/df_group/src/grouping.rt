@@ -1,5 +1,6 @@
 //! How rows are grouped, and the row of a group.
 ghost use Rattle.std.specs.Prelude.{◌≡◌, [], IfOk, slice_get, unwrap_or};
+ghost use Rattle.std.specs.Option.{option_copied};
 ghost use Rattle.std.specs.FinMap as finite;
 ghost use Rattle.df_value.specs.Rows.{cell_at};
 ghost use Rattle.df_value.specs.declared.cell.Cell.TheVariants as cells;
@@ -9,11 +10,11 @@ ghost use Rattle.df_ops.specs.Tables.{aggregate_cell};
 ghost use Rattle.df_group.specs.GroupIndex as index_spec;
 ghost use Rattle.df_group.specs.GroupIndex.{totals_of};
 ghost use Rattle.df_group.specs.Totals as totals_spec;
-ghost use Rattle.df_group.specs.Totals.{total_of};
+ghost use Rattle.df_group.specs.Totals.{total_for};
 
 use crate::total::Total;
 use df_column::Table;
-use df_ops::{Agg, aggregate, column_indices};
+use df_ops::{Agg, column_indices};
 use df_value::{
     Cell, CellType, Duplicate, List, Row, Schema, Text, column_index, copies, push_made,
 };
@@ -56,13 +57,14 @@ impl Grouping {
         let columns = self.schema.columns().as_slice();
         let mut totals = Vec::with_capacity(alloc, self.aggregates.len())?;
         for named in self.aggregates.as_slice() {
-            totals.push(Total::of_rows(counted_index(columns, &named.1), &[]))?;
+            let agg = &named.1;
+            totals.push(Total::of_none(summed_index(columns, agg), valued_index(columns, agg)))?;
         }
         Ok(List::from_vec(totals))
     }
 
-    /// The row of a group of these members: the key, and after it the aggregates. A member is read only where its cells
-    /// are wanted, and all are read for a minimum, a maximum and a number of distinct cells.
+    /// The row of a group of these members: the key, and after it the aggregates. Only a first and a last member are
+    /// read, where they are wanted.
     pub fn finished_row(
         &self,
         alloc: Global,
@@ -84,13 +86,26 @@ impl Grouping {
 }
 
 /// The index whose cells an aggregate counts or sums; none for those that need neither.
-fn counted_index(columns: &[(Text, CellType)], agg: &Agg) -> Option<usize>
-    ensures { result ≡ totals_spec.counted_index columns.now agg.now }
+fn summed_index(columns: &[(Text, CellType)], agg: &Agg) -> Option<usize>
+    ensures { result ≡ totals_spec.summed_index columns.now agg.now }
 {
     match agg {
         Agg::Count(name) => column_index(name, columns),
         Agg::Sum(name) => column_index(name, columns),
         Agg::Mean(name) => column_index(name, columns),
+        Agg::NUnique(name) => column_index(name, columns),
+        _ => None,
+    }
+}
+
+/// The index whose values an aggregate looks at; none for those that need none.
+fn valued_index(columns: &[(Text, CellType)], agg: &Agg) -> Option<usize>
+    ensures { result ≡ totals_spec.valued_index columns.now agg.now }
+{
+    match agg {
+        Agg::Min(name) => column_index(name, columns),
+        Agg::Max(name) => column_index(name, columns),
+        Agg::NUnique(name) => column_index(name, columns),
         _ => None,
     }
 }
@@ -104,22 +119,32 @@ fn finished_cell(
     total: &Total,
 ) -> Result<Cell, AllocError>
     ensures { IfOk result (λ c. total.now
-        ≡ total_of (totals_spec.counted_index columns.now agg.now) (finite.values members.now.rows)
+        ≡ total_for columns.now agg.now (finite.values members.now.rows)
         → c ≡ aggregate_cell columns.now (finite.values members.now.rows) agg.now) }
 {
     match agg {
         Agg::Len => Ok(Cell::Int(members.len() as i64)),
-        Agg::Count(_) => Ok(Cell::Int(total.count)),
-        Agg::Sum(_) => Ok(Cell::Wide(total.sum)),
-        Agg::Mean(_) => Ok(total.mean()),
+        Agg::Count(_) => Ok(Cell::Int(total.sums.count)),
+        Agg::Sum(_) => Ok(Cell::Wide(total.sums.sum)),
+        Agg::Mean(_) => Ok(total.sums.mean()),
+        Agg::Min(_) => value_or_null(alloc, total.values.counts.least()),
+        Agg::Max(_) => value_or_null(alloc, total.values.counts.greatest()),
+        Agg::NUnique(_) => Ok(Cell::Int(total.distinct_cells(members.len()))),
         Agg::First(name) => member_cell(alloc, column_index(name, columns), members, 0),
         Agg::Last(name) => {
             let last = members.len().saturating_sub(1);
             member_cell(alloc, column_index(name, columns), members, last)
         }
-        Agg::Min(_) | Agg::Max(_) | Agg::NUnique(_) => {
-            aggregate(alloc, columns, &members.rows(alloc)?, agg)
-        }
+    }
+}
+
+/// A copy of the value, null where there is none.
+fn value_or_null(alloc: Global, value: Option<&Cell>) -> Result<Cell, AllocError>
+    ensures { IfOk result (λ c. c ≡ unwrap_or (option_copied value.entry) cells.Null) }
+{
+    match value {
+        Some(value) => value.copy(alloc),
+        None => Ok(Cell::Null),
     }
 }
 

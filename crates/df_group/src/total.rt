@@ -1,112 +1,107 @@
-//! Running totals of the cells of a column.
-ghost use Rattle.std.specs.Prelude.{◌≡◌, ℕ, pos, ◌+ℤ◌, ◌-ℤ◌, IfOk, IfSome, List};
+//! Running totals of a group for an aggregate.
+ghost use Rattle.std.specs.Prelude.{◌≡◌, ℕ, ◌≤◌, ◌^◌, [], pos, IfOk, IfSome, List, Option, length};
 ghost use Rattle.std.specs.FinMap as finite;
 ghost use Rattle.df_value.specs.declared.cell.Cell.{Cell};
-ghost use Rattle.df_ops.specs.Aggregates.{mean_at};
-ghost use Rattle.df_group.specs.Totals as totals_spec;
-ghost use Rattle.df_group.specs.Totals.{Lead, alone, total_after, total_of, totals_over};
+ghost use Rattle.df_ops.specs.Aggregates.{n_unique_of};
+ghost use Rattle.df_group.specs.Totals.{HaveValuesOf, Lead, total_of, totals_over, values_of};
 
+use crate::sums::Sums;
+use crate::values::Values;
 use df_column::{Entry, Table};
-use df_ops::{count_of, sum_of};
-use df_value::{Cell, Frac, List, Row};
+use df_counts::Counts;
+use df_value::List;
 use std::alloc::{AllocError, Global};
-use std::slice;
 
-/// How many cells of some rows at an index are not null, and their sum.
-#[derive(Clone, Copy, Debug, PartialEq, Eq)]
+/// What some rows have at an index whose cells are summed, and at one whose values are counted.
+#[derive(Drop)]
 pub struct Total {
-    pub index: Option<usize>,
-    pub count: i64,
-    pub sum: i128,
+    pub sums: Sums,
+    pub values: Values,
 }
 
 impl Total {
-    /// The total of these rows.
-    pub fn of_rows(index: Option<usize>, rows: &[Row]) -> Total
-        ensures { result ≡ total_of index rows.now }
+    /// The total of no rows.
+    pub fn of_none(summed: Option<usize>, valued: Option<usize>) -> Total
+        ensures { result ≡ total_of summed valued [] }
     {
         Total {
-            index,
-            count: count_of(index, rows) as i64,
-            sum: sum_of(index, rows),
+            sums: Sums::of_rows(summed, &[]),
+            values: Values {
+                index: valued,
+                counts: Counts::new(),
+            },
         }
     }
 
-    /// The mean of the cells; null where there is none.
-    pub fn mean(&self) -> Cell
-        ensures { (n : ℕ) → self.now.count ≡ pos n → result ≡ mean_at self.now.sum n }
+    /// The total after these entries lead to these rows, beside totals that are of these rows already.
+    fn moved(
+        &self,
+        alloc: Global,
+        entries: &[Entry],
+        rows: &Table,
+        beside: &[Total],
+    ) -> Result<Total, AllocError>
+        ensures { IfOk result (λ t. (old : List (List Cell)) →
+            self.now ≡ total_of self.now.sums.index self.now.values.index old
+            → Lead old entries.now (finite.values rows.now.rows)
+            → HaveValuesOf beside.now (finite.values rows.now.rows)
+            → t ≡ total_of self.now.sums.index self.now.values.index (finite.values rows.now.rows)) }
     {
-        if self.count > 0 {
-            Cell::Frac(Frac::new(self.sum, self.count))
-        } else {
-            Cell::Null
-        }
-    }
-
-    /// The total of a row alone, or of none.
-    fn of_row(index: Option<usize>, row: &Option<Row>) -> Total
-        ensures { result ≡ total_of index (alone row.now) }
-    {
-        match row {
-            Some(row) => Total::of_rows(index, slice::from_ref(row)),
-            None => Total::of_rows(index, &[]),
-        }
-    }
-
-    /// The total after this entry, unless a number grows past its type.
-    fn after_entry(self, entry: &Entry) -> Option<Total>
-        ensures { IfSome result (λ t. t ≡ totals_spec.after_entry self entry.now) }
-    {
-        let going = Total::of_row(self.index, &entry.old);
-        let coming = Total::of_row(self.index, &entry.new);
-        let count = moved_count(self.count, going.count, coming.count)?;
-        let sum = moved_sum(self.sum, going.sum, coming.sum)?;
-        Some(Total {
-            index: self.index,
-            count,
-            sum,
+        Ok(Total {
+            sums: self.sums.moved(alloc, entries, rows)?,
+            values: moved_values(alloc, &self.values, entries, rows, beside)?,
         })
     }
 
-    /// The total after these entries, unless a number grows past its type.
-    fn after(self, entries: &[Entry]) -> Option<Total>
-        ensures { IfSome result (λ t. t ≡ total_after self entries.now) }
+    /// How many distinct cells so many rows have, null being one.
+    pub fn distinct_cells(&self, rows: usize) -> i64
+        requires { rows ≤ 2 ^ 60 }
+        ensures { (index : Option ℕ) (of : List (List Cell)) → rows ≡ length of
+            → self.now ≡ total_of index index of → result ≡ pos (n_unique_of index of) }
     {
-        let mut total = self;
-        for entry in entries {
-            total = total.after_entry(entry)?;
-        }
-        Some(total)
-    }
-
-    /// The total after these entries lead to these rows. The rows are read only where a number grows past its type.
-    fn moved(self, alloc: Global, entries: &[Entry], rows: &Table) -> Result<Total, AllocError>
-        ensures { IfOk result (λ t. (old : List (List Cell)) → self ≡ total_of self.index old
-            → Lead old entries.now (finite.values rows.now.rows)
-            → t ≡ total_of self.index (finite.values rows.now.rows)) }
-    {
-        match self.after(entries) {
-            Some(total) => Ok(total),
-            None => Ok(Total::of_rows(self.index, &rows.rows(alloc)?)),
+        // There are no more values than rows.
+        let values = self.values.counts.values().min(rows as u64) as i64;
+        if self.sums.count < rows as i64 {
+            values + 1
+        } else {
+            values
         }
     }
 }
 
-/// The count without what goes and with what comes, if it fits its type.
-fn moved_count(count: i64, going: i64, coming: i64) -> Option<i64>
-    ensures { IfSome result (λ n. n ≡ (count -ℤ going) +ℤ coming) }
+/// The values at an index that one of these totals has, if one has them.
+fn values_at(totals: &[Total], index: Option<usize>) -> Option<&Values>
+    ensures { (rows : List (List Cell)) → HaveValuesOf totals.now rows
+        → IfSome result (λ v. v.now ≡ values_of index rows) }
 {
-    count.checked_sub(going)?.checked_add(coming)
+    for total in totals {
+        if total.values.index == index {
+            return Some(&total.values);
+        }
+    }
+    None
 }
 
-/// The sum without what goes and with what comes, if it fits its type.
-fn moved_sum(sum: i128, going: i128, coming: i128) -> Option<i128>
-    ensures { IfSome result (λ n. n ≡ (sum -ℤ going) +ℤ coming) }
+/// The values after these entries lead to these rows. They are shared where a total beside them has them already.
+fn moved_values(
+    alloc: Global,
+    values: &Values,
+    entries: &[Entry],
+    rows: &Table,
+    beside: &[Total],
+) -> Result<Values, AllocError>
+    ensures { IfOk result (λ v. (old : List (List Cell)) → values.now ≡ values_of values.now.index old
+        → Lead old entries.now (finite.values rows.now.rows)
+        → HaveValuesOf beside.now (finite.values rows.now.rows)
+        → v ≡ values_of values.now.index (finite.values rows.now.rows)) }
 {
-    sum.checked_sub(going)?.checked_add(coming)
+    match values_at(beside, values.index) {
+        Some(moved) => moved.share(),
+        None => values.moved(alloc, entries, rows),
+    }
 }
 
-/// The totals after these entries lead to these rows.
+/// The totals after these entries lead to these rows. Totals of one column share the counts of its values.
 pub fn moved_totals(
     alloc: Global,
     totals: &[Total],
@@ -119,7 +114,8 @@ pub fn moved_totals(
 {
     let mut moved = Vec::with_capacity(alloc, totals.len())?;
     for total in totals {
-        moved.push(total.moved(alloc, entries, rows)?)?;
+        let total = total.moved(alloc, entries, rows, &moved)?;
+        moved.push(total)?;
     }
     Ok(List::from_vec(moved))
 }

@@ -1,0 +1,6 @@
+//! How many rows have each value of a column.
+#![tactic(auto)]
+
+mod counts;
+
+pub use counts::Counts;
