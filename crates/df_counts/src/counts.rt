@@ -133,17 +133,10 @@ impl Counts {
             (map (count_change self.now) rises.now.entries)) }
     {
         let mut counts = self.share()?;
-        for (value, rise) in rises {
+        for (value, rise) in rises.iter() {
             let count = self.count(value).wrapping_add(*rise);
             counts = counts.with_count(alloc, value, count)?;
         }
         Ok(counts)
     }
-}
-
-/// Whether a value is less than another.
-pub fn is_less(a: &Cell, b: &Cell) -> bool
-    ensures { result ≡ is_lt (cell_cmp a.now b.now) }
-{
-    *a < *b
 }

@@ -4,7 +4,9 @@
 #![tactic(auto)]
 
 mod counts;
+mod order;
 mod subtree;
 mod totals;
 
-pub use counts::{Counts, is_less};
+pub use counts::Counts;
+pub use order::is_less;

@@ -8,6 +8,7 @@ ghost use Rattle.df_counts.specs.Counts.{first_value, last_value};
 ghost use Rattle.df_counts.specs.Subtrees.{entries_of};
 ghost use Rattle.df_counts.specs.Totals.{AreTotals, AreTotalsBelow};
 
+use crate::order::is_less;
 use crate::totals::Totals;
 use df_value::{Cell, Duplicate, Shared};
 use std::alloc::{AllocError, Global};
@@ -223,14 +224,14 @@ impl Subtree {
 
     /// How many values are less than this one, and how many rows have them.
     pub fn totals_below(&self, value: &Cell) -> Totals
-        requires { T (is_sorted cell_cmp (entries_of self.now)) }
-        ensures { AreTotalsBelow (entries_of self.now) value.now result }
+        ensures { T (is_sorted cell_cmp (entries_of self.now))
+            → AreTotalsBelow (entries_of self.now) value.now result }
     {
         match self {
             Subtree::Empty => Totals { values: 0, rows: 0 },
             Subtree::Fork(node) => {
                 let node: &Node = node;
-                if *node.value.get() < *value {
+                if is_less(node.value.get(), value) {
                     let above = node.right.totals_below(value);
                     node.left.totals().with(node.count, above)
                 } else {
@@ -252,8 +253,8 @@ impl Subtree {
 
     /// The count of this value, if there is one.
     pub fn find(&self, value: &Cell) -> Option<u64>
-        requires { T (is_sorted cell_cmp (entries_of self.now)) }
-        ensures { result ≡ entry_of cell_cmp value.now (entries_of self.now) }
+        ensures { T (is_sorted cell_cmp (entries_of self.now))
+            → result ≡ entry_of cell_cmp value.now (entries_of self.now) }
     {
         match self {
             Subtree::Empty => None,
@@ -302,8 +303,8 @@ impl Subtree {
 
     /// The tree with this count of the value. Only the nodes on the way there are new.
     pub fn insert(&self, alloc: Global, value: &Cell, count: u64) -> Result<Subtree, AllocError>
-        requires { T (is_sorted cell_cmp (entries_of self.now)) }
-        ensures { IfOk result (λ t. entries_of t ≡ edit cell_cmp (entries_of self.now) value.now (Some count)) }
+        ensures { IfOk result (λ t. T (is_sorted cell_cmp (entries_of self.now))
+            → entries_of t ≡ edit cell_cmp (entries_of self.now) value.now (Some count)) }
     {
         match self {
             Subtree::Empty => {
@@ -329,8 +330,8 @@ impl Subtree {
 
     /// The tree without the value. Only the nodes on the way there are new.
     pub fn remove(&self, alloc: Global, value: &Cell) -> Result<Subtree, AllocError>
-        requires { T (is_sorted cell_cmp (entries_of self.now)) }
-        ensures { IfOk result (λ t. entries_of t ≡ edit cell_cmp (entries_of self.now) value.now None) }
+        ensures { IfOk result (λ t. T (is_sorted cell_cmp (entries_of self.now))
+            → entries_of t ≡ edit cell_cmp (entries_of self.now) value.now None) }
     {
         match self {
             Subtree::Empty => Ok(Subtree::Empty),
