@@ -61,9 +61,9 @@ module _ (v : Cell) (g : Cell × ℕ → ℕ) where
   none_below : (xs : List (Cell × ℕ)) → T (all_from cell_cmp v xs) → sum_by below xs ≡ 0
   none_below [] h = refl
   none_below (x ∷ xs) h =
-      let here : below x ≡ 0 = ap (λ b. cond b (g x) 0) (false_from_T _ (T-first _ _ h)) in
-      let more = sum_by-cons below x xs in
-      let rest = none_below xs (T-second _ _ h) in
+      let here : below x ≡ 0 = ap (λ b. cond b (g x) 0) (false_from_T (is_lt (cell_cmp x.0 v)) (T-first _ _ h)) in
+      let more : sum_by below (x ∷ xs) ≡ below x + sum_by below xs = sum_by-cons below x xs in
+      let rest : sum_by below xs ≡ 0 = none_below xs (T-second (not (is_lt (cell_cmp x.0 v))) (all_from cell_cmp v xs) h) in
       omega (arith, here, more, rest)
 
 -- of what is before a value and behind it

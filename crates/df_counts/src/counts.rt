@@ -1,13 +1,15 @@
 //! Counts of the values of a column.
-ghost use Rattle.std.specs.Prelude.{◌≡◌, ◌%◌, ◌^◌, [], T, IfOk, if◌then◌else◌, length, map, unwrap_or};
+ghost use Rattle.std.specs.Prelude.{◌≡◌, ◌%◌, ◌^◌, [], T, IfOk, IsTrue, false, if◌then◌else◌, is_some, length, map, true, unwrap_or};
 ghost use Rattle.std.specs.List.{sum_by};
 ghost use Rattle.std.specs.Option.{option_copied};
 ghost use Rattle.std.specs.Ordering.{is_lt};
 ghost use Rattle.std.specs.FinMap.{find as entry_of, is_sorted};
 ghost use Rattle.df_value.specs.CellOrder.{cell_cmp};
+ghost use Rattle.df_value.specs.declared.cell.Cell.{Cell as AnyCell};
 ghost use Rattle.df_column.specs.Changes.{after_changes, edit};
 ghost use Rattle.df_counts.specs.Counts.{count_change, first_value, last_value, some_count};
 
+use crate::order::is_less;
 use crate::subtree::Subtree;
 use df_value::Cell;
 use std::alloc::{AllocError, Global};
@@ -122,17 +124,31 @@ impl Counts {
         self.root.last()
     }
 
+    /// Whether no value is above this one.
+    pub fn has_none_above(&self, value: &Cell) -> bool
+        ensures { IsTrue result → (v : AnyCell)
+            → is_some (entry_of cell_cmp v self.now) ≡ true
+            → is_lt (cell_cmp value.now v) ≡ false }
+    {
+        match self.root.last() {
+            Some(last) => !is_less(value, last),
+            None => true,
+        }
+    }
+
     /// The counts after these rises, modulo 2^64. A value whose count becomes 0 goes.
     pub fn raised(
         &self,
         alloc: Global,
         rises: &BTreeMap<Cell, u64>,
     ) -> Result<Counts, AllocError>
+        ensures sorted { IfOk result (λ _. T (is_sorted cell_cmp self.now)) }
         ensures rising { IfOk result (λ _. T (is_sorted cell_cmp rises.now.entries)) }
         ensures counts { IfOk result (λ t. t ≡ after_changes cell_cmp self.now
             (map (count_change self.now) rises.now.entries)) }
     {
-        let mut counts = self.share()?;
+        let root = self.root.share()?;
+        let mut counts = Counts { root };
         for (value, rise) in rises.iter() {
             let count = self.count(value).wrapping_add(*rise);
             counts = counts.with_count(alloc, value, count)?;

@@ -1,4 +1,6 @@
-use Rattle.std.proofs.Common.{◌≡◌, ℕ, [], ◌∷◌, ◌∙◌, ap, map, refl, sym}
+use Rattle.std.proofs.Common.{◌≡◌, ℕ, [], ◌∷◌, ◌∙◌, ap, map, refl, subst, sym}
+use Rattle.std.specs.Prelude.{T}
+use Rattle.std.specs.FinMap.{is_sorted}
 use Rattle.std.specs.Map.Iter.{deref_pair}
 use Rattle.std.proofs.lemmas.Map.Iter.{rest_more, rest_all}
 use Rattle.df_value.specs.declared.cell.Cell.{Cell}
@@ -15,7 +17,7 @@ loop-value-init c =
       can_next = tt;
       is_finite = tt;
       leads =
-          ap (λ now. after_changes cell_cmp now (map (count_change counts) c.into_iter-value-iterator.result)) c.in_ok-counts.ensures
+          ap (λ now. after_changes cell_cmp now (map (count_change counts) c.into_iter-value-iterator.result)) (c.in_ok-root.ensures ∙ c.self.view_is)
           ∙ ap (λ es. after_changes cell_cmp counts (map (count_change counts) es)) (c.into_iter-value-iterator.ensures.into_iter_gives ∙ c.iter-value-items.ensures.rest);
     }
 
@@ -26,13 +28,14 @@ loop-value-preserved c =
     record {
       can_next = tt;
       is_finite = tt;
-      leads = raised_more c.args.self.now c.loop-value.counts c.in_ok-counts-2.counts _ c.next.new.self _ item.0 item.1 c.count.result _ all c.count.ensures refl c.in_ok-counts-2.ensures c.loop-value.invariant.leads;
+      leads = raised_more c.args.self.now c.loop-value.counts c.in_ok-counts.counts _ c.next.new.self _ item.0 item.1 c.count.result _ all c.count.ensures refl c.in_ok-counts.ensures c.loop-value.invariant.leads;
     }
 
 pub returns : goal.returns
 returns c =
     let none : c.loop-value.value-iterator ≡ [] = rest_all deref_pair _ _ c.next.result c.in-None.is c.next.ensures.steps in
     record {
+      sorted = subst (λ es. T (is_sorted cell_cmp es)) c.self.view_is c.self.invariant;
       rising = keys_rise cell_cmp c.args.rises.now.entries c.iter-value-items.ensures.ordered;
       counts = ap (λ es. after_changes cell_cmp c.loop-value.counts (map (count_change c.args.self.now) es)) (sym none) ∙ c.loop-value.invariant.leads;
     }
