@@ -1,9 +1,10 @@
 -- Ranks of the kind `Min` by counts: the rows whose value is below a cell are those that the counts below it count.
-use Rattle.std.proofs.Common.{◌≡◌, ℕ, zero, suc, ◌+◌, ◌%◌, ◌^◌, ◌≤◌, Bool, true, false, cond, not, List, [], ◌∷◌, Option, Some, None, pos, length, filter, refl, sym, ap, ◌∙◌, arith}
+use Rattle.std.proofs.Common.{◌≡◌, ℕ, zero, suc, ◌+◌, ◌%◌, ◌^◌, ◌≤◌, Bool, true, false, cond, not, List, [], ◌∷◌, Option, Some, None, pos, length, filter, refl, sym, ap, ◌∙◌, arith, subst}
 use Rattle.std.specs.Prelude.{T, ◌&&◌, unwrap_or}
 use Rattle.std.specs.Ordering.{eq_by_cmp, is_lt}
 use Rattle.std.specs.FinMap.{find, is_sorted, put}
-use Rattle.std.specs.FinMap.Entries.{find-put, is_sorted-put, same_entries}
+use Rattle.std.specs.declared.cmp.Ordering.TheVariants.{Less, Equal, Greater}
+use Rattle.std.specs.FinMap.Entries.{by_order, find-put, is_sorted-put, same_entries}
 use Rattle.df_value.specs.CellEq.{cell_eq, cell_eq-Decides}
 use Rattle.df_value.specs.CellOrder.{cell_cmp, cell_cmp_total}
 use Rattle.df_value.specs.Rows.{cell_at}

@@ -163,6 +163,8 @@ impl LiveNode for LiveRank {
         _meter: &mut Meter,
     ) -> Result<(StagedRank, Delta), AllocError> {
         let input = apply(self.alloc, &self.input, delta)?;
+        // What `len` promises: so few rows that each rank is counted as it is.
+        let _few = input.len();
         let rises = rises_of(self.alloc, self.column.index(), delta.entries())?;
         let (counts, changes) = self.counts_and_changes(delta, &input, &rises)?;
         let output = apply(self.alloc, &self.output, &changes)?;

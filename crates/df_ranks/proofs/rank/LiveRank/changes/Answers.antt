@@ -16,7 +16,7 @@ from_entries-requires c =
     let u = with_ranks s.column.schema s.column.name s.column.index (counted_rank s.column.kind c.args.counts.now) c.args.input.now.rows in
     let all = change_end t u c.args.tags.now c.loop-tag.tag-index (map entry_change c.loop-tag.entries.items) _ c.loop-tag-test.false c.loop-tag.invariant.done in
     record {
-      rising = subst (λ es. T (finite.is_sorted tag_cmp es)) (sym all) (sorted_changes t u c.args.tags.now c.requires.rising);
+      rising = subst (λ es. T (finite.is_sorted tag_cmp es)) (sym all) (sorted_changes t u c.args.tags.now c.requires);
       rows = c.loop-tag.invariant.rows;
     }
 

@@ -15,7 +15,7 @@ returns-clause-diff c t h =
     let old = s.counts in
     let rises = c.in_ok-rises.rises in
     let stage = c.in_ok-counts.ensures in
-    let few = subst (λ n. n ≤ 2 ^ 60) c.len.ensures.value c.len.ensures.few in
+    let few = subst (λ n. n ≤ 2 ^ 60) c.len-few.ensures.value c.len-few.ensures.few in
     let fit = subst (λ m. RowsFit s.input.schema (applied m d)) (sym h.over.rows) h.after.rows in
     let p = prepared s.column.schema s.column.name s.column.kind s.column.index t d s.input.rows s.output.rows old c.entries.result.now rises c.in_ok-input.input.rows
     c.in_ok-counts.counts stage.again.least stage.again.tags c.in_ok-counts.changes
@@ -30,7 +30,7 @@ returns-clause-staged c t h =
     let old = s.counts in
     let rises = c.in_ok-rises.rises in
     let stage = c.in_ok-counts.ensures in
-    let few = subst (λ n. n ≤ 2 ^ 60) c.len.ensures.value c.len.ensures.few in
+    let few = subst (λ n. n ≤ 2 ^ 60) c.len-few.ensures.value c.len-few.ensures.few in
     let fit = subst (λ m. RowsFit s.input.schema (applied m d)) (sym h.over.rows) h.after.rows in
     let p = prepared s.column.schema s.column.name s.column.kind s.column.index t d s.input.rows s.output.rows old c.entries.result.now rises c.in_ok-input.input.rows
     c.in_ok-counts.counts stage.again.least stage.again.tags c.in_ok-counts.changes
