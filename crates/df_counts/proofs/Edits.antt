@@ -8,7 +8,7 @@ use Rattle.std.specs.declared.cmp.Ordering.TheVariants.{Less, Equal, Greater}
 use Rattle.std.specs.FinMap.{IsAntisymmetric, is_sorted, put}
 use Rattle.std.specs.FinMap.Entries.{below_all, by_order, is_sorted-put, is_sorted-where_key}
 use Rattle.df_column.specs.Changes.{Change, edit}
-use Rattle.df_column.proofs.Bools.{T-first, T-second, T-both, is_lt_from_less}
+use Rattle.df_column.proofs.Bools.{T-first, T-both, is_lt_from_less}
 use Rattle.df_column.proofs.ChangeRuns.{after_changes-left, after_changes-right, apart_at, sorted_from}
 use Rattle.df_counts.proofs.Lookups.{sorted_here, under_here, whole}
 

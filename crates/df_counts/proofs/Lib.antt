@@ -1,6 +1,6 @@
 pub mod Orders
 pub mod Lookups
-mod Edits
+pub mod Edits
 mod Sums
 mod Greatest
 mod Outcomes

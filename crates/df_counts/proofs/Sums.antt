@@ -1,18 +1,17 @@
 -- How many values there are before one and behind it, and how many rows have them, modulo 2^64.
-use Rattle.std.proofs.Common.{◌≡◌, ℕ, suc, ◌+◌, ◌%◌, ◌^◌, Bool, true, false, not, cond, List, [], ◌∷◌, ◌++◌, Some, None, Option, length, length-append, refl, sym, ap, subst, ◌∙◌, arith}
+use Rattle.std.proofs.Common.{◌≡◌, ℕ, ◌+◌, ◌%◌, ◌^◌, true, false, not, cond, List, [], ◌∷◌, ◌++◌, Some, None, length, length-append, refl, sym, ap, subst, ◌∙◌, arith}
 use Rattle.std.specs.Prelude.{T}
 use Rattle.std.specs.List.{sum_by}
 use Rattle.std.specs.Ordering.{is_lt}
 use Rattle.std.specs.FinMap.{is_sorted}
 use Rattle.std.specs.FinMap.Entries.{below_all}
-use Rattle.std.specs.declared.cmp.Ordering.{Ordering}
 use Rattle.std.specs.declared.cmp.Ordering.TheVariants.{Less}
 use Rattle.std.proofs.lemmas.List.Sums.{sum_by-append, sum_by-cons}
 use Rattle.df_value.specs.CellOrder.{cell_cmp, cell_cmp_total}
 use Rattle.df_value.specs.declared.cell.Cell.{Cell}
 use Rattle.df_column.specs.Changes.{all_from, all_under}
 use Rattle.df_column.proofs.Bools.{T-both, T-first, T-second, false_from_T, is_lt_from_less, less_from_is_lt, not_less, true_from_T}
-use Rattle.df_counts.specs.Counts.{first_value, last_value}
+use Rattle.df_counts.specs.Counts.{last_value}
 use Rattle.df_counts.specs.Totals.{AreTotals, AreTotalsBelow}
 use Rattle.df_counts.specs.declared.totals.Totals.{Totals}
 use Rattle.df_counts.proofs.Lookups.{sorted_here, under_here, under_more}

@@ -1,5 +1,5 @@
 -- Numbers of values and of the rows that have them, modulo 2^64.
-use Rattle.std.specs.Prelude.{◌≡◌, ℕ, ◌+◌, ◌%◌, ◌^◌, List, length, if◌then◌else◌}
+use Rattle.std.specs.Prelude.{◌≡◌, ℕ, ◌%◌, ◌^◌, List, length, if◌then◌else◌}
 use Rattle.std.specs.List.{sum_by}
 use Rattle.std.specs.Ordering.{is_lt}
 use Rattle.df_value.specs.CellOrder.{cell_cmp}

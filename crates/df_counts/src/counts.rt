@@ -73,12 +73,7 @@ impl Counts {
     }
 
     /// The counts with this one for the value. For 0 the value goes.
-    pub fn with_count(
-        &self,
-        alloc: Global,
-        value: &Cell,
-        count: u64,
-    ) -> Result<Counts, AllocError>
+    pub fn with_count(&self, alloc: Global, value: &Cell, count: u64) -> Result<Counts, AllocError>
         ensures { IfOk result (λ t. t ≡ edit cell_cmp self.now value.now (some_count count)) }
     {
         if count == 0 {
@@ -137,11 +132,7 @@ impl Counts {
     }
 
     /// The counts after these rises, modulo 2^64. A value whose count becomes 0 goes.
-    pub fn raised(
-        &self,
-        alloc: Global,
-        rises: &BTreeMap<Cell, u64>,
-    ) -> Result<Counts, AllocError>
+    pub fn raised(&self, alloc: Global, rises: &BTreeMap<Cell, u64>) -> Result<Counts, AllocError>
         ensures sorted { IfOk result (λ _. T (is_sorted cell_cmp self.now)) }
         ensures rising { IfOk result (λ _. T (is_sorted cell_cmp rises.now.entries)) }
         ensures counts { IfOk result (λ t. t ≡ after_changes cell_cmp self.now

@@ -126,7 +126,13 @@ fn lean_left(
         Subtree::Fork(middle) if right.right.height() < right.left.height() => {
             let middle: &Node = middle;
             let below = fork(alloc, left, value, count, &middle.left)?;
-            let above = fork(alloc, &middle.right, &right.value, right.count, &right.right)?;
+            let above = fork(
+                alloc,
+                &middle.right,
+                &right.value,
+                right.count,
+                &right.right,
+            )?;
             fork(alloc, &below, &middle.value, middle.count, &above)
         }
         inner => {

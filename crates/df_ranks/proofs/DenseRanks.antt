@@ -22,7 +22,7 @@ use Rattle.df_counts.specs.Counts.{AreCounts, some_count, value_count}
 use Rattle.df_counts.proofs.Orders.{cell_same, ties_where_equal}
 use Rattle.df_delta.specs.Collected.{collected_list}
 use Rattle.df_delta.proofs.Collected.{find-collected, is_sorted-collected}
-use Rattle.df_ranks.specs.Counts.{counted_rank, weight_below}
+use Rattle.df_ranks.specs.Counts.{weight_below}
 use Rattle.df_ranks.proofs.RowSums.{total}
 use Rattle.df_ranks.proofs.WeightSums.{weight_at, weights_total}
 

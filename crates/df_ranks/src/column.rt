@@ -70,12 +70,7 @@ impl RankColumn {
     }
 
     /// The row with its rank by these counts.
-    pub fn ranked_row(
-        &self,
-        alloc: Global,
-        counts: &Counts,
-        row: &Row,
-    ) -> Result<Row, AllocError>
+    pub fn ranked_row(&self, alloc: Global, counts: &Counts, row: &Row) -> Result<Row, AllocError>
         ensures { IfOk result (λ r. r ≡ row_wise.with_column_row self.now.schema self.now.name row.now
             (counted_rank self.now.kind counts.now (cell_at self.now.index row.now))) }
     {

@@ -82,12 +82,7 @@ impl LiveRank {
     }
 
     /// The new row at the tag, if there is one, with its rank.
-    fn new_row(
-        &self,
-        input: &Table,
-        counts: &Counts,
-        tag: Tag,
-    ) -> Result<Option<Row>, AllocError>
+    fn new_row(&self, input: &Table, counts: &Counts, tag: Tag) -> Result<Option<Row>, AllocError>
         ensures { IfOk result (λ r. r ≡ finite.get (with_ranks self.now.column.schema
             self.now.column.name self.now.column.index
             (counted_rank self.now.column.kind counts.now) input.now.rows) tag) }
@@ -99,12 +94,7 @@ impl LiveRank {
     }
 
     /// The changes of the output at these tags, where this is the input afterwards, with these counts.
-    fn changes(
-        &self,
-        input: &Table,
-        counts: &Counts,
-        tags: &[Tag],
-    ) -> Result<Delta, AllocError>
+    fn changes(&self, input: &Table, counts: &Counts, tags: &[Tag]) -> Result<Delta, AllocError>
         requires { T (are_rising tags.now) }
         ensures { IfOk result (λ d. d ≡ finite.from_sorted (changes_at self.now.output.rows
             (with_ranks self.now.column.schema self.now.column.name self.now.column.index

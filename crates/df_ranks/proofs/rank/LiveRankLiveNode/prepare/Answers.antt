@@ -1,8 +1,6 @@
-use Rattle.std.proofs.Common.{◌≤◌, ◌^◌, ◌∙◌, ap, map, refl, subst, sym}
+use Rattle.std.proofs.Common.{◌≤◌, ◌^◌, ◌∙◌, ap, subst, sym}
 use Rattle.std.specs.FinMap as finite
-use Rattle.df_value.specs.CellOrder.{cell_cmp}
-use Rattle.df_column.specs.Changes.{after_changes, applied}
-use Rattle.df_counts.specs.Counts.{AreCounts, count_change}
+use Rattle.df_column.specs.Changes.{applied}
 use Rattle.df_delta.specs.Deltas.{RowsFit}
 use Rattle.df_ranks.specs.Rises.{AreRises}
 use Rattle.df_ranks.proofs.RankDeltas.{prepared}
