@@ -8,6 +8,7 @@ use Rattle.df_value.specs.Rows.{row_eq}
 use Rattle.df_value.specs.RowEq.{row_eq-equivalence}
 use Rattle.df_catalogue.specs.Reads.{view_named, view_names_of, view_rows_of}
 use Rattle.df_catalogue.specs.States.{IsLegal, value_over}
+use Rattle.df_catalogue.specs.declared.fault.CatalogueFault.{CatalogueFault}
 use Rattle.df_catalogue.specs.declared.fault.CatalogueFault.TheVariants as fault
 use Rattle.df_catalogue.specs.declared.state.FrameState.{FrameState}
 use Rattle.df_catalogue.specs.declared.state.State.{State}
@@ -33,11 +34,11 @@ none_differs s h = ap (option_map (λ v. v.name)) (none_of s.frames s.views h.ta
 found_named : (views : List ViewState) (k : ℕ) (d : List ℕ) → k < length views → IsOk (ok_or (option_map (λ v. v.table) (view_named (get_or (map (λ v. v.name) views) k d) views)) fault.NoView)
 found_named [] k d lt = absurd (omega (arith, lt))
 found_named (v ∷ vs) zero d lt =
-    subst (λ b. IsOk (ok_or (option_map (λ (w : ViewState). w.table) (cond b (Some v) (view_named v.name vs))) fault.NoView)) (sym (nat_list_eq_equiv.refl v.name)) tt
+    subst (λ b. IsOk (ok_or (option_map (λ (w : ViewState). w.table) (cond b (Some v) (view_named v.name vs))) fault.NoView)) (sym (nat_list_eq_equiv.refl v.name)) refl
 found_named (v ∷ vs) (suc k) d lt =
     let name = get_or (map (λ (w : ViewState). w.name) vs) k d in
     elim (bytes_eq v.name name) as (λ b. IsOk (ok_or (option_map (λ (w : ViewState). w.table) (cond b (Some v) (view_named name vs))) fault.NoView)) [
-      | true ↦ tt
+      | true ↦ refl
       | false ↦ found_named vs k d (omega (arith, lt))
     ]
 
@@ -46,3 +47,9 @@ pub rows_there : (s : State) (names : List (List ℕ)) (k : ℕ) (d : List ℕ) 
 rows_there s names k d is lt =
     subst (λ (ns : List (List ℕ)). IsOk (view_rows_of s (get_or ns k d))) (sym is)
     (found_named s.views k d (omega (arith, lt, ap length is, length-map s.views (λ (v : ViewState). v.name))))
+
+-- two answers of what is wanted are the same rows
+pub same_rows : (rows computed : List (List Cell)) (want : Result (List (List Cell)) CatalogueFault) → want ≡ Ok rows → want ≡ Ok computed → pointwise row_eq rows computed ≡ true
+same_rows rows computed want a b =
+    let e : rows ≡ computed = cc in
+    subst (λ cs. pointwise row_eq rows cs ≡ true) e (rows_same rows)

@@ -32,7 +32,7 @@ abbrev pub opening_changes : Definitions → List (List Piece) → List Change
 opening_changes d pieces =
     flat_map frame_appends (enumerate_from 0 pieces) ++ map registration (zip d.document.views d.plans)
 
--- a catalogue of empty frames with the document's schemas, whose views counted nothing yet
+-- a catalogue of empty frames with the document's schemas, without views, of which nothing was counted yet
 abbrev pub empty_catalogue : Definitions → CatalogueParts
 empty_catalogue d = record { state = opening_of (map (λ (f : FrameSpec). f.schema) d.document.frames); work = no_work }
 

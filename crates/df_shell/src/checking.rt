@@ -32,6 +32,7 @@ pub fn check<Acc: Ledger, Del: Ledger>(
 }
 
 // The name of the first view that differs.
+#[tactic(auto, using(crate::proofs::CheckFacts::none_differs))]
 fn first_differing<'a, Acc: Ledger, Del: Ledger>(
     alloc: Global,
     catalogue: &Catalogue<Acc, Del>,
@@ -61,8 +62,9 @@ fn is_same<Acc: Ledger, Del: Ledger>(
     ensures same { IfOk result (λ same. same ≡ true) }
     ensures refused { IfErr result IsMemory }
 {
-    let rows = catalogue.view_rows(alloc, name.as_str())?;
-    let computed = catalogue.computed_rows(alloc, name.as_str())?;
+    let name = name.as_str();
+    let rows = catalogue.view_rows(alloc, name)?;
+    let computed = catalogue.computed_rows(alloc, name)?;
     Ok(rows == computed)
 }
 

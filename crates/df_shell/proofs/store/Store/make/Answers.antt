@@ -1,9 +1,10 @@
-use Rattle.std.proofs.Common.{◌≡◌, arith, subst, sym}
+use Rattle.std.proofs.Common.{◌≡◌, arith, length, subst, sym}
 use Rattle.std.specs.Prelude.{Result, Ok, Err, OnErr, OnOk, IfErr}
 use Rattle.std.proofs.lemmas.List.{with_items_is}
 use Rattle.df_catalogue.specs.declared.change.Change.{Change}
 use Rattle.df_catalogue.specs.declared.fault.CatalogueFault.{CatalogueFault}
 use Rattle.df_catalogue.specs.declared.state.CatalogueParts.{CatalogueParts}
+use Rattle.df_catalogue.specs.declared.state.State.{State}
 use Rattle.df_catalogue.specs.Desks.{AreInOrder}
 use Rattle.df_catalogue.specs.Transitions.{IsTransition}
 use Rattle.df_catalogue.specs.Work.{IsWorkOf}
@@ -15,14 +16,16 @@ apply-requires g c = subst (λ ds. AreInOrder ds c.args.self.now.catalogue.state
 
 pub invariant_of-self : goal.invariant_of-self
 invariant_of-self g c =
-    let long : c.apply.new.desks ≡ c.apply.new.desks = refl in
-    record { in_order = c.apply.ensures.in_order }
+    let long : length c.apply.new.desks ≡ c.args.self.now.desks.len = omega (arith, c.apply.auto.desks, c.as_mut_slice-desks.ensures.len) in
+    record {
+      in_order = subst (λ ds. AreInOrder ds c.apply.new.self.state) (sym (with_items_is c.args.self.now.desks c.apply.new.desks long)) c.apply.ensures.in_order;
+    }
 
 is-made : (old new : CatalogueParts) (c : Change) (r : Result (Unit {0}) CatalogueFault) → IsTransition old.state c r new.state → IsWorkOf old c r new → OnOk r (IsMade old new c)
 is-made old new c (Ok x) h g = (h.accepted, h.after, g.counted)
 is-made old new c (Err f) h g = tt
 
-is-refused : (old new : CatalogueParts) (c : Change) (r : Result (Unit {0}) CatalogueFault) → IsTransition old.state c r new.state → IfErr r (IsRefusal old.state c)
+is-refused : (old new : State) (c : Change) (r : Result (Unit {0}) CatalogueFault) → IsTransition old c r new → IfErr r (IsRefusal old c)
 is-refused old new c (Ok x) h = tt
 is-refused old new c (Err f) h = h.refused.exact
 
