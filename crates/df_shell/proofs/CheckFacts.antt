@@ -1,6 +1,6 @@
 -- No view of a legal state differs, and each name of a view finds one.
-use Rattle.std.proofs.Common.{◌≡◌, ◌∙◌, ◌<◌, ℕ, zero, suc, Bool, true, false, List, [], ◌∷◌, cond, get_or, length, map, refl, ap, sym, subst, arith}
-use Rattle.std.specs.Prelude.{IsOk, Option, Some, None, Result, Ok, Err, bytes_eq, find, not, ok_or, option_map}
+use Rattle.std.proofs.Common.{◌≡◌, ◌∙◌, ◌<◌, ℕ, zero, suc, true, false, List, [], ◌∷◌, cond, get_or, length, map, refl, ap, sym, subst, arith}
+use Rattle.std.specs.Prelude.{IsOk, Some, None, Result, Ok, bytes_eq, find, not, ok_or, option_map}
 use Rattle.std.proofs.lemmas.List.{length-map}
 use Rattle.std.specs.Cmp.Lexicographic.{lists_equiv, nat_list_eq_equiv, pointwise}
 use Rattle.df_value.specs.declared.cell.Cell.{Cell}
