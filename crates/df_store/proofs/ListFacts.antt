@@ -60,3 +60,18 @@ same-items (x ∷ xs) (y ∷ ys) h =
     let head : x ≡ y = ap (λ o. unwrap_or o x) (h 0) in
     let tail = same-items xs ys (λ k. h (suc k)) in
     ap (λ z. z ∷ xs) head ∙ ap (λ zs. y ∷ zs) tail
+
+pub take-all : {X : Type 0} (xs : List X) (n : ℕ) → length xs ≤ n → take n xs ≡ xs
+take-all [] zero h = refl
+take-all [] (suc n) h = refl
+take-all (x ∷ xs) zero h = absurd (omega (arith, h))
+take-all (x ∷ xs) (suc n) h = ap (λ ys. x ∷ ys) (take-all xs n (omega (arith, h)))
+
+pub same-default : {X : Type 0} (xs : List X) (i : ℕ) (d e : X) → i < length xs → get_or xs i d ≡ get_or xs i e
+same-default [] i d e h = absurd (omega (arith, h))
+same-default (x ∷ xs) zero d e h = refl
+same-default (x ∷ xs) (suc i) d e h = same-default xs i d e (omega (arith, h))
+
+-- the item that a look-up finds is the one read there
+pub read-at : {X : Type 0} (xs : List X) (i : ℕ) (x d : X) → slice_get xs i ≡ Some x → get_or xs i d ≡ x
+read-at xs i x d h = let r = found xs i x h in same-default xs i d x r.0 ∙ r.1

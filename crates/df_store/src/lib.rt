@@ -1,15 +1,23 @@
-//! A catalogue that threads share.
+//! A catalogue that threads share, and the loaders that fill it.
 //!
 //! A [`Hall`] is a lock round a catalogue. Whoever has a desk of a frame changes the frame through the
 //! hall; [`Hall::close`] gives the catalogue back once the desks account for every row.
 #![tactic(auto)]
 
 mod closing;
+mod comparing;
 mod fault;
+mod gate;
 mod hall;
+mod jobs;
+mod outcomes;
+mod refused;
 mod totals;
+mod worker;
 
 pub use closing::missing_frame;
 pub use fault::HallFault;
+pub use gate::{Gate, OpenGate};
 pub use hall::{Hall, Missing};
+pub use refused::Refused;
 pub use totals::Totals;
