@@ -1,9 +1,10 @@
 -- Where the jobs of a source stand among those of all frames.
-use Rattle.std.proofs.Common.{◌≡◌, ℕ, zero, suc, ◌+◌, ◌-◌, ◌<◌, ◌≤◌, ◌∙◌, List, [], ◌∷◌, ◌++◌, map, length, refl, ap, arith}
+use Rattle.std.proofs.Common.{◌≡◌, ℕ, zero, suc, ◌+◌, ◌-◌, ◌<◌, ◌≤◌, ◌∙◌, List, [], ◌∷◌, ◌++◌, map, length, length-append, refl, ap, arith, sum_by}
 use Rattle.std.specs.Prelude.{Option, Some, None, option_map, slice_get}
 use Rattle.df_value.specs.declared.chunk.Piece.{Piece}
 use Rattle.df_store.proofs.ListFacts.{length-mapped, map-at}
-use Rattle.df_store.specs.Jobs.{numbered, jobs_from}
+use Rattle.std.proofs.lemmas.List.Sums.{sum_by-cons}
+use Rattle.df_store.specs.Jobs.{chunks_of, jobs_from, jobs_of, numbered}
 
 pub length-numbered : (start : ℕ → ℕ) (n : ℕ) (ms : List Piece) → length (numbered start n ms) ≡ length ms
 length-numbered start n [] = refl
@@ -54,3 +55,26 @@ job-later frame start ms rest k h =
     let same : length there ≡ length ms = omega (arith, length-numbered start 0 ms, length-mapped {Y = ℕ × (ℕ × Piece)} (λ x. (frame, x)) (numbered start 0 ms)) in
     append-above there (jobs_from (frame + 1) rest) k (omega (arith, h, same))
     ∙ ap (λ n. slice_get (jobs_from (frame + 1) rest) (k - n)) same
+
+jobs-from-sum : (frame : ℕ) (cs : List (List (ℕ × Piece))) → length (jobs_from frame cs) ≡ sum_by length cs
+jobs-from-sum frame [] = refl
+jobs-from-sum frame (c ∷ cs) =
+    let mine : List (ℕ × (ℕ × Piece)) = map (λ x. (frame, x)) c in
+    let here = length-append mine (jobs_from (frame + 1) cs) in
+    let same = length-mapped {Y = ℕ × (ℕ × Piece)} (λ x. (frame, x)) c in
+    let rest = jobs-from-sum (frame + 1) cs in
+    let both = sum_by-cons length c cs in
+    omega (arith, here, same, rest, both)
+
+chunks-sum : {S : Type 0} (made : S → List Piece) (start : S → ℕ → ℕ) (ss : List S) → sum_by length (chunks_of made start ss) ≡ sum_by (λ s. length (made s)) ss
+chunks-sum made start [] = refl
+chunks-sum made start (s ∷ ss) =
+    let here = length-numbered (start s) 0 (made s) in
+    let rest = chunks-sum made start ss in
+    let one = sum_by-cons length (numbered (start s) 0 (made s)) (chunks_of made start ss) in
+    let both = sum_by-cons (λ s. length (made s)) s ss in
+    omega (arith, here, rest, one, both)
+
+-- as many jobs as the sources have chunks
+pub jobs-of-chunks : {S : Type 0} (made : S → List Piece) (start : S → ℕ → ℕ) (ss : List S) → length (jobs_of (chunks_of made start ss)) ≡ sum_by (λ s. length (made s)) ss
+jobs-of-chunks made start ss = jobs-from-sum 0 (chunks_of made start ss) ∙ chunks-sum made start ss

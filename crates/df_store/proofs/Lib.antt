@@ -5,3 +5,4 @@ pub mod WorkerFacts
 pub mod OutcomeFacts
 pub mod RowFacts
 pub mod LostFacts
+pub mod CrewFacts

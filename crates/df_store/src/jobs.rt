@@ -1,5 +1,5 @@
 //! Jobs: each chunk of each source, numbered by frame and then by chunk.
-ghost use Rattle.std.specs.Prelude.{◌≡◌, ◌<◌, None, Some, IfOk, IfSome, MatchOption, length, slice_get};
+ghost use Rattle.std.specs.Prelude.{◌≡◌, ◌<◌, ◌^◌, None, Some, IfOk, IfSome, MatchOption, length, slice_get};
 ghost use Rattle.df_store.specs.Jobs.{IsOutcome, IsPlace, chunks_of, jobs_of};
 
 use df_value::{Piece, Source};
@@ -77,4 +77,16 @@ fn make_at<S: Source>(
         first,
         made,
     })
+}
+
+/// How many jobs there are.
+pub(crate) fn job_count<S: Source>(sources: &[S]) -> u64
+    requires { length (jobs_of (chunks_of S.made S.start_of sources.now)) < 2 ^ 64 }
+    ensures { result ≡ length (jobs_of (chunks_of S.made S.start_of sources.now)) }
+{
+    let mut count = 0;
+    for source in sources {
+        count += source.chunks();
+    }
+    count
 }

@@ -6,6 +6,7 @@
 
 mod closing;
 mod comparing;
+mod crew;
 mod fault;
 mod gate;
 mod hall;

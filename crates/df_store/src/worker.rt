@@ -2,7 +2,7 @@
 ghost use Rattle.std.specs.Prelude.{◌≡◌, ◌≤◌, ◌<◌, All, IfOk, OnOk, length, map};
 ghost use Rattle.std.specs.List.{range_with_len};
 ghost use Rattle.df_store.specs.Jobs.{AreOutcomes, chunks_of};
-ghost use Rattle.df_store.specs.Workers.{IsWorker};
+ghost use Rattle.df_store.specs.Workers.{IsIdle, IsWorker};
 
 use crate::fault::HallFault;
 use crate::gate::Gate;
@@ -88,7 +88,7 @@ impl<Acc: Ledger, Del: Ledger> Worker<Acc, Del> {
         }
     }
 
-    // Adds what it has done to the others' outcomes. Its desks stay.
+    // Adds what it has done to the others' outcomes, unless it was stopped. Its desks stay.
     fn give_outcomes<S: Source>(
         &mut self,
         sources: &[S],
@@ -100,8 +100,35 @@ impl<Acc: Ledger, Del: Ledger> Worker<Acc, Del> {
         ensures outcomes { OnOk result (AreOutcomes (chunks_of S.made S.start_of sources.now) all.new.items) }
     {
         let _ = sources;
+        if self.stopped {
+            return Err(AllocError);
+        }
         all.append(&mut self.done)?;
         Ok(())
+    }
+
+    /// A worker without desks, with room for so many.
+    pub(crate) fn idle(alloc: Global, desks: usize) -> Result<Worker<Acc, Del>, AllocError>
+        ensures { IfOk result (λ w. IsIdle desks w) }
+    {
+        Ok(Worker {
+            desks: Vec::with_capacity(alloc, desks)?,
+            done: Vec::new(alloc),
+            stopped: false,
+        })
+    }
+
+    /// Its desks.
+    pub(crate) fn into_desks(self) -> Vec<Desk<Acc, Del>>
+        ensures { result ≡ self.desks }
+    {
+        let Worker {
+            desks,
+            done,
+            stopped: _,
+        } = self;
+        drop(done);
+        desks
     }
 
     // Passes the gate, makes the job's chunk, commits it if it is good, and keeps it. A good chunk that the
@@ -174,7 +201,7 @@ pub(crate) fn run_workers<
     );
 }
 
-/// All that the workers have done. Their desks stay with them.
+/// All that the workers have done, if none of them was refused memory. Their desks stay with them.
 pub(crate) fn take_outcomes<Acc: Ledger, Del: Ledger, S: Source>(
     alloc: Global,
     sources: &[S],
