@@ -1,8 +1,7 @@
 pub mod ListFacts
 pub mod TotalsFacts
 pub mod JobFacts
-pub mod WorkerFacts
 pub mod OutcomeFacts
 pub mod RowFacts
 pub mod LostFacts
-pub mod CrewFacts
+pub mod ViewFacts

@@ -1,6 +1,7 @@
 -- Lists by their places.
 use Rattle.std.proofs.Common.{◌≡◌, ℕ, zero, suc, ◌+◌, ◌<◌, ◌≤◌, ◌∙◌, List, [], ◌∷◌, ◌++◌, map, length, take, drop, get_or, refl, ap, sym, arith}
-use Rattle.std.specs.Prelude.{Option, Some, None, option_map, slice_get, unwrap_or}
+use Rattle.std.specs.Prelude.{Option, Some, None, option_map, slice_get, unwrap_or, ◌⊎◌}
+use mathlib.Core.Logic.{inl, inr}
 
 pub map-at : {X Y : Type 0} (f : X → Y) (xs : List X) (k : ℕ) → slice_get (map f xs) k ≡ option_map f (slice_get xs k)
 map-at f [] k = refl
@@ -75,3 +76,19 @@ same-default (x ∷ xs) (suc i) d e h = same-default xs i d e (omega (arith, h))
 -- the item that a look-up finds is the one read there
 pub read-at : {X : Type 0} (xs : List X) (i : ℕ) (x d : X) → slice_get xs i ≡ Some x → get_or xs i d ≡ x
 read-at xs i x d h = let r = found xs i x h in same-default xs i d x r.0 ∙ r.1
+
+-- what is read at a place is what a look-up finds there
+pub looked-up : {X : Type 0} (xs : List X) (i : ℕ) (x : X) → i < length xs → x ≡ get_or xs i x → slice_get xs i ≡ Some x
+looked-up [] i x h e = absurd (omega (arith, h))
+looked-up (y ∷ ys) zero x h e = ap Some (sym e)
+looked-up (y ∷ ys) (suc i) x h e = looked-up ys i x (omega (arith, h)) e
+
+-- a place is the last one before the next or an earlier one
+pub last-or-before : (k at : ℕ) → k < at + 1 → (k ≡ at) ⊎ (k < at)
+last-or-before zero zero h = inl refl
+last-or-before (suc k) zero h = absurd (omega (arith, h))
+last-or-before zero (suc at) h = inr (omega arith)
+last-or-before (suc k) (suc at) h = elim (last-or-before k at (omega (arith, h))) [
+  | inl e ↦ inl (omega (arith, e))
+  | inr l ↦ inr (omega (arith, l))
+]

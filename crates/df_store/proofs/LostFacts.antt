@@ -128,10 +128,13 @@ lost-at os jobs at lost o order within h is before other less more = elim (below
   where
     rise : Rise os at
     rise = rises os at before
+
     job : (d : Outcome) → (get_or os at d).job ≡ o.job
     job d = let e = same-default os at d o h in ap (λ x. x.job) e ∙ sym (ap (λ x. x.job) is)
+
     later : (i : ℕ) (d : Outcome) → at ≤ i → i < length os → o.job ≤ (get_or os i d).job
     later i d high m = let a = order at i d high m in let b = job d in omega (arith, a, b)
+
     doubled : o.job < at → IsLost jobs os lost
     doubled low =
         let prior : at - 1 < length os = omega (arith, low, h) in
@@ -150,6 +153,7 @@ lost-at os jobs at lost o order within h is before other less more = elim (below
           before = λ k l. one-before os at k rise (omega (arith, l, e, low)) (omega (arith, l, e, low, h))
               (λ i d high m. let a = later i d high m in omega (arith, a, l, e));
         }
+
     left-out : at ≤ o.job → IsLost jobs os lost
     left-out high =
         let e = more high in

@@ -4,7 +4,7 @@ use Rattle.std.specs.Prelude.{All, Option, Some, None, option_map, slice_get, un
 use Rattle.std.specs.List.{range_with_len}
 use Rattle.std.specs.List.Sorted.{IsPermutation}
 use Rattle.std.proofs.lemmas.List.FromFn.{length-range_with_len}
-use Rattle.std.proofs.lemmas.List.Sorted.{All-permutation}
+use Rattle.std.proofs.lemmas.List.Sorted.{All-permutation, IsPermutation-refl}
 use Rattle.df_value.specs.declared.chunk.Piece.{Piece}
 use Rattle.df_store.specs.declared.jobs.Outcome.{Outcome}
 use Rattle.df_store.specs.Jobs.{AreOutcomes, IsOutcome, job_of, jobs_of}
@@ -45,3 +45,17 @@ pub by-job :
 by-job chunks before os n perm all e many =
     let moved = All-permutation (λ (x : Outcome). IsOutcome chunks x) before os perm all in
     same-items (map job_of os) (jobs_of chunks) (λ k. agree os (jobs_of chunks) n k (slice_get os k) moved e many refl)
+
+-- each outcome is of one of so many jobs
+pub jobs-below :
+    (chunks : List (List (ℕ × Piece))) (os : List Outcome) (n : ℕ) → AreOutcomes chunks os → n ≡ length (jobs_of chunks) → All (λ x. x.job < n) os
+jobs-below chunks os n all many k d h =
+    let f = found (jobs_of chunks) (get_or os k d).job (job_of (get_or os k d)) (all k d h) in
+    let low = f.0 in
+    omega (arith, low, many)
+
+-- where outcomes are by job, they are the jobs
+pub in-order :
+    (chunks : List (List (ℕ × Piece))) (os : List Outcome) (n : ℕ) → AreOutcomes chunks os → map (λ x. x.job) os ≡ range_with_len 0 n →
+    n ≡ length (jobs_of chunks) → map job_of os ≡ jobs_of chunks
+in-order chunks os n all e many = by-job chunks os os n (IsPermutation-refl os) all e many

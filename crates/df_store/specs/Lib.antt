@@ -6,3 +6,5 @@ pub mod Workers
 pub mod Loaded
 pub mod Refused
 pub mod Lost
+pub mod Loads
+pub mod Faults

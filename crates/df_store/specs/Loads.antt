@@ -38,3 +38,12 @@ IsCauseOf chunks views left (MissingDesk frame) = IfSome left (λ s. ⊥)
 IsCauseOf chunks views left (Lost job) = IfSome left (λ s. IsDifference chunks views s (Lost job))
 IsCauseOf chunks views left (Unlike frame) = IfSome left (λ s. IsDifference chunks views s (Unlike frame))
 IsCauseOf chunks views left ViewsUnlike = IfSome left (λ s. IsDifference chunks views s ViewsUnlike)
+
+-- a load of which the hall could not be closed is refused for this
+abbrev pub IsCauseUnsettled : LoadCause → Type 0
+IsCauseUnsettled (Refused f) = ⊥
+IsCauseUnsettled Memory = ⊤
+IsCauseUnsettled (MissingDesk frame) = ⊤
+IsCauseUnsettled (Lost job) = ⊥
+IsCauseUnsettled (Unlike frame) = ⊥
+IsCauseUnsettled ViewsUnlike = ⊥

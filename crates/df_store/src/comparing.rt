@@ -17,7 +17,8 @@ pub(crate) fn first_unlike<Acc: Ledger, Del: Ledger>(
     catalogue: &Catalogue<Acc, Del>,
     outcomes: Vec<Outcome>,
 ) -> Option<usize>
-    ensures { IfNone result (AreLoaded (map job_of outcomes.items) catalogue.now.state) }
+    ensures loaded { IfNone result (AreLoaded (map job_of outcomes.items) catalogue.now.state) }
+    ensures within { IfSome result (λ frame. frame < length catalogue.now.state.frames) }
 {
     let mut outcomes = outcomes;
     outcomes.sort_unstable_by_key(|outcome| outcome.first);

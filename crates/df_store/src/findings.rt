@@ -8,7 +8,7 @@ ghost use Rattle.df_store.specs.Refused.{refusal};
 use crate::comparing::first_unlike;
 use crate::fault::LoadCause;
 use crate::jobs::Outcome;
-use crate::outcomes::{by_job, first_lost};
+use crate::outcomes::{first_lost, in_order};
 use crate::refused::{Refused, refused_in};
 use crate::views::are_views;
 use df_catalogue::Catalogue;
@@ -40,8 +40,7 @@ pub(crate) fn compare<Acc: Ledger, Del: Ledger, S: Source>(
         catalogue.now.state
         cause) }
 {
-    let _ = sources;
-    let outcomes = by_job(outcomes);
+    let outcomes = in_order(sources, outcomes);
     let refused = refused_in(alloc, outcomes.as_slice())?;
     let names = catalogue.view_names(alloc)?;
     if let Some(job) = first_lost(outcomes.as_slice(), jobs) {

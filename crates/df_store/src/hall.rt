@@ -4,6 +4,7 @@ ghost use Rattle.df_catalogue.specs.Desks as desks_spec;
 ghost use Rattle.df_catalogue.specs.Ledgers as ledgers;
 ghost use Rattle.df_catalogue.specs.New as new_spec;
 ghost use Rattle.df_store.specs.Closing as closing;
+ghost use Rattle.df_store.specs.Faults.{IsHallFault};
 ghost use Rattle.df_store.specs.Halls.{having_accepted, having_deleted};
 ghost use Rattle.df_store.specs.Rooms.{HasRoomFor, Holds};
 ghost use Rattle.df_value.specs.Limits as limits;
@@ -94,6 +95,7 @@ impl<Acc: Ledger, Del: Ledger> Hall<Acc, Del> {
         ensures share { OnOk result
             (desk.new ≡ having_accepted (length chunk.now.rows) desk.old) }
         ensures same_share { OnErr result (desk.new ≡ desk.old) }
+        ensures fault { IfErr result (λ fault. IsHallFault fault) }
     {
         let mut catalogue = self.catalogue.lock(rt);
         let answer = catalogue.append(alloc, desk, chunk);
@@ -113,6 +115,7 @@ impl<Acc: Ledger, Del: Ledger> Hall<Acc, Del> {
         ensures share { OnOk result
             (desk.new ≡ having_deleted (length numbers.now) desk.old) }
         ensures same_share { OnErr result (desk.new ≡ desk.old) }
+        ensures fault { IfErr result (λ fault. IsHallFault fault) }
     {
         let mut catalogue = self.catalogue.lock(rt);
         let answer = catalogue.delete(alloc, desk, numbers);
@@ -130,6 +133,7 @@ impl<Acc: Ledger, Del: Ledger> Hall<Acc, Del> {
         rows: &[(u32, Row)],
     ) -> Result<(), HallFault>
         ensures same_share { desk.new ≡ desk.old }
+        ensures fault { IfErr result (λ fault. IsHallFault fault) }
     {
         let mut catalogue = self.catalogue.lock(rt);
         let answer = catalogue.replace(alloc, desk, rows);
@@ -144,7 +148,9 @@ impl<Acc: Ledger, Del: Ledger> Hall<Acc, Del> {
         alloc: Global,
         name: Text,
         plan: CheckedPlan,
-    ) -> Result<(), HallFault> {
+    ) -> Result<(), HallFault>
+        ensures { IfErr result (λ fault. IsHallFault fault) }
+    {
         let mut catalogue = self.catalogue.lock(rt);
         let answer = catalogue.register(alloc, name, plan);
         MutexGuard::unlock(catalogue);
@@ -152,7 +158,9 @@ impl<Acc: Ledger, Del: Ledger> Hall<Acc, Del> {
     }
 
     /// Takes the view of this name out. It takes no memory.
-    pub fn drop_view<R: Wait>(&self, rt: &R, name: &str) -> Result<(), HallFault> {
+    pub fn drop_view<R: Wait>(&self, rt: &R, name: &str) -> Result<(), HallFault>
+        ensures { IfErr result (λ fault. IsHallFault fault) }
+    {
         let mut catalogue = self.catalogue.lock(rt);
         let answer = catalogue.drop_view(name);
         MutexGuard::unlock(catalogue);

@@ -6,19 +6,23 @@
 
 mod closing;
 mod comparing;
-mod crew;
+mod entering;
 mod fault;
+mod findings;
 mod gate;
 mod hall;
 mod jobs;
+mod load;
 mod outcomes;
 mod refused;
 mod totals;
+mod views;
 mod worker;
 
 pub use closing::missing_frame;
-pub use fault::HallFault;
+pub use fault::{HallFault, LoadCause};
 pub use gate::{Gate, OpenGate};
 pub use hall::{Hall, Missing};
+pub use load::{LoadFault, Loaded, load_all};
 pub use refused::Refused;
 pub use totals::Totals;

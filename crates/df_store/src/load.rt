@@ -1,30 +1,29 @@
 //! Loading: workers bring the chunks of sources into a hall, and what they left is compared with the
 //! sources once.
-ghost use Rattle.std.specs.Prelude.{◌≡◌, ◌<◌, ◌≤◌, All, IfErr, IfOk, IfSome, filter_map, length, option_map};
-ghost use Rattle.std.specs.List.{range_with_len};
+ghost use Rattle.std.specs.Prelude.{◌≡◌, ◌≤◌, Err, IfErr, IfNone, IfOk, IfSome, Ok, filter_map, length, option_map};
 ghost use Rattle.df_catalogue.specs.States.{IsLegal};
 ghost use Rattle.df_store.specs.Closing as closing;
-ghost use Rattle.df_store.specs.Jobs.{chunks_of, jobs_of};
+ghost use Rattle.df_store.specs.Faults.{IsCauseOfRegister};
+ghost use Rattle.df_store.specs.Jobs.{AreOutcomes, chunks_of, jobs_of};
 ghost use Rattle.df_store.specs.Loaded.{AreLoaded};
 ghost use Rattle.df_store.specs.Loads as loads;
 ghost use Rattle.df_store.specs.Refused.{refusal};
 ghost use Rattle.df_store.specs.Workers as workers_spec;
-ghost use Rattle.df_store.specs.Workers.{IsWorker};
 
 use crate::closing::{Unsettled, settle};
-use crate::crew::{gather_crew, hire};
+use crate::entering::enter_all;
 use crate::fault::LoadCause;
 use crate::findings::compare;
 use crate::gate::Gate;
 use crate::hall::Hall;
-use crate::jobs::job_count;
 use crate::refused::Refused;
 use crate::totals::Totals;
-use crate::worker::{Work, Worker, run_workers, take_outcomes};
+use crate::jobs::{Outcome, job_count};
+use crate::worker::{Work, make_all};
 use df_catalogue::{Catalogue, Desk};
 use df_plan::CheckedPlan;
 use df_value::{Duplicate, List, Source, Text};
-use std::alloc::Global;
+use std::alloc::{AllocError, Global};
 use std::sync::Wait;
 use std::sync::ledger::Ledger;
 use std::thread::Threads;
@@ -48,16 +47,16 @@ pub struct LoadFault<Acc: Ledger, Del: Ledger> {
     pub left: Option<(Catalogue<Acc, Del>, Totals)>,
 }
 
-/// Registers copies of the views in the hall, has so many workers bring the chunks of the sources into
-/// it, a source for each frame, and closes it. Each worker does the jobs of its turns: it passes the
-/// gate, makes the chunk of the job and commits it. What they left is compared with the sources and the
-/// views once, after the last has ended.
+/// Registers copies of the views in the hall, has so many workers make the chunks of the sources, a
+/// source for each frame, commits the good ones, and closes the hall. Each worker does the jobs of its
+/// turns: it passes the gate and makes the chunk of the job. What came of it is compared with the
+/// sources and the views once, after all.
 ///
 /// The causes of a fault are looked for in the order of [`LoadCause`]. A worker that is refused memory
-/// stops, and the others go on.
+/// stops, and the others go on; then no chunk enters.
 pub fn load_all<
-    Acc: Ledger + Send + Sync,
-    Del: Ledger + Send + Sync,
+    Acc: Ledger,
+    Del: Ledger,
     S: Source + Sync,
     G: Gate + Sync,
     R: Threads + Wait + Sync,
@@ -71,12 +70,8 @@ pub fn load_all<
     workers: usize,
     gate: &G,
 ) -> Result<Loaded<Acc, Del>, LoadFault<Acc, Del>>
-    requires desks { workers_spec.frames_of desks.items ≡ range_with_len 0 (length sources.now) }
-    requires parts { All (λ d. workers_spec.parts_to_share ≤ d.parts) desks.items }
     requires jobs { length (jobs_of (chunks_of S.made S.start_of sources.now))
         ≤ workers_spec.most_jobs }
-    requires some { 0 < workers }
-    requires few { workers ≤ workers_spec.most_workers }
     ensures loaded { IfOk result (λ load.
         AreLoaded (jobs_of (chunks_of S.made S.start_of sources.now)) load.catalogue.state) }
     ensures refused { IfOk result (λ load.
@@ -95,10 +90,6 @@ pub fn load_all<
     if let Err(cause) = register_all(rt, alloc, &hall, views) {
         return Err(given_up(hall, desks, cause));
     }
-    let mut crew = match hire(alloc, desks, workers) {
-        Ok(crew) => crew,
-        Err(desks) => return Err(given_up(hall, desks, LoadCause::Memory)),
-    };
     let work = Work {
         alloc,
         sources,
@@ -106,8 +97,12 @@ pub fn load_all<
         jobs: job_count(sources),
         workers,
     };
-    run_workers(rt, &hall, &work, crew.as_mut_slice());
-    finish(hall, crew, &work, views)
+    let Ok(outcomes) = make_all(rt, &work) else {
+        return Err(given_up(hall, desks, LoadCause::Memory));
+    };
+    let mut desks = desks;
+    let entered = enter_all(rt, alloc, &hall, &mut desks, sources, outcomes);
+    finish(hall, desks, &work, views, entered)
 }
 
 // Registers copies of the views, in their order.
@@ -117,7 +112,7 @@ fn register_all<Acc: Ledger, Del: Ledger, R: Wait>(
     hall: &Hall<Acc, Del>,
     views: &[(Text, CheckedPlan)],
 ) -> Result<(), LoadCause>
-    ensures { IfErr result loads.IsCauseOfRegister }
+    ensures { IfErr result (λ cause. IsCauseOfRegister cause) }
 {
     for (name, plan) in views {
         let name = name.copy(alloc)?;
@@ -142,18 +137,18 @@ fn given_up<Acc: Ledger, Del: Ledger>(
     }
 }
 
-// Compares what the workers left, and closes the hall.
+// Compares what the load left, and closes the hall.
 fn finish<Acc: Ledger, Del: Ledger, S: Source, G: Gate>(
     hall: Hall<Acc, Del>,
-    crew: Vec<Worker<Acc, Del>>,
+    desks: Vec<Desk<Acc, Del>>,
     work: &Work<S, G>,
     views: &[(Text, CheckedPlan)],
+    entered: Result<Vec<Outcome>, AllocError>,
 ) -> Result<Loaded<Acc, Del>, LoadFault<Acc, Del>>
     requires jobs { work.now.jobs
         ≡ length (jobs_of (chunks_of S.made S.start_of work.now.sources.now)) }
-    requires some { 0 < length crew.items }
-    requires crew { All (λ w. IsWorker (chunks_of S.made S.start_of work.now.sources.now) w)
-        crew.items }
+    requires entered { IfOk entered (λ os.
+        AreOutcomes (chunks_of S.made S.start_of work.now.sources.now) os.items) }
     ensures loaded { IfOk result (λ load.
         AreLoaded (jobs_of (chunks_of S.made S.start_of work.now.sources.now))
         load.catalogue.state) }
@@ -170,12 +165,8 @@ fn finish<Acc: Ledger, Del: Ledger, S: Source, G: Gate>(
         (option_map (λ left. left.0.state) fault.left)
         fault.cause) }
 {
-    let mut crew = crew;
-    let outcomes = take_outcomes(work.alloc, work.sources, crew.as_mut_slice());
     let (catalogue, room) = hall.into_parts();
-    let mut catalogue = catalogue;
-    let desks = gather_crew(&mut catalogue, crew);
-    let findings = match outcomes {
+    let findings = match entered {
         Ok(outcomes) => compare(
             work.alloc,
             &catalogue,
@@ -187,4 +178,39 @@ fn finish<Acc: Ledger, Del: Ledger, S: Source, G: Gate>(
         Err(_) => Err(LoadCause::Memory),
     };
     conclude(settle(catalogue, desks, room), findings)
+}
+
+// What the load answers, once the hall was closed or could not be.
+fn conclude<Acc: Ledger, Del: Ledger>(
+    settled: Result<(Catalogue<Acc, Del>, Totals), Unsettled<Acc, Del>>,
+    findings: Result<List<Refused>, LoadCause>,
+) -> Result<Loaded<Acc, Del>, LoadFault<Acc, Del>>
+    ensures loaded { IfOk result (λ load. settled ≡ Ok (load.catalogue, load.totals)) }
+    ensures refused { IfOk result (λ load. findings ≡ Ok load.refused) }
+    ensures left { IfErr result (λ fault. IfSome fault.left (λ left. settled ≡ Ok left)) }
+    ensures cause { IfErr result (λ fault. IfSome fault.left (λ _. findings ≡ Err fault.cause)) }
+    ensures missing { IfErr result (λ fault. IfNone fault.left
+        (loads.IsCauseUnsettled fault.cause)) }
+{
+    match settled {
+        Ok((catalogue, totals)) => match findings {
+            Ok(refused) => Ok(Loaded {
+                catalogue,
+                totals,
+                refused,
+            }),
+            Err(cause) => Err(LoadFault {
+                cause,
+                left: Some((catalogue, totals)),
+            }),
+        },
+        Err(unsettled) => {
+            let cause = match findings {
+                Err(LoadCause::Memory) => LoadCause::Memory,
+                _ => LoadCause::MissingDesk(unsettled.frame),
+            };
+            drop(unsettled);
+            Err(LoadFault { cause, left: None })
+        }
+    }
 }

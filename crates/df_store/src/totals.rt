@@ -65,8 +65,10 @@ impl TotalsRoom {
         ensures live { (f : FrameState) → slice_get catalogue.now.state.frames frame ≡ Some f → self.new.live.items ≡ self.old.live.items ++ length f.rows ∷ [] }
         ensures room { (n : ℕ) → HasRoomFor (n + 1) self.old → HasRoomFor n self.new }
     {
-        self.accepted.push_reserved(catalogue.accepted(frame).unwrap_or(0));
-        self.deleted.push_reserved(catalogue.deleted(frame).unwrap_or(0));
+        self.accepted
+            .push_reserved(catalogue.accepted(frame).unwrap_or(0));
+        self.deleted
+            .push_reserved(catalogue.deleted(frame).unwrap_or(0));
         self.live.push_reserved(catalogue.live(frame).unwrap_or(0));
     }
 

@@ -3,8 +3,8 @@ use Rattle.df_store.proofs.ListFacts.{found}
 use Rattle.df_store.proofs.RowFacts.{loaded}
 use Rattle.df_store.proofs.comparing.first_unlike.Goals as goal
 
-pub returns : goal.returns
-returns g c = λ k f at.
+pub returns-clause-loaded : goal.returns-clause-loaded
+returns-clause-loaded g c = λ k f at.
     let here = found c.args.catalogue.now.state.frames k f at in
     let low = here.0 in
     let n = c.frame_count-frame-end.ensures.count in

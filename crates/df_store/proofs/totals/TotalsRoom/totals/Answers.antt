@@ -18,5 +18,5 @@ loop-frame-preserved g c =
     let k = c.put.ensures in (
       k.room (8 - (c.loop-frame.frame + 1)) (subst (λ n. HasRoomFor n c.loop-frame.room) next c.loop-frame.invariant.0),
       holds-more c.loop-frame.room c.put.new.self c.args.catalogue.now.state.frames c.loop-frame.frame (omega (arith, more, count)) c.loop-frame.invariant.1
-      k.accepted k.deleted k.live,
+          k.accepted k.deleted k.live,
     )

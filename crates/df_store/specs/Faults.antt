@@ -1,0 +1,21 @@
+-- Which faults a hall and the start of a load answer: that memory was refused is always said by the fault of that name.
+use Rattle.std.specs.Prelude.{◌≢◌, ⊤}
+use Rattle.df_catalogue.specs.declared.fault.CatalogueFault.TheVariants as catalogue_fault
+use Rattle.df_store.specs.declared.fault.HallFault.{HallFault}
+use Rattle.df_store.specs.declared.fault.HallFault.TheVariants as hall
+use Rattle.df_store.specs.declared.fault.LoadCause.{LoadCause}
+use Rattle.df_store.specs.declared.fault.LoadCause.TheVariants as load
+
+-- a hall answers this
+abbrev pub IsHallFault : HallFault → Type 0
+IsHallFault (hall.Refused f) = f ≢ catalogue_fault.Memory
+IsHallFault hall.Memory = ⊤
+
+-- a load of which no worker has started is given up for this
+abbrev pub IsCauseOfRegister : LoadCause → Type 0
+IsCauseOfRegister (load.Refused f) = f ≢ catalogue_fault.Memory
+IsCauseOfRegister load.Memory = ⊤
+IsCauseOfRegister (load.MissingDesk frame) = ⊥
+IsCauseOfRegister (load.Lost job) = ⊥
+IsCauseOfRegister (load.Unlike frame) = ⊥
+IsCauseOfRegister load.ViewsUnlike = ⊥
