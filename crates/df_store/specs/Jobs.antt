@@ -40,3 +40,7 @@ IsOutcome chunks o = slice_get (jobs_of chunks) o.job ≡ Some (o.frame, (o.firs
 -- all of them are
 abbrev pub AreOutcomes : List (List (ℕ × Piece)) → List Outcome → Type 0
 AreOutcomes chunks os = All (λ o. IsOutcome chunks o) os
+
+-- so many jobs of one load at most
+abbrev pub most_jobs : ℕ
+most_jobs = 4294967296

@@ -4,11 +4,10 @@ ghost use Rattle.std.specs.Prelude.{◌≡◌, ◌≤◌, Err, IfErr, IfNone, If
 ghost use Rattle.df_catalogue.specs.States.{IsLegal};
 ghost use Rattle.df_store.specs.Closing as closing;
 ghost use Rattle.df_store.specs.Faults.{IsCauseOfRegister};
-ghost use Rattle.df_store.specs.Jobs.{AreOutcomes, chunks_of, jobs_of};
+ghost use Rattle.df_store.specs.Jobs.{AreOutcomes, chunks_of, jobs_of, most_jobs};
 ghost use Rattle.df_store.specs.Loaded.{AreLoaded};
 ghost use Rattle.df_store.specs.Loads as loads;
 ghost use Rattle.df_store.specs.Refused.{refusal};
-ghost use Rattle.df_store.specs.Workers as workers_spec;
 
 use crate::closing::{Unsettled, settle};
 use crate::entering::enter_all;
@@ -71,7 +70,7 @@ pub fn load_all<
     gate: &G,
 ) -> Result<Loaded<Acc, Del>, LoadFault<Acc, Del>>
     requires jobs { length (jobs_of (chunks_of S.made S.start_of sources.now))
-        ≤ workers_spec.most_jobs }
+        ≤ most_jobs }
     ensures loaded { IfOk result (λ load.
         AreLoaded (jobs_of (chunks_of S.made S.start_of sources.now)) load.catalogue.state) }
     ensures refused { IfOk result (λ load.

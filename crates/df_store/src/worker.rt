@@ -132,8 +132,7 @@ fn crew_of(alloc: Global, workers: usize) -> Result<Vec<Worker>, AllocError>
     ensures { IfOk result (λ crew. All (λ w. w.done.items ≡ []) crew.items) }
 {
     let mut crew = Vec::with_capacity(alloc, workers)?;
-    for worker in 0..workers {
-        let _ = worker;
+    for _ in 0..workers {
         crew.push(Worker::new(alloc))?;
     }
     Ok(crew)
