@@ -1,6 +1,6 @@
 -- Lists by their places.
 use Rattle.std.proofs.Common.{◌≡◌, ℕ, zero, suc, ◌+◌, ◌<◌, ◌≤◌, ◌∙◌, List, [], ◌∷◌, ◌++◌, map, length, take, drop, get_or, refl, ap, sym, arith}
-use Rattle.std.specs.Prelude.{Option, Some, None, option_map, slice_get, unwrap_or, ◌⊎◌}
+use Rattle.std.specs.Prelude.{Some, None, option_map, slice_get, unwrap_or, ◌⊎◌}
 use mathlib.Core.Logic.{inl, inr}
 
 pub map-at : {X Y : Type 0} (f : X → Y) (xs : List X) (k : ℕ) → slice_get (map f xs) k ≡ option_map f (slice_get xs k)

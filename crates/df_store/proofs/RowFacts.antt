@@ -1,6 +1,6 @@
 -- The rows of chunks that stand in a frame, one chunk after another.
-use Rattle.std.proofs.Common.{◌≡◌, Bool, true, false, ℕ, zero, suc, ◌+◌, ◌<◌, ◌≤◌, ◌∙◌, List, [], ◌∷◌, ◌++◌, map, length, take, get_or, refl, ap, sym, subst, arith, length-append}
-use Rattle.std.specs.Prelude.{Option, Some, None, option_map, option_and_then, slice_get, unwrap_or, flat_map, ◌⊎◌, ◌==◌, ◌&&◌}
+use Rattle.std.proofs.Common.{◌≡◌, true, false, ℕ, zero, suc, ◌+◌, ◌<◌, ◌≤◌, ◌∙◌, List, [], ◌∷◌, ◌++◌, map, length, take, get_or, refl, ap, sym, subst, arith, length-append}
+use Rattle.std.specs.Prelude.{Option, Some, None, option_map, option_and_then, slice_get, unwrap_or, flat_map, ◌⊎◌, ◌==◌}
 use Rattle.std.specs.List.{enumerate_from}
 use mathlib.Core.Logic.{inl, inr}
 use Rattle.df_value.specs.declared.cell.Cell.{Cell}

@@ -1,10 +1,9 @@
 -- The views of a state by their places and by their names, of which no two are the same.
-use Rattle.std.proofs.Common.{◌≡◌, ◌↔◌, ℕ, zero, suc, ◌+◌, ◌<◌, ◌≤◌, ◌∙◌, Bool, true, false, cond, IsTrue, List, [], ◌∷◌, map, length, get_or, refl, ap, sym, subst, arith}
+use Rattle.std.proofs.Common.{◌≡◌, ℕ, zero, suc, ◌<◌, ◌∙◌, false, cond, List, [], ◌∷◌, map, length, refl, ap, sym, subst, arith}
 use Rattle.std.specs.Prelude.{Option, Some, None, bytes_eq, find, option_map, slice_get, unwrap_or}
 use Rattle.std.specs.List.{AllByRecursion, IsDistinct}
 use Rattle.std.proofs.lemmas.Map.Keys.{IsDistinct-head, IsDistinct-tail}
 use Rattle.std.proofs.lemmas.Slice.Eq.{bytes_eq-Decides}
-use Rattle.std.proofs.lemmas.Bool.{true≢false}
 use Rattle.df_plan.specs.CheckedParts.{CheckedParts}
 use Rattle.df_catalogue.specs.declared.state.State.{State}
 use Rattle.df_catalogue.specs.declared.state.ViewState.{ViewState}
@@ -79,6 +78,7 @@ headings-same s views names is many same = same-items (headings_of s) views (λ 
         let b = length-mapped {Y = List ℕ × CheckedParts} (λ (w : ViewState). (w.name, w.plan)) s.views in
         let c = ap length is in
         omega (arith, a, b, c, many)
+
     go : (k : ℕ) (o : Option (List ℕ × CheckedParts)) → slice_get views k ≡ o → slice_get (headings_of s) k ≡ slice_get views k
     go k None e = let far = past views k e in none-past (headings_of s) k (omega (arith, far, long)) ∙ sym e
     go k (Some v) e = same k (let f = found views k v e in f.0)

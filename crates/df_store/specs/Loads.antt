@@ -1,5 +1,5 @@
 -- What a load answers.
-use Rattle.std.specs.Prelude.{◌≡◌, ◌≢◌, ◌<◌, ⊤, ℕ, List, All, length, map, Option, IfSome}
+use Rattle.std.specs.Prelude.{◌≢◌, ◌<◌, ⊤, ℕ, List, length, map, Option, IfSome}
 use Rattle.df_value.specs.declared.chunk.Piece.{Piece}
 use Rattle.df_plan.specs.CheckedParts.{CheckedParts}
 use Rattle.df_catalogue.specs.declared.fault.CatalogueFault.TheVariants as catalogue_fault

@@ -153,12 +153,7 @@ fn run_workers<S: Source + Sync, G: Gate + Sync, R: Threads + Sync>(
         return;
     }
     let threads = crew.len();
-    thread::for_each_mut(
-        rt,
-        crew,
-        threads,
-        &|index, worker| worker.run(work, index),
-    );
+    thread::for_each_mut(rt, crew, threads, &|index, worker| worker.run(work, index));
 }
 
 // All that the workers have done, if none of them was refused memory.

@@ -1,5 +1,5 @@
-use Rattle.std.proofs.Common.{◌≡◌, ◌∙◌, ◌+◌, get_or, ap, sym, subst}
-use Rattle.std.specs.Prelude.{Some, slice_get}
+use Rattle.std.proofs.Common.{◌≡◌, ◌∙◌, ◌+◌, get_or, ap, sym}
+use Rattle.std.specs.Prelude.{Some}
 use Rattle.df_store.specs.Loaded.{row_at}
 use Rattle.df_store.proofs.ListFacts.{read-at}
 use Rattle.df_store.proofs.RowFacts.{row-there}

@@ -1,4 +1,4 @@
-use Rattle.std.proofs.Common.{◌≡◌, ◌<◌, ◌∙◌, map, ap, length, sym, subst}
+use Rattle.std.proofs.Common.{◌≡◌, ◌<◌, ◌∙◌, map, ap, sym, subst}
 use Rattle.std.specs.Prelude.{All, filter_map}
 use Rattle.df_store.specs.Jobs.{chunks_of, job_of, jobs_of}
 use Rattle.df_store.specs.Loaded.{AreLoaded}
@@ -26,8 +26,8 @@ returns-clause-loaded g c =
     let chunks = chunks_of g.S.Source.made g.S.Source.start_of c.args.sources.now in
     let os = c.in_order-outcomes.result.items in
     let is : map job_of os ≡ jobs_of chunks =
-        in-order chunks os c.args.jobs c.in_order-outcomes.ensures.outcomes
-            (ap (map (λ o. o.job)) (sym c.as_slice-2.ensures.value) ∙ c.in_default.ensures.none) c.requires.jobs in
+    in-order chunks os c.args.jobs c.in_order-outcomes.ensures.outcomes
+    (ap (map (λ o. o.job)) (sym c.as_slice-2.ensures.value) ∙ c.in_default.ensures.none) c.requires.jobs in
     subst (λ jobs. AreLoaded jobs c.args.catalogue.now.state) is c.in_default-first_unlike.ensures.loaded
 
 pub returns-clause-refused : goal.returns-clause-refused
@@ -35,6 +35,6 @@ returns-clause-refused g c =
     let chunks = chunks_of g.S.Source.made g.S.Source.start_of c.args.sources.now in
     let os = c.in_order-outcomes.result.items in
     let is : map job_of os ≡ jobs_of chunks =
-        in-order chunks os c.args.jobs c.in_order-outcomes.ensures.outcomes
-            (ap (map (λ o. o.job)) (sym c.as_slice-2.ensures.value) ∙ c.in_default.ensures.none) c.requires.jobs in
+    in-order chunks os c.args.jobs c.in_order-outcomes.ensures.outcomes
+    (ap (map (λ o. o.job)) (sym c.as_slice-2.ensures.value) ∙ c.in_default.ensures.none) c.requires.jobs in
     c.from_vec.ensures ∙ (c.in_ok-refused.ensures ∙ (ap (λ os. filter_map refusal (map job_of os)) c.as_slice.ensures.value ∙ ap (filter_map refusal) is))

@@ -1,4 +1,4 @@
-use Rattle.std.proofs.Common.{◌≡◌, ◌∙◌, take, length, get_or, ap, sym, arith, sum_by}
+use Rattle.std.proofs.Common.{◌∙◌, length, ap, sym, arith, sum_by}
 use Rattle.std.proofs.lemmas.List.Sums.{sum_by_more_le_part}
 use Rattle.df_store.proofs.JobFacts.{jobs-of-chunks}
 use Rattle.df_store.proofs.ListFacts.{take-all}

@@ -1,4 +1,4 @@
-use Rattle.std.proofs.Common.{◌≡◌, ◌<◌, ◌∙◌, IsTrue, length, ap, refl, sym, subst, arith}
+use Rattle.std.proofs.Common.{◌≡◌, ◌∙◌, IsTrue, ap, refl, sym, subst, arith}
 use Rattle.std.specs.Prelude.{Some, slice_get}
 use mathlib.Core.Logic.{inl, inr}
 use Rattle.df_catalogue.specs.Reads.{view_names_of}
@@ -16,7 +16,7 @@ returns-then-not-is_view g c =
     let many = c.if-names-views.false in
     let low = c.loop-at-test.true in
     let named : slice_get (view_names_of s) at ≡ Some c.index-names-at.result =
-        ap (λ ns. slice_get ns at) (sym (c.as_slice-names.ensures ∙ c.requires.names)) ∙ looked-up names at c.index-names-at.result (omega (arith, many, low)) c.index-names-at.is in
+    ap (λ ns. slice_get ns at) (sym (c.as_slice-names.ensures ∙ c.requires.names)) ∙ looked-up names at c.index-names-at.result (omega (arith, many, low)) c.index-names-at.is in
     let given : slice_get views at ≡ Some c.index-views-at.result = looked-up views at c.index-views-at.result low c.index-views-at.is in (
       λ h. absurd (cc),
       λ e. subst IsTrue c.if-not-is_view.true
@@ -32,7 +32,7 @@ loop-at-preserved g c = λ k before.
     let many = c.if-names-views.false in
     let low = c.loop-at-test.true in
     let named : slice_get (view_names_of s) at ≡ Some c.index-names-at.result =
-        ap (λ ns. slice_get ns at) (sym (c.as_slice-names.ensures ∙ c.requires.names)) ∙ looked-up names at c.index-names-at.result (omega (arith, many, low)) c.index-names-at.is in
+    ap (λ ns. slice_get ns at) (sym (c.as_slice-names.ensures ∙ c.requires.names)) ∙ looked-up names at c.index-names-at.result (omega (arith, many, low)) c.index-names-at.is in
     let given : slice_get views at ≡ Some c.index-views-at.result = looked-up views at c.index-views-at.result low c.index-views-at.is in
     let is = c.is_view.ensures.0 c.if-not-is_view.false in
     elim (last-or-before k at before) [

@@ -1,4 +1,4 @@
-use Rattle.std.proofs.Common.{◌≡◌, ◌+◌, ◌-◌, ◌<◌, ◌≤◌, length, subst, arith}
+use Rattle.std.proofs.Common.{◌≡◌, ◌+◌, ◌-◌, subst, arith}
 use Rattle.df_store.specs.Rooms.{HasRoomFor}
 use Rattle.df_store.proofs.TotalsFacts.{holds-more, less-room}
 use Rattle.df_store.proofs.totals.TotalsRoom.totals.Goals as goal
