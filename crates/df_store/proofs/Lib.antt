@@ -1,4 +1,5 @@
 pub mod ListFacts
+pub mod FirstFacts
 pub mod TotalsFacts
 pub mod JobFacts
 pub mod OutcomeFacts

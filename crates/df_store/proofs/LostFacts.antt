@@ -3,8 +3,9 @@
 use Rattle.std.proofs.Common.{◌≡◌, ◌≢◌, ℕ, zero, suc, ◌+◌, ◌-◌, ◌<◌, ◌≤◌, ◌∙◌, List, [], ◌∷◌, map, length, take, get_or, refl, ap, sym, arith}
 use Rattle.std.specs.Prelude.{All, ◌==◌, ◌⊎◌, if◌then◌else◌}
 use Rattle.std.specs.List.{range_with_len}
-use Rattle.std.specs.List.Sorted.{IsNonDecreasingBy}
+use Rattle.std.specs.List.Sorted.{IsNonDecreasingBy, IsPermutation}
 use Rattle.std.proofs.lemmas.Bool.{ne_eqb, eq-eqb}
+use Rattle.std.proofs.lemmas.List.Sorted.{sum_by-IsPermutation}
 use Rattle.std.proofs.lemmas.List.Sums.{sum_by-cons}
 use mathlib.Core.Logic.{inl, inr}
 use Rattle.df_store.specs.declared.jobs.Outcome.{Outcome}
@@ -187,4 +188,14 @@ lost-behind os jobs within is other =
           let none = none-at os (length os) rise (λ i d m l. absurd (omega (arith, m, l))) in
           omega (arith, none, f);
       before = λ k l. one-before os (length os) k rise l l (λ i d m n. absurd (omega (arith, m, n)));
+    }
+
+-- the order of the outcomes does not matter to which job is lost
+pub lost-of-order : (jobs job : ℕ) (before after : List Outcome) → IsPermutation before after → IsLost jobs after job → IsLost jobs before job
+lost-of-order jobs job before after p l =
+    let same : (k : ℕ) → outcomes_of k after ≡ outcomes_of k before = λ k. sum_by-IsPermutation (λ (o : Outcome). if o.job == k then 1 else 0) before after p in
+    record {
+      within = l.within;
+      not_one = λ e. l.not_one (same job ∙ e);
+      before = λ k h. sym (same k) ∙ l.before k h;
     }

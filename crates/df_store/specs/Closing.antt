@@ -1,5 +1,5 @@
 -- The close: desks joined to one for each frame, their shares compared with the frames' books, and the totals by frame.
-use Rattle.std.specs.Prelude.{◌≡◌, ℕ, ◌+◌, Bool, ◌&&◌, ◌==◌, List, [], ◌∷◌, length, map, sum_by, slice_index_or, Option, Some, None, if◌then◌else◌}
+use Rattle.std.specs.Prelude.{◌≡◌, ◌≢◌, ℕ, ◌+◌, ◌<◌, ◌≤◌, Bool, ◌&&◌, ◌==◌, List, [], ◌∷◌, length, map, sum_by, slice_index_or, Option, Some, None, if◌then◌else◌}
 use Rattle.df_catalogue.specs.declared.state.FrameState.{FrameState}
 use Rattle.df_catalogue.specs.declared.state.State.{State}
 use Rattle.df_catalogue.specs.Desks.{DeskParts, HaveAllParts, accepted_in, accepted_through, deleted_in, deleted_through, joined_desk}
@@ -40,9 +40,22 @@ totals_of s = record {
 abbrev pub AddsUp : (DeskParts → ℕ) → Type 0
 AddsUp h = (d e : DeskParts) → d.frame ≡ e.frame → h (joined_desk d e) ≡ h d + h e
 
--- desks that were joined to others of their frames: whatever adds up is the same, so nothing of a share is lost
-pub record AreJoined (before after : List DeskParts) : Type 0 where
+-- desks of which some were joined to others of their frames: whatever adds up is the same, so nothing of a share is lost
+pub record HaveSameSums (before after : List DeskParts) : Type 0 where
   pub same : (h : DeskParts → ℕ) → AddsUp h → sum_by h after ≡ sum_by h before
+
+-- no desk before this place is of the frame of the desk there
+abbrev pub IsFirst : List DeskParts → ℕ → Type 0
+IsFirst desks a = (b : ℕ) → b < a → (d e : DeskParts) → (slice_index_or desks b d).frame ≢ (slice_index_or desks a e).frame
+
+-- from a place on each desk is the first of its frame
+abbrev pub AreFirst : List DeskParts → ℕ → Type 0
+AreFirst desks at = (a : ℕ) → at ≤ a → a < length desks → IsFirst desks a
+
+-- desks that were joined to one for each frame of which there is one: no two are of one frame, and no share is lost
+pub record AreJoined (before after : List DeskParts) : Type 0 where
+  pub sums : HaveSameSums before after
+  pub distinct : AreFirst after 0
 
 -- the desks at two places are of one frame
 abbrev pub SameFrame : List DeskParts → ℕ → ℕ → Type 0
@@ -54,8 +67,8 @@ pub record AreBooks (desks : List DeskParts) (s : State) : Type 0 where
   pub accepted : HaveAllParts desks s → accepted_through desks ≡ accepted_in s
   pub deleted : HaveAllParts desks s → deleted_through desks ≡ deleted_in s
 
--- in some legal state, which is that of the hall as it was closed, this is the least frame of which the shares of the
--- desks are not the books. What a lock holds has no name in a clause
+-- there is a legal state of which this is the least frame where the shares of the desks are not the books. What a lock
+-- holds has no name in a clause, so nothing here ties that state to a hall
 pub record IsMissing (desks : List DeskParts) (frame : ℕ) : Type 0 where
   pub state : State
   pub legal : IsLegal state

@@ -1,4 +1,4 @@
--- Which faults a hall and the start of a load answer: that memory was refused is always said by the fault of that name.
+-- Which faults a hall, and a load that registers its views, answer: that memory was refused is always said by the fault of that name.
 use Rattle.std.specs.Prelude.{◌≢◌, ⊤}
 use Rattle.df_catalogue.specs.declared.fault.CatalogueFault.TheVariants as catalogue_fault
 use Rattle.df_store.specs.declared.fault.HallFault.{HallFault}
@@ -11,7 +11,7 @@ abbrev pub IsHallFault : HallFault → Type 0
 IsHallFault (hall.Refused f) = f ≢ catalogue_fault.Memory
 IsHallFault hall.Memory = ⊤
 
--- a load of which no worker has started is given up for this
+-- the registration of views, before any chunk is made, is given up for this
 abbrev pub IsCauseOfRegister : LoadCause → Type 0
 IsCauseOfRegister (load.Refused f) = f ≢ catalogue_fault.Memory
 IsCauseOfRegister load.Memory = ⊤

@@ -1,5 +1,5 @@
 //! The close: desks are joined to one for each frame, and their shares compared with the frames' books.
-ghost use Rattle.std.specs.Prelude.{◌≡◌, ◌<◌, ◌≤◌, ◌==◌, ◌^◌, None, Some, [], IfErr, IfOk, IfSome, length, slice_get, if◌then◌else◌};
+ghost use Rattle.std.specs.Prelude.{◌≡◌, ◌+◌, ◌<◌, ◌≤◌, ◌==◌, ◌^◌, None, Some, [], IfErr, IfNone, IfOk, IfSome, length, slice_get, if◌then◌else◌};
 ghost use Rattle.df_catalogue.specs.Desks as desks_spec;
 ghost use Rattle.df_catalogue.specs.States.{IsLegal};
 ghost use Rattle.df_catalogue.specs.declared.state.FrameState.{FrameState};
@@ -70,7 +70,7 @@ fn gather<Acc: Ledger, Del: Ledger>(
     ensures same { catalogue.new ≡ catalogue.old }
     ensures joined { closing.AreJoined desks.old.items desks.new.items }
 {
-    // From the last one on: behind it at most one desk of each frame is left to move.
+    // From the last one on: each desk behind this place is the first of its frame, so it stays.
     let mut at = desks.len();
     while at > 0 {
         at -= 1;
@@ -84,10 +84,12 @@ fn join_at<Acc: Ledger, Del: Ledger>(
     desks: &mut Vec<Desk<Acc, Del>>,
     at: usize,
 )
-    requires { at < length desks.old.items }
+    requires within { at < length desks.old.items }
+    requires behind { closing.AreFirst desks.old.items (at + 1) }
     ensures same { catalogue.new ≡ catalogue.old }
-    ensures joined { closing.AreJoined desks.old.items desks.new.items }
+    ensures sums { closing.HaveSameSums desks.old.items desks.new.items }
     ensures left { at ≤ length desks.new.items }
+    ensures first { closing.AreFirst desks.new.items at }
 {
     let Some(to) = earlier(desks.as_slice(), at) else {
         return;
@@ -99,7 +101,8 @@ fn join_at<Acc: Ledger, Del: Ledger>(
 // The place of a desk before this one that is of its frame.
 fn earlier<Acc: Ledger, Del: Ledger>(desks: &[Desk<Acc, Del>], at: usize) -> Option<usize>
     requires { at < length desks.now }
-    ensures { IfSome result (λ to. (to < at) × closing.SameFrame desks.now to at) }
+    ensures found { IfSome result (λ to. (to < at) × closing.SameFrame desks.now to at) }
+    ensures first { IfNone result (closing.IsFirst desks.now at) }
 {
     let frame = desks[at].frame();
     for to in 0..at {

@@ -36,9 +36,7 @@ pub(crate) fn compare<Acc: Ledger, Del: Ledger, S: Source>(
         refused ≡ filter_map refusal (jobs_of (chunks_of S.made S.start_of sources.now))) }
     ensures views { IfOk result (λ _. loads.headings_of catalogue.now.state ≡ views.now) }
     ensures difference { IfErr result (λ cause.
-        loads.IsDifference (chunks_of S.made S.start_of sources.now) views.now
-        catalogue.now.state
-        cause) }
+        loads.IsDifference jobs outcomes.items views.now catalogue.now.state cause) }
 {
     let outcomes = in_order(sources, outcomes);
     let refused = refused_in(alloc, outcomes.as_slice())?;

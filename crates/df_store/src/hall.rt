@@ -19,8 +19,11 @@ use std::alloc::Global;
 use std::sync::ledger::{Blank, Ledger};
 use std::sync::{Mutex, MutexGuard, Wait};
 
-/// A catalogue that threads share. Whatever a thread finds under its lock is a [`Catalogue`], so its
-/// state is legal and its books are those of the state: the lock needs no fact of its own.
+/// A catalogue behind a lock. What is under the lock is a [`Catalogue`], so its state is legal and its
+/// books are those of the state: the lock needs no fact of its own.
+///
+/// One thread uses it today. A thread shares only what is proved to cross threads, and of a catalogue,
+/// whose joins keep their rows in a tree of `Arc`s, there is no such proof.
 #[derive(Drop)]
 pub struct Hall<Acc: Ledger, Del: Ledger> {
     catalogue: Mutex<Catalogue<Acc, Del>>,
@@ -159,12 +162,16 @@ impl<Acc: Ledger, Del: Ledger> Hall<Acc, Del> {
 
     /// Takes the view of this name out. It takes no memory.
     pub fn drop_view<R: Wait>(&self, rt: &R, name: &str) -> Result<(), HallFault>
-        ensures { IfErr result (λ fault. IsHallFault fault) }
+        ensures fault { IfErr result (λ fault. IsHallFault fault) }
+        ensures memory_not_taken { IfErr result (λ fault. fault ≢ HallFault.Memory) }
     {
         let mut catalogue = self.catalogue.lock(rt);
         let answer = catalogue.drop_view(name);
         MutexGuard::unlock(catalogue);
-        Ok(answer?)
+        match answer {
+            Ok(()) => Ok(()),
+            Err(fault) => Err(HallFault::Refused(fault)),
+        }
     }
 
     /// The catalogue and its totals by frame, exactly where the gathered shares of these desks are the
@@ -189,7 +196,7 @@ impl<Acc: Ledger, Del: Ledger> Hall<Acc, Del> {
         }
     }
 
-    /// The catalogue, once no thread shares it, and the room for its totals.
+    /// The catalogue, and the room for its totals.
     pub(crate) fn into_parts(self) -> (Catalogue<Acc, Del>, TotalsRoom)
         ensures room { HasRoomFor limits.most_frames result.1 }
         ensures empty { Holds result.1 [] }

@@ -1,7 +1,8 @@
-//! A catalogue that threads share, and the loaders that fill it.
+//! A catalogue behind a lock, and loads of it, whose chunks several threads make.
 //!
 //! A [`Hall`] is a lock round a catalogue. Whoever has a desk of a frame changes the frame through the
-//! hall; [`Hall::close`] gives the catalogue back once the desks account for every row.
+//! hall; [`Hall::close`] gives the catalogue back once the desks account for every row. One thread uses a
+//! hall today: [`Hall`] says why.
 #![tactic(auto)]
 
 mod closing;

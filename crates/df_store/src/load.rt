@@ -52,7 +52,8 @@ pub struct LoadFault<Acc: Ledger, Del: Ledger> {
 /// sources and the views once, after all.
 ///
 /// The causes of a fault are looked for in the order of [`LoadCause`]. A worker that is refused memory
-/// stops, and the others go on; then no chunk enters.
+/// stops, and the others go on; then no chunk enters. A commit that is refused memory ends the load:
+/// the chunks before it have entered.
 pub fn load_all<
     Acc: Ledger,
     Del: Ledger,
@@ -121,7 +122,7 @@ fn register_all<Acc: Ledger, Del: Ledger, R: Wait>(
     Ok(())
 }
 
-// The fault of a load of which no worker has started.
+// The fault of a load of which no chunk has entered.
 fn given_up<Acc: Ledger, Del: Ledger>(
     hall: Hall<Acc, Del>,
     desks: Vec<Desk<Acc, Del>>,

@@ -22,6 +22,7 @@ fn by_job(outcomes: Vec<Outcome>) -> Vec<Outcome>
 pub(crate) fn in_order<S: Source>(sources: &[S], outcomes: Vec<Outcome>) -> Vec<Outcome>
     requires { AreOutcomes (chunks_of S.made S.start_of sources.now) outcomes.items }
     ensures outcomes { AreOutcomes (chunks_of S.made S.start_of sources.now) result.items }
+    ensures same { IsPermutation outcomes.items result.items }
     ensures order { IsNonDecreasingBy (λ o. o.job) result.items }
 {
     let _ = sources;

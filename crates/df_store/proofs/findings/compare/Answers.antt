@@ -4,6 +4,7 @@ use Rattle.df_store.specs.Jobs.{chunks_of, job_of, jobs_of}
 use Rattle.df_store.specs.Loaded.{AreLoaded}
 use Rattle.df_store.specs.Lost.{IsLost}
 use Rattle.df_store.specs.Refused.{refusal}
+use Rattle.df_store.proofs.LostFacts.{lost-of-order}
 use Rattle.df_store.proofs.OutcomeFacts.{in-order, jobs-below}
 use Rattle.df_store.proofs.findings.compare.Goals as goal
 
@@ -14,12 +15,9 @@ first_lost-requires-clause-within g c =
     c.in_order-outcomes.ensures.outcomes c.requires.jobs)
 
 pub returns-in-Some-clause-difference : goal.returns-in-Some-clause-difference
-returns-in-Some-clause-difference g c = record {
-  outcomes = c.in_order-outcomes.result.items;
-  of_jobs = c.in_order-outcomes.ensures.outcomes;
-  least = subst (λ n. IsLost n c.in_order-outcomes.result.items c.in-Some.job) c.requires.jobs
-      (subst (λ os. IsLost c.args.jobs os c.in-Some.job) c.as_slice-2.ensures.value c.in-Some.ensures.lost);
-}
+returns-in-Some-clause-difference g c =
+    lost-of-order c.args.jobs c.in-Some.job c.args.outcomes.items c.in_order-outcomes.result.items c.in_order-outcomes.ensures.same
+    (subst (λ os. IsLost c.args.jobs os c.in-Some.job) c.as_slice-2.ensures.value c.in-Some.ensures.lost)
 
 pub returns-clause-loaded : goal.returns-clause-loaded
 returns-clause-loaded g c =
