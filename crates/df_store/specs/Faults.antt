@@ -1,4 +1,4 @@
--- Which faults a hall, and a load that registers its views, answer: that memory was refused is always said by the fault of that name.
+-- Which faults a hall, and the registration of the views of a load, answer: refused memory has the fault of that name.
 use Rattle.std.specs.Prelude.{◌≢◌, ⊤}
 use Rattle.df_catalogue.specs.declared.fault.CatalogueFault.TheVariants as catalogue_fault
 use Rattle.df_store.specs.declared.fault.HallFault.{HallFault}

@@ -1,4 +1,4 @@
-use Rattle.std.proofs.Common.{◌≡◌, ◌∙◌, ap, arith}
+use Rattle.std.proofs.Common.{◌∙◌, ap, arith}
 use Rattle.df_catalogue.specs.Desks.{DeskParts}
 use Rattle.df_store.proofs.FirstFacts.{joined-first}
 use Rattle.df_store.proofs.ListFacts.{same-default}
