@@ -26,6 +26,9 @@ STEPS = {
     "group-by": '["group_by", ["g"], ["n", "len"], ["total", "sum", "v"]]',
     "unique groups": '["group_by", ["k"], ["n", "len"], ["total", "sum", "v"]]',
     "least and most": '["group_by", ["g"], ["least", "min", "v"], ["most", "max", "v"]]',
+    "distinct values": '["group_by", ["g"], ["kinds", "n_unique", "v"], ["f", "first", "v"], ["l", "last", "v"]]',
+    "one group": '["select", ["g", ["*", ["col", "g"], 0]], ["v", ["col", "v"]]], '
+    '["group_by", ["g"], ["total", "sum", "v"], ["least", "min", "v"], ["kinds", "n_unique", "v"]]',
     "self-join": '["join", "left", ["k"], "rows"]',
     "rolling sum": '["rolling_sum", "s", "v", 8, 1]',
     "cumulative sum": '["cum_sum", "s", "v"]',

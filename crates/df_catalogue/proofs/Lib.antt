@@ -24,3 +24,5 @@ pub mod ViewChangeFacts
 pub mod FrameChangeFacts
 pub mod TransitionFacts
 pub mod DeskFacts
+pub mod WorkFacts
+pub mod ComputedRows

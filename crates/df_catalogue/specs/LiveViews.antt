@@ -19,6 +19,10 @@ view_state v = record { name = v.name; plan = v.live.plan; table = finite.values
 abbrev pub headings : List View → List (List ℕ × CheckedParts)
 headings views = map (λ v. (v.name, v.live.plan)) views
 
+-- the plans of views
+abbrev pub plans : List View → List CheckedParts
+plans views = map (λ v. v.live.plan) views
+
 -- the frames' rows by their tags
 abbrev pub tagged_frames : List FrameState → List TaggedRows
 tagged_frames frames = map tagged_rows_of frames

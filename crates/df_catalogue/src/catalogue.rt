@@ -6,18 +6,21 @@ ghost use Rattle.df_catalogue.specs.Ledgers as ledgers;
 ghost use Rattle.df_value.specs.Limits as limits;
 ghost use Rattle.df_catalogue.specs.FrameParts.{empty_parts};
 ghost use Rattle.df_catalogue.specs.States.{opening_of, IsLegal};
+ghost use Rattle.df_delta.specs.Work.{no_work};
 
 use crate::desk::{Desk, audit_all};
 use crate::fault::NewFault;
 use crate::frame::Frame;
 use crate::views::View;
+use df_expr::Meter;
 use df_value::{List, MOST_FRAMES, Schema};
 use std::alloc::{AllocError, Global};
 use std::marker::Model;
 use std::sync::ledger::{Blank, Book, Ledger, Share};
 
 /// Frames of rows and registered views, each of which has at every moment the table that its plan
-/// gives over the frames. Contracts see the [`State`](crate::State).
+/// gives over the frames. Contracts see the [`State`](crate::State), and the work of the last change
+/// of rows.
 ///
 /// `Acc` and `Del` are the ledgers of all rows that were accepted and deleted: a desk of another
 /// catalogue has another type.
@@ -25,6 +28,7 @@ use std::sync::ledger::{Blank, Book, Ledger, Share};
 pub struct Catalogue<Acc: Ledger, Del: Ledger> {
     pub(crate) frames: Vec<Frame>,
     pub(crate) views: Vec<View>,
+    pub(crate) work: Meter,
     pub(crate) accepted: Book<Acc>,
     pub(crate) deleted: Book<Del>,
     pub(crate) accepted_of_no_desk: Share<Acc>,
@@ -32,18 +36,20 @@ pub struct Catalogue<Acc: Ledger, Del: Ledger> {
 }
 
 impl<Acc: Ledger, Del: Ledger> Model for Catalogue<Acc, Del> {
-    ghost use Rattle.df_catalogue.specs.declared.state.State.{State};
+    ghost use Rattle.df_catalogue.specs.declared.state.CatalogueParts.{CatalogueParts};
     ghost use Rattle.df_catalogue.specs.FrameParts.{schemas_of, states_of};
     ghost use Rattle.df_catalogue.specs.Parts.{IsCatalogue, state_of};
     ghost use Rattle.std.specs.Coded.{codes};
     ghost use Rattle.df_plan.specs.contracts.plan.Plan as plan_type;
 
-    ghost Value = { State };
+    ghost Value = { CatalogueParts };
 
     ghost coded = { Prim.hlevel (codes, plan_type.the_row.coded) };
 
-    ghost view = { λ c. state_of (schemas_of c.frames.items) (states_of c.frames.items)
-        c.views.items };
+    ghost view = { λ c. record {
+      state = state_of (schemas_of c.frames.items) (states_of c.frames.items) c.views.items;
+      work = c.work;
+    } };
 
     ghost invariant = { λ c.
         IsCatalogue (state_of (schemas_of c.frames.items) (states_of c.frames.items) c.views.items)
@@ -71,11 +77,12 @@ impl<Acc: Ledger, Del: Ledger> Catalogue<Acc, Del> {
         requires deleted_parts { (deleted.parts ≡ Del.parts)
             × (deleted.parts ≡ ledgers.parts_of_ledger) }
         ensures sound { OnOk result (new_spec.new_fault schemas ≡ None) }
-        ensures opening { IfOk result (λ made. made.0 ≡ opening_of schemas) }
-        ensures legal { IfOk result (λ made. IsLegal made.0) }
+        ensures opening { IfOk result (λ made. made.0.state ≡ opening_of schemas) }
+        ensures work { IfOk result (λ made. made.0.work ≡ no_work) }
+        ensures legal { IfOk result (λ made. IsLegal made.0.state) }
         ensures desks { IfOk result (λ made.
             made.1.items ≡ desks_spec.first_desks (length schemas)) }
-        ensures in_order { IfOk result (λ made. desks_spec.AreInOrder made.1.items made.0) }
+        ensures in_order { IfOk result (λ made. desks_spec.AreInOrder made.1.items made.0.state) }
         ensures refused { IfErr result (λ fault. fault ≢ NewFault.Memory →
             new_spec.new_fault schemas ≡ Some fault) }
         ensures memory_last { IfErr result (λ fault.
@@ -95,6 +102,7 @@ impl<Acc: Ledger, Del: Ledger> Catalogue<Acc, Del> {
         let catalogue = Catalogue {
             frames,
             views: Vec::new(alloc),
+            work: Meter::new(),
             accepted,
             deleted,
             accepted_of_no_desk,
@@ -105,16 +113,16 @@ impl<Acc: Ledger, Del: Ledger> Catalogue<Acc, Del> {
 
     /// The book of all rows that were accepted, over all frames.
     pub fn accepted_book(&self) -> &Book<Acc>
-        ensures total { result.now.total ≡ desks_spec.accepted_in self.now }
-        ensures legal { IsLegal self.now }
+        ensures total { result.now.total ≡ desks_spec.accepted_in self.now.state }
+        ensures legal { IsLegal self.now.state }
     {
         &self.accepted
     }
 
     /// The book of all rows that were deleted, over all frames.
     pub fn deleted_book(&self) -> &Book<Del>
-        ensures total { result.now.total ≡ desks_spec.deleted_in self.now }
-        ensures legal { IsLegal self.now }
+        ensures total { result.now.total ≡ desks_spec.deleted_in self.now.state }
+        ensures legal { IsLegal self.now.state }
     {
         &self.deleted
     }
@@ -124,11 +132,11 @@ impl<Acc: Ledger, Del: Ledger> Catalogue<Acc, Del> {
     pub fn audit(&mut self, desk: &mut Desk<Acc, Del>)
         ensures same { self.new ≡ self.old }
         ensures desk { desk.new ≡ desk.old }
-        ensures accepted { desk.new.accepted ≤ desks_spec.accepted_in self.new }
-        ensures deleted { desk.new.deleted ≤ desks_spec.deleted_in self.new }
-        ensures few_accepted { desks_spec.accepted_in self.new
+        ensures accepted { desk.new.accepted ≤ desks_spec.accepted_in self.new.state }
+        ensures deleted { desk.new.deleted ≤ desks_spec.deleted_in self.new.state }
+        ensures few_accepted { desks_spec.accepted_in self.new.state
             ≤ limits.most_frames * limits.most_rows_of_frame }
-        ensures few_deleted { desks_spec.deleted_in self.new
+        ensures few_deleted { desks_spec.deleted_in self.new.state
             ≤ limits.most_frames * limits.most_rows_of_frame }
     {
         desk.audit(&mut self.accepted, &mut self.deleted);
@@ -143,7 +151,7 @@ impl<Acc: Ledger, Del: Ledger> Catalogue<Acc, Del> {
     pub fn audit_all(&mut self, desks: &mut [Desk<Acc, Del>])
         ensures same { self.new ≡ self.old }
         ensures desks { desks.new ≡ desks.old }
-        ensures books { desks_spec.AgreeWithBooks desks.new self.new }
+        ensures books { desks_spec.AgreeWithBooks desks.new self.new.state }
     {
         audit_all(
             desks,

@@ -28,4 +28,4 @@ pub use catalogue::Catalogue;
 pub use change::Change;
 pub use desk::{Desk, PARTS_OF_LEDGER};
 pub use fault::{CatalogueFault, NewFault};
-pub use state::{FrameState, State, ViewState};
+pub use state::{CatalogueParts, FrameState, State, ViewState};

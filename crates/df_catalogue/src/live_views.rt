@@ -1,10 +1,13 @@
 //! The views follow a change of a frame: all of them prepare before any commits.
-ghost use Rattle.std.specs.Prelude.{◌≡◌, IfOk, List, length, map};
+ghost use Rattle.std.specs.Prelude.{◌≡◌, ◌≤◌, ◌^◌, IfOk, OnOk, List, length, map};
+ghost use Rattle.df_value.specs.Limits.{most_views};
 ghost use Rattle.df_column.specs.Tables.{TaggedRows};
+ghost use Rattle.df_delta.specs.Work.{IsBelow, IsWithin, no_work, plus};
 ghost use Rattle.df_live.specs.Frames.{changed};
-ghost use Rattle.df_live.specs.Views.{HasRoomFor, IsChangeOf, IsLive, LeadsTo};
+ghost use Rattle.df_live.specs.Views.{HasRoomFor, IsChangeOf, IsLive, LeadsTo, most_work, work};
 ghost use Rattle.df_catalogue.specs.FrameTables.{table_parts};
-ghost use Rattle.df_catalogue.specs.LiveViews.{AreChangesOf, AreLive, AreStaged, HaveRoom, headings};
+ghost use Rattle.df_catalogue.specs.LiveViews.{AreChangesOf, AreLive, AreStaged, HaveRoom, headings, plans};
+ghost use Rattle.df_catalogue.specs.Work.{work_of_all};
 
 use crate::frame::Frame;
 use crate::views::View;
@@ -26,7 +29,13 @@ pub fn shared_tables(alloc: Global, frames: &[Frame]) -> Result<Vec<Table>, Allo
 }
 
 // Prepares one view for the delta of a frame. The view stands as it stood, also where memory is refused.
-fn prepare_view(view: &mut View, frame: usize, delta: &Delta) -> Result<StagedView, AllocError>
+fn prepare_view(
+    view: &mut View,
+    frame: usize,
+    delta: &Delta,
+    meter: &mut Meter,
+) -> Result<StagedView, AllocError>
+    requires { IsBelow meter.old (2 ^ 127) }
     ensures name { view.new.name ≡ view.old.name }
     ensures plan { view.new.live.plan ≡ view.old.live.plan }
     ensures live { (frames : List TaggedRows) → IsLive view.old.live frames → IsLive view.new.live frames }
@@ -34,8 +43,13 @@ fn prepare_view(view: &mut View, frame: usize, delta: &Delta) -> Result<StagedVi
         → IsChangeOf view.old.live.plan.frames frames frame delta.now
         → LeadsTo view.new.live s (changed frames frame delta.now)) }
     ensures room { IfOk result (λ s. HasRoomFor view.new.live s) }
+    ensures bound { IsWithin meter.new (plus meter.old most_work) }
+    ensures work { (frames : List TaggedRows) → IsLive view.old.live frames
+        → IsChangeOf view.old.live.plan.frames frames frame delta.now
+        → IsWithin meter.new (plus meter.old
+        (work view.old.live.plan frames (changed frames frame delta.now))) }
 {
-    view.live.prepare(frame, delta, &mut Meter::new())
+    view.live.prepare(frame, delta, meter)
 }
 
 // Puts what one view staged in place.
@@ -55,7 +69,10 @@ pub fn prepare_all(
     views: &mut Vec<View>,
     frame: usize,
     delta: &Delta,
+    meter: &mut Meter,
 ) -> Result<Vec<StagedView>, AllocError>
+    requires few { length views.old.items ≤ most_views }
+    requires meter { meter.old ≡ no_work }
     ensures headings { headings views.new.items ≡ headings views.old.items }
     ensures live { (frames : List TaggedRows) → AreLive views.old.items frames
         → AreLive views.new.items frames }
@@ -64,8 +81,12 @@ pub fn prepare_all(
         → AreChangesOf views.old.items frames frame delta.now
         → AreStaged views.new.items s.items (changed frames frame delta.now)) }
     ensures room { IfOk result (λ s. HaveRoom views.new.items s.items) }
+    ensures work { OnOk result ((frames : List TaggedRows) → AreLive views.old.items frames
+        → AreChangesOf views.old.items frames frame delta.now
+        → IsWithin meter.new
+        (work_of_all (plans views.old.items) frames (changed frames frame delta.now))) }
 {
-    prepare_each(alloc, views.as_mut_slice(), frame, delta)
+    prepare_each(alloc, views.as_mut_slice(), frame, delta, meter)
 }
 
 /// Puts in place what was staged for each view.
@@ -85,7 +106,10 @@ fn prepare_each(
     views: &mut [View],
     frame: usize,
     delta: &Delta,
+    meter: &mut Meter,
 ) -> Result<Vec<StagedView>, AllocError>
+    requires few { length views.old ≤ most_views }
+    requires meter { meter.old ≡ no_work }
     ensures headings { headings views.new ≡ headings views.old }
     ensures live { (frames : List TaggedRows) → AreLive views.old frames
         → AreLive views.new frames }
@@ -94,10 +118,14 @@ fn prepare_each(
         → AreChangesOf views.old frames frame delta.now
         → AreStaged views.new s.items (changed frames frame delta.now)) }
     ensures room { IfOk result (λ s. HaveRoom views.new s.items) }
+    ensures work { OnOk result ((frames : List TaggedRows) → AreLive views.old frames
+        → AreChangesOf views.old frames frame delta.now
+        → IsWithin meter.new
+        (work_of_all (plans views.old) frames (changed frames frame delta.now))) }
 {
     let mut staged = Vec::with_capacity(alloc, views.len())?;
     for at in 0..views.len() {
-        let made = prepare_view(&mut views[at], frame, delta)?;
+        let made = prepare_view(&mut views[at], frame, delta, meter)?;
         staged.push(made)?;
     }
     Ok(staged)

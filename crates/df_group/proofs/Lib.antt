@@ -3,6 +3,14 @@ pub mod Groups
 pub mod Appearance
 pub mod KeyOrder
 pub mod IndexMaps
+pub mod RowSums
+pub mod ValueCounts
+pub mod CountedChanges
+pub mod LeastValues
+pub mod DistinctValues
+pub mod Totals
+pub mod Followed
+pub mod FinishedRow
 pub mod Members
 pub mod Staged
 pub mod Output

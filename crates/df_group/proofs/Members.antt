@@ -1,12 +1,14 @@
 -- The members of a group, before and after a change.
-use Rattle.std.proofs.Common.{◌≡◌, Bool, true, false, cond, List, [], ◌∷◌, map, length, get_or, Option, Some, None, IsTrue, refl, sym, ap, subst, ◌∙◌}
-use Rattle.std.specs.Prelude.{◌==◌, T}
+use Rattle.std.proofs.Common.{◌≡◌, ℕ, ◌<◌, ◌≤◌, Bool, true, false, cond, List, [], ◌∷◌, map, length, get_or, Option, Some, None, IsTrue, refl, sym, ap, subst, ◌∙◌}
+use Rattle.std.specs.Prelude.{◌==◌, T, slice_get, unwrap_or}
 use Rattle.std.specs.Option.{IfSome, option_and_then}
 use Rattle.std.proofs.lemmas.Bool.{eqb-true}
-use Rattle.std.proofs.lemmas.List.{nil_from_length}
+use Rattle.std.proofs.lemmas.List.{get_or-map, length-map, nil_from_length}
+use Rattle.std.proofs.lemmas.Option.{slice_get_past, unwrap_or-slice_get}
 use Rattle.std.specs.FinMap as finite
 use Rattle.df_value.specs.declared.cell.Cell.{Cell}
-use Rattle.df_value.specs.Rows.{row_eq, row_fits}
+use Rattle.df_value.specs.declared.cell.Cell.TheVariants as cell
+use Rattle.df_value.specs.Rows.{cell_at, row_eq, row_fits}
 use Rattle.df_column.specs.Changes.{applied}
 use Rattle.df_column.specs.TagOrder.{tag_total, tag_same}
 use Rattle.df_column.specs.Tables.{TableParts, TaggedRows, after_entries, entry_change, new_rows_fit}
@@ -17,8 +19,9 @@ use Rattle.df_delta.specs.Deltas.{Changes, RowsFit}
 use Rattle.df_delta.specs.Keyed.{of_key}
 use Rattle.df_delta.proofs.Collected.{get-collected}
 use Rattle.df_delta.proofs.Fitting.{changes_of, new_rows_of}
+use Rattle.df_ops.specs.Aggregates.{cells_of}
 use Rattle.df_ops.specs.Groups.{key_of}
-use Rattle.df_group.specs.GroupIndex.{edited_table, entry_of, row_of_group, first_entry, group_in, group_with, members_now, non_empty}
+use Rattle.df_group.specs.GroupIndex.{edited_table, entry_of, row_of_group, first_entry, group_in, group_with, members_now, non_empty, totals_now, totals_of}
 use Rattle.df_group.specs.GroupRows.{members_of}
 use Rattle.df_group.specs.Grouped.{group_entry}
 use Rattle.df_group.specs.declared.group.Group.{Group}
@@ -31,6 +34,13 @@ module _ (g : Grouping) (k : List Cell) where
   pub members_now_is : (m : TaggedRows) → members_now g (non_empty (group_with g k (parts m))) ≡ parts m
   members_now_is m = elim (finite.len m == 0) as (λ b. (finite.len m == 0) ≡ b → members_now g (cond b None (Some (group_with g k (parts m)))) ≡ parts m) [
     | true ↦ λ e. ap parts (sym (finite.empty_of_len m (eqb-true (finite.len m) 0 e)))
+    | false ↦ λ e. refl
+  ] refl
+
+  -- the totals of a group are those of its members
+  pub totals_now_are : (m : TaggedRows) → totals_now g (non_empty (group_with g k (parts m))) ≡ totals_of g (finite.values m)
+  totals_now_are m = elim (finite.len m == 0) as (λ b. (finite.len m == 0) ≡ b → totals_now g (cond b None (Some (group_with g k (parts m)))) ≡ totals_of g (finite.values m)) [
+    | true ↦ λ e. ap (λ es. totals_of g (map (λ e. e.1) es)) (sym (nil_from_length (finite.entries m) (sym (finite.len-entries m) ∙ eqb-true (finite.len m) 0 e)))
     | false ↦ λ e. refl
   ] refl
 
@@ -98,3 +108,24 @@ first_of (e ∷ es) tag own row ne is same = λ i. Some (sym (is e) i, sym same 
 pub first_row : (group : Group) (tag : Tag) (row : List Cell) → (finite.len group.members.rows ≡ 0 → ⊥) → ((d : Tag × List Cell) → tag ≡ (get_or (finite.entries group.members.rows) 0 d).0) → row ≡ group.row
     → entry_of (Some group) ≡ Some (tag, row)
 first_row group tag row ne is same = first_of (finite.entries group.members.rows) tag group.row row (λ e. ne (finite.len-entries group.members.rows ∙ e)) is same
+
+-- how many members there are
+pub values_length : (m : TaggedRows) → length (finite.values m) ≡ finite.len m
+values_length m = length-map (finite.entries m) (λ e. e.1) ∙ sym (finite.len-entries m)
+
+pub cells_length : (index : Option ℕ) (m : TaggedRows) → length (cells_of index (finite.values m)) ≡ finite.len m
+cells_length index m = length-map (finite.values m) (cell_at index) ∙ values_length m
+
+-- the cell at an index of the member at a place
+pub cell_past : (index : Option ℕ) (m : TaggedRows) (place : ℕ) → finite.len m ≤ place → cell.Null ≡ unwrap_or (slice_get (cells_of index (finite.values m)) place) cell.Null
+cell_past index m place past = sym (ap (λ o. unwrap_or o cell.Null) (slice_get_past (cells_of index (finite.values m)) place (subst (λ n. n ≤ place) (sym (cells_length index m)) past)))
+
+pub cell_here : (index : Option ℕ) (m : TaggedRows) (place : ℕ) (row : List Cell) → place < finite.len m → ((d : Tag × List Cell) → row ≡ (get_or (finite.entries m) place d).1) → cell_at index row ≡ unwrap_or (slice_get (cells_of index (finite.values m)) place) cell.Null
+cell_here index m place row lt is =
+    let d : Tag × List Cell = (record { first = 0; second = 0; third = 0 }, row) in
+    let in_entries : place < length (finite.entries m) = subst (λ n. place < n) (finite.len-entries m) lt in
+    let in_values : place < length (finite.values m) = subst (λ n. place < n) (sym (values_length m)) lt in
+    sym
+    (unwrap_or-slice_get (cells_of index (finite.values m)) place cell.Null
+    ∙ get_or-map (cell_at index) (finite.values m) place row cell.Null in_values
+    ∙ ap (cell_at index) (get_or-map (λ e. e.1) (finite.entries m) place d row in_entries ∙ sym (is d)))

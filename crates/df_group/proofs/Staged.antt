@@ -1,5 +1,5 @@
 -- What is staged follows a change of the input.
-use Rattle.std.proofs.Common.{◌≡◌, true, false, cond, List, [], ◌∷◌, ◌++◌, Option, Some, None, refl, sym, ap, subst, ◌∙◌}
+use Rattle.std.proofs.Common.{◌≡◌, true, false, cond, List, [], ◌∷◌, ◌++◌, map, Option, Some, None, refl, sym, ap, subst, ◌∙◌}
 use Rattle.std.specs.Prelude.{T}
 use Rattle.std.specs.Option.{IfSome}
 use Rattle.std.specs.Map.{lookup}
@@ -10,19 +10,24 @@ use Rattle.df_value.specs.declared.cell.Cell.{Cell}
 use Rattle.df_value.specs.Rows.{row_eq}
 use Rattle.df_value.specs.RowEq.{row_eq-Decides}
 use Rattle.df_column.specs.Changes.{applied, applied_list}
-use Rattle.df_column.specs.Tables.{AreRising, TaggedRows}
+use Rattle.df_column.specs.Tables.{AreRising, TableParts, TaggedRows, entry_change}
 use Rattle.df_delta.specs.Deltas.{Changes, RowsFit}
 use Rattle.df_delta.specs.Differences.{Fits}
 use Rattle.df_delta.specs.Keyed.{kept_changes, keyed_changes}
 use Rattle.df_delta.specs.declared.keyed.KeyChanges.{KeyChanges}
 use Rattle.df_delta.proofs.KeyedChanges.{keyed_diff}
 use Rattle.df_ops.specs.Groups.{key_of}
-use Rattle.df_group.specs.GroupIndex.{IsIndexOf, LeadsTo, changed_group, edited_table, group_in, group_with, members_now, non_empty, staged_or, staged_with, state_of}
+use Rattle.df_group.specs.GroupIndex.{Follows, IsIndexOf, LeadsTo, changed_group, edited_table, group_in, group_with, members_now, non_empty, staged_or, staged_with, state_of, totals_now, totals_of}
 use Rattle.df_group.specs.GroupRows.{members_of}
+use Rattle.df_group.specs.Totals.{Lead}
 use Rattle.df_group.specs.declared.group.Group.{Group}
 use Rattle.df_group.specs.declared.grouping.Grouping.{Grouping}
 use Rattle.df_group.proofs.IndexMaps.{popped}
-use Rattle.df_group.proofs.Members.{edited_members, members_fit, members_now_is}
+use Rattle.df_group.proofs.Members.{edited_members, members_fit, members_now_is, totals_now_are}
+use Rattle.df_group.proofs.Totals.{lead_applied}
+
+abbrev members_table : Grouping → TaggedRows → TableParts
+members_table g rows = record { schema = g.schema; rows = rows }
 
 -- the group of one more key is staged
 pub stage_more : (g : Grouping) (key k : List Cell) (now : List Cell → Option Group) (x : KeyChanges) (old rest : Option KeyChanges) (staged next : Option Group)
@@ -71,6 +76,29 @@ module _ (g : Grouping) (t : TaggedRows) (d : Changes) (fits : Fits t d) (fit : 
       ap (λ p. edited_table p c.entries.items) (ap (members_now g) is ∙ members_now_is g k (members_of g.indices k t))
       ∙ edited_members g k (members_of g.indices k t) (of k) c.entries.items e (subst (RowsFit g.schema) (sym (gives k)) (members_fit g k (applied t d) fit))
       ∙ ap (λ m. record { schema = g.schema; rows = m }) (gives k))
+
+  -- the totals of a key's group follow the changes of its rows
+  follows_at : (k : List Cell) (now : Option Group) (c : KeyChanges) → now ≡ non_empty (group_in g k t) → map entry_change c.entries.items ≡ finite.entries (of k) → Follows g now c
+  follows_at k now c is e =
+      let m = members_of g.indices k t in
+      let members : members_now g now ≡ members_table g m = ap (members_now g) is ∙ members_now_is g k m in
+      let edited : edited_table (members_table g m) c.entries.items ≡ members_table g (applied m (of k)) =
+      edited_members g k m (of k) c.entries.items e (subst (RowsFit g.schema) (sym (gives k)) (members_fit g k (applied t d) fit)) in
+      record {
+        own = ap (totals_now g) is ∙ totals_now_are g k m ∙ sym (ap (λ p. totals_of g (finite.values p.rows)) members);
+        lead = subst (λ p. Lead (finite.values p.rows) c.entries.items (finite.values (edited_table p c.entries.items).rows)) (sym members)
+            (subst (λ p. Lead (finite.values m) c.entries.items (finite.values p.rows)) (sym edited)
+            (lead_applied m (of k) c.entries.items e (keyed_diff (key_of g.indices) k t d fits).fits));
+      }
+
+  follows_if : (k : List Cell) (now : Option Group) (c : Option KeyChanges) → now ≡ non_empty (group_in g k t) → kept_changes c ≡ finite.entries (of k) → IfSome c (λ c. Follows g now c)
+  follows_if k now None is e = tt
+  follows_if k now (Some c) is e = follows_at k now c is e
+
+  pub follow : {S Z : Type 0} (index : IndexMap (List Cell) Group S) (changes : IndexMap (List Cell) KeyChanges Z) → IsIndexOf g index t
+      → ((k : List Cell) → kept_changes (get row_eq changes k) ≡ finite.entries (of k))
+      → (k : List Cell) → IfSome (get row_eq changes k) (λ c. Follows g (get row_eq index k) c)
+  follow index changes over kept k = follows_if k (get row_eq index k) (get row_eq changes k) (over.at k) (kept k)
 
   pub leads : {S Z : Type 0} (index staged : IndexMap (List Cell) Group S) (changes : IndexMap (List Cell) KeyChanges Z) → IsIndexOf g index t
       → ((k : List Cell) → kept_changes (get row_eq changes k) ≡ finite.entries (of k))

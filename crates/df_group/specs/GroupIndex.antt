@@ -1,5 +1,5 @@
 -- What the index of groups holds of an input, and what a change stages for it.
-use Rattle.std.specs.Prelude.{◌≡◌, ◌==◌, true, cond, List, [], ◌∷◌, Option, Some, None, is_some}
+use Rattle.std.specs.Prelude.{◌≡◌, ◌==◌, true, cond, List, [], ◌∷◌, map, Option, Some, None, is_some}
 use Rattle.std.specs.Option.{IfSome}
 use Rattle.std.specs.FinMap as finite
 use Rattle.indexmap.specs.IndexMap.{IndexMap, get}
@@ -12,8 +12,10 @@ use Rattle.df_delta.specs.declared.keyed.KeyChanges.{KeyChanges}
 use Rattle.df_ops.specs.Groups.{key_of}
 use Rattle.df_group.specs.Grouped.{groups_at}
 use Rattle.df_group.specs.GroupRows.{finished_row, members_of, group_output}
+use Rattle.df_group.specs.Totals.{Lead, total_for}
 use Rattle.df_group.specs.declared.group.Group.{Group}
 use Rattle.df_group.specs.declared.grouping.Grouping.{Grouping}
+use Rattle.df_group.specs.declared.total.Total.{Total}
 
 -- the finished row of these rows of a key
 abbrev pub row_of_group : Grouping → List Cell → List (List Cell) → List Cell
@@ -31,9 +33,17 @@ output_at g ks t q = groups_at (key_of g.indices) row_eq (row_of_group g) ks t q
 abbrev pub HasTagsOf : TaggedRows → TaggedRows → Type 0
 HasTagsOf t u = (q : Tag) → IfSome (finite.get u q) (λ _. is_some (finite.get t q) ≡ true)
 
+-- the total of these rows for each aggregate
+abbrev pub totals_of : Grouping → List (List Cell) → List Total
+totals_of g rows = map (λ a. total_for g.schema a.1 rows) g.aggregates
+
 -- the group of these members
 abbrev pub group_with : Grouping → List Cell → TableParts → Group
-group_with g k members = record { members = members; row = row_of_group g k (finite.values members.rows) }
+group_with g k members = record {
+  members = members;
+  totals = totals_of g (finite.values members.rows);
+  row = row_of_group g k (finite.values members.rows);
+}
 
 -- the group of a key in an input
 abbrev pub group_in : Grouping → List Cell → TaggedRows → Group
@@ -48,6 +58,11 @@ abbrev pub members_now : Grouping → Option Group → TableParts
 members_now g None = record { schema = g.schema; rows = finite.empty }
 members_now g (Some group) = group.members
 
+-- the totals of a group, those of no rows where there is no group
+abbrev pub totals_now : Grouping → Option Group → List Total
+totals_now g None = totals_of g []
+totals_now g (Some group) = group.totals
+
 -- the table after the changes of these entries, if their new rows fit its schema
 abbrev pub edited_table : TableParts → List Entry → TableParts
 edited_table t entries = cond (new_rows_fit t.schema entries) (after_entries t entries) t
@@ -55,6 +70,12 @@ edited_table t entries = cond (new_rows_fit t.schema entries) (after_entries t e
 -- the group of a key after these changes
 abbrev pub changed_group : Grouping → List Cell → Option Group → KeyChanges → Group
 changed_group g k now changes = group_with g k (edited_table (members_now g now) changes.entries.items)
+
+-- the totals of the key's group are those of its members, and the changes lead them to those of its members afterwards
+pub record Follows (g : Grouping) (now : Option Group) (changes : KeyChanges) : Type 0 where
+  pub own : totals_now g now ≡ totals_of g (finite.values (members_now g now).rows)
+  pub lead : Lead (finite.values (members_now g now).rows) changes.entries.items
+      (finite.values (edited_table (members_now g now) changes.entries.items).rows)
 
 -- what is staged for a key once these changes are
 abbrev pub staged_with : Grouping → List Cell → Option Group → Option KeyChanges → Option Group → Option Group

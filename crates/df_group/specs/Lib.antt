@@ -1,5 +1,6 @@
 pub mod Grouped
 pub mod GroupRows
+pub mod Totals
 pub mod NotedSides
 pub mod GroupIndex
 pub mod Work

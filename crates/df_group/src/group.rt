@@ -1,27 +1,31 @@
 //! The groups of keys: their members, and their finished rows.
 ghost use Rattle.std.specs.Prelude.{◌≡◌, ◌+◌, ◌<◌, ◌≤◌, ◌^◌, IfOk, List, OnOk, Some, cond};
 ghost use Rattle.std.specs.Option.{IfSome};
+ghost use Rattle.std.specs.FinMap as finite;
 ghost use Rattle.indexmap.specs.IndexMap.{get, index_map_len, spare};
 ghost use Rattle.df_value.specs.Rows.{row_eq};
 ghost use Rattle.df_value.specs.declared.cell.Cell.{Cell};
 ghost use Rattle.df_column.specs.Tables.{AreRising, after_entries, new_rows_fit};
 ghost use Rattle.df_delta.specs.Work.{IsWithin, plus};
 ghost use Rattle.df_group.specs.GroupIndex as index_spec;
-ghost use Rattle.df_group.specs.GroupIndex.{changed_group, edited_table, group_with, members_now, non_empty, staged_with, state_of};
+ghost use Rattle.df_group.specs.GroupIndex.{Follows, edited_table, group_with, members_now, totals_of};
 ghost use Rattle.df_group.specs.Work.{finishes};
 
 use crate::grouping::Grouping;
+use crate::total::{Total, moved_totals};
 use df_column::{Entry, Table};
 use df_delta::KeyChanges;
 use df_expr::Meter;
-use df_value::{Duplicate, Row};
+use df_value::{Duplicate, List, Row};
 use indexmap::IndexMap;
 use std::alloc::{AllocError, Global};
 
-/// The rows of one key, at their tags, and the row that the output has of them.
+/// The rows of one key, at their tags, a running total of them for each aggregate, and the row that the output has of
+/// them.
 #[derive(Drop)]
 pub struct Group {
     pub members: Table,
+    pub totals: List<Total>,
     pub row: Row,
 }
 
@@ -54,20 +58,47 @@ pub fn changed_members(
     }
 }
 
-/// The group of these members, with its row.
+/// The totals of the key's group after these changes, which lead to these members.
+pub fn changed_totals(
+    alloc: Global,
+    grouping: &Grouping,
+    index: &IndexMap<Row, Group>,
+    key: &Row,
+    changes: &KeyChanges,
+    members: &Table,
+) -> Result<List<Total>, AllocError>
+    ensures { IfOk result (λ ts. Follows grouping.now (get row_eq index.now key.now) changes.now
+        → members.now ≡ edited_table (members_now grouping.now (get row_eq index.now key.now)) changes.now.entries.items
+        → ts ≡ totals_of grouping.now (finite.values members.now.rows)) }
+{
+    match index.get(key) {
+        Some(group) => moved_totals(alloc, group.totals.as_slice(), &changes.entries, members),
+        None => {
+            let none = grouping.no_totals(alloc)?;
+            moved_totals(alloc, none.as_slice(), &changes.entries, members)
+        }
+    }
+}
+
+/// The group of these members and their totals, with its row.
 pub fn finished_group(
     alloc: Global,
     grouping: &Grouping,
     key: &Row,
     members: Table,
+    totals: List<Total>,
     meter: &mut Meter,
 ) -> Result<Group, AllocError>
     requires { meter.old.finishes + 1 < 2 ^ 128 }
-    ensures group { IfOk result (λ g. g ≡ group_with grouping.now key.now members) }
+    ensures group { IfOk result (λ g. totals ≡ totals_of grouping.now (finite.values members.rows)
+        → g ≡ group_with grouping.now key.now members) }
     ensures counted { meter.new ≡ plus meter.old (finishes 1) }
 {
     meter.finishes += 1;
-    let rows = members.rows(alloc)?;
-    let row = grouping.finished_row(alloc, key, &rows)?;
-    Ok(Group { members, row })
+    let row = grouping.finished_row(alloc, key, &members, totals.as_slice())?;
+    Ok(Group {
+        members,
+        totals,
+        row,
+    })
 }

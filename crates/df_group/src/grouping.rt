@@ -1,10 +1,23 @@
 //! How rows are grouped, and the row of a group.
-ghost use Rattle.std.specs.Prelude.{◌≡◌, IfOk};
+ghost use Rattle.std.specs.Prelude.{◌≡◌, [], IfOk, slice_get, unwrap_or};
+ghost use Rattle.std.specs.Option.{option_copied};
+ghost use Rattle.std.specs.FinMap as finite;
+ghost use Rattle.df_value.specs.Rows.{cell_at};
+ghost use Rattle.df_value.specs.declared.cell.Cell.TheVariants as cells;
+ghost use Rattle.df_ops.specs.Aggregates.{cells_of};
 ghost use Rattle.df_ops.specs.NamedColumns as named_columns;
+ghost use Rattle.df_ops.specs.Tables.{aggregate_cell};
 ghost use Rattle.df_group.specs.GroupIndex as index_spec;
+ghost use Rattle.df_group.specs.GroupIndex.{totals_of};
+ghost use Rattle.df_group.specs.Totals as totals_spec;
+ghost use Rattle.df_group.specs.Totals.{total_for};
 
-use df_ops::{Agg, aggregate, column_indices};
-use df_value::{Duplicate, List, Row, Schema, Text, copies, push_made};
+use crate::total::Total;
+use df_column::Table;
+use df_ops::{Agg, column_indices};
+use df_value::{
+    Cell, CellType, Duplicate, List, Row, Schema, Text, column_index, copies, push_made,
+};
 use std::alloc::{AllocError, Global};
 
 /// The columns of the rows, the indices of those that are keys, and the aggregates of a group.
@@ -37,16 +50,130 @@ impl Grouping {
         })
     }
 
-    /// The row of a group of these rows: the key, and after it the aggregates.
-    pub fn finished_row(&self, alloc: Global, key: &Row, rows: &[Row]) -> Result<Row, AllocError>
-        ensures { IfOk result (λ r. r ≡ index_spec.row_of_group self.now key.now rows.now) }
+    /// The totals of no rows, one for each aggregate.
+    pub fn no_totals(&self, alloc: Global) -> Result<List<Total>, AllocError>
+        ensures { IfOk result (λ ts. ts ≡ totals_of self.now []) }
+    {
+        let columns = self.schema.columns().as_slice();
+        let mut totals = Vec::with_capacity(alloc, self.aggregates.len())?;
+        for named in self.aggregates.as_slice() {
+            let agg = &named.1;
+            totals.push(Total::of_none(summed_index(columns, agg), valued_index(columns, agg)))?;
+        }
+        Ok(List::from_vec(totals))
+    }
+
+    /// The row of a group of these members: the key, and after it the aggregates. Only a first and a last member are
+    /// read, where they are wanted.
+    pub fn finished_row(
+        &self,
+        alloc: Global,
+        key: &Row,
+        members: &Table,
+        totals: &[Total],
+    ) -> Result<Row, AllocError>
+        ensures { IfOk result (λ r. totals.now ≡ totals_of self.now (finite.values members.now.rows)
+            → r ≡ index_spec.row_of_group self.now key.now (finite.values members.now.rows)) }
     {
         let columns = self.schema.columns().as_slice();
         let mut cells = copies(alloc, key.as_slice())?;
-        for named in self.aggregates.as_slice() {
-            let cell = aggregate(alloc, columns, rows, &named.1);
+        for (named, total) in self.aggregates.as_slice().iter().zip(totals) {
+            let cell = finished_cell(alloc, columns, members, &named.1, total);
             push_made(&mut cells, cell)?;
         }
         Row::new(alloc, cells)
+    }
+}
+
+/// The index whose cells an aggregate counts or sums; none for those that need neither.
+fn summed_index(columns: &[(Text, CellType)], agg: &Agg) -> Option<usize>
+    ensures { result ≡ totals_spec.summed_index columns.now agg.now }
+{
+    match agg {
+        Agg::Count(name) => column_index(name, columns),
+        Agg::Sum(name) => column_index(name, columns),
+        Agg::Mean(name) => column_index(name, columns),
+        Agg::NUnique(name) => column_index(name, columns),
+        _ => None,
+    }
+}
+
+/// The index whose values an aggregate looks at; none for those that need none.
+fn valued_index(columns: &[(Text, CellType)], agg: &Agg) -> Option<usize>
+    ensures { result ≡ totals_spec.valued_index columns.now agg.now }
+{
+    match agg {
+        Agg::Min(name) => column_index(name, columns),
+        Agg::Max(name) => column_index(name, columns),
+        Agg::NUnique(name) => column_index(name, columns),
+        _ => None,
+    }
+}
+
+/// An aggregate of a group of these members.
+fn finished_cell(
+    alloc: Global,
+    columns: &[(Text, CellType)],
+    members: &Table,
+    agg: &Agg,
+    total: &Total,
+) -> Result<Cell, AllocError>
+    ensures { IfOk result (λ c. total.now
+        ≡ total_for columns.now agg.now (finite.values members.now.rows)
+        → c ≡ aggregate_cell columns.now (finite.values members.now.rows) agg.now) }
+{
+    match agg {
+        Agg::Len => Ok(Cell::Int(members.len() as i64)),
+        Agg::Count(_) => Ok(Cell::Int(total.sums.count)),
+        Agg::Sum(_) => Ok(Cell::Wide(total.sums.sum)),
+        Agg::Mean(_) => Ok(total.sums.mean()),
+        Agg::Min(_) => value_or_null(alloc, total.values.counts.least()),
+        Agg::Max(_) => value_or_null(alloc, total.values.counts.greatest()),
+        Agg::NUnique(_) => Ok(Cell::Int(total.distinct_cells(members.len()))),
+        Agg::First(name) => member_cell(alloc, column_index(name, columns), members, 0),
+        Agg::Last(name) => {
+            let last = members.len().saturating_sub(1);
+            member_cell(alloc, column_index(name, columns), members, last)
+        }
+    }
+}
+
+/// A copy of the value, null where there is none.
+fn value_or_null(alloc: Global, value: Option<&Cell>) -> Result<Cell, AllocError>
+    ensures { IfOk result (λ c. c ≡ unwrap_or (option_copied value.entry) cells.Null) }
+{
+    match value {
+        Some(value) => value.copy(alloc),
+        None => Ok(Cell::Null),
+    }
+}
+
+/// The cell at an index of the member at a place, null where there is none.
+fn member_cell(
+    alloc: Global,
+    index: Option<usize>,
+    members: &Table,
+    place: usize,
+) -> Result<Cell, AllocError>
+    ensures { IfOk result (λ c. c
+        ≡ unwrap_or (slice_get (cells_of index (finite.values members.now.rows)) place) cells.Null) }
+{
+    if place >= members.len() {
+        return Ok(Cell::Null);
+    }
+    let row = members.row(alloc, place)?;
+    cell_of(alloc, index, &row)
+}
+
+/// A copy of the cell at an index of the row, null where there is none.
+fn cell_of(alloc: Global, index: Option<usize>, row: &Row) -> Result<Cell, AllocError>
+    ensures { IfOk result (λ c. c ≡ cell_at index row.now) }
+{
+    let Some(index) = index else {
+        return Ok(Cell::Null);
+    };
+    match row.get(index) {
+        Some(cell) => cell.copy(alloc),
+        None => Ok(Cell::Null),
     }
 }

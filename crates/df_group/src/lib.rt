@@ -1,7 +1,8 @@
 //! The live group-by: a row for each key of its input, which follows the input by deltas.
 //!
-//! [`LiveGroup`] keeps the members of each key's group with the group's finished row. A change touches the groups of
-//! the keys that it names, and finishes each of them once.
+//! [`LiveGroup`] keeps the members of each key's group with running totals of them and the group's finished row: counts,
+//! sums, and how many members have each value. A change touches the groups of the keys that it names: it moves their
+//! totals by the rows that go and come, and finishes each of them once, of its totals and of its first and last member.
 #![tactic(auto)]
 
 mod group;
@@ -9,5 +10,8 @@ mod grouping;
 mod live_group;
 mod notes;
 mod staging;
+mod sums;
+mod total;
+mod values;
 
 pub use live_group::{LiveGroup, StagedGroups};

@@ -6,10 +6,10 @@ ghost use Rattle.df_value.specs.Rows.{row_eq};
 ghost use Rattle.df_value.specs.declared.cell.Cell.{Cell};
 ghost use Rattle.df_column.specs.Tables.{AreRising};
 ghost use Rattle.df_delta.specs.Work.{IsWithin, plus};
-ghost use Rattle.df_group.specs.GroupIndex.{changed_group, non_empty, staged_with, state_of};
+ghost use Rattle.df_group.specs.GroupIndex.{Follows, changed_group, non_empty, staged_with, state_of};
 ghost use Rattle.df_group.specs.Work.{finishes};
 
-use crate::group::{Group, changed_members, finished_group};
+use crate::group::{Group, changed_members, changed_totals, finished_group};
 use crate::grouping::Grouping;
 use df_delta::KeyChanges;
 use df_expr::Meter;
@@ -29,7 +29,8 @@ fn stage_group(
 ) -> Result<(), AllocError>
     requires rising { AreRising changes.now.entries.items }
     requires counts { meter.old.finishes + 1 < 2 ^ 128 }
-    ensures staged { OnOk result ((k : List Cell) → get row_eq staged.new k
+    ensures staged { OnOk result (Follows grouping.now (get row_eq index.now key) changes.now
+        → (k : List Cell) → get row_eq staged.new k
         ≡ cond (row_eq key k)
         (Some (changed_group grouping.now key (get row_eq index.now key) changes.now))
         (get row_eq staged.old k)) }
@@ -37,7 +38,8 @@ fn stage_group(
     ensures counted { IsWithin meter.new (plus meter.old (finishes 1)) }
 {
     let members = changed_members(alloc, grouping, index, &key, changes)?;
-    let group = finished_group(alloc, grouping, &key, members, meter)?;
+    let totals = changed_totals(alloc, grouping, index, &key, changes, &members)?;
+    let group = finished_group(alloc, grouping, &key, members, totals, meter)?;
     match staged.insert(key, group) {
         Ok(_) => Ok(()),
         Err(_) => Err(AllocError),
@@ -55,7 +57,9 @@ pub fn stage_all(
     requires rising { (k : List Cell) → IfSome (get row_eq changes k)
         (λ c. AreRising c.entries.items) }
     requires counts { meter.old.finishes + 2 ^ 64 < 2 ^ 128 }
-    ensures staged { IfOk result (λ staged. (k : List Cell) → get row_eq staged k
+    ensures staged { IfOk result (λ staged. ((k : List Cell) → IfSome (get row_eq changes k)
+        (λ c. Follows grouping.now (get row_eq index.now k) c))
+        → (k : List Cell) → get row_eq staged k
         ≡ staged_with grouping.now k (get row_eq index.now k) (get row_eq changes k) None) }
     ensures grows { IsWithin meter.old meter.new }
     ensures within { IsWithin meter.new (plus meter.old (finishes (2 ^ 64))) }

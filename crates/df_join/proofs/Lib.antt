@@ -15,3 +15,4 @@ pub mod RightSide
 pub mod Both
 pub mod JoinRows
 pub mod Counted
+mod Subtrees

@@ -6,19 +6,17 @@ use Rattle.std.proofs.Math.ListN.{drop_of_length-le}
 use Rattle.std.specs.FinMap as finite
 use Rattle.indexmap.specs.IndexMap.{get}
 use Rattle.df_value.specs.Rows.{row_eq}
-use Rattle.df_value.specs.declared.cell.CellType.{CellType}
 use Rattle.df_column.specs.Changes.{set_at, applied_list, applied}
 use Rattle.df_column.specs.TagOrder.{tag_total, tag_same}
-use Rattle.df_column.specs.Tables.{NewRowsFit, TableParts, TaggedRows, after_entries, entry_change, new_row_fits}
+use Rattle.df_column.specs.Tables.{TaggedRows, entry_change, new_row_fits}
 use Rattle.df_column.specs.Tags.{tag_cmp}
 use Rattle.df_column.specs.declared.entry.Entry.{Entry}
 use Rattle.df_column.specs.declared.tag.Tag.{Tag}
 use Rattle.std.specs.Ordering.{eq_by_cmp}
 use Rattle.df_delta.specs.Deltas.{Changes}
 use Rattle.df_delta.specs.Differences.{Fits}
-use Rattle.df_delta.specs.Notes.{moved}
 use Rattle.df_delta.proofs.Changes.{get-set_at}
-use Rattle.df_delta.proofs.Collected.{T-both, T-first, T-second}
+use Rattle.df_delta.proofs.Collected.{T-first, T-second}
 use Rattle.df_join.specs.Keyed.{IsGroup, IsIndexOf, LeadsTo, group_of, staged_or, state_of, table_or, table_or_none}
 use Rattle.df_join.specs.RowNotes.{CanMove, FitsList, NewFit, Note, row_after, without}
 use Rattle.df_join.specs.Rules.{Cells}
@@ -124,20 +122,3 @@ module _ (indices : List (Option ℕ)) (members : Members) where
   follows_all staged items i u le f =
       let f' : Follows indices members staged [] u = subst (λ es. Follows indices members staged (map entry_change es) u) (drop_of_length-le items le) f in
       subst (LeadsTo indices members staged) f'.gives f'.leads
-
--- a table edited by one row that goes or comes
-module _ (goes : Bool) (tag : Tag) (row : Cells) where
-  new_is : (moved goes row).new ≡ row_after goes row
-  new_is = elim goes as (λ g. (moved g row).new ≡ row_after g row) [ true ↦ refl | false ↦ refl ]
-
-  pub one_fits : (schema : List (List ℕ × CellType)) (e : Entry) → entry_change e ≡ (tag, moved goes row) → T (new_row_fits schema (row_after goes row)) → NewRowsFit schema (e ∷ [])
-  one_fits schema e is fits = T-both _ _ (subst (λ r. T (new_row_fits schema r)) (sym (ap (λ c. c.1.new) is ∙ new_is)) fits) tt
-
-  pub one_edited : (t : TableParts) (e : Entry) → entry_change e ≡ (tag, moved goes row) → after_entries t (e ∷ []) ≡ record { schema = t.schema; rows = set_at t.rows tag (row_after goes row) }
-  one_edited t e is = λ i. record { schema = t.schema; rows = rows_are i }
-    where
-      rows_are : applied t.rows (finite.from_sorted {R = tag_cmp} (entry_change e ∷ [])) ≡ set_at t.rows tag (row_after goes row)
-      rows_are =
-          ap (applied_list t.rows) (finite.entries-from_sorted tag_cmp (entry_change e ∷ []) tt)
-          ∙ ap (λ c. set_at t.rows c.0 c.1.new) is
-          ∙ ap (set_at t.rows tag) new_is

@@ -1,3 +1,4 @@
+pub mod Subtrees
 pub mod Spread
 pub mod Joined
 pub mod Rules

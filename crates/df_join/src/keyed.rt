@@ -6,7 +6,7 @@ ghost use Rattle.df_value.specs.Rows.{row_eq};
 ghost use Rattle.df_join.specs.Rules.{Cells};
 ghost use Rattle.df_join.specs.Keyed.{state_of, unless_empty};
 
-use df_column::Table;
+use crate::tree_table::TreeTable;
 use df_value::{Duplicate, Row};
 use indexmap::IndexMap;
 use std::alloc::{AllocError, Global};
@@ -14,7 +14,7 @@ use std::alloc::{AllocError, Global};
 /// A table for each of some keys. Each look-up of a key is a probe, and is counted; to put a table under a key is none.
 #[derive(Drop)]
 pub struct KeyedTables {
-    tables: IndexMap<Row, Table>,
+    tables: IndexMap<Row, TreeTable>,
 }
 
 impl KeyedTables {
@@ -27,7 +27,7 @@ impl KeyedTables {
     }
 
     /// The table of the key. Makes one probe.
-    pub fn look(&self, key: &Row, probes: &mut u128) -> Option<&Table>
+    pub fn look(&self, key: &Row, probes: &mut u128) -> Option<&TreeTable>
         requires { probes.old + 1 < 2 ^ 128 }
         ensures table { option_copied result ≡ get row_eq self.now.tables key.now }
         ensures counted { probes.new ≡ probes.old + 1 }
@@ -37,7 +37,7 @@ impl KeyedTables {
     }
 
     /// Takes the table of the key out. Makes one probe.
-    pub fn take(&mut self, key: &Row, probes: &mut u128) -> Option<Table>
+    pub fn take(&mut self, key: &Row, probes: &mut u128) -> Option<TreeTable>
         requires { probes.old + 1 < 2 ^ 128 }
         ensures table { result ≡ get row_eq self.old.tables key.now }
         ensures rest { (k : Cells) → get row_eq self.new.tables k ≡ cond (row_eq key.now k) None (get row_eq self.old.tables k) }
@@ -48,7 +48,7 @@ impl KeyedTables {
     }
 
     /// Puts the table under the key.
-    pub fn put(&mut self, alloc: Global, key: &Row, table: Table) -> Result<(), AllocError>
+    pub fn put(&mut self, alloc: Global, key: &Row, table: TreeTable) -> Result<(), AllocError>
         ensures { OnOk result ((k : Cells) → get row_eq self.new.tables k ≡ cond (row_eq key.now k) (Some table) (get row_eq self.old.tables k)) }
     {
         match self.tables.insert(key.copy(alloc)?, table) {
@@ -66,12 +66,12 @@ impl KeyedTables {
     }
 
     /// Puts the table under the key, or takes the key out where the table is empty.
-    fn put_table(&mut self, key: Row, table: Table)
+    fn put_table(&mut self, key: Row, table: TreeTable)
         requires { 0 < spare self.old.tables }
         ensures state { (k : Cells) → get row_eq self.new.tables k ≡ cond (row_eq key k) (unless_empty table) (get row_eq self.old.tables k) }
         ensures room { spare self.old.tables ≤ spare self.new.tables + 1 }
     {
-        if table.len() == 0 {
+        if table.is_empty() {
             let _ = self.tables.swap_remove(&key);
         } else {
             let _ = self.tables.insert(key, table);

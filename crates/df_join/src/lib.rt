@@ -8,6 +8,7 @@ mod join;
 mod keyed;
 mod members;
 mod rule;
+mod tree_table;
 
 pub use join::{LiveJoin, StagedJoin};
 pub use keyed::KeyedTables;

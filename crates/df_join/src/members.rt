@@ -5,16 +5,16 @@ ghost use Rattle.std.specs.FinMap as finite;
 ghost use Rattle.indexmap.specs.IndexMap.{get, spare, index_map_len, IsUnchanged};
 ghost use Rattle.df_value.specs.Rows.{row_eq};
 ghost use Rattle.df_column.specs.Changes.{set_at, applied};
-ghost use Rattle.df_column.specs.Tables.{TaggedRows, entry_change, new_row_fits};
+ghost use Rattle.df_column.specs.Tables.{TaggedRows, new_row_fits};
 ghost use Rattle.df_delta.specs.Differences.{Fits};
-ghost use Rattle.df_delta.specs.Notes.{moved};
 ghost use Rattle.df_join.specs.Keyed.{IsGroup, IsIndexOf, LeadsTo, group_of, state_of, table_or, table_or_none, unless_empty};
 ghost use Rattle.df_join.specs.Probes.{Grows, all_probes, change_probes, is_staged, nothing_staged, probes_over, stage_probes, with_key, with_keys};
 ghost use Rattle.df_join.specs.RowNotes.{CanMove, NewFit, row_after, without};
 ghost use Rattle.df_join.specs.Rules.{Cells};
 
 use crate::keyed::KeyedTables;
-use df_column::{Entry, Table, Tag};
+use crate::tree_table::TreeTable;
+use df_column::{Entry, Tag};
 use df_delta::Delta;
 use df_ops::key_of;
 use df_value::{Duplicate, Row, Schema};
@@ -24,45 +24,25 @@ use std::alloc::{AllocError, Global};
 #[derive(Drop)]
 pub struct Members {
     alloc: Global,
-    empty: Table,
+    empty: TreeTable,
     keyed: KeyedTables,
-}
-
-/// The change of a row that goes, or else comes.
-fn move_entry(alloc: Global, goes: bool, tag: Tag, row: &Row) -> Result<Entry, AllocError>
-    ensures { IfOk result (λ e. entry_change e ≡ (tag, moved goes row.now)) }
-{
-    let row = row.copy(alloc)?;
-    if goes {
-        Ok(Entry {
-            tag,
-            old: Some(row),
-            new: None,
-        })
-    } else {
-        Ok(Entry {
-            tag,
-            old: None,
-            new: Some(row),
-        })
-    }
 }
 
 /// The table without the row that goes, or with the row that comes.
 fn edited_by(
     alloc: Global,
-    table: &Table,
+    table: &TreeTable,
     goes: bool,
     tag: Tag,
     row: &Row,
-) -> Result<Table, AllocError>
-    ensures { T (new_row_fits table.now.schema (row_after goes row.now))
-        → IfOk result (λ t. t ≡ record { schema = table.now.schema; rows = set_at table.now.rows tag (row_after goes row.now) }) }
+) -> Result<TreeTable, AllocError>
+    ensures { IfOk result (λ t. t ≡ record { schema = table.now.schema; rows = set_at table.now.rows tag (row_after goes row.now) }) }
 {
-    let entry = move_entry(alloc, goes, tag, row)?;
-    let entries = [entry];
-    let table = table.edited(alloc, &entries)?;
-    Ok(table)
+    if goes {
+        table.remove(alloc, tag)
+    } else {
+        table.insert(alloc, tag, row)
+    }
 }
 
 impl Members {
@@ -73,13 +53,13 @@ impl Members {
     {
         Ok(Members {
             alloc,
-            empty: Table::new(alloc, schema.copy(alloc)?)?,
+            empty: TreeTable::new(alloc, schema.copy(alloc)?)?,
             keyed: KeyedTables::new(alloc),
         })
     }
 
     /// The rows of the key. Makes one probe.
-    pub fn look(&self, key: &Row, probes: &mut u128) -> Option<&Table>
+    pub fn look(&self, key: &Row, probes: &mut u128) -> Option<&TreeTable>
         requires { probes.old + 1 < 2 ^ 128 }
         ensures table { option_copied result ≡ get row_eq self.now.keyed.tables key.now }
         ensures counted { probes.new ≡ probes.old + 1 }
@@ -88,10 +68,10 @@ impl Members {
     }
 
     /// The table, or where it is empty one that is of the schema.
-    fn or_empty(&self, table: Table) -> Result<Table, AllocError>
+    fn or_empty(&self, table: TreeTable) -> Result<TreeTable, AllocError>
         ensures { IfOk result (λ t. t ≡ table_or self.now.empty (unless_empty table)) }
     {
-        if table.len() == 0 {
+        if table.is_empty() {
             self.empty.share(self.alloc)
         } else {
             Ok(table)
@@ -99,7 +79,7 @@ impl Members {
     }
 
     /// The rows of the key as they are. Makes one probe.
-    fn kept_table(&self, key: &Row, probes: &mut u128) -> Result<Table, AllocError>
+    fn kept_table(&self, key: &Row, probes: &mut u128) -> Result<TreeTable, AllocError>
         requires { probes.old + 1 < 2 ^ 128 }
         ensures table { IfOk result (λ t. t ≡ table_or self.now.empty (get row_eq self.now.keyed.tables key.now)) }
         ensures counted { probes.new ≡ probes.old + 1 }
@@ -116,7 +96,7 @@ impl Members {
         staged: &mut KeyedTables,
         key: &Row,
         probes: &mut u128,
-    ) -> Result<Table, AllocError>
+    ) -> Result<TreeTable, AllocError>
         requires { probes.old + 2 < 2 ^ 128 }
         ensures table { IfOk result (λ t. t ≡ table_or self.now.empty (state_of self.now.keyed.tables staged.old.tables key.now)) }
         ensures rest { (k : Cells) → get row_eq staged.new.tables k ≡ cond (row_eq key.now k) None (get row_eq staged.old.tables k) }
@@ -153,9 +133,9 @@ impl Members {
         ensures counted { Grows probes.old probes.new 2 }
     {
         let before = self.take_table(staged, key, probes)?;
-        let was_empty = before.len() == 0;
+        let was_empty = before.is_empty();
         let after = edited_by(self.alloc, &before, goes, tag, row)?;
-        let alone = if goes { after.len() == 0 } else { was_empty };
+        let alone = if goes { after.is_empty() } else { was_empty };
         staged.put(self.alloc, key, after)?;
         Ok(alone)
     }

@@ -102,7 +102,8 @@ impl LiveNode for LiveOperator {
             (LiveOperator::Sum(node), StagedOperator::Sum(staged)) => node.commit(staged),
             (LiveOperator::Rank(node), StagedOperator::Rank(staged)) => node.commit(staged),
             (LiveOperator::Group(node), StagedOperator::Group(staged)) => node.commit(staged),
-            _ => {}
+            // Staged by a node of another kind, which no prepare of this one does.
+            (_, staged) => drop(staged),
         }
     }
 }

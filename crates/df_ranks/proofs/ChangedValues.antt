@@ -13,13 +13,14 @@ use Rattle.df_value.specs.declared.cell.Cell.{Cell}
 use Rattle.df_ops.specs.declared.ranks.RankKind.{RankKind}
 use Rattle.df_column.specs.Changes.{after_changes}
 use Rattle.df_column.proofs.Bools.{T-both, T-first, T-second, less_from_is_lt}
+use Rattle.df_counts.specs.Counts.{count_change}
+use Rattle.df_counts.proofs.Orders.{cell_same}
+use Rattle.df_counts.proofs.Lookups.{below_more}
 use Rattle.df_delta.proofs.Changes.{after_change}
 use Rattle.df_delta.proofs.Collected.{find_below_all}
 use Rattle.df_ranks.specs.Counts.{SameBelow, changes_weight, weight}
-use Rattle.df_ranks.specs.Rises.{count_change}
 use Rattle.df_ranks.proofs.CountChanges.{find_raised}
-use Rattle.df_ranks.proofs.Entries.{below_more, tied}
-use Rattle.df_ranks.proofs.Orders.{cell_same}
+use Rattle.df_ranks.proofs.Entries.{tied}
 
 -- keys by themselves, as entries
 abbrev pub marked : List Cell → List (Cell × Bool)

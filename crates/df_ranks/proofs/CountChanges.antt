@@ -1,37 +1,24 @@
 -- The changes of counts that rises make, and what is found after them.
 use Rattle.std.proofs.Common.{◌≡◌, ℕ, Bool, true, false, cond, List, [], ◌∷◌, Some, map, refl, sym, ap, subst, ◌∙◌}
 use Rattle.std.specs.Prelude.{T, ◌&&◌}
-use Rattle.std.specs.List.{AllByRecursion}
-use Rattle.std.specs.List.Sorted.{IsStrictlySortedBy}
-use Rattle.std.specs.Map.{lookup, keys_of}
+use Rattle.std.specs.Map.{lookup}
 use Rattle.std.specs.Option.{option_map}
 use Rattle.std.specs.Ordering.{eq_by_cmp, is_lt, is_eq}
 use Rattle.std.specs.declared.cmp.Ordering.{Ordering}
-use Rattle.std.specs.declared.cmp.Ordering.TheVariants.{Less}
 use Rattle.std.specs.FinMap.{is_sorted, find}
 use Rattle.std.specs.FinMap.Entries.{below_all}
 use Rattle.df_value.specs.CellOrder.{cell_cmp, cell_cmp_total}
 use Rattle.df_value.specs.declared.cell.Cell.{Cell}
 use Rattle.df_column.specs.Changes.{after_changes}
-use Rattle.df_column.proofs.Bools.{T-both, is_lt_from_less}
+use Rattle.df_counts.specs.Counts.{count_change}
+use Rattle.df_counts.proofs.Orders.{cell_same}
 use Rattle.df_delta.proofs.Changes.{after_change}
-use Rattle.df_ranks.specs.Rises.{count_change}
 use Rattle.df_ranks.proofs.Entries.{find_after, tied}
-use Rattle.df_ranks.proofs.Orders.{cell_same}
 
--- what a map of the standard library finds, and that its keys rise
+-- what a map of the standard library finds
 pub lookup_find : {K X : Type 0} (R : K → K → Ordering) (q : K) (es : List (K × X)) → lookup (λ x. is_eq (R q x)) es ≡ find R q es
 lookup_find R q [] = refl
 lookup_find R q (e ∷ es) = ap (cond (eq_by_cmp R q e.0) (Some e.1)) (lookup_find R q es)
-
-all_below : {K X : Type 0} (R : K → K → Ordering) (k : K) (es : List (K × X)) → AllByRecursion (λ y. R k y ≡ Less) (keys_of es) → T (below_all R k es)
-all_below R k [] h = tt
-all_below R k (e ∷ es) h = T-both _ _ (is_lt_from_less _ h.0) (all_below R k es h.1)
-
-pub keys_rise : {K X : Type 0} (R : K → K → Ordering) (es : List (K × X)) → IsStrictlySortedBy R (keys_of es) → T (is_sorted R es)
-unfolding IsStrictlySortedBy
-keys_rise R [] h = tt
-keys_rise R (e ∷ es) h = T-both _ _ (all_below R e.0 es h.0) (keys_rise R es h.1)
 
 module _ (counts : List (Cell × ℕ)) where
   pub below_changes : (k : Cell) (rs : List (Cell × ℕ)) → below_all cell_cmp k (map (count_change counts) rs) ≡ below_all cell_cmp k rs

@@ -16,11 +16,11 @@ use Rattle.df_column.specs.TagOrder.{tag_total, tag_same}
 use Rattle.df_column.specs.Tables.{TaggedRows, entry_change}
 use Rattle.df_column.specs.declared.entry.Entry.{Entry}
 use Rattle.df_column.specs.declared.tag.Tag.{Tag}
+use Rattle.df_counts.specs.Counts.{AreCounts, count_change, some_count, value_count, value_in}
 use Rattle.df_delta.specs.Deltas.{Changes}
 use Rattle.df_delta.specs.Differences.{Fits}
 use Rattle.df_delta.proofs.Changes.{after_change}
-use Rattle.df_ranks.specs.Counts.{AreCounts, some_count, value_count, value_in}
-use Rattle.df_ranks.specs.Rises.{AreRises, come, count_change, gone, has_value, is_value, rise_of}
+use Rattle.df_ranks.specs.Rises.{AreRises, come, gone, has_value, is_value, rise_of}
 use Rattle.df_ranks.proofs.CountChanges.{find_raised, lookup_find}
 use Rattle.df_ranks.proofs.Raises.{wrapped}
 use Rattle.df_ranks.proofs.RowSums.{coming, going, part, total, total-map, total-sum_by, total_applied}

@@ -18,10 +18,11 @@ use Rattle.df_expr.specs.Value.{is_null}
 use Rattle.df_ops.specs.Groups.{distinct_after, key_of}
 use Rattle.df_ops.specs.Ranks.{dense_rank_of, distinct_at, is_smaller}
 use Rattle.df_ops.specs.declared.ranks.RankKind.TheVariants as rank
+use Rattle.df_counts.specs.Counts.{AreCounts, some_count, value_count}
+use Rattle.df_counts.proofs.Orders.{cell_same, ties_where_equal}
 use Rattle.df_delta.specs.Collected.{collected_list}
 use Rattle.df_delta.proofs.Collected.{find-collected, is_sorted-collected}
-use Rattle.df_ranks.specs.Counts.{AreCounts, counted_rank, some_count, value_count, weight_below}
-use Rattle.df_ranks.proofs.Orders.{cell_same, ties_where_equal}
+use Rattle.df_ranks.specs.Counts.{weight_below}
 use Rattle.df_ranks.proofs.RowSums.{total}
 use Rattle.df_ranks.proofs.WeightSums.{weight_at, weights_total}
 
@@ -216,5 +217,5 @@ module _ (index : Option ℕ) (c : Cell) where
         ∙ finite.len-entries _ ∙ ap length (finite.entries-from_sorted cell_cmp _ (is_sorted-collected cell_cmp mark_below counts sorted))
         ∙ marks_total counts ∙ sym (weights_total rank.Dense counts c)
 
-    pub dense_by_counts : dense_rank_of (distinct_at index rows) c ≡ counted_rank rank.Dense counts c
+    pub dense_by_counts : dense_rank_of (distinct_at index rows) c ≡ cond (is_null c) cell.Null (cell.Int (pos (1 + weight_below rank.Dense counts c)))
     dense_by_counts = ap (λ n. cond (is_null c) cell.Null (cell.Int (pos (1 + n)))) smaller_count

@@ -1,12 +1,10 @@
 pub mod Entries
 pub mod RowSums
-pub mod Orders
 pub mod Raises
 pub mod RiseSteps
 pub mod CountChanges
 pub mod Outputs
 pub mod WeightSums
-pub mod RankNumbers
 pub mod MinRanks
 pub mod ChangedValues
 pub mod OutputSteps
@@ -15,4 +13,3 @@ pub mod DenseRanks
 pub mod CountsAfter
 pub mod RankDeltas
 pub mod RankTables
-pub mod Recounts

@@ -1,9 +1,10 @@
 -- Ranks of the kind `Min` by counts: the rows whose value is below a cell are those that the counts below it count.
-use Rattle.std.proofs.Common.{◌≡◌, ℕ, zero, suc, ◌+◌, ◌%◌, ◌^◌, ◌≤◌, Bool, true, false, cond, not, List, [], ◌∷◌, Option, Some, None, pos, length, filter, refl, sym, ap, ◌∙◌, arith}
+use Rattle.std.proofs.Common.{◌≡◌, ℕ, zero, suc, ◌+◌, ◌%◌, ◌^◌, ◌≤◌, Bool, true, false, cond, not, List, [], ◌∷◌, Option, Some, None, pos, length, filter, refl, sym, ap, ◌∙◌, arith, subst}
 use Rattle.std.specs.Prelude.{T, ◌&&◌, unwrap_or}
 use Rattle.std.specs.Ordering.{eq_by_cmp, is_lt}
 use Rattle.std.specs.FinMap.{find, is_sorted, put}
-use Rattle.std.specs.FinMap.Entries.{find-put, is_sorted-put, same_entries}
+use Rattle.std.specs.declared.cmp.Ordering.TheVariants.{Less, Equal, Greater}
+use Rattle.std.specs.FinMap.Entries.{by_order, find-put, is_sorted-put, same_entries}
 use Rattle.df_value.specs.CellEq.{cell_eq, cell_eq-Decides}
 use Rattle.df_value.specs.CellOrder.{cell_cmp, cell_cmp_total}
 use Rattle.df_value.specs.Rows.{cell_at}
@@ -12,10 +13,11 @@ use Rattle.df_value.specs.declared.cell.Cell.TheVariants as cell
 use Rattle.df_expr.specs.Value.{is_null}
 use Rattle.df_ops.specs.Ranks.{count_below, is_below, min_rank_of}
 use Rattle.df_ops.specs.declared.ranks.RankKind.TheVariants as rank
-use Rattle.df_ranks.specs.Counts.{AreCounts, counted_rank, some_count, value_count, weight_below}
-use Rattle.df_ranks.proofs.Orders.{cell_same, ties_where_equal}
+use Rattle.df_counts.specs.Counts.{AreCounts, some_count, value_count}
+use Rattle.df_counts.proofs.Orders.{cell_same, ties_where_equal}
+use Rattle.df_ranks.specs.Counts.{counted_rank, weight_below}
 use Rattle.df_ranks.proofs.RowSums.{part, total, total_put}
-use Rattle.df_ranks.proofs.WeightSums.{weight_at, weights_total}
+use Rattle.df_ranks.proofs.WeightSums.{dense_few, weight_at, weights_total}
 
 abbrev Rows : Type 0
 Rows = List (List Cell)
@@ -83,6 +85,34 @@ module _ (index : Option ℕ) where
         find-put cell_cmp cell_cmp_total u (cell_at index r) next (tally index rs)
         ∙ ap (λ b. cond b (Some next) (find cell_cmp u (tally index rs))) (flipped false s)
         ∙ rest ∙ ap (λ n. some_count (cond n 0 (length (filter (λ r. cell_eq (cell_at index r) u) rs)))) q
+
+  -- there are at most as many values as rows
+  put_few : (v : Cell) (n : ℕ) (es : List (Cell × ℕ)) → length (put cell_cmp v n es) ≤ suc (length es)
+  put_few v n [] = omega arith
+  put_few v n (e ∷ es) =
+      let rest = put_few v n es in
+      elim (cell_cmp v e.0) as (λ r. length (by_order r ((v, n) ∷ e ∷ es) ((e.0, n) ∷ es) (e ∷ put cell_cmp v n es)) ≤ suc (suc (length es))) [ Less ↦ omega arith | Equal ↦ omega arith | Greater ↦ omega (arith, rest) ]
+
+  few_tally : (rows : Rows) → length (tally index rows) ≤ length rows
+  few_tally [] = omega arith
+  few_tally (r ∷ rs) = by_null (few_tally rs) (is_null (cell_at index r)) where
+    by_null : length (tally index rs) ≤ length rs → (m : Bool) → length (cond m (tally index rs) (put cell_cmp (cell_at index r) (unwrap_or (find cell_cmp (cell_at index r) (tally index rs)) 0 + 1) (tally index rs))) ≤ suc (length rs)
+    by_null rest true = omega (arith, rest)
+    by_null rest false = let more = put_few (cell_at index r) (unwrap_or (find cell_cmp (cell_at index r) (tally index rs)) 0 + 1) (tally index rs) in omega (arith, rest, more)
+
+  counted_few : (rows : Rows) (counts : List (Cell × ℕ)) → T (is_sorted cell_cmp counts) → AreCounts counts index rows → length counts ≤ length rows
+  counted_few rows counts sorted are =
+      subst (λ es. length es ≤ length rows) (same_entries cell_cmp cell_cmp_total cell_same _ _ (tally_sorted rows) sorted (λ u. find_tally rows u ∙ sym (are.at u))) (few_tally rows)
+
+  -- so the modulus of a dense rank changes nothing
+  pub dense_small : (c : Cell) (rows : Rows) (counts : List (Cell × ℕ)) → T (is_sorted cell_cmp counts) → AreCounts counts index rows → length rows ≤ 2 ^ 60 → weight_below rank.Dense counts c ≡ weight_below rank.Dense counts c % 2 ^ 62
+  dense_small c rows counts sorted are few =
+      let values = counted_few rows counts sorted are in
+      let below = subst (λ n. n ≤ length counts) (sym (weights_total rank.Dense counts c)) (dense_few c counts) in
+      kept (weight_below rank.Dense counts c) (length counts) (length rows) below values few
+    where
+      kept : (n m k : ℕ) → n ≤ m → m ≤ k → k ≤ 2 ^ 60 → n ≡ n % 2 ^ 62
+      kept n m k h g f = omega (arith, h, g, f)
 
   module _ (c : Cell) where
     -- one row more with a value below c

@@ -24,26 +24,28 @@ use Rattle.df_column.specs.Tables.{TaggedRows, entry_change}
 use Rattle.df_column.specs.Tags.{tag_cmp}
 use Rattle.df_column.specs.declared.entry.Entry.{Entry}
 use Rattle.df_column.specs.declared.tag.Tag.{Tag}
+use Rattle.df_counts.specs.Counts.{AreCounts, count_change, some_count}
+use Rattle.df_counts.proofs.Orders.{cell_same}
 use Rattle.df_delta.specs.Deltas.{Changes}
 use Rattle.df_delta.specs.Differences.{Fits, IsDiff}
 use Rattle.df_delta.specs.Reached.{changes_at, is_reached}
 use Rattle.df_delta.proofs.Changes.{after_change, get-applied}
 use Rattle.df_delta.proofs.Reached.{reached_diff}
-use Rattle.df_ranks.specs.Counts.{AreCounts, RanksStay, counted_rank, is_above, rank_number, some_count, weight_below}
+use Rattle.df_ranks.specs.Counts.{RanksStay, counted_rank, is_above, rank_number, weight_below}
 use Rattle.df_ranks.specs.Ranked.{rank_of, ranked, with_ranks}
 use Rattle.df_ranks.specs.Reach.{Reaches, is_row_above_any, is_value_above}
-use Rattle.df_ranks.specs.Rises.{AreRises, count_change}
+use Rattle.df_ranks.specs.Rises.{AreRises}
 use Rattle.df_ranks.proofs.CountsAfter.{counts_after}
 use Rattle.df_ranks.proofs.DenseRanks.{dense_by_counts, some_any}
 use Rattle.df_ranks.proofs.Entries.{sorted_after}
-use Rattle.df_ranks.proofs.MinRanks.{min_by_counts}
-use Rattle.df_ranks.proofs.Orders.{cell_same}
+use Rattle.df_ranks.proofs.MinRanks.{dense_small, min_by_counts}
 use Rattle.df_ranks.proofs.Outputs.{get_ranked, rank_row}
 
 -- the rank by counts is the rank
 by_counts : (kind : RankKind) (index : Option ℕ) (c : Cell) (rows : List (List Cell)) (counts : List (Cell × ℕ)) → T (is_sorted cell_cmp counts) → AreCounts counts index rows → length rows ≤ 2 ^ 60
     → rank_of kind index rows c ≡ counted_rank kind counts c
-by_counts rank.Dense index c rows counts sorted are few = dense_by_counts index c rows counts sorted are
+by_counts rank.Dense index c rows counts sorted are few =
+    dense_by_counts index c rows counts sorted are ∙ ap (λ n. cond (is_null c) cell.Null (cell.Int (pos (1 + n)))) (dense_small index c rows counts sorted are few)
 by_counts rank.Min index c rows counts sorted are few = min_by_counts index c rows counts sorted are few
 
 few_values : (t : TaggedRows) → finite.len t ≤ 2 ^ 60 → length (finite.values t) ≤ 2 ^ 60
@@ -86,9 +88,9 @@ module _ (columns : List (List ℕ × CellType)) (name : List ℕ) (kind : RankK
   same_rank q row e low = by_null (is_null (cell_at index row)) refl where
     by_null : (m : Bool) → is_null (cell_at index row) ≡ m → counted_rank kind old (cell_at index row) ≡ counted_rank kind new (cell_at index row)
     by_null true v =
-        ap (λ m. cond m cell.Null (cell.Int (pos (1 + rank_number kind (weight_below kind old (cell_at index row)))))) v
-        ∙ sym (ap (λ m. cond m cell.Null (cell.Int (pos (1 + rank_number kind (weight_below kind new (cell_at index row)))))) v)
-    by_null false v = ap (λ n. cond (is_null (cell_at index row)) cell.Null (cell.Int (pos (1 + rank_number kind n)))) (stay.at (cell_at index row) (counted_there q row e v) (not_above least row v low))
+        ap (λ m. cond m cell.Null (cell.Int (pos (1 + rank_number (weight_below kind old (cell_at index row)))))) v
+        ∙ sym (ap (λ m. cond m cell.Null (cell.Int (pos (1 + rank_number (weight_below kind new (cell_at index row)))))) v)
+    by_null false v = ap (λ n. cond (is_null (cell_at index row)) cell.Null (cell.Int (pos (1 + rank_number n)))) (stay.at (cell_at index row) (counted_there q row e v) (not_above least row v low))
 
   -- outside the tags that are reached the outputs agree
   same_outside : (q : Tag) → is_reached tags q ≡ false → finite.get (with_ranks columns name index (counted_rank kind old) t) q ≡ finite.get (with_ranks columns name index (counted_rank kind new) (applied t d)) q

@@ -15,8 +15,8 @@ use Rattle.df_ops.specs.declared.ranks.RankKind.TheVariants as rank
 use Rattle.df_column.specs.TagOrder.{tag_total, tag_same}
 use Rattle.df_column.specs.Tables.{TableParts, TaggedRows}
 use Rattle.df_column.specs.Tags.{tag_cmp}
+use Rattle.df_counts.specs.Counts.{AreCounts, some_count}
 use Rattle.df_delta.proofs.Collected.{values-collected}
-use Rattle.df_ranks.specs.Counts.{AreCounts, some_count}
 use Rattle.df_ranks.specs.Nodes.{IsRanked}
 use Rattle.df_ranks.specs.Ranked.{rank_of, ranked}
 use Rattle.df_ranks.proofs.Outputs.{get_ranked, rank_row}

@@ -7,8 +7,8 @@ use Rattle.df_value.specs.CellEq.{cell_eq, cell_eq-Decides}
 use Rattle.df_value.specs.CellOrder.{cell_cmp}
 use Rattle.df_value.specs.declared.cell.Cell.{Cell}
 use Rattle.df_column.specs.declared.entry.Entry.{Entry}
+use Rattle.df_counts.proofs.Orders.{ties_where_equal}
 use Rattle.df_ranks.specs.Rises.{AreRises, come, gone, has_value, rise_of}
-use Rattle.df_ranks.proofs.Orders.{ties_where_equal}
 use Rattle.df_ranks.proofs.Raises.{one_come, one_gone}
 
 -- a map in which one value has risen

@@ -12,10 +12,10 @@ use Rattle.std.specs.FinMap.Entries.{below_all, by_order}
 use Rattle.std.proofs.lemmas.List.Sums.{sum_by-cons}
 use Rattle.df_column.specs.Changes.{Change, set_at, applied_list, applied}
 use Rattle.df_column.proofs.Bools.{T-first, T-second, equal_from_is_eq}
+use Rattle.df_counts.proofs.Lookups.{below_more}
 use Rattle.df_delta.specs.Differences.{Fits}
 use Rattle.df_delta.proofs.Changes.{get-set_at}
 use Rattle.df_delta.proofs.Collected.{find_below_all}
-use Rattle.df_ranks.proofs.Entries.{below_more}
 
 -- the sum over entries
 abbrev pub total : {E : Type 0} → (E → ℕ) → List E → ℕ

@@ -1,13 +1,13 @@
 -- What the values below a cell add to its rank.
-use Rattle.std.proofs.Common.{◌≡◌, ℕ, zero, suc, ◌+◌, ◌≤◌, Bool, true, false, cond, not, List, [], ◌∷◌, Option, Some, None, length, take, pos, refl, sym, ap, subst, ◌∙◌, arith}
+use Rattle.std.proofs.Common.{◌≡◌, ℕ, suc, ◌+◌, ◌%◌, ◌^◌, ◌≤◌, Bool, true, false, cond, not, List, [], ◌∷◌, Option, Some, None, length, pos, refl, sym, ap, subst, ◌∙◌, arith}
 use Rattle.std.specs.Prelude.{T, ◌==◌, is_some}
-use Rattle.std.specs.List.{prefix_len, cons_option, sum_by}
+use Rattle.std.specs.List.{cons_option}
 use Rattle.std.specs.Option.{option_map, option_and_then}
 use Rattle.std.specs.Ordering.{is_lt, ordering_reverse}
 use Rattle.std.specs.declared.cmp.Ordering.{Ordering}
 use Rattle.std.specs.declared.cmp.Ordering.TheVariants.{Less, Equal, Greater}
 use Rattle.std.specs.FinMap.{is_sorted, find}
-use Rattle.std.specs.FinMap.Entries.{below_all, same_entries}
+use Rattle.std.specs.FinMap.Entries.{same_entries}
 use Rattle.std.proofs.lemmas.Bool.{eqb-true}
 use Rattle.df_value.specs.CellOrder.{cell_cmp, cell_cmp_total}
 use Rattle.df_value.specs.declared.cell.Cell.{Cell}
@@ -15,11 +15,12 @@ use Rattle.df_value.specs.declared.cell.Cell.TheVariants as cell
 use Rattle.df_expr.specs.Value.{is_null}
 use Rattle.df_ops.specs.declared.ranks.RankKind.{RankKind}
 use Rattle.df_ops.specs.declared.ranks.RankKind.TheVariants as rank
-use Rattle.df_column.proofs.Bools.{T-first, T-second, less_from_is_lt}
+use Rattle.df_column.proofs.Bools.{less_from_is_lt}
+use Rattle.df_counts.specs.Counts.{value_in}
+use Rattle.df_counts.proofs.Orders.{cell_same}
 use Rattle.df_delta.specs.Collected.{collected_list}
 use Rattle.df_delta.proofs.Collected.{find-collected, is_sorted-collected}
-use Rattle.df_ranks.specs.Counts.{changes_weight, counted_rank, is_above, rank_number, value_in, weight, weight_below, RanksStay, SameBelow}
-use Rattle.df_ranks.proofs.Orders.{cell_same}
+use Rattle.df_ranks.specs.Counts.{changes_weight, counted_rank, is_above, rank_number, weight, weight_below, RanksStay, SameBelow}
 use Rattle.df_ranks.proofs.RowSums.{total, total-sum_by}
 
 -- what one entry adds
@@ -108,51 +109,22 @@ pub ranks_stay_all : (kind : RankKind) (old new : List (Cell × ℕ)) (l : Cell)
     → ((v : Cell) → is_some (find cell_cmp v new) ≡ true → is_lt (cell_cmp l v) ≡ false) → RanksStay kind old new None
 ranks_stay_all kind old new l h g same none = record { at = λ c there e. ranks_at kind old new (Some l) h g same c (none c there) }
 
--- behind a value that is not below c there is none
-none_below : (kind : RankKind) (c : Cell) (e : Cell × ℕ) (es : List (Cell × ℕ)) → is_lt (cell_cmp e.0 c) ≡ false → T (below_all cell_cmp e.0 es) → total (weight_at kind c) es ≡ 0
-none_below kind c e [] from h = refl
-none_below kind c e (f ∷ es) from h =
-    let above : is_lt (cell_cmp f.0 c) ≡ false = by_answer (is_lt (cell_cmp f.0 c)) refl in
-    let none = none_below kind c e es from (T-second (is_lt (cell_cmp e.0 f.0)) (below_all cell_cmp e.0 es) h) in
-    let zero_more : 0 + total (weight_at kind c) es ≡ 0 = omega (arith, none) in
-    ap (λ b. cond b (weight kind f.1) 0 + total (weight_at kind c) es) above ∙ zero_more
-  where
-    by_answer : (b : Bool) → is_lt (cell_cmp f.0 c) ≡ b → b ≡ false
-    by_answer true p = let t : true ≡ false = sym (ap is_lt (cell_cmp_total.trans e.0 f.0 c (less_from_is_lt _ (T-first _ _ h)) (less_from_is_lt _ (subst T (sym p) tt)))) ∙ from in t
-    by_answer false p = refl
+-- dense ranks add at most one for each value
+pub dense_few : (c : Cell) (es : List (Cell × ℕ)) → total (weight_at rank.Dense c) es ≤ length es
+dense_few c [] = omega arith
+dense_few c (e ∷ es) =
+    let rest = dense_few c es in
+    elim (is_lt (cell_cmp e.0 c)) as (λ b. cond b 1 0 + total (weight_at rank.Dense c) es ≤ suc (length es)) [ true ↦ omega (arith, rest) | false ↦ omega (arith, rest) ]
 
--- so the values below c are the first
-pub weights_first : (kind : RankKind) (c : Cell) (es : List (Cell × ℕ)) → T (is_sorted cell_cmp es) → total (weight_at kind c) es ≡ total (λ e. weight kind e.1) (take (prefix_len (λ e. is_lt (cell_cmp e.0 c)) es) es)
-weights_first kind c [] h = refl
-weights_first kind c (e ∷ es) h = by_answer (is_lt (cell_cmp e.0 c)) refl (weights_first kind c es (T-second _ _ h)) where
-  n : ℕ
-  n = prefix_len (λ e. is_lt (cell_cmp e.0 c)) es
-
-  by_answer : (b : Bool) → is_lt (cell_cmp e.0 c) ≡ b → total (weight_at kind c) es ≡ total (λ e. weight kind e.1) (take (prefix_len (λ e. is_lt (cell_cmp e.0 c)) es) es)
-      → cond b (weight kind e.1) 0 + total (weight_at kind c) es ≡ total (λ e. weight kind e.1) (take (cond b (1 + prefix_len (λ e. is_lt (cell_cmp e.0 c)) es) 0) (e ∷ es))
-  by_answer true p rest =
-      let m : 1 + n ≡ suc n = omega arith in
-      ap (λ k. weight kind e.1 + k) rest ∙ sym (ap (λ k. total (λ e. weight kind e.1) (take k (e ∷ es))) m)
-  by_answer false p rest = let none = none_below kind c e es p (T-first _ _ h) in omega (arith, none)
-
-ones : (es : List (Cell × ℕ)) (n : ℕ) → n ≤ length es → total (λ e. 1) (take n es) ≡ n
-ones es zero h = refl
-ones [] (suc n) h = absurd (omega arith)
-ones (e ∷ es) (suc n) h = let rest = ones es n (omega arith) in omega (arith, rest)
-
--- dense ranks count the values below
-pub dense_weights : (c : Cell) (es : List (Cell × ℕ)) → T (is_sorted cell_cmp es) → prefix_len (λ e. is_lt (cell_cmp e.0 c)) es ≤ length es → weight_below rank.Dense es c ≡ prefix_len (λ e. is_lt (cell_cmp e.0 c)) es
-dense_weights c es h within = weights_total rank.Dense es c ∙ weights_first rank.Dense c es h ∙ ones es _ within
-
--- others the rows that have them
-pub min_weights : (c : Cell) (es : List (Cell × ℕ)) → T (is_sorted cell_cmp es) → weight_below rank.Min es c ≡ sum_by (λ e. e.1) (take (prefix_len (λ e. is_lt (cell_cmp e.0 c)) es) es)
-min_weights c es h = weights_total rank.Min es c ∙ weights_first rank.Min c es h ∙ sym (total-sum_by (λ e. e.1) (take (prefix_len (λ e. is_lt (cell_cmp e.0 c)) es) es))
+-- a number that was counted modulo 2^64
+twice : (n m : ℕ) → n ≡ m % 2 ^ 64 → n % 2 ^ 62 ≡ m % 2 ^ 62
+twice n m e = omega (arith, e)
 
 -- the rank of a cell that has this value
-pub rank_of_value : (kind : RankKind) (c v : Cell) (counts : List (Cell × ℕ)) (n : ℕ) → Some v ≡ value_in c → n ≡ rank_number kind (weight_below kind counts v) → cell.Int (pos (1 + n)) ≡ counted_rank kind counts c
+pub rank_of_value : (kind : RankKind) (c v : Cell) (counts : List (Cell × ℕ)) (n : ℕ) → Some v ≡ value_in c → n ≡ weight_below kind counts v % 2 ^ 64 → cell.Int (pos (1 + n % 2 ^ 62)) ≡ counted_rank kind counts c
 rank_of_value kind c v counts n is count = by_null (is_null c) is where
-  by_null : (b : Bool) → Some v ≡ cond b None (Some c) → cell.Int (pos (1 + n)) ≡ cond b cell.Null (cell.Int (pos (1 + rank_number kind (weight_below kind counts c))))
+  by_null : (b : Bool) → Some v ≡ cond b None (Some c) → cell.Int (pos (1 + n % 2 ^ 62)) ≡ cond b cell.Null (cell.Int (pos (1 + rank_number (weight_below kind counts c))))
   by_null true e = cc e
   by_null false e =
       let same : v ≡ c = cc e in
-      ap (λ m. cell.Int (pos (1 + m))) (count ∙ ap (λ z. rank_number kind (weight_below kind counts z)) same)
+      ap (λ m. cell.Int (pos (1 + m))) (twice n (weight_below kind counts v) count ∙ ap (λ z. rank_number (weight_below kind counts z)) same)

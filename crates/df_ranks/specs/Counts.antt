@@ -1,5 +1,5 @@
--- Counts: how many rows have each value of a column, by rising value. Null is no value. What is made of them are ranks.
-use Rattle.std.specs.Prelude.{◌≡◌, ℕ, zero, suc, ◌+◌, ◌%◌, ◌^◌, ◌≤◌, pos, Bool, true, false, List, Option, Some, None, is_some, length, not, slice_index_or, take, ◌==◌, if◌then◌else◌}
+-- Ranks by counts: what the values of a column, each with the number of its rows, add to the ranks of the cells above them.
+use Rattle.std.specs.Prelude.{◌≡◌, ℕ, ◌+◌, ◌%◌, ◌^◌, pos, Bool, true, false, List, Option, Some, None, is_some, not, ◌==◌, if◌then◌else◌}
 use Rattle.std.specs.List.{sum_by}
 use Rattle.std.specs.Ordering.{is_lt}
 use Rattle.std.specs.FinMap.{find}
@@ -7,26 +7,8 @@ use Rattle.df_value.specs.CellOrder.{cell_cmp}
 use Rattle.df_value.specs.declared.cell.Cell.{Cell}
 use Rattle.df_value.specs.declared.cell.Cell.TheVariants as cell
 use Rattle.df_expr.specs.Value.{is_null}
-use Rattle.df_ops.specs.Ranks.{count_equal}
 use Rattle.df_ops.specs.declared.ranks.RankKind.{RankKind}
 use Rattle.df_ops.specs.declared.ranks.RankKind.TheVariants as rank
-
--- the value of a cell, none where it is null
-abbrev pub value_in : Cell → Option Cell
-value_in c = if is_null c then None else Some c
-
--- how many rows have this value at an index
-abbrev pub value_count : Option ℕ → List (List Cell) → Cell → ℕ
-value_count index rows v = if is_null v then 0 else count_equal index rows v
-
--- a count, or none for 0
-abbrev pub some_count : ℕ → Option ℕ
-some_count zero = None
-some_count (suc n) = Some (suc n)
-
--- the counts have each value that stands in some row, with the number of its rows
-pub record AreCounts (counts : List (Cell × ℕ)) (index : Option ℕ) (rows : List (List Cell)) : Type 0 where
-  pub at : (v : Cell) → find cell_cmp v counts ≡ some_count (value_count index rows v)
 
 -- what a value with this count adds to the ranks of the cells above it
 abbrev pub weight : RankKind → ℕ → ℕ
@@ -37,24 +19,13 @@ weight rank.Min n = n
 abbrev pub weight_below : RankKind → List (Cell × ℕ) → Cell → ℕ
 weight_below kind counts c = sum_by (λ e. if is_lt (cell_cmp e.0 c) then weight kind e.1 else 0) counts
 
--- the number behind which a rank stands. Rows are counted modulo 2^62, since no table has so many.
-abbrev pub rank_number : RankKind → ℕ → ℕ
-rank_number rank.Dense n = n
-rank_number rank.Min n = n % 2 ^ 62
+-- the number behind which a rank stands. It counts modulo 2^62, since no table has so many rows.
+abbrev pub rank_number : ℕ → ℕ
+rank_number n = n % 2 ^ 62
 
 -- the rank of a cell by counts, null for null
 abbrev pub counted_rank : RankKind → List (Cell × ℕ) → Cell → Cell
-counted_rank kind counts c = if is_null c then cell.Null else cell.Int (pos (1 + rank_number kind (weight_below kind counts c)))
-
--- the sums of no count, of the first, of the first two and so on up to all, modulo 2^64
-pub record AreSums (counts : List (Cell × ℕ)) (sums : List ℕ) : Type 0 where
-  pub len : length sums ≡ length counts + 1
-  pub at : (i : ℕ) → i ≤ length counts → slice_index_or sums i 0 ≡ sum_by (λ e. e.1) (take i counts) % 2 ^ 64
-
--- sums, where ranks of the kind are read from sums
-abbrev pub ServeRanks : RankKind → List (Cell × ℕ) → List ℕ → Type 0
-ServeRanks rank.Dense counts sums = Unit {0}
-ServeRanks rank.Min counts sums = AreSums counts sums
+counted_rank kind counts c = if is_null c then cell.Null else cell.Int (pos (1 + rank_number (weight_below kind counts c)))
 
 -- whether a cell is above the value above which ranks change, if there is one
 abbrev pub is_above : Option Cell → Cell → Bool

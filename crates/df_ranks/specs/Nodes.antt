@@ -5,8 +5,8 @@ use Rattle.df_value.specs.declared.cell.Cell.{Cell}
 use Rattle.df_value.specs.declared.cell.CellType.{CellType}
 use Rattle.df_ops.specs.declared.ranks.RankKind.{RankKind}
 use Rattle.df_column.specs.Tables.{TableParts, TaggedRows}
+use Rattle.df_counts.specs.Counts.{AreCounts}
 use Rattle.df_delta.specs.Deltas.{RowsFit}
-use Rattle.df_ranks.specs.Counts.{AreCounts}
 use Rattle.df_ranks.specs.Ranked.{ranked}
 
 -- the tables are the input and what the rank gives of it, and the counts are those of the input's values

@@ -10,7 +10,7 @@ use Rattle.df_column.specs.Tables.{TaggedRows}
 use Rattle.df_column.specs.declared.tag.Tag.{Tag}
 use Rattle.df_delta.specs.Deltas.{Changes}
 use Rattle.df_delta.specs.Reached.{are_rising, is_reached}
-use Rattle.df_ranks.specs.Counts.{value_in}
+use Rattle.df_counts.specs.Counts.{value_in}
 
 -- whether this is a value above the least
 abbrev pub is_value_above : Cell → Option Cell → Bool

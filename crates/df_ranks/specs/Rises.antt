@@ -2,14 +2,12 @@
 use Rattle.std.specs.Prelude.{◌≡◌, ℕ, ◌+◌, ◌%◌, ◌^◌, Bool, false, List, Option, Some, None, unwrap_or}
 use Rattle.std.specs.List.{count_by}
 use Rattle.std.specs.BTreeMap.{BTreeMap, get}
-use Rattle.std.specs.FinMap.{find}
 use Rattle.df_value.specs.CellEq.{cell_eq}
 use Rattle.df_value.specs.CellOrder.{cell_cmp}
 use Rattle.df_value.specs.Rows.{cell_at}
 use Rattle.df_value.specs.declared.cell.Cell.{Cell}
-use Rattle.df_column.specs.Changes.{Change}
 use Rattle.df_column.specs.declared.entry.Entry.{Entry}
-use Rattle.df_ranks.specs.Counts.{some_count, value_in}
+use Rattle.df_counts.specs.Counts.{value_in}
 
 -- whether this is the value, if there is one
 abbrev pub is_value : Cell → Option Cell → Bool
@@ -35,11 +33,3 @@ rise_of rises v = unwrap_or (get cell_cmp rises v) 0
 -- the rises are those of the values of the entries' rows
 pub record AreRises (rises : BTreeMap Cell ℕ) (index : Option ℕ) (entries : List Entry) : Type 0 where
   pub at : (v : Cell) → (rise_of rises v + gone index v entries) % 2 ^ 64 ≡ come index v entries % 2 ^ 64
-
--- the count of a value after its rise
-abbrev pub raised_count : List (Cell × ℕ) → Cell × ℕ → ℕ
-raised_count counts r = (unwrap_or (find cell_cmp r.0 counts) 0 + r.1) % 2 ^ 64
-
--- the change of the counts that a rise makes
-abbrev pub count_change : List (Cell × ℕ) → Cell × ℕ → Cell × Change ℕ
-count_change counts r = (r.0, record { old = find cell_cmp r.0 counts; new = some_count (raised_count counts r) })

@@ -1,19 +1,23 @@
 //! Which column is ranked, how, and where its ranks stand in a row.
-ghost use Rattle.std.specs.Prelude.{◌≡◌, ◌∷◌, [], IfOk};
+ghost use Rattle.std.specs.Prelude.{◌≡◌, ◌+◌, ◌%◌, ◌^◌, ◌<◌, ◌∷◌, [], IfOk, pos};
 ghost use Rattle.df_value.specs.Rows.{cell_at};
 ghost use Rattle.df_value.specs.Schemas as schemas;
 ghost use Rattle.df_value.specs.Schemas.{IsSchema};
+ghost use Rattle.df_value.specs.declared.cell.Cell.TheVariants as cell;
 ghost use Rattle.df_value.specs.declared.cell.CellType.TheVariants as dtype;
 ghost use Rattle.df_ops.specs.NamedColumns.{with_columns as columns_with_new};
 ghost use Rattle.df_ops.specs.Places as places_spec;
 ghost use Rattle.df_ops.specs.RowWise as row_wise;
-ghost use Rattle.df_ranks.specs.Counts.{ServeRanks, counted_rank};
+ghost use Rattle.df_ranks.specs.Counts.{counted_rank, weight_below};
 
-use crate::counts::Counts;
-use crate::numbers::rank_at;
+use crate::rises::value_at;
+use df_counts::Counts;
 use df_ops::{Place, RankKind, columns_with, places_with, with_column_row};
-use df_value::{CellType, Duplicate, Row, Schema, Text, column_index};
+use df_value::{Cell, CellType, Duplicate, Row, Schema, Text, column_index};
 use std::alloc::{AllocError, Global};
+
+/// More than any number of rows.
+const TOO_MANY: u64 = 4_611_686_018_427_387_904;
 
 /// A column of rows of a schema, the kind of its ranks, and the name under which they are put among the cells.
 #[derive(Drop)]
@@ -65,19 +69,12 @@ impl RankColumn {
         self.kind
     }
 
-    /// The row with its rank by these counts, and by their sums where its kind reads ranks from these.
-    pub fn ranked_row(
-        &self,
-        alloc: Global,
-        counts: &Counts,
-        sums: &[u64],
-        row: &Row,
-    ) -> Result<Row, AllocError>
-        requires { ServeRanks self.now.kind counts.now.items.items sums.now }
+    /// The row with its rank by these counts.
+    pub fn ranked_row(&self, alloc: Global, counts: &Counts, row: &Row) -> Result<Row, AllocError>
         ensures { IfOk result (λ r. r ≡ row_wise.with_column_row self.now.schema self.now.name row.now
-            (counted_rank self.now.kind counts.now.items.items (cell_at self.now.index row.now))) }
+            (counted_rank self.now.kind counts.now (cell_at self.now.index row.now))) }
     {
-        let rank = rank_at(self.kind, self.index, counts, sums, row);
+        let rank = rank_at(self.kind, self.index, counts, row);
         let row = with_column_row(alloc, &self.places, row, &rank)?;
         Ok(row)
     }
@@ -93,4 +90,32 @@ pub fn schema_with_ranks(alloc: Global, schema: &Schema, name: &Text) -> Result<
         Ok(schema) => Ok(schema),
         Err(_) => unreachable!(),
     }
+}
+
+/// The rank by these counts of the row's cell at an index.
+fn rank_at(kind: RankKind, index: Option<usize>, counts: &Counts, row: &Row) -> Cell
+    ensures { result ≡ counted_rank kind counts.now (cell_at index row.now) }
+{
+    match value_at(index, row) {
+        Some(value) => rank_of_number(counted_below(kind, counts, value) % TOO_MANY),
+        None => Cell::Null,
+    }
+}
+
+/// What is counted below a value, modulo 2^64: the values, or the rows that have them.
+fn counted_below(kind: RankKind, counts: &Counts, value: &Cell) -> u64
+    ensures { result ≡ weight_below kind counts.now value.now % 2 ^ 64 }
+{
+    match kind {
+        RankKind::Dense => counts.values_below(value),
+        RankKind::Min => counts.rows_below(value),
+    }
+}
+
+/// The rank behind so much.
+fn rank_of_number(number: u64) -> Cell
+    requires { number + 1 < 2 ^ 63 }
+    ensures { result ≡ cell.Int (pos (1 + number)) }
+{
+    Cell::Int((number + 1) as i64)
 }

@@ -6,14 +6,9 @@
 #![tactic(auto)]
 
 mod column;
-mod counts;
-mod numbers;
 mod rank;
 mod reach;
 mod rises;
-mod staged;
 
 pub use column::RankColumn;
-pub use counts::Counts;
 pub use rank::{LiveRank, StagedRank};
-pub use staged::StagedCounts;

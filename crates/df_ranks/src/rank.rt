@@ -1,5 +1,5 @@
 //! The live rank.
-ghost use Rattle.std.specs.Prelude.{◌≡◌, ◌∷◌, [], T, IfOk, true};
+ghost use Rattle.std.specs.Prelude.{◌≡◌, ◌∷◌, [], T, IfOk};
 ghost use Rattle.std.specs.FinMap as finite;
 ghost use Rattle.df_value.specs.Schemas.{IsSchema, column_index as index_of};
 ghost use Rattle.df_value.specs.declared.cell.CellType.TheVariants as dtype;
@@ -8,23 +8,16 @@ ghost use Rattle.df_delta.specs.Reached.{are_rising, changes_at};
 ghost use Rattle.df_delta.specs.Work.{no_work};
 ghost use Rattle.df_ops.specs.NamedColumns.{with_columns as columns_with};
 ghost use Rattle.df_ops.specs.Tables.{rank_table};
-ghost use Rattle.df_ops.specs.declared.ranks.RankKind.TheVariants as kinds;
-ghost use Rattle.df_ranks.specs.Counts.{ServeRanks, counted_rank};
+ghost use Rattle.df_ranks.specs.Counts.{counted_rank};
 ghost use Rattle.df_ranks.specs.Nodes.{IsRanked, RanksFit};
 ghost use Rattle.df_ranks.specs.Ranked.{ranked, with_ranks};
-ghost use Rattle.df_ranks.specs.Recounts.{IsRecount};
-ghost use Rattle.df_ranks.specs.Staged.{can_take, staged_counts};
-ghost use Rattle.df_ranks.specs.Stages.{IsStage};
-ghost use Rattle.df_value.specs.CellOrder.{cell_cmp};
-ghost use Rattle.std.specs.FinMap.{is_sorted};
+ghost use Rattle.df_ranks.specs.Staged.{IsStage};
 
 use crate::column::{RankColumn, schema_with_ranks};
-use crate::counts::Counts;
-use crate::numbers::sums_for;
 use crate::reach::{least_change, reached_tags};
 use crate::rises::rises_of;
-use crate::staged::StagedCounts;
 use df_column::{Table, Tag};
+use df_counts::Counts;
 use df_delta::{Delta, LiveNode, apply, push_change};
 use df_expr::Meter;
 use df_ops::RankKind;
@@ -47,7 +40,7 @@ pub struct LiveRank {
 pub struct StagedRank {
     input: Table,
     output: Table,
-    counts: StagedCounts,
+    counts: Counts,
 }
 
 impl LiveRank {
@@ -73,7 +66,7 @@ impl LiveRank {
         ensures columns { IfOk result (λ n.
             n.output.schema ≡ columns_with schema.now ((output.now, dtype.Int) ∷ [])) }
         ensures over { IfOk result (λ n. IsRanked n.column.schema n.column.name n.column.kind
-            n.column.index n.input n.output n.counts.items.items finite.empty) }
+            n.column.index n.input n.output n.counts finite.empty) }
     {
         let made = schema_with_ranks(alloc, schema, output)?;
         let column = RankColumn::new(alloc, schema, output, column, kind)?;
@@ -84,122 +77,52 @@ impl LiveRank {
             column,
             input,
             output,
-            counts: Counts::new(alloc),
+            counts: Counts::new(),
         })
     }
 
     /// The new row at the tag, if there is one, with its rank.
-    fn new_row(
-        &self,
-        input: &Table,
-        counts: &Counts,
-        sums: &[u64],
-        tag: Tag,
-    ) -> Result<Option<Row>, AllocError>
-        requires { ServeRanks self.now.column.kind counts.now.items.items sums.now }
+    fn new_row(&self, input: &Table, counts: &Counts, tag: Tag) -> Result<Option<Row>, AllocError>
         ensures { IfOk result (λ r. r ≡ finite.get (with_ranks self.now.column.schema
             self.now.column.name self.now.column.index
-            (counted_rank self.now.column.kind counts.now.items.items) input.now.rows) tag) }
+            (counted_rank self.now.column.kind counts.now) input.now.rows) tag) }
     {
         match input.get(self.alloc, tag)? {
-            Some(row) => Ok(Some(self.column.ranked_row(self.alloc, counts, sums, &row)?)),
+            Some(row) => Ok(Some(self.column.ranked_row(self.alloc, counts, &row)?)),
             None => Ok(None),
         }
     }
 
     /// The changes of the output at these tags, where this is the input afterwards, with these counts.
-    fn changes(
-        &self,
-        input: &Table,
-        counts: &Counts,
-        sums: &[u64],
-        tags: &[Tag],
-    ) -> Result<Delta, AllocError>
-        requires rising { T (are_rising tags.now) }
-        requires sums { ServeRanks self.now.column.kind counts.now.items.items sums.now }
+    fn changes(&self, input: &Table, counts: &Counts, tags: &[Tag]) -> Result<Delta, AllocError>
+        requires { T (are_rising tags.now) }
         ensures { IfOk result (λ d. d ≡ finite.from_sorted (changes_at self.now.output.rows
             (with_ranks self.now.column.schema self.now.column.name self.now.column.index
-            (counted_rank self.now.column.kind counts.now.items.items) input.now.rows) tags.now)) }
+            (counted_rank self.now.column.kind counts.now) input.now.rows) tags.now)) }
     {
         let mut entries = Vec::new(self.alloc);
         for tag in tags {
             let old = self.output.get(self.alloc, *tag)?;
-            let new = self.new_row(input, counts, sums, *tag)?;
+            let new = self.new_row(input, counts, *tag)?;
             push_change(&mut entries, *tag, old, new)?;
         }
         Ok(Delta::from_entries(entries))
     }
-}
 
-impl LiveRank {
-    /// What becomes of the counts under these rises, and the changes of the output. There are to be at most so many
-    /// values.
+    /// The counts after these rises, and the changes of the output.
     fn counts_and_changes(
         &self,
         delta: &Delta,
         input: &Table,
         rises: &BTreeMap<Cell, u64>,
-        most: usize,
-    ) -> Result<(StagedCounts, Delta), AllocError>
+    ) -> Result<(Counts, Delta), AllocError>
         ensures { IfOk result (λ r. IsStage self.now delta.now input.now.rows rises.now r.0 r.1) }
     {
-        match self.column.kind() {
-            RankKind::Dense => self.dense_changes(delta, input, rises, most),
-            RankKind::Min => self.counted_anew(delta, input, rises, most),
-        }
-    }
-
-    /// The same for dense ranks, which stay where no value appears or disappears.
-    fn dense_changes(
-        &self,
-        delta: &Delta,
-        input: &Table,
-        rises: &BTreeMap<Cell, u64>,
-        most: usize,
-    ) -> Result<(StagedCounts, Delta), AllocError>
-        requires { self.now.column.kind ≡ kinds.Dense }
-        ensures { IfOk result (λ r. IsStage self.now delta.now input.now.rows rises.now r.0 r.1) }
-    {
-        match self.counts.recounts(self.alloc, rises)? {
-            Some(recounts) => self.recounted(delta, input, rises, recounts),
-            None => self.counted_anew(delta, input, rises, most),
-        }
-    }
-
-    /// The same for dense ranks where no value appears or disappears.
-    fn recounted(
-        &self,
-        delta: &Delta,
-        input: &Table,
-        rises: &BTreeMap<Cell, u64>,
-        recounts: Vec<(Cell, u64)>,
-    ) -> Result<(StagedCounts, Delta), AllocError>
-        requires dense { self.now.column.kind ≡ kinds.Dense }
-        requires rising { T (is_sorted cell_cmp rises.now.entries) }
-        requires recounts { IsRecount self.now.counts.items.items rises.now.entries recounts.items }
-        ensures { IfOk result (λ r. IsStage self.now delta.now input.now.rows rises.now r.0 r.1) }
-    {
-        let tags = reached_tags(self.alloc, delta, input, self.column.index(), None)?;
-        let changes = self.changes(input, &self.counts, &[], &tags)?;
-        Ok((StagedCounts::Recounts(recounts), changes))
-    }
-
-    /// The same with all counts made anew.
-    fn counted_anew(
-        &self,
-        delta: &Delta,
-        input: &Table,
-        rises: &BTreeMap<Cell, u64>,
-        most: usize,
-    ) -> Result<(StagedCounts, Delta), AllocError>
-        ensures { IfOk result (λ r. IsStage self.now delta.now input.now.rows rises.now r.0 r.1) }
-    {
-        let counts = self.counts.raised(self.alloc, rises, most)?;
-        let sums = sums_for(self.alloc, self.column.kind(), &counts)?;
+        let counts = self.counts.raised(self.alloc, rises)?;
         let least = least_change(self.column.kind(), &self.counts, &counts, rises);
         let tags = reached_tags(self.alloc, delta, input, self.column.index(), least)?;
-        let changes = self.changes(input, &counts, &sums, &tags)?;
-        Ok((StagedCounts::Counts(counts), changes))
+        let changes = self.changes(input, &counts, &tags)?;
+        Ok((counts, changes))
     }
 }
 
@@ -210,16 +133,15 @@ impl LiveNode for LiveRank {
         n.input n.output t };
 
     ghost IsOver = { λ n t. IsRanked n.column.schema n.column.name n.column.kind n.column.index
-        n.input n.output n.counts.items.items t };
+        n.input n.output n.counts t };
 
     ghost output = { λ n t. ranked n.column.schema n.column.name n.column.kind n.column.index t };
 
     ghost HasRoomFor = { λ n s. (s.input.schema ≡ n.input.schema)
-        × (s.output.schema ≡ n.output.schema)
-        × (can_take n.counts.items.items s.counts ≡ true) };
+        × (s.output.schema ≡ n.output.schema) };
 
     ghost LeadsTo = { λ n s t. IsRanked n.column.schema n.column.name n.column.kind n.column.index
-        s.input s.output (staged_counts n.counts.items.items s.counts) t };
+        s.input s.output s.counts t };
 
     ghost budget = { λ _. no_work };
 
@@ -231,8 +153,10 @@ impl LiveNode for LiveRank {
         _meter: &mut Meter,
     ) -> Result<(StagedRank, Delta), AllocError> {
         let input = apply(self.alloc, &self.input, delta)?;
+        // What `len` promises: so few rows that each rank is counted as it is.
+        let _few = input.len();
         let rises = rises_of(self.alloc, self.column.index(), delta.entries())?;
-        let (counts, changes) = self.counts_and_changes(delta, &input, &rises, input.len())?;
+        let (counts, changes) = self.counts_and_changes(delta, &input, &rises)?;
         let output = apply(self.alloc, &self.output, &changes)?;
         Ok((
             StagedRank {
@@ -252,6 +176,6 @@ impl LiveNode for LiveRank {
         } = staged;
         self.input = input;
         self.output = output;
-        counts.take(&mut self.counts);
+        self.counts = counts;
     }
 }

@@ -2,15 +2,16 @@
 ghost use Rattle.std.specs.Prelude.{◌≡◌, ◌==◌, ◌++◌, ◌∷◌, [], T, IfOk, OnOk, map, not};
 ghost use Rattle.std.specs.Option.{option_copied};
 ghost use Rattle.std.specs.FinMap as finite;
+ghost use Rattle.std.specs.FinMap.{is_sorted};
 ghost use Rattle.df_value.specs.CellOrder.{cell_cmp};
 ghost use Rattle.df_column.specs.Changes.{after_changes};
+ghost use Rattle.df_counts.specs.Counts.{count_change};
 ghost use Rattle.df_ranks.specs.Counts.{RanksStay, SameBelow, changes_weight, weight};
 ghost use Rattle.df_ranks.specs.Reach.{Reaches, is_row_above, tags_above, tags_above_any};
-ghost use Rattle.df_ranks.specs.Rises.{count_change};
 
-use crate::counts::{Counts, is_less};
 use crate::rises::value_at;
 use df_column::{Table, Tag};
+use df_counts::{Counts, is_less};
 use df_delta::Delta;
 use df_ops::RankKind;
 use df_value::{Cell, Row};
@@ -24,9 +25,10 @@ pub fn least_change<'a>(
     new: &Counts,
     rises: &'a BTreeMap<Cell, u64>,
 ) -> Option<&'a Cell>
-    requires { new.now.items.items ≡ after_changes cell_cmp old.now.items.items
-        (map (count_change old.now.items.items) rises.now.entries) }
-    ensures { RanksStay kind old.now.items.items new.now.items.items (option_copied result) }
+    requires sorted { T (is_sorted cell_cmp old.now) }
+    requires raised { new.now ≡ after_changes cell_cmp old.now
+        (map (count_change old.now) rises.now.entries) }
+    ensures { RanksStay kind old.now new.now (option_copied result) }
 {
     let Some(least) = first_change(kind, old, new, rises) else {
         return None;
@@ -44,9 +46,9 @@ fn first_change<'a>(
     new: &Counts,
     rises: &'a BTreeMap<Cell, u64>,
 ) -> Option<&'a Cell>
-    requires { new.now.items.items ≡ after_changes cell_cmp old.now.items.items
-        (map (count_change old.now.items.items) rises.now.entries) }
-    ensures { SameBelow kind old.now.items.items new.now.items.items (option_copied result) }
+    requires { new.now ≡ after_changes cell_cmp old.now
+        (map (count_change old.now) rises.now.entries) }
+    ensures { SameBelow kind old.now new.now (option_copied result) }
 {
     for value in rises.keys() {
         if is_changed(kind, old.find(value), new.find(value)) {

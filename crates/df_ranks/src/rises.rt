@@ -3,7 +3,7 @@ ghost use Rattle.std.specs.Prelude.{◌≡◌, ◌+◌, ◌%◌, ◌^◌, IfOk, 
 ghost use Rattle.std.specs.Option.{option_copied};
 ghost use Rattle.df_value.specs.Rows.{cell_at};
 ghost use Rattle.df_value.specs.declared.cell.Cell.{Cell as AnyCell};
-ghost use Rattle.df_ranks.specs.Counts.{value_in};
+ghost use Rattle.df_counts.specs.Counts.{value_in};
 ghost use Rattle.df_ranks.specs.Rises.{AreRises, has_value, is_value, rise_of};
 
 use df_column::Entry;

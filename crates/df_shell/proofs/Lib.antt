@@ -1,4 +1,4 @@
-pub mod OneChange
+pub mod CheckFacts
 pub mod WordFacts
 pub mod AreMadeFacts
 pub mod CommandFacts

@@ -8,6 +8,7 @@ use Rattle.df_value.specs.Rows.{rows_fit}
 use Rattle.df_catalogue.specs.declared.change.Change.{Change}
 use Rattle.df_catalogue.specs.declared.change.Change.TheVariants.{Append, Delete, Replace, Register, DropView}
 use Rattle.df_catalogue.specs.declared.fault.CatalogueFault.TheVariants as fault
+use Rattle.df_catalogue.specs.declared.state.CatalogueParts.{CatalogueParts}
 use Rattle.df_catalogue.specs.declared.state.State.{State}
 use Rattle.df_plan.specs.CheckedParts.{CheckedParts}
 use Rattle.df_shell.specs.Changes.{IsMade, IsRefusal}
@@ -113,7 +114,7 @@ IsAsked d (asked.DropView view) lines (DropView name) = name ≡ view.now
 IsAsked d change lines _ = ⊥
 
 -- the change that is asked for was made
-abbrev pub IsMadeAsAsked : {T : Type 0} → Definitions → AskedChange → Result T Refusal → State → State → Type 0
+abbrev pub IsMadeAsAsked : {T : Type 0} → Definitions → AskedChange → Result T Refusal → CatalogueParts → CatalogueParts → Type 0
 IsMadeAsAsked d asked lines old new = (change : Change) × IsAsked d asked lines change × IsMade old new change
 
 -- A refusal of the change that is asked for, with the lines that were read for it, or why they were not.

@@ -1,22 +1,21 @@
--- One change of the catalogue, and the answer to it.
-use Rattle.std.specs.Prelude.{◌≡◌, ◌≢◌, List, [], ◌∷◌, Option, Some, None, Result, Ok, Err}
+-- One change of the catalogue, and why it is refused.
+use Rattle.std.specs.Prelude.{◌≡◌, ◌≢◌, Some, None}
 use Rattle.df_catalogue.specs.declared.change.Change.{Change}
 use Rattle.df_catalogue.specs.declared.fault.CatalogueFault.{CatalogueFault}
 use Rattle.df_catalogue.specs.declared.fault.CatalogueFault.TheVariants as fault
+use Rattle.df_catalogue.specs.declared.state.CatalogueParts.{CatalogueParts}
 use Rattle.df_catalogue.specs.declared.state.State.{State}
 use Rattle.df_catalogue.specs.Changes.{after}
 use Rattle.df_catalogue.specs.Refusals.{refusal_of}
+use Rattle.df_catalogue.specs.Work.{IsCounted, allowed_after}
 
--- nothing refuses the change, and it was made
-abbrev pub IsMade : State → State → Change → Type 0
-IsMade old new c = (refusal_of old c ≡ None) × (new ≡ after old c)
+-- nothing refuses the change, and it was made and its work counted
+abbrev pub IsMade : CatalogueParts → CatalogueParts → Change → Type 0
+IsMade old new c =
+    (refusal_of old.state c ≡ None)
+    × (new.state ≡ after old.state c)
+    × IsCounted (allowed_after old.state c None) old.work new.work
 
 -- the catalogue refuses the change so, or memory was refused
 abbrev pub IsRefusal : State → Change → CatalogueFault → Type 0
 IsRefusal s c f = f ≢ fault.Memory → refusal_of s c ≡ Some f
-
--- the first of these answers
-abbrev pub first_answer : List (Option CatalogueFault) → Result (Unit {0}) CatalogueFault
-first_answer [] = Ok tt
-first_answer (None ∷ later) = Ok tt
-first_answer (Some f ∷ later) = Err f

@@ -40,6 +40,8 @@ IsQuestionOf words (question.Show view) = words ≡ codes "show" ∷ view.now �
 IsQuestionOf words (question.Rows frame) = words ≡ codes "rows" ∷ frame.now ∷ []
 IsQuestionOf words (question.Books frame) = words ≡ codes "books" ∷ frame.now ∷ []
 IsQuestionOf words question.Views = words ≡ codes "views" ∷ []
+IsQuestionOf words question.Check = words ≡ codes "check" ∷ []
+IsQuestionOf words question.Work = words ≡ codes "work" ∷ []
 
 -- the words of a command
 abbrev pub IsCommandOf : List (List ℕ) → Command → Type 0

@@ -2,6 +2,7 @@ pub mod Texts
 pub mod Changes
 pub mod Commands
 pub mod Asked
+pub mod Checks
 pub mod Questions
 pub mod Answers
 pub mod Opening

@@ -1,15 +1,15 @@
 -- The changes that open a store: the good pieces of each frame enter in their order, and then all views are registered.
-use Rattle.std.specs.Prelude.{◌≡◌, ◌++◌, ℕ, List, [], ◌∷◌, None, flat_map, map}
+use Rattle.std.specs.Prelude.{◌≡◌, ◌++◌, ℕ, List, [], ◌∷◌, flat_map, map}
 use Rattle.std.specs.List.{enumerate_from, zip}
 use Rattle.df_value.specs.declared.chunk.Piece.{Piece}
 use Rattle.df_value.specs.declared.chunk.Piece.TheVariants as made
 use Rattle.df_plan.specs.CheckedParts.{CheckedParts}
 use Rattle.df_catalogue.specs.declared.change.Change.{Change}
 use Rattle.df_catalogue.specs.declared.change.Change.TheVariants.{Append, Register}
-use Rattle.df_catalogue.specs.declared.state.State.{State}
-use Rattle.df_catalogue.specs.Changes.{after}
-use Rattle.df_catalogue.specs.Refusals.{refusal_of}
+use Rattle.df_catalogue.specs.declared.state.CatalogueParts.{CatalogueParts}
 use Rattle.df_catalogue.specs.States.{opening_of}
+use Rattle.df_delta.specs.Work.{no_work}
+use Rattle.df_shell.specs.Changes.{IsMade}
 use Rattle.df_shell.specs.declared.definitions.Definitions.{Definitions}
 use Rattle.df_text.specs.declared.document.FrameSpec.{FrameSpec}
 use Rattle.df_text.specs.declared.document.ViewSpec.{ViewSpec}
@@ -32,11 +32,11 @@ abbrev pub opening_changes : Definitions → List (List Piece) → List Change
 opening_changes d pieces =
     flat_map frame_appends (enumerate_from 0 pieces) ++ map registration (zip d.document.views d.plans)
 
--- the state of empty frames with the document's schemas
-abbrev pub empty_state : Definitions → State
-empty_state d = opening_of (map (λ (f : FrameSpec). f.schema) d.document.frames)
+-- a catalogue of empty frames with the document's schemas, without views, of which nothing was counted yet
+abbrev pub empty_catalogue : Definitions → CatalogueParts
+empty_catalogue d = record { state = opening_of (map (λ (f : FrameSpec). f.schema) d.document.frames); work = no_work }
 
 -- nothing refuses any of the changes in its turn, and all were made
-abbrev pub AreMade : State → State → List Change → Type 0
+abbrev pub AreMade : CatalogueParts → CatalogueParts → List Change → Type 0
 AreMade old new [] = new ≡ old
-AreMade old new (c ∷ cs) = (refusal_of old c ≡ None) × AreMade (after old c) new cs
+AreMade old new (c ∷ cs) = (next : CatalogueParts) × IsMade old next c × AreMade next new cs

@@ -6,9 +6,12 @@ use Rattle.df_catalogue.specs.Reads.{view_named, view_names_of}
 use Rattle.df_catalogue.specs.declared.fault.CatalogueFault.{CatalogueFault}
 use Rattle.df_catalogue.specs.declared.fault.CatalogueFault.TheVariants as fault
 use Rattle.df_catalogue.specs.declared.state.FrameState.{FrameState}
+use Rattle.df_catalogue.specs.declared.state.CatalogueParts.{CatalogueParts}
 use Rattle.df_catalogue.specs.declared.state.State.{State}
 use Rattle.df_catalogue.specs.declared.state.ViewState.{ViewState}
+use Rattle.df_expr.specs.declared.meter.Meter.{Meter}
 use Rattle.df_print.specs.Printed.{escaped_text, printed}
+use Rattle.df_shell.specs.Checks.{check_text, first_differing}
 use Rattle.df_shell.specs.Asked.{frame_index_of}
 use Rattle.df_shell.specs.declared.command.Question.{Question}
 use Rattle.df_shell.specs.declared.command.Question.TheVariants as question
@@ -41,6 +44,12 @@ books_text frame = books_line (length frame.accepted) (length frame.deleted) (le
 abbrev pub names_text : List (List ℕ) → List ℕ
 names_text names = flat_map (λ name. escaped_text name ++ codes "\n") names
 
+-- the counters of work
+abbrev pub work_text : Meter → List ℕ
+work_text m =
+    codes "evals " ++ (decimal m.evals ++ (codes ", finishes " ++ (decimal m.finishes ++ (codes ", probes " ++ (decimal m.probes
+    ++ (codes ", windows " ++ (decimal m.windows ++ codes "\n")))))))
+
 -- of a frame's description and state, where both are there
 abbrev pub text_at : (FrameSpec → FrameState → List ℕ) → Option FrameSpec → Option FrameState → Option (List ℕ)
 text_at text (Some spec) (Some frame) = Some (text spec frame)
@@ -53,11 +62,13 @@ frame_text text d s (Some at) = text_at text (slice_get d.document.frames at) (s
 frame_text text d s None = None
 
 -- what a question is answered with, if it can be
-abbrev pub text_of_question : Definitions → State → Question → Option (List ℕ)
-text_of_question d s (question.Show view) = option_map (view_text view.now) (view_named view.now s.views)
-text_of_question d s (question.Rows frame) = frame_text rows_text d s (frame_index_of d frame.now)
-text_of_question d s (question.Books frame) = frame_text (λ spec. books_text) d s (frame_index_of d frame.now)
-text_of_question d s question.Views = Some (names_text (view_names_of s))
+abbrev pub text_of_question : Definitions → CatalogueParts → Question → Option (List ℕ)
+text_of_question d c (question.Show view) = option_map (view_text view.now) (view_named view.now c.state.views)
+text_of_question d c (question.Rows frame) = frame_text rows_text d c.state (frame_index_of d frame.now)
+text_of_question d c (question.Books frame) = frame_text (λ spec. books_text) d c.state (frame_index_of d frame.now)
+text_of_question d c question.Views = Some (names_text (view_names_of c.state))
+text_of_question d c question.Check = Some (check_text (first_differing c.state))
+text_of_question d c question.Work = Some (work_text c.work)
 
 -- what a question is refused with where it cannot be answered
 abbrev pub fault_of_question : Question → CatalogueFault

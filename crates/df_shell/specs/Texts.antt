@@ -67,7 +67,9 @@ help_text =
     ++ (codes "rows FRAME                 the table of a frame, and the numbers of its rows\n"
     ++ (codes "books FRAME                how many rows were accepted and deleted, and how many there are\n"
     ++ (codes "views                      the names of the views\n"
-    ++ codes "help                       this list\n"))))))))
+    ++ (codes "check                      whether each view has the rows that its plan gives: same, or differs and a view\n"
+    ++ (codes "work                       what the views counted at the last change of rows\n"
+    ++ codes "help                       this list\n"))))))))))
 
 -- the text of a refusal
 abbrev pub text_of : Refusal → List ℕ

@@ -6,9 +6,10 @@ ghost use Rattle.df_shell.specs.Asked.{IsMadeAsAsked, IsRefusalOfAsked};
 ghost use Rattle.df_shell.specs.Questions.{IsTold, fault_of_question, text_of_question};
 
 use crate::changing::{append, delete, drop_view, register, replace};
+use crate::checking::check;
 use crate::command::{AskedChange, Command, Question, read_command};
 use crate::definitions::Definitions;
-use crate::reading::{books, rows, show, views};
+use crate::reading::{books, rows, show, views, work};
 use crate::refusal::Refusal;
 use crate::store::Store;
 use csv::StringRecord;
@@ -37,6 +38,8 @@ show VIEW                  the table of a view
 rows FRAME                 the table of a frame, and the numbers of its rows
 books FRAME                how many rows were accepted and deleted, and how many there are
 views                      the names of the views
+check                      whether each view has the rows that its plan gives: same, or differs and a view
+work                       what the views counted at the last change of rows
 help                       this list
 ";
 
@@ -106,7 +109,7 @@ fn answer_change<Acc: Ledger, Del: Ledger>(
     ensures made { OnOk result
         (IsMadeAsAsked definitions.now asked.entry lines store.old.catalogue store.new.catalogue) }
     ensures refused { IfErr result
-        (IsRefusalOfAsked definitions.now store.old.catalogue asked.entry lines) }
+        (IsRefusalOfAsked definitions.now store.old.catalogue.state asked.entry lines) }
     ensures same { OnErr result (store.new.catalogue ≡ store.old.catalogue) }
 {
     match asked {
@@ -136,5 +139,7 @@ fn answer_question<Acc: Ledger, Del: Ledger>(
         Question::Rows(frame) => rows(alloc, definitions, catalogue, frame),
         Question::Books(frame) => books(alloc, definitions, catalogue, frame),
         Question::Views => views(alloc, catalogue),
+        Question::Check => check(alloc, catalogue),
+        Question::Work => work(alloc, catalogue),
     }
 }

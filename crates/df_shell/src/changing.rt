@@ -34,7 +34,7 @@ pub fn append<Acc: Ledger, Del: Ledger>(
         × IsChunkOf definitions.now at first chunk
         × IsMade store.old.catalogue store.new.catalogue (Append at chunk)) }
     ensures refused { IfErr result
-        (IsRefusalOfAppend definitions.now store.old.catalogue
+        (IsRefusalOfAppend definitions.now store.old.catalogue.state
         (frame_index_of definitions.now frame.now) first lines) }
     ensures same { OnErr result (store.new.catalogue ≡ store.old.catalogue) }
 {
@@ -59,7 +59,7 @@ pub fn delete<Acc: Ledger, Del: Ledger>(
     ensures made { OnOk result ((at : ℕ) × (frame_index_of definitions.now frame.now ≡ Some at)
         × IsMade store.old.catalogue store.new.catalogue (Delete at numbers)) }
     ensures refused { IfErr result
-        (IsRefusalAtFrame store.old.catalogue (λ at. Delete at numbers)
+        (IsRefusalAtFrame store.old.catalogue.state (λ at. Delete at numbers)
         (frame_index_of definitions.now frame.now)) }
     ensures same { OnErr result (store.new.catalogue ≡ store.old.catalogue) }
 {
@@ -87,7 +87,7 @@ pub fn replace<Acc: Ledger, Del: Ledger>(
         × AreRowsOf definitions.now at numbers rows
         × IsMade store.old.catalogue store.new.catalogue (Replace at rows)) }
     ensures refused { IfErr result
-        (IsRefusalOfReplace definitions.now store.old.catalogue
+        (IsRefusalOfReplace definitions.now store.old.catalogue.state
         (frame_index_of definitions.now frame.now) numbers lines) }
     ensures same { OnErr result (store.new.catalogue ≡ store.old.catalogue) }
 {
@@ -111,7 +111,7 @@ pub fn register<Acc: Ledger, Del: Ledger>(
         ((plan : CheckedParts) × (plan_named definitions.now view.now ≡ Some plan)
         × IsMade store.old.catalogue store.new.catalogue (Register view.now plan)) }
     ensures refused { IfErr result
-        (IsRefusalOfRegister store.old.catalogue view.now (plan_named definitions.now view.now)) }
+        (IsRefusalOfRegister store.old.catalogue.state view.now (plan_named definitions.now view.now)) }
     ensures same { OnErr result (store.new.catalogue ≡ store.old.catalogue) }
 {
     let Some(plan) = definitions.plan(view) else {
@@ -130,7 +130,7 @@ pub fn drop_view<Acc: Ledger, Del: Ledger>(
 ) -> Result<(), Refusal>
     ensures made { OnOk result
         (IsMade store.old.catalogue store.new.catalogue (DropView view.now)) }
-    ensures refused { IfErr result (IsRefusalOfChange store.old.catalogue (DropView view.now)) }
+    ensures refused { IfErr result (IsRefusalOfChange store.old.catalogue.state (DropView view.now)) }
     ensures same { OnErr result (store.new.catalogue ≡ store.old.catalogue) }
 {
     let name = Text::from_str(alloc, view)?;

@@ -43,6 +43,10 @@ pub enum Question<'a> {
     Books(&'a str),
     /// The names of the views.
     Views,
+    /// Whether each view has the rows that its plan gives.
+    Check,
+    /// What the views counted at the last change of rows.
+    Work,
 }
 
 /// The command that words say.
@@ -70,6 +74,8 @@ fn command_of<'a>(alloc: Global, name: &str, arguments: &[&'a str]) -> Result<Co
         "rows" => Ok(Command::Question(Question::Rows(only(arguments)?))),
         "books" => Ok(Command::Question(Question::Books(only(arguments)?))),
         "views" => bare(Command::Question(Question::Views), arguments),
+        "check" => bare(Command::Question(Question::Check), arguments),
+        "work" => bare(Command::Question(Question::Work), arguments),
         "help" => bare(Command::Help, arguments),
         _ => Err(Refusal::Mistake(Mistake::NoCommand)),
     }

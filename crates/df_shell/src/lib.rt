@@ -7,6 +7,7 @@
 
 mod answering;
 mod changing;
+mod checking;
 mod command;
 mod definitions;
 mod fault;

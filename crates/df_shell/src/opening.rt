@@ -2,7 +2,7 @@
 //! views.
 ghost use Rattle.std.specs.Prelude.{◌≡◌, IfOk, OnOk, flat_map, map};
 ghost use Rattle.std.specs.List.{enumerate_from, zip};
-ghost use Rattle.df_shell.specs.Opening.{AreMade, empty_state, frame_appends, opening_changes, piece_appends, registration};
+ghost use Rattle.df_shell.specs.Opening.{AreMade, empty_catalogue, frame_appends, opening_changes, piece_appends, registration};
 ghost use Rattle.df_catalogue.specs.Ledgers as ledgers;
 
 use crate::definitions::Definitions;
@@ -29,7 +29,7 @@ pub fn open_store<Acc: Ledger, Del: Ledger>(
     requires deleted_parts { (deleted.parts ≡ Del.parts)
         × (deleted.parts ≡ ledgers.parts_of_ledger) }
     ensures { IfOk result
-        (λ store. AreMade (empty_state definitions.now) store.catalogue
+        (λ store. AreMade (empty_catalogue definitions.now) store.catalogue
         (opening_changes definitions.now pieces)) }
 {
     let schemas = copy_schemas(alloc, definitions.document.frames.as_slice())?;

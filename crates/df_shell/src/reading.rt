@@ -2,11 +2,12 @@
 ghost use Rattle.std.specs.Prelude.{◌≡◌, ◌++◌, IfErr, IfOk, OnOk, option_map, string_bytes};
 ghost use Rattle.df_catalogue.specs.Reads.{view_named, view_names_of};
 ghost use Rattle.df_shell.specs.Asked.{frame_index_of};
-ghost use Rattle.df_shell.specs.Questions.{IsTold, books_line, books_text, frame_text, names_text, numbers_line, rows_text, view_text};
+ghost use Rattle.df_shell.specs.Questions.{IsTold, books_line, books_text, frame_text, names_text, numbers_line, rows_text, view_text, work_text};
 
 use crate::definitions::Definitions;
 use crate::refusal::Refusal;
 use df_catalogue::{Catalogue, CatalogueFault};
+use df_expr::Meter;
 use df_text::{escape, print_table};
 use df_value::Text;
 use std::alloc::{AllocError, Global};
@@ -19,7 +20,7 @@ pub fn show<Acc: Ledger, Del: Ledger>(
     view: &str,
 ) -> Result<Vec<u8>, Refusal>
     ensures { IsTold (option_map (view_text view.now)
-        (view_named view.now catalogue.now.views)) CatalogueFault.NoView result }
+        (view_named view.now catalogue.now.state.views)) CatalogueFault.NoView result }
 {
     let Some(schema) = catalogue.view_schema(view) else {
         return Err(Refusal::Store(CatalogueFault::NoView));
@@ -36,7 +37,7 @@ pub fn rows<Acc: Ledger, Del: Ledger>(
     catalogue: &Catalogue<Acc, Del>,
     frame: &str,
 ) -> Result<Vec<u8>, Refusal>
-    ensures { IsTold (frame_text rows_text definitions.now catalogue.now
+    ensures { IsTold (frame_text rows_text definitions.now catalogue.now.state
         (frame_index_of definitions.now frame.now)) CatalogueFault.NoFrame result }
 {
     let Some(at) = definitions.frame_index(frame) else {
@@ -69,7 +70,7 @@ pub fn books<Acc: Ledger, Del: Ledger>(
     catalogue: &Catalogue<Acc, Del>,
     frame: &str,
 ) -> Result<Vec<u8>, Refusal>
-    ensures { IsTold (frame_text (λ spec. books_text) definitions.now catalogue.now
+    ensures { IsTold (frame_text (λ spec. books_text) definitions.now catalogue.now.state
         (frame_index_of definitions.now frame.now)) CatalogueFault.NoFrame result }
 {
     let Some(at) = definitions.frame_index(frame) else {
@@ -93,12 +94,36 @@ fn books_of(alloc: Global, accepted: u64, deleted: u64, live: u64) -> Result<Str
     format!(in alloc; "accepted {accepted}, deleted {deleted}, live {live}\n")
 }
 
+/// What the views counted at the last change of rows.
+pub fn work<Acc: Ledger, Del: Ledger>(
+    alloc: Global,
+    catalogue: &Catalogue<Acc, Del>,
+) -> Result<Vec<u8>, Refusal>
+    ensures told { IfOk result (λ text. text.items ≡ work_text catalogue.now.work) }
+    ensures refused { IfErr result (λ r. r ≡ Refusal.Memory) }
+{
+    let text = work_of(alloc, catalogue.work())?;
+    Ok(text.into_bytes())
+}
+
+fn work_of(alloc: Global, work: Meter) -> Result<String, AllocError>
+    ensures { IfOk result (λ text. string_bytes text ≡ work_text work) }
+{
+    let Meter {
+        evals,
+        finishes,
+        probes,
+        windows,
+    } = work;
+    format!(in alloc; "evals {evals}, finishes {finishes}, probes {probes}, windows {windows}\n")
+}
+
 /// The names of the views, a line each.
 pub fn views<Acc: Ledger, Del: Ledger>(
     alloc: Global,
     catalogue: &Catalogue<Acc, Del>,
 ) -> Result<Vec<u8>, Refusal>
-    ensures told { IfOk result (λ text. text.items ≡ names_text (view_names_of catalogue.now)) }
+    ensures told { IfOk result (λ text. text.items ≡ names_text (view_names_of catalogue.now.state)) }
     ensures refused { IfErr result (λ r. r ≡ Refusal.Memory) }
 {
     let names = catalogue.view_names(alloc)?;

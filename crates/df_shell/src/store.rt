@@ -2,11 +2,9 @@
 ghost use Rattle.std.specs.Prelude.{◌≡◌, IfErr, OnErr, OnOk};
 ghost use Rattle.df_catalogue.specs.Desks.{AreInOrder};
 ghost use Rattle.df_catalogue.specs.States.{IsLegal};
-ghost use Rattle.df_shell.specs.Changes as changes_spec;
 ghost use Rattle.df_shell.specs.Changes.{IsMade, IsRefusal};
 
 use df_catalogue::{Catalogue, CatalogueFault, Change, Desk};
-use df_value::List;
 use std::alloc::Global;
 use std::sync::ledger::Ledger;
 
@@ -15,37 +13,25 @@ use std::sync::ledger::Ledger;
 pub struct Store<Acc: Ledger, Del: Ledger> {
     pub catalogue: Catalogue<Acc, Del>,
     pub desks: Vec<Desk<Acc, Del>>,
-    ghost in_order: { AreInOrder desks.items catalogue },
+    ghost in_order: { AreInOrder desks.items catalogue.state },
 }
 
 impl<Acc: Ledger, Del: Ledger> Store<Acc, Del> {
     /// Tells that the state of the catalogue is legal: each view's table is its plan's value over
     /// the frames.
     pub fn tell_legal(&self)
-        ensures { IsLegal self.now.catalogue }
+        ensures { IsLegal self.now.catalogue.state }
     {
         let _book = self.catalogue.accepted_book();
     }
 
-    /// Makes a change. What needs memory comes first: where it is refused nothing was done.
+    /// Makes a change. Where it is refused nothing was done.
     pub fn make(&mut self, alloc: Global, change: Change) -> Result<(), CatalogueFault>
         ensures made { OnOk result (IsMade self.old.catalogue self.new.catalogue change) }
-        ensures refused { IfErr result (IsRefusal self.old.catalogue change) }
+        ensures refused { IfErr result (IsRefusal self.old.catalogue.state change) }
         ensures same { OnErr result (self.new.catalogue ≡ self.old.catalogue) }
     {
-        let changes = List::from_vec(vec![in alloc; change]?);
         let desks = self.desks.as_mut_slice();
-        let answers = self.catalogue.replay(alloc, desks, changes)?;
-        first_answer(answers.as_slice())
-    }
-}
-
-// The answer to the first of some changes.
-fn first_answer(answers: &[Option<CatalogueFault>]) -> Result<(), CatalogueFault>
-    ensures { result ≡ changes_spec.first_answer answers.now }
-{
-    match answers.first() {
-        Some(Some(fault)) => Err(*fault),
-        _ => Ok(()),
+        self.catalogue.apply(alloc, desks, change)
     }
 }

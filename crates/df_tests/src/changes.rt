@@ -109,8 +109,8 @@ fn answers<Acc: Ledger, Del: Ledger>(
     step: Step,
     fault: CatalogueFault,
 ) -> Result<bool, AllocError>
-    requires { AreInOrder desks.old catalogue.old }
-    ensures { OnOk result (AreInOrder desks.new catalogue.new) }
+    requires { AreInOrder desks.old catalogue.old.state }
+    ensures { OnOk result (AreInOrder desks.new catalogue.new.state) }
 {
     let changes = List::from_vec(vec![in alloc; change(alloc, step)?]?);
     let answers = catalogue.replay(alloc, desks, changes)?;
@@ -124,7 +124,7 @@ fn again<Acc: Ledger, Del: Ledger, R: Abort>(
     catalogue: &mut Catalogue<Acc, Del>,
     desks: &mut [Desk<Acc, Del>],
 ) -> Result<(), Fail>
-    requires { AreInOrder desks.old catalogue.old }
+    requires { AreInOrder desks.old catalogue.old.state }
 {
     let fault = CatalogueFault::NotLive(0);
     assert!(rt; answers(alloc, catalogue, desks, Step::Delete(0, 0), fault)?);
@@ -140,8 +140,8 @@ fn all_answered<Acc: Ledger, Del: Ledger>(
     catalogue: &mut Catalogue<Acc, Del>,
     desks: &mut [Desk<Acc, Del>],
 ) -> Result<bool, AllocError>
-    requires { AreInOrder desks.old catalogue.old }
-    ensures { OnOk result (AreInOrder desks.new catalogue.new) }
+    requires { AreInOrder desks.old catalogue.old.state }
+    ensures { OnOk result (AreInOrder desks.new catalogue.new.state) }
 {
     let answers = catalogue.replay(alloc, desks, changes(alloc)?)?;
     let wanted = STEPS.iter().map(|step| &step.1);

@@ -28,7 +28,7 @@ pub fn opened<Acc: Ledger, Del: Ledger>(
     requires deleted_name { deleted.name ≡ Del.name }
     requires deleted_parts { (deleted.parts ≡ Del.parts)
         × (deleted.parts ≡ ledgers.parts_of_ledger) }
-    ensures { IfOk result (λ made. AreInOrder made.1.items made.0) }
+    ensures { IfOk result (λ made. AreInOrder made.1.items made.0.state) }
 {
     Catalogue::new(alloc, accepted, deleted, schemas(alloc, kinds)?)
 }

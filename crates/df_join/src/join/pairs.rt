@@ -10,7 +10,8 @@ ghost use Rattle.df_join.specs.Sides.{is_one};
 ghost use Rattle.df_join.specs.Spread as spread;
 
 use super::LiveJoin;
-use df_column::{Table, Tag};
+use crate::tree_table::TreeTable;
+use df_column::Tag;
 use df_delta::Notes;
 use df_value::Row;
 use std::alloc::{AllocError, Global};
@@ -23,7 +24,7 @@ const NO_TAG: Tag = Tag {
 };
 
 /// The rows of the table with their tags, if there is one.
-pub fn tagged_rows(alloc: Global, table: Option<&Table>) -> Result<Vec<(Tag, Row)>, AllocError>
+pub fn tagged_rows(alloc: Global, table: Option<&TreeTable>) -> Result<Vec<(Tag, Row)>, AllocError>
     ensures { IfOk result (λ rows. rows.items ≡ finite.entries (rows_or_empty (option_copied table.entry))) }
 {
     match table {

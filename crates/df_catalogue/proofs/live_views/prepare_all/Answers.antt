@@ -27,3 +27,10 @@ pub returns-clause-room : goal.returns-clause-room
 returns-clause-room c =
     let same : (with_items c.args.views.now c.prepare_each.new.views).items ≡ c.prepare_each.new.views = with_items_is c.args.views.now c.prepare_each.new.views (search rules) in
     rw same c.prepare_each.ensures.room
+
+pub prepare_each-requires-clause-few : goal.prepare_each-requires-clause-few
+prepare_each-requires-clause-few c = rw c.as_mut_slice.ensures.value c.requires.few
+
+pub returns-clause-work : goal.returns-clause-work
+returns-clause-work c =
+    rw (← c.as_mut_slice.ensures.value) c.prepare_each.ensures.work

@@ -1,8 +1,18 @@
-use Rattle.std.proofs.Common.{ℕ, ◌+◌, ◌<◌, length, ap, ◌∙◌, arith}
+use Rattle.std.proofs.Common.{◌≡◌, ℕ, ◌+◌, ◌<◌, length, get_or, refl, sym, ap, subst, ◌∙◌, arith}
+use Rattle.std.proofs.lemmas.List.{length-map}
+use Rattle.df_delta.specs.Work.{IsWithin, plus}
 use Rattle.df_live.specs.Frames.{changed}
+use Rattle.df_live.specs.Views.{work}
+use Rattle.df_catalogue.specs.declared.views.View.{View}
+use Rattle.df_catalogue.specs.LiveViews.{plans}
+use Rattle.df_catalogue.specs.Work.{work_of_all}
+use Rattle.df_catalogue.proofs.WorkFacts.{counted_all, counted_more, counted_none, few_below, few_more, few_none, plan_at, plans_same}
 use Rattle.df_catalogue.proofs.Partners.{length-last}
 use Rattle.df_catalogue.proofs.ViewLists.{changes_same, headings_set, live_set, staged_push, room_push}
 use Rattle.df_catalogue.proofs.live_views.prepare_each.Goals as goal
+
+none-below : (k : ℕ) → k < 0 → ⊥
+none-below k h = omega (arith, h)
 
 pub returns-in_err-made-clause-headings : goal.returns-in_err-made-clause-headings
 returns-in_err-made-clause-headings c =
@@ -46,4 +56,40 @@ loop-at-preserved c =
           rw c.in_ok-push.ensures.items
           (room_push c.loop-at.views c.loop-at.staged.items c.loop-at.at c.prepare_view.new.view c.in_ok-made.made
           c.loop-at.invariant.count lt c.loop-at.invariant.room c.in_ok-made.ensures.room);
+      few = few_more c.loop-at.meter c.prepare_view.new.meter c.loop-at.at c.loop-at.invariant.few c.prepare_view.ensures.bound;
+      work = λ frames h change.
+          let views = c.loop-at.views in
+          let others = c.args.views.now in
+          let d = c.index-views-at.result in
+          let long : length (plans others) ≡ length others = length-map others (λ (v : View). v.live.plan) in
+          let same : length views ≡ length others = c.loop-at.auto.views in
+          let is = sym (plan_at views c.loop-at.at d) ∙ ap (λ ps. get_or ps c.loop-at.at d.live.plan) (plans_same views others c.loop-at.invariant.headings) in
+          let came = c.prepare_view.ensures.work frames ((c.loop-at.invariant.live frames h).at c.loop-at.at d lt)
+          ((changes_same views others frames c.args.frame c.args.delta.now c.loop-at.invariant.headings change).at c.loop-at.at d lt) in
+          counted_more (plans others) c.loop-at.at d.live.plan frames (changed frames c.args.frame c.args.delta.now) c.loop-at.meter c.prepare_view.new.meter
+          (work_of_all (plans others) frames (changed frames c.args.frame c.args.delta.now)) (omega (arith, lt, long, same))
+          (subst (λ p. IsWithin c.prepare_view.new.meter (plus c.loop-at.meter (work p frames (changed frames c.args.frame c.args.delta.now)))) is came)
+          (c.loop-at.invariant.work frames h change);
     }
+
+pub loop-at-init : goal.loop-at-init
+loop-at-init c = record {
+  headings = refl;
+  live = λ frames h. h;
+  count = ap length c.in_ok-staged.ensures.items;
+  staged = λ frames h change. record { at = λ k d e below. absurd (none-below k (subst (λ xs. k < length xs) c.in_ok-staged.ensures.items below)) };
+  room = record { at = λ k d e below. absurd (none-below k (subst (λ xs. k < length xs) c.in_ok-staged.ensures.items below)) };
+  few = few_none c.args.meter.now c.requires.meter;
+  work = λ frames h change. counted_none (plans c.args.views.now) frames (changed frames c.args.frame c.args.delta.now) c.args.meter.now c.requires.meter;
+}
+
+pub prepare_view-requires : goal.prepare_view-requires
+prepare_view-requires c = few_below c.loop-at.meter c.loop-at.at (omega (arith, c.loop-at-test.true, c.requires.few)) c.loop-at.invariant.few
+
+pub returns-clause-work : goal.returns-clause-work
+returns-clause-work c frames h change =
+    let others = c.args.views.now in
+    let long : length (plans others) ≡ length others = length-map others (λ (v : View). v.live.plan) in
+    counted_all (plans others) c.loop-at.at frames (changed frames c.args.frame c.args.delta.now) c.loop-at.meter
+    (work_of_all (plans others) frames (changed frames c.args.frame c.args.delta.now)) (omega (arith, long, c.loop-at-test.false))
+    (c.loop-at.invariant.work frames h change)

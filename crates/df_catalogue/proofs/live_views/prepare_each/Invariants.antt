@@ -1,7 +1,10 @@
 use Rattle.std.proofs.Common.{◌≡◌, List, length}
 use Rattle.df_column.specs.Tables.{TaggedRows}
+use Rattle.df_delta.specs.Work.{IsWithin, plus}
 use Rattle.df_live.specs.Frames.{changed}
-use Rattle.df_catalogue.specs.LiveViews.{headings, AreChangesOf, AreLive, AreStaged, HaveRoom}
+use Rattle.df_catalogue.specs.LiveViews.{headings, plans, AreChangesOf, AreLive, AreStaged, HaveRoom}
+use Rattle.df_catalogue.specs.Work.{work_of_all}
+use Rattle.df_catalogue.proofs.WorkFacts.{IsFew, work_from}
 use Rattle.df_catalogue.proofs.live_views.prepare_each.Given as goal
 
 abbrev pub invariant-loop-at : goal.invariant-loop-at
@@ -11,4 +14,7 @@ invariant-loop-at l = record {
   count : length l.staged.items ≡ l.at;
   staged : (frames : List TaggedRows) → AreLive l.fn.views frames → AreChangesOf l.fn.views frames l.frame l.delta → AreStaged l.views l.staged.items (changed frames l.frame l.delta);
   room : HaveRoom l.views l.staged.items;
+  few : IsFew l.meter l.at;
+  work : (frames : List TaggedRows) → AreLive l.fn.views frames → AreChangesOf l.fn.views frames l.frame l.delta →
+      IsWithin (plus l.meter (work_from (plans l.fn.views) l.at frames (changed frames l.frame l.delta))) (work_of_all (plans l.fn.views) frames (changed frames l.frame l.delta));
 }

@@ -6,5 +6,5 @@ invariant-loop-value l =
     record {
       can_next : (goal.iterator-loop-value).can_next l.value-iterator;
       is_finite : (goal.iterator-loop-value).is_finite l.value-iterator;
-      among : AreAmong l.kind l.old.items.items l.new.items.items l.value-iterator;
+      among : AreAmong l.kind l.old l.new l.value-iterator;
     }

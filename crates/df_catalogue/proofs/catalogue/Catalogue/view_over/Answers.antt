@@ -9,6 +9,7 @@ use Rattle.df_catalogue.specs.FrameParts.{schemas_of, states_of}
 use Rattle.df_catalogue.specs.FrameTables.{table_parts}
 use Rattle.df_catalogue.specs.LiveViews.{tagged_frames}
 use Rattle.df_catalogue.proofs.LiveFacts.{are-frames, tables-rows, tables-schemas}
+use Rattle.df_catalogue.proofs.StateFacts.{state-of}
 use Rattle.df_catalogue.proofs.catalogue.Catalogue.view_over.Given.{Over}
 use Rattle.df_catalogue.proofs.catalogue.Catalogue.view_over.Goals as goal
 
@@ -16,7 +17,7 @@ pub new-requires-clause-schemas : goal.new-requires-clause-schemas
 new-requires-clause-schemas g c =
     let tables : c.deref.result.now ≡ map table_parts c.self.inside.frames.items =
     c.deref.ensures.value ∙ (c.in_ok-tables.ensures ∙ ap (map table_parts) c.as_slice.ensures.value) in
-    ap (map (λ t. t.schema)) tables ∙ (tables-schemas c.self.inside.frames.items ∙ (ap (λ (s : State). s.schemas) c.self.view_is ∙ sym c.requires))
+    ap (map (λ t. t.schema)) tables ∙ (tables-schemas c.self.inside.frames.items ∙ (ap (λ (s : State). s.schemas) (state-of c.self.view_is) ∙ sym c.requires))
 
 pub new-requires-clause-frames : goal.new-requires-clause-frames
 new-requires-clause-frames g c =
@@ -24,13 +25,13 @@ new-requires-clause-frames g c =
     c.deref.ensures.value ∙ (c.in_ok-tables.ensures ∙ ap (map table_parts) c.as_slice.ensures.value) in
     let rows : tables_of c.deref.result.now ≡ tagged_frames (states_of c.self.inside.frames.items) = ap tables_of tables ∙ tables-rows c.self.inside.frames.items in
     subst (AreFrames c.args.plan.frames) (sym rows)
-    (subst (λ ss. AreFrames ss (tagged_frames (states_of c.self.inside.frames.items))) (ap (λ (s : State). s.schemas) c.self.view_is ∙ sym c.requires)
+    (subst (λ ss. AreFrames ss (tagged_frames (states_of c.self.inside.frames.items))) (ap (λ (s : State). s.schemas) (state-of c.self.view_is) ∙ sym c.requires)
     (are-frames (schemas_of c.self.inside.frames.items) (states_of c.self.inside.frames.items) c.self.invariant.legal.frames))
 
 pub returns-clause-live : goal.returns-clause-live
 returns-clause-live g c =
     let tables : c.deref.result.now ≡ map table_parts c.self.inside.frames.items =
     c.deref.ensures.value ∙ (c.in_ok-tables.ensures ∙ ap (map table_parts) c.as_slice.ensures.value) in
-    let rows : tables_of c.deref.result.now ≡ tagged_frames c.args.self.now.frames =
-    ap tables_of tables ∙ (tables-rows c.self.inside.frames.items ∙ ap (λ (s : State). tagged_frames s.frames) c.self.view_is) in
+    let rows : tables_of c.deref.result.now ≡ tagged_frames c.args.self.now.state.frames =
+    ap tables_of tables ∙ (tables-rows c.self.inside.frames.items ∙ ap (λ (s : State). tagged_frames s.frames) (state-of c.self.view_is)) in
     IfOk-weaker c.new.result _ _ (λ v h. subst (IsLive v) rows h) c.new.ensures.live

@@ -1,7 +1,10 @@
-use Rattle.std.proofs.Common.{◌≡◌, ◌++◌, take, map}
+use Rattle.std.proofs.Common.{◌≡◌, ◌++◌, length, take, map}
+use Rattle.std.specs.FinMap as finite
 use Rattle.df_ops.specs.Tables.{aggregate_cell}
+use Rattle.df_group.specs.GroupIndex.{totals_of}
 use Rattle.df_group.proofs.grouping.Grouping.finished_row.Given as goal
 
 abbrev pub invariant-loop-named : goal.invariant-loop-named
 invariant-loop-named l =
-    l.cells.items ≡ l.key ++ map (λ a. aggregate_cell l.self.schema l.rows a.1) (take l.named-index l.named-items)
+    l.totals ≡ totals_of l.self (finite.values l.members.rows)
+    → l.cells.items ≡ l.key ++ map (λ a. aggregate_cell l.self.schema (finite.values l.members.rows) a.1) (take (length l.yielded) l.self.aggregates)

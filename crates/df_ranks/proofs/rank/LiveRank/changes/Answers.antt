@@ -13,10 +13,10 @@ pub from_entries-requires : goal.from_entries-requires
 from_entries-requires c =
     let s = c.args.self.now in
     let t = s.output.rows in
-    let u = with_ranks s.column.schema s.column.name s.column.index (counted_rank s.column.kind c.args.counts.now.items.items) c.args.input.now.rows in
+    let u = with_ranks s.column.schema s.column.name s.column.index (counted_rank s.column.kind c.args.counts.now) c.args.input.now.rows in
     let all = change_end t u c.args.tags.now c.loop-tag.tag-index (map entry_change c.loop-tag.entries.items) _ c.loop-tag-test.false c.loop-tag.invariant.done in
     record {
-      rising = subst (λ es. T (finite.is_sorted tag_cmp es)) (sym all) (sorted_changes t u c.args.tags.now c.requires.rising);
+      rising = subst (λ es. T (finite.is_sorted tag_cmp es)) (sym all) (sorted_changes t u c.args.tags.now c.requires);
       rows = c.loop-tag.invariant.rows;
     }
 
@@ -24,7 +24,7 @@ pub loop-tag-preserved : goal.loop-tag-preserved
 loop-tag-preserved c =
     let s = c.args.self.now in
     let t = s.output.rows in
-    let u = with_ranks s.column.schema s.column.name s.column.index (counted_rank s.column.kind c.args.counts.now.items.items) c.args.input.now.rows in
+    let u = with_ranks s.column.schema s.column.name s.column.index (counted_rank s.column.kind c.args.counts.now) c.args.input.now.rows in
     record {
       done = change_step t u c.args.tags.now c.loop-tag.tag-index _ _ (map entry_change c.loop-tag.entries.items) _ _ c.in_ok-old.old c.in_ok-new.new c.loop-tag-test.true refl c.in_ok-old.ensures c.in_ok-new.ensures c.in_ok-push_change.ensures.added c.loop-tag.invariant.done;
       rows = c.in_ok-push_change.ensures.rows c.loop-tag.invariant.rows;
@@ -34,6 +34,6 @@ pub returns : goal.returns
 returns c =
     let s = c.args.self.now in
     let t = s.output.rows in
-    let u = with_ranks s.column.schema s.column.name s.column.index (counted_rank s.column.kind c.args.counts.now.items.items) c.args.input.now.rows in
+    let u = with_ranks s.column.schema s.column.name s.column.index (counted_rank s.column.kind c.args.counts.now) c.args.input.now.rows in
     c.from_entries.ensures
     ∙ ap finite.from_sorted (change_end t u c.args.tags.now c.loop-tag.tag-index (map entry_change c.loop-tag.entries.items) _ c.loop-tag-test.false c.loop-tag.invariant.done)

@@ -10,7 +10,7 @@ use Rattle.df_ranks.proofs.rank.LiveRank.changes.Given as goal
 
 abbrev pub invariant-loop-tag : goal.invariant-loop-tag
 invariant-loop-tag l =
-    let changes = changes_at l.self.output.rows (with_ranks l.self.column.schema l.self.column.name l.self.column.index (counted_rank l.self.column.kind l.counts.items.items) l.input.rows) in
+    let changes = changes_at l.self.output.rows (with_ranks l.self.column.schema l.self.column.name l.self.column.index (counted_rank l.self.column.kind l.counts) l.input.rows) in
     record {
       done : map entry_change l.entries.items ++ changes (drop l.tag-index l.tags) ≡ changes l.tags;
       rows : T (list_all has_row l.entries.items);

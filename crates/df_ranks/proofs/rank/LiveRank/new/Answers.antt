@@ -13,4 +13,4 @@ returns-clause-rows c t = ap finite.values (returns-clause-output c t) ∙ ranke
 pub returns-clause-over : goal.returns-clause-over
 returns-clause-over c =
     let column = c.in_ok-column.column in
-    over_none column.schema column.name column.kind column.index c.in_ok-input.input c.in_ok-output.output c.new-4.result.items.items c.in_ok-input.ensures.rows c.in_ok-output.ensures.rows c.new-4.ensures
+    over_none column.schema column.name column.kind column.index c.in_ok-input.input c.in_ok-output.output c.new-4.result c.in_ok-input.ensures.rows c.in_ok-output.ensures.rows c.new-4.ensures

@@ -1,0 +1,110 @@
+-- Running totals: the count and the sum of the cells that rows have at an index, the number of rows that have each value at an index, and
+-- how all of these follow changes of the rows.
+use Rattle.std.specs.Prelude.{◌≡◌, ℕ, pos, ◌+◌, ◌-◌, ◌+ℤ◌, ◌-ℤ◌, List, [], ◌∷◌, Option, Some, None, All, fold, map, unwrap_or}
+use Rattle.std.specs.FinMap.{find}
+use Rattle.df_value.specs.CellOrder.{cell_cmp}
+use Rattle.df_value.specs.Rows.{cell_at}
+use Rattle.df_value.specs.declared.cell.Cell.{Cell}
+use Rattle.df_value.specs.declared.cell.CellType.{CellType}
+use Rattle.df_value.specs.Schemas.{column_index}
+use Rattle.df_column.specs.Changes.{edit}
+use Rattle.df_column.specs.declared.entry.Entry.{Entry}
+use Rattle.df_counts.specs.Counts.{some_count, value_in}
+use Rattle.df_ops.specs.Aggregates.{cells_of, count_of, sum_of}
+use Rattle.df_ops.specs.declared.agg.Agg.{Agg}
+use Rattle.df_ops.specs.declared.agg.Agg.TheVariants as agg
+use Rattle.df_group.specs.declared.sums.Sums.{Sums}
+use Rattle.df_group.specs.declared.total.Total.{Total}
+use Rattle.df_group.specs.declared.values.Values.{Values}
+
+-- the count and the sum of the cells of these rows at an index
+abbrev pub sums_of : Option ℕ → List (List Cell) → Sums
+sums_of index rows = record { index = index; count = pos (count_of (cells_of index rows)); sum = sum_of (cells_of index rows) }
+
+-- the row alone, or none
+abbrev pub alone : Option (List Cell) → List (List Cell)
+alone None = []
+alone (Some row) = row ∷ []
+
+-- the sums after an entry: without the row that goes, and with the row that comes
+abbrev pub sums_after_entry : Sums → Entry → Sums
+sums_after_entry s e = record {
+  index = s.index;
+  count = (s.count -ℤ (sums_of s.index (alone e.old)).count) +ℤ (sums_of s.index (alone e.new)).count;
+  sum = (s.sum -ℤ (sums_of s.index (alone e.old)).sum) +ℤ (sums_of s.index (alone e.new)).sum;
+}
+
+-- the sums after each of these entries in turn
+abbrev pub sums_after : Sums → List Entry → Sums
+sums_after s entries = fold sums_after_entry s entries
+
+-- how many rows have the value by these counts
+abbrev pub count_in : List (Cell × ℕ) → Cell → ℕ
+count_in counts v = unwrap_or (find cell_cmp v counts) 0
+
+-- the counts with one row more of the value, if there is one
+abbrev pub with_row : List (Cell × ℕ) → Option Cell → List (Cell × ℕ)
+with_row counts None = counts
+with_row counts (Some v) = edit cell_cmp counts v (some_count (count_in counts v + 1))
+
+-- and with one row less; a value without rows goes
+abbrev pub without_row : List (Cell × ℕ) → Option Cell → List (Cell × ℕ)
+without_row counts None = counts
+without_row counts (Some v) = edit cell_cmp counts v (some_count (count_in counts v - 1))
+
+-- the value of the row at an index, none where there is no row or its cell is null
+abbrev pub value_of : Option ℕ → Option (List Cell) → Option Cell
+value_of index None = None
+value_of index (Some row) = value_in (cell_at index row)
+
+-- the counts of these rows by their values at an index
+abbrev pub counts_of : Option ℕ → List (List Cell) → List (Cell × ℕ)
+counts_of index rows = fold (λ counts row. with_row counts (value_in (cell_at index row))) [] rows
+
+-- the counts after an entry
+abbrev pub counts_after_entry : Option ℕ → List (Cell × ℕ) → Entry → List (Cell × ℕ)
+counts_after_entry index counts e = with_row (without_row counts (value_of index e.old)) (value_of index e.new)
+
+-- the counts after each of these entries in turn
+abbrev pub counts_after : Option ℕ → List (Cell × ℕ) → List Entry → List (Cell × ℕ)
+counts_after index counts entries = fold (counts_after_entry index) counts entries
+
+-- an index with the counts of these rows
+abbrev pub values_of : Option ℕ → List (List Cell) → Values
+values_of index rows = record { index = index; counts = counts_of index rows }
+
+-- what a total has of these rows at the index whose cells it sums, and at that whose values it counts
+abbrev pub total_of : Option ℕ → Option ℕ → List (List Cell) → Total
+total_of summed valued rows = record { sums = sums_of summed rows; values = values_of valued rows }
+
+-- the entries lead the totals of some rows to those of others
+pub record Lead (old : List (List Cell)) (entries : List Entry) (new : List (List Cell)) : Type 0 where
+  pub sums : (index : Option ℕ) → sums_after (sums_of index old) entries ≡ sums_of index new
+  pub counts : (index : Option ℕ) → counts_after index (counts_of index old) entries ≡ counts_of index new
+
+-- each of these totals has the counts of these rows at the index whose values it counts
+pub record HaveValuesOf (totals : List Total) (rows : List (List Cell)) : Type 0 where
+  pub each : All (λ t. t.values ≡ values_of t.values.index rows) totals
+
+-- these totals, each of its own indices, over other rows
+abbrev pub totals_over : List Total → List (List Cell) → List Total
+totals_over totals rows = map (λ t. total_of t.sums.index t.values.index rows) totals
+
+-- the index whose cells an aggregate counts or sums; none for those that need neither
+abbrev pub summed_index : List (List ℕ × CellType) → Agg → Option ℕ
+summed_index columns (agg.Count name) = column_index name columns
+summed_index columns (agg.Sum name) = column_index name columns
+summed_index columns (agg.Mean name) = column_index name columns
+summed_index columns (agg.NUnique name) = column_index name columns
+summed_index columns _ = None
+
+-- the index whose values an aggregate looks at; none for those that need none, so that no value is kept for them
+abbrev pub valued_index : List (List ℕ × CellType) → Agg → Option ℕ
+valued_index columns (agg.Min name) = column_index name columns
+valued_index columns (agg.Max name) = column_index name columns
+valued_index columns (agg.NUnique name) = column_index name columns
+valued_index columns _ = None
+
+-- the total of these rows for an aggregate
+abbrev pub total_for : List (List ℕ × CellType) → Agg → List (List Cell) → Total
+total_for columns a rows = total_of (summed_index columns a) (valued_index columns a) rows

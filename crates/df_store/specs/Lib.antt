@@ -1,0 +1,9 @@
+pub mod Rooms
+pub mod Closing
+pub mod Halls
+pub mod Jobs
+pub mod Loaded
+pub mod Refused
+pub mod Lost
+pub mod Loads
+pub mod Faults

@@ -1,0 +1,216 @@
+//! Loading: workers bring the chunks of sources into a hall, and what they left is compared with the
+//! sources once.
+ghost use Rattle.std.specs.Prelude.{◌≡◌, ◌≤◌, Err, IfErr, IfNone, IfOk, IfSome, Ok, filter_map, length, option_map};
+ghost use Rattle.df_catalogue.specs.States.{IsLegal};
+ghost use Rattle.df_store.specs.Closing as closing;
+ghost use Rattle.df_store.specs.Faults.{IsCauseOfRegister};
+ghost use Rattle.df_store.specs.Jobs.{AreOutcomes, chunks_of, jobs_of, most_jobs};
+ghost use Rattle.df_store.specs.Loaded.{AreLoaded};
+ghost use Rattle.df_store.specs.Loads as loads;
+ghost use Rattle.df_store.specs.Refused.{refusal};
+
+use crate::closing::{Unsettled, settle};
+use crate::entering::enter_all;
+use crate::fault::LoadCause;
+use crate::findings::compare;
+use crate::gate::Gate;
+use crate::hall::Hall;
+use crate::jobs::{Outcome, job_count};
+use crate::refused::Refused;
+use crate::totals::Totals;
+use crate::worker::{Work, make_all};
+use df_catalogue::{Catalogue, Desk};
+use df_plan::CheckedPlan;
+use df_value::{Duplicate, List, Source, Text};
+use std::alloc::{AllocError, Global};
+use std::sync::Wait;
+use std::sync::ledger::Ledger;
+use std::thread::Threads;
+
+/// A catalogue that was loaded.
+#[derive(Drop)]
+pub struct Loaded<Acc: Ledger, Del: Ledger> {
+    pub catalogue: Catalogue<Acc, Del>,
+    /// What each frame accepted, what was deleted of it, and what it has.
+    pub totals: Totals,
+    /// The chunks that did not enter since a cell of them is bad, by frame and then by chunk.
+    pub refused: List<Refused>,
+}
+
+/// A load that was refused.
+#[derive(Drop)]
+pub struct LoadFault<Acc: Ledger, Del: Ledger> {
+    pub cause: LoadCause,
+    /// What the load left, with its totals; none where the gathered shares of the desks are not the
+    /// books, whatever the cause is. Each chunk that entered has entered whole.
+    pub left: Option<(Catalogue<Acc, Del>, Totals)>,
+}
+
+/// Registers copies of the views in the hall, has so many workers make the chunks of the sources, a
+/// source for each frame, commits the good ones, and closes the hall. Each worker does the jobs of its
+/// turns: it passes the gate and makes the chunk of the job. What came of it is compared with the
+/// sources and the views once, after all.
+///
+/// The causes of a fault are looked for in the order of [`LoadCause`]. A worker that is refused memory
+/// stops, and the others go on; then no chunk enters. A commit that is refused memory ends the load:
+/// the chunks before it have entered.
+pub fn load_all<
+    Acc: Ledger,
+    Del: Ledger,
+    S: Source + Sync,
+    G: Gate + Sync,
+    R: Threads + Wait + Sync,
+>(
+    rt: &R,
+    alloc: Global,
+    hall: Hall<Acc, Del>,
+    desks: Vec<Desk<Acc, Del>>,
+    views: &[(Text, CheckedPlan)],
+    sources: &[S],
+    workers: usize,
+    gate: &G,
+) -> Result<Loaded<Acc, Del>, LoadFault<Acc, Del>>
+    requires jobs { length (jobs_of (chunks_of S.made S.start_of sources.now))
+        ≤ most_jobs }
+    ensures loaded { IfOk result (λ load.
+        AreLoaded (jobs_of (chunks_of S.made S.start_of sources.now)) load.catalogue.state) }
+    ensures refused { IfOk result (λ load.
+        load.refused ≡ filter_map refusal (jobs_of (chunks_of S.made S.start_of sources.now))) }
+    ensures views { IfOk result (λ load. loads.headings_of load.catalogue.state ≡ views.now) }
+    ensures totals { IfOk result (λ load.
+        load.totals ≡ closing.totals_of load.catalogue.state) }
+    ensures legal { IfOk result (λ load. IsLegal load.catalogue.state) }
+    ensures left { IfErr result (λ fault. IfSome fault.left (λ left.
+        left.1 ≡ closing.totals_of left.0.state)) }
+    ensures cause { IfErr result (λ fault.
+        loads.IsCauseOf (chunks_of S.made S.start_of sources.now) views.now
+        (option_map (λ left. left.0.state) fault.left)
+        fault.cause) }
+{
+    if let Err(cause) = register_all(rt, alloc, &hall, views) {
+        return Err(given_up(hall, desks, cause));
+    }
+    let work = Work {
+        alloc,
+        sources,
+        gate,
+        jobs: job_count(sources),
+        workers,
+    };
+    let Ok(outcomes) = make_all(rt, &work) else {
+        return Err(given_up(hall, desks, LoadCause::Memory));
+    };
+    let mut desks = desks;
+    let entered = enter_all(rt, alloc, &hall, &mut desks, sources, outcomes);
+    finish(hall, desks, &work, views, entered)
+}
+
+// Registers copies of the views, in their order.
+fn register_all<Acc: Ledger, Del: Ledger, R: Wait>(
+    rt: &R,
+    alloc: Global,
+    hall: &Hall<Acc, Del>,
+    views: &[(Text, CheckedPlan)],
+) -> Result<(), LoadCause>
+    ensures { IfErr result (λ cause. IsCauseOfRegister cause) }
+{
+    for (name, plan) in views {
+        let name = name.copy(alloc)?;
+        let plan = plan.copy(alloc)?;
+        hall.register(rt, alloc, name, plan)?;
+    }
+    Ok(())
+}
+
+// The fault of a load of which no chunk has entered.
+fn given_up<Acc: Ledger, Del: Ledger>(
+    hall: Hall<Acc, Del>,
+    desks: Vec<Desk<Acc, Del>>,
+    cause: LoadCause,
+) -> LoadFault<Acc, Del>
+    ensures cause { result.cause ≡ cause }
+    ensures left { IfSome result.left (λ left. left.1 ≡ closing.totals_of left.0.state) }
+{
+    LoadFault {
+        cause,
+        left: hall.close(desks).ok(),
+    }
+}
+
+// Compares what the load left, and closes the hall.
+fn finish<Acc: Ledger, Del: Ledger, S: Source, G: Gate>(
+    hall: Hall<Acc, Del>,
+    desks: Vec<Desk<Acc, Del>>,
+    work: &Work<S, G>,
+    views: &[(Text, CheckedPlan)],
+    entered: Result<Vec<Outcome>, AllocError>,
+) -> Result<Loaded<Acc, Del>, LoadFault<Acc, Del>>
+    requires jobs { work.now.jobs
+        ≡ length (jobs_of (chunks_of S.made S.start_of work.now.sources.now)) }
+    requires entered { IfOk entered (λ os.
+        AreOutcomes (chunks_of S.made S.start_of work.now.sources.now) os.items) }
+    ensures loaded { IfOk result (λ load.
+        AreLoaded (jobs_of (chunks_of S.made S.start_of work.now.sources.now))
+        load.catalogue.state) }
+    ensures refused { IfOk result (λ load. load.refused
+        ≡ filter_map refusal (jobs_of (chunks_of S.made S.start_of work.now.sources.now))) }
+    ensures views { IfOk result (λ load. loads.headings_of load.catalogue.state ≡ views.now) }
+    ensures totals { IfOk result (λ load.
+        load.totals ≡ closing.totals_of load.catalogue.state) }
+    ensures legal { IfOk result (λ load. IsLegal load.catalogue.state) }
+    ensures left { IfErr result (λ fault. IfSome fault.left (λ left.
+        left.1 ≡ closing.totals_of left.0.state)) }
+    ensures cause { IfErr result (λ fault.
+        loads.IsCauseOf (chunks_of S.made S.start_of work.now.sources.now) views.now
+        (option_map (λ left. left.0.state) fault.left)
+        fault.cause) }
+{
+    let (catalogue, room) = hall.into_parts();
+    let findings = match entered {
+        Ok(outcomes) => compare(
+            work.alloc,
+            &catalogue,
+            work.sources,
+            views,
+            work.jobs,
+            outcomes,
+        ),
+        Err(_) => Err(LoadCause::Memory),
+    };
+    conclude(settle(catalogue, desks, room), findings)
+}
+
+// What the load answers, once the hall was closed or could not be.
+fn conclude<Acc: Ledger, Del: Ledger>(
+    settled: Result<(Catalogue<Acc, Del>, Totals), Unsettled<Acc, Del>>,
+    findings: Result<List<Refused>, LoadCause>,
+) -> Result<Loaded<Acc, Del>, LoadFault<Acc, Del>>
+    ensures loaded { IfOk result (λ load. settled ≡ Ok (load.catalogue, load.totals)) }
+    ensures refused { IfOk result (λ load. findings ≡ Ok load.refused) }
+    ensures left { IfErr result (λ fault. IfSome fault.left (λ left. settled ≡ Ok left)) }
+    ensures cause { IfErr result (λ fault. IfSome fault.left (λ _. findings ≡ Err fault.cause)) }
+    ensures missing { IfErr result (λ fault. IfNone fault.left
+        (loads.IsCauseUnsettled fault.cause)) }
+{
+    match settled {
+        Ok((catalogue, totals)) => match findings {
+            Ok(refused) => Ok(Loaded {
+                catalogue,
+                totals,
+                refused,
+            }),
+            Err(cause) => Err(LoadFault {
+                cause,
+                left: Some((catalogue, totals)),
+            }),
+        },
+        Err(unsettled) => {
+            let cause = match findings {
+                Err(LoadCause::Memory) => LoadCause::Memory,
+                _ => LoadCause::MissingDesk(unsettled.frame),
+            };
+            drop(unsettled);
+            Err(LoadFault { cause, left: None })
+        }
+    }
+}
