@@ -9,6 +9,7 @@ mod command_line;
 mod fault;
 mod fault_texts;
 mod files;
+mod loading;
 mod opening;
 mod outcome;
 mod output;

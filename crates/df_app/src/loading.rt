@@ -1,0 +1,99 @@
+//! The loading of a document: workers bring the chunks of its sources into a hall.
+ghost use Rattle.std.specs.Prelude.{◌≡◌, ◌≤◌, All, IfErr, IfOk, length};
+ghost use Rattle.df_catalogue.specs.Ledgers as ledgers;
+ghost use Rattle.df_app.specs.Loading.{IsOutputOfLoad, IsSourceOf, headings_in};
+ghost use Rattle.df_app.specs.Ran.{IsFaultOfLoad};
+
+use crate::fault::RunFault;
+use crate::opening::{SourcedDocument, copy_schemas};
+use crate::outcome::Output;
+use crate::output::output;
+use df_plan::CheckedPlan;
+use df_store::{Hall, LoadCause, OpenGate, load_all};
+use df_text::ViewSpec;
+use df_value::{Duplicate, List, Text};
+use std::alloc::{AllocError, Global};
+use std::sync::Wait;
+use std::sync::ledger::{Blank, Ledger};
+use std::thread::Threads;
+
+/// Loads the sources of a document by so many workers, and gives what a run writes.
+///
+/// The frames of a document are few and of base types, so that only memory can be refused to a hall
+/// over them.
+pub(crate) fn load_output<Acc: Ledger, Del: Ledger, R: Threads + Wait + Sync>(
+    rt: &R,
+    alloc: Global,
+    accepted: Blank,
+    deleted: Blank,
+    sourced: &SourcedDocument,
+    workers: usize,
+    chunk: usize,
+) -> Result<Output, RunFault>
+    requires accepted_name { accepted.name ≡ Acc.name }
+    requires accepted_parts { (accepted.parts ≡ Acc.parts)
+        × (accepted.parts ≡ ledgers.parts_of_ledger) }
+    requires deleted_name { deleted.name ≡ Del.name }
+    requires deleted_parts { (deleted.parts ≡ Del.parts)
+        × (deleted.parts ≡ ledgers.parts_of_ledger) }
+    requires plans { length sourced.now.plans ≡ length sourced.now.document.views }
+    requires sources { length sourced.now.sources ≡ length sourced.now.document.frames }
+    requires some { 1 ≤ chunk }
+    requires each { All (IsSourceOf chunk) sourced.now.sources }
+    ensures output { IfOk result (IsOutputOfLoad sourced.now) }
+    ensures fault { IfErr result IsFaultOfLoad }
+{
+    let schemas = List::from_vec(copy_schemas(alloc, sourced.document.frames.as_slice())?);
+    let Ok((hall, desks)) = Hall::<Acc, Del>::new(alloc, accepted, deleted, schemas) else {
+        return Err(RunFault::Memory);
+    };
+    let views = headings(
+        alloc,
+        sourced.document.views.as_slice(),
+        sourced.plans.as_slice(),
+    )?;
+    let sources = sourced.sources.as_slice();
+    match load_all(
+        rt,
+        alloc,
+        hall,
+        desks,
+        views.as_slice(),
+        sources,
+        workers,
+        &OpenGate,
+    ) {
+        Ok(loaded) => {
+            let frames = sourced.document.frames.as_slice();
+            Ok(output(alloc, frames, views.as_slice(), &loaded)?)
+        }
+        Err(fault) => Err(fault_of_load(fault.cause)),
+    }
+}
+
+// The views by name and plan.
+fn headings(
+    alloc: Global,
+    views: &[ViewSpec],
+    plans: &[CheckedPlan],
+) -> Result<Vec<(Text, CheckedPlan)>, AllocError>
+    requires { length plans.now ≡ length views.now }
+    ensures { IfOk result (λ out. out.items ≡ headings_in views.now plans.now) }
+{
+    let mut out = Vec::with_capacity(alloc, views.len())?;
+    for i in 0..views.len() {
+        let name = views[i].name.copy(alloc)?;
+        let plan = plans[i].copy(alloc)?;
+        out.push((name, plan))?;
+    }
+    Ok(out)
+}
+
+fn fault_of_load(cause: LoadCause) -> RunFault
+    ensures { IsFaultOfLoad result }
+{
+    match cause {
+        LoadCause::Memory => RunFault::Memory,
+        cause => RunFault::Load(cause),
+    }
+}
