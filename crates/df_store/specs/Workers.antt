@@ -17,9 +17,9 @@ pub record HasNotBegun {A D : Type 0} (most : ℕ) (w : Worker A D) : Type 0 whe
   pub done : w.done.items ≡ []
 
 -- a worker that has done nothing yet, and has no desk, but room for so many
-pub record IsIdle {A D : Type 0} (room : ℕ) (w : Worker A D) : Type 0 where
+pub record IsIdle {A D : Type 0} (most : ℕ) (w : Worker A D) : Type 0 where
   pub desks : w.desks.items ≡ []
-  pub room : room ≤ vec_capacity w.desks
+  pub room : most ≤ vec_capacity w.desks
   pub done : w.done.items ≡ []
 
 -- the desks of all of these workers

@@ -1,5 +1,5 @@
 //! The workers of a load: they share out desks, run, and give the desks back.
-ghost use Rattle.std.specs.Prelude.{◌≡◌, ◌+◌, ◌<◌, ◌≤◌, ◌*◌, ◌∷◌, ◌++◌, [], All, IfErr, IfOk, drop, length, slice_index_or, vec_capacity, vec_len};
+ghost use Rattle.std.specs.Prelude.{◌≡◌, ◌+◌, ◌<◌, ◌≤◌, ◌*◌, ◌++◌, [], All, IfErr, IfOk, length, vec_capacity};
 ghost use Rattle.df_store.specs.Closing.{HaveSameSums};
 ghost use Rattle.df_store.specs.Jobs.{AreOutcomes, chunks_of};
 ghost use Rattle.df_store.specs.Workers.{IsIdle, IsPool, IsWorker, desks_of};
@@ -11,7 +11,7 @@ use crate::splitting::share_desks;
 use crate::worker::{Work, Worker};
 use df_catalogue::Desk;
 use df_value::Source;
-use std::alloc::{AllocError, Global};
+use std::alloc::AllocError;
 use std::sync::Wait;
 use std::sync::ledger::Ledger;
 use std::thread;
@@ -87,7 +87,7 @@ impl<Acc: Ledger, Del: Ledger> WorkerPool<Acc, Del> {
         let mut workers = workers;
         let mut gathered = gathered;
         take_desks(work, workers.as_mut_slice(), &mut gathered);
-        (gathered, outcomes_of(work.alloc, work.sources, workers))
+        (gathered, outcomes_of(work, workers))
     }
 }
 
@@ -156,6 +156,7 @@ fn take_desks<Acc: Ledger, Del: Ledger, S: Source, G>(
         ≤ vec_capacity gathered.old }
     ensures workers { All (λ w.
         IsWorker work.now.desks (chunks_of S.made S.start_of work.now.sources.now) w) workers.new }
+    ensures count { length workers.new ≡ length workers.old }
     ensures gathered { gathered.new.items ≡ gathered.old.items ++ desks_of workers.old }
 {
     let _ = work;
@@ -165,19 +166,19 @@ fn take_desks<Acc: Ledger, Del: Ledger, S: Source, G>(
 }
 
 // All that the workers have done, if none of them was refused memory.
-fn outcomes_of<Acc: Ledger, Del: Ledger, S: Source>(
-    alloc: Global,
-    sources: &[S],
+fn outcomes_of<Acc: Ledger, Del: Ledger, S: Source, G>(
+    work: &Work<S, G>,
     workers: Vec<Worker<Acc, Del>>,
 ) -> Result<Vec<Outcome>, AllocError>
-    requires { All (λ w. AreOutcomes (chunks_of S.made S.start_of sources.now) w.done.items)
-        workers.items }
-    ensures { IfOk result (λ os. AreOutcomes (chunks_of S.made S.start_of sources.now) os.items) }
+    requires { All (λ w.
+        IsWorker work.now.desks (chunks_of S.made S.start_of work.now.sources.now) w) workers.items }
+    ensures { IfOk result (λ os.
+        AreOutcomes (chunks_of S.made S.start_of work.now.sources.now) os.items) }
 {
-    let mut all = Vec::new(alloc);
+    let mut all = Vec::new(work.alloc);
     for worker in workers {
         let mut worker = worker;
-        worker.give_outcomes(sources, &mut all)?;
+        worker.give_outcomes(work, &mut all)?;
     }
     Ok(all)
 }

@@ -1,6 +1,5 @@
 //! Workers: threads that make the chunks of jobs, and commit those that are good.
-ghost use Rattle.std.specs.Prelude.{◌≡◌, ◌+◌, ◌<◌, ◌≤◌, ◌∷◌, ◌++◌, [], IfOk, IfSome, OnOk, length, map, vec_capacity, vec_len};
-ghost use Rattle.df_store.specs.Closing as closing;
+ghost use Rattle.std.specs.Prelude.{◌≡◌, ◌<◌, IfOk, IfSome, OnOk, length, map};
 ghost use Rattle.df_store.specs.Jobs.{AreOutcomes, chunks_of};
 ghost use Rattle.df_store.specs.Workers.{IsIdle, IsWorker};
 
@@ -124,18 +123,19 @@ impl<Acc: Ledger, Del: Ledger> Worker<Acc, Del> {
     }
 
     /// Adds what it has done to the others' outcomes, unless it was stopped.
-    pub(crate) fn give_outcomes<S: Source>(
+    pub(crate) fn give_outcomes<S: Source, G>(
         &mut self,
-        sources: &[S],
+        work: &Work<S, G>,
         all: &mut Vec<Outcome>,
     ) -> Result<(), AllocError>
-        requires worker { AreOutcomes (chunks_of S.made S.start_of sources.now)
-            self.old.done.items }
-        requires outcomes { AreOutcomes (chunks_of S.made S.start_of sources.now) all.old.items }
+        requires worker { IsWorker work.now.desks
+            (chunks_of S.made S.start_of work.now.sources.now) self.old }
+        requires outcomes { AreOutcomes (chunks_of S.made S.start_of work.now.sources.now)
+            all.old.items }
         ensures outcomes { OnOk result
-            (AreOutcomes (chunks_of S.made S.start_of sources.now) all.new.items) }
+            (AreOutcomes (chunks_of S.made S.start_of work.now.sources.now) all.new.items) }
     {
-        let _ = sources;
+        let _ = work;
         if self.stopped {
             return Err(AllocError);
         }
@@ -154,8 +154,8 @@ fn enter<Acc: Ledger, Del: Ledger, R: Wait>(
     desks: &mut Vec<Desk<Acc, Del>>,
     outcome: &Outcome,
 ) -> Result<bool, AllocError>
-    ensures { map (λ d. (d.frame, d.parts)) desks.new.items
-        ≡ map (λ d. (d.frame, d.parts)) desks.old.items }
+    ensures frames { map (λ d. d.frame) desks.new.items ≡ map (λ d. d.frame) desks.old.items }
+    ensures parts { map (λ d. d.parts) desks.new.items ≡ map (λ d. d.parts) desks.old.items }
 {
     let Piece::Good(chunk) = &outcome.made else {
         return Ok(true);
