@@ -32,12 +32,12 @@ pub one-split :
     (old kept given : DeskParts) (before after : List DeskParts) → IsSplit old kept given → after ≡ before ++ given ∷ [] → HaveSameSums (old ∷ before) (kept ∷ after)
 one-split old kept given before after is pushed = record {
   same = λ h adds.
-    let one = split-sum old kept given is h adds in
-    let a = sum_by-cons h kept after in
-    let b = ap (sum_by h) pushed in
-    let c = sum_by_push h before given in
-    let d = sum_by-cons h old before in
-    omega (arith, one, a, b, c, d);
+      let one = split-sum old kept given is h adds in
+      let a = sum_by-cons h kept after in
+      let b = ap (sum_by h) pushed in
+      let c = sum_by_push h before given in
+      let d = sum_by-cons h old before in
+      omega (arith, one, a, b, c, d);
 }
 
 pub same-sums : (desks : List DeskParts) → HaveSameSums desks desks
@@ -52,14 +52,14 @@ pub split-at :
     HaveSameSums (desks ++ others) (set desks at kept ++ after)
 split-at desks others after at d kept low is same = record {
   same = λ h adds.
-    let one = same.same h adds in
-    let a = sum_by-cons h d others in
-    let b = sum_by-cons h kept after in
-    let e = sum_by-append h desks others in
-    let f = sum_by-append h (set desks at kept) after in
-    let g = sum_by-set h desks at kept d low in
-    let i = ap h is in
-    omega (arith, one, a, b, e, f, g, i);
+      let one = same.same h adds in
+      let a = sum_by-cons h d others in
+      let b = sum_by-cons h kept after in
+      let e = sum_by-append h desks others in
+      let f = sum_by-append h (set desks at kept) after in
+      let g = sum_by-set h desks at kept d low in
+      let i = ap h is in
+      omega (arith, one, a, b, e, f, g, i);
 }
 
 sum-flat : {X : Type 0} (f : X → List DeskParts) (h : DeskParts → ℕ) (xs : List X) → sum_by h (flat_map f xs) ≡ sum_by (λ x. sum_by h (f x)) xs
@@ -76,16 +76,16 @@ pub split-between :
     HaveSameSums (flat_map f whole) (flat_map f (set givers from giver ++ set takers 0 taker))
 split-between {X = X} f whole givers takers from d e giver taker low some is same = record {
   same = λ h adds.
-    let s : X → ℕ = λ x. sum_by h (f x) in
-    let one = same.same h adds in
-    let a = sum_by-append h (f (get_or givers from d)) (f (get_or takers 0 e)) in
-    let b = sum_by-append h (f giver) (f taker) in
-    let c = ap (λ xs. sum_by h (flat_map f xs)) is in
-    let c' = sum-flat f h (givers ++ takers) in
-    let g = sum-flat f h (set givers from giver ++ set takers 0 taker) in
-    let i = sum_by-append s givers takers in
-    let j = sum_by-append s (set givers from giver) (set takers 0 taker) in
-    let k = sum_by-set s givers from giver d low in
-    let l = sum_by-set s takers 0 taker e some in
-    omega (arith, one, a, b, c, c', g, i, j, k, l);
+      let s : X → ℕ = λ x. sum_by h (f x) in
+      let one = same.same h adds in
+      let a = sum_by-append h (f (get_or givers from d)) (f (get_or takers 0 e)) in
+      let b = sum_by-append h (f giver) (f taker) in
+      let c = ap (λ xs. sum_by h (flat_map f xs)) is in
+      let c' = sum-flat f h (givers ++ takers) in
+      let g = sum-flat f h (set givers from giver ++ set takers 0 taker) in
+      let i = sum_by-append s givers takers in
+      let j = sum_by-append s (set givers from giver) (set takers 0 taker) in
+      let k = sum_by-set s givers from giver d low in
+      let l = sum_by-set s takers 0 taker e some in
+      omega (arith, one, a, b, c, c', g, i, j, k, l);
 }

@@ -1,6 +1,6 @@
 -- Lists of workers, and the desks of all of them.
 use Rattle.std.proofs.Common.{◌≡◌, ℕ, zero, suc, ◌+◌, ◌*◌, ◌<◌, ◌≤◌, ◌∙◌, List, [], ◌∷◌, ◌++◌, length, map, take, drop, get_or, set, refl, ap, sym, subst, arith}
-use Rattle.std.specs.Prelude.{All, flat_map}
+use Rattle.std.specs.Prelude.{All}
 use Rattle.std.proofs.lemmas.List.{append-nil, drop-set-lt, flat_map_more}
 use Rattle.std.proofs.lemmas.List.Concat.{length-flat_map}
 use Rattle.std.proofs.lemmas.List.Folds.{length-flat_map-take}
@@ -11,7 +11,7 @@ use Rattle.df_value.specs.declared.chunk.Piece.{Piece}
 use Rattle.df_store.specs.Closing.{HaveSameSums}
 use Rattle.df_store.specs.Jobs.{AreOutcomes}
 use Rattle.df_store.specs.Workers.{IsIdle, IsWorker, desks_of}
-use Rattle.df_store.proofs.ListFacts.{same-default, take-more}
+use Rattle.df_store.proofs.ListFacts.{take-more}
 
 -- a list that was lent whole, put back
 pub put-back : {X : Type 0} (n : ℕ) (now was : List X) → length now ≡ n → length was ≡ n → take n (now ++ drop (length now) was) ≡ now

@@ -123,9 +123,12 @@ fn run_workers<
         return;
     }
     let threads = workers.len();
-    thread::for_each_mut(rt, workers, threads, &|index, worker| {
-        worker.run(rt, hall, work, index)
-    });
+    thread::for_each_mut(
+        rt,
+        workers,
+        threads,
+        &|index, worker| { worker.run(rt, hall, work, index) },
+    );
 }
 
 // Moves desks behind others, where there is room for them.

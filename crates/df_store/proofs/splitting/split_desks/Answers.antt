@@ -8,7 +8,7 @@ loop-at-preserved g c = record {
   most = let a = c.split_desk.ensures.most in let b = c.loop-at.invariant.most in omega (arith, a, b);
   capacity = c.split_desk.ensures.capacity ∙ c.loop-at.invariant.capacity;
   sums = sums-through (c.args.desks.now.items ++ c.args.others.now.items) (c.loop-at.desks.items ++ c.loop-at.others.items)
-  (set c.loop-at.desks.items c.loop-at.at c.split_desk.new.desk ++ c.split_desk.new.others.items) c.loop-at.invariant.sums
-  (split-at c.loop-at.desks.items c.loop-at.others.items c.split_desk.new.others.items c.loop-at.at c.index_mut.result.now c.split_desk.new.desk (omega arith)
-  c.index_mut.ensures.value c.split_desk.ensures.sums);
+      (set c.loop-at.desks.items c.loop-at.at c.split_desk.new.desk ++ c.split_desk.new.others.items) c.loop-at.invariant.sums
+      (split-at c.loop-at.desks.items c.loop-at.others.items c.split_desk.new.others.items c.loop-at.at c.index_mut.result.now c.split_desk.new.desk (omega arith)
+      c.index_mut.ensures.value c.split_desk.ensures.sums);
 }

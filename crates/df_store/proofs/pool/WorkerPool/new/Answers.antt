@@ -1,4 +1,4 @@
-use Rattle.std.proofs.Common.{ap, length, length-set, subst, sym, arith}
+use Rattle.std.proofs.Common.{ap, length, subst, sym, arith}
 use Rattle.df_store.specs.Closing.{HaveSameSums}
 use Rattle.df_store.specs.Workers.{desks_of}
 use Rattle.df_store.proofs.WorkerFacts.{put-back, shared-out}
