@@ -1,5 +1,5 @@
 //! The claims, and the seats by which workers draw numbers.
-ghost use Rattle.std.specs.Prelude.{◌≡◌, ◌+◌, ◌<◌, ◌≤◌, ◌^◌, ◌++◌, ◌∷◌, [], All, Any, IfNone, IfOk, IfSome, None, length, vec_capacity};
+ghost use Rattle.std.specs.Prelude.{◌≡◌, ℕ, ◌<◌, ◌≤◌, ◌^◌, ◌++◌, ◌∷◌, [], All, Any, IfNone, IfOk, IfSome, None, length, vec_capacity};
 ghost use Rattle.df_claims.specs.Lawful.{first_draws};
 ghost use Rattle.df_claims.specs.Seats.{AreAllDrawn, AreAllSeats, IsFinished, IsFresh, IsGathered, IsSeatOf, seat_after, times_drawn};
 

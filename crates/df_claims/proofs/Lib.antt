@@ -1,0 +1,6 @@
+pub mod Sums
+pub mod Keeping
+pub mod Drawing
+pub mod Cutting
+pub mod Joining
+pub mod Counting
