@@ -7,17 +7,16 @@ use lib.ListN.{get_elem?}
 use Rattle.atomic_table.specs.Table.{State, Allows, keeps, step}
 use Rattle.atomic_table.proofs.Lists.{set_again}
 use Rattle.df_claims.specs.declared.rule.Draws.{Draws}
-use Rattle.df_claims.specs.Lawful.{Counted, IsCountOf, Lawful, no_draws, times, times_in}
+use Rattle.df_claims.specs.Lawful.{Counted, FitsSeat, IsCountOf, Lawful, no_draws, times, times_in}
 use Rattle.df_claims.proofs.Sums.{sum_by-none, sum_by-set}
 use Rattle.df_claims.proofs.Keeping.{fits-no_draws, fits-set}
 
 -- what is nothing at a seat without a part is all at the seat that has all parts
-alone : (total id : ℕ) (d : Draws) (s : State (Unit {0}) Draws) → Lawful total s → get_elem? s.views id ≡ some d → d.parts ≡ 16 → (f : Draws → ℕ) → f no_draws ≡ 0
-    → ((u : Draws) → Rattle.df_claims.specs.Lawful.FitsSeat total u → u.parts ≡ 0 → f u ≡ 0) → sum_by f s.views ≡ f d
-alone total id d s h at all f none_there none =
+alone : (total id : ℕ) (d : Draws) (s : State (Unit {0}) Draws) → Lawful total s → get_elem? s.views id ≡ some d → d.parts ≡ 16 → (f : Draws → ℕ) → f no_draws ≡ 0 → ((u : Draws) → FitsSeat total u → u.parts ≡ 0 → f u ≡ 0) → sum_by f s.views ≡ f d
+alone total id d s h at all f none_there nothing =
     let rest = set s.views id no_draws in
     let no_parts : sum_by (λ u. u.parts) (set s.views id no_draws) ≡ 0 = omega (arith, sum_by-set (λ u. u.parts) s.views id d no_draws at, h.parts, all) in
-    let no_f = sum_by-none f (λ u. u.parts) (set s.views id no_draws) no_parts (λ i u e z. none u (fits-set total s.views id no_draws h.each (fits-no_draws total) i u e) z) in
+    let no_f = sum_by-none f (λ u. u.parts) (set s.views id no_draws) no_parts (λ i u e z. nothing u (fits-set total s.views id no_draws h.each (fits-no_draws total) i u e) z) in
     omega (arith, sum_by-set f s.views id d no_draws at, no_f, none_there)
 
 count_of : (total id : ℕ) (d : Draws) (s : State (Unit {0}) Draws) → Lawful total s → get_elem? s.views id ≡ some d → d.total ≡ total → d.parts ≡ 16 → IsCountOf (slice_index s.words 0) d

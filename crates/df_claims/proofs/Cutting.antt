@@ -1,13 +1,16 @@
 -- A seat that cuts off a part keeps the rule.
-use Rattle.std.proofs.Common.{◌≡◌, ◌≢◌, ℕ, ◌+◌, ◌<◌, ◌≤◌, List, [], ◌∷◌, ◌++◌, set, refl, sym, ◌∙◌, subst, ⊎_elim, arith}
+use Rattle.std.proofs.Common.{◌≡◌, ◌≢◌, ℕ, ◌+◌, ◌<◌, ◌≤◌, List, [], ◌∷◌, ◌++◌, All, length, set, refl, sym, ◌∙◌, subst, ⊎_elim, arith, length-append}
 use Rattle.std.proofs.lemmas.List.Sums.{sum_by_push}
+use Rattle.std.proofs.lemmas.List.Elements.{All-push}
 use Rattle.std.specs.List.{sum_by}
 use mathlib.Core.Option.{some}
 use lib.ListN.{get_elem?}
+use Rattle.atomic_table.specs.Seated.{TableId}
 use Rattle.atomic_table.specs.Table.{Splits}
 use Rattle.atomic_table.proofs.Lists.{at_snoc}
 use Rattle.df_claims.specs.declared.rule.Draws.{Draws}
 use Rattle.df_claims.specs.Lawful.{FitsSeat, Lawful, less_a_part, one_part, times, times_in}
+use Rattle.df_claims.specs.Seats.{AreAllSeats, ClaimsView, IsFresh, IsSeatOf, SeatView}
 use Rattle.df_claims.proofs.Sums.{sum_by-set}
 use Rattle.df_claims.proofs.Keeping.{fits-set}
 
@@ -31,3 +34,41 @@ splits total id v fresh some_parts s h at =
       each = λ j u e. ⊎_elim (λ old. fits-set total s.views id left h.each (record { bounded = omega (arith, fresh); knows = λ _. knows; empty = λ none. absurd (omega (arith, none, some_parts)) }) j u old)
           (λ (new : right ≡ u). subst (FitsSeat total) new (record { bounded = omega arith; knows = λ _. knows; empty = λ _. refl })) (at_snoc (set s.views id left) right u j e);
     }
+
+-- before the turn of this number, counted from 1, a part was cut off in each turn, and the seats have these parts
+pub record IsCutting (c : ClaimsView) (turn : ℕ) (table : TableId) (v : Draws) (seats : List SeatView) : Type 0 where
+  pub of : table ≡ c.table
+  pub total : v.total ≡ c.total
+  pub numbers : v.numbers ≡ []
+  pub misses : v.misses ≡ 0
+  pub left : v.parts + turn ≡ 17
+  pub cut : sum_by (λ s. s.draws.parts) seats + 1 ≡ turn
+  pub count : length seats + 1 ≡ turn
+  pub fresh : All IsFresh seats
+  pub each : All (IsSeatOf c) seats
+
+module _ (c : ClaimsView) (turn : ℕ) (table : TableId) (v : Draws) (seats : List SeatView) where
+  -- the seat itself goes behind those that were cut from it
+  pub cut-last : (id : ℕ) → turn ≤ 16 → IsCutting c turn table v seats → AreAllSeats c (seats ++ record { table = table; id = id; draws = v } ∷ [])
+  cut-last id few h = let new : SeatView = record { table = table; id = id; draws = v } in record {
+    each = All-push (IsSeatOf c) seats new h.each (record { of = h.of; part = omega (arith, h.left, few); total = h.total });
+    parts = omega (arith, sum_by_push (λ (s : SeatView). s.draws.parts) seats new, h.left, h.cut);
+  }
+
+  pub cut-last-fresh : (id : ℕ) → IsCutting c turn table v seats → All IsFresh (seats ++ record { table = table; id = id; draws = v } ∷ [])
+  cut-last-fresh id h = All-push IsFresh seats _ h.fresh (record { empty = h.numbers; open_yet = h.misses })
+
+  -- one part more
+  pub cut-more : (table' : TableId) (id : ℕ) → table' ≡ c.table → turn ≤ 16 → IsCutting c turn table v seats
+      → IsCutting c (turn + 1) table (less_a_part v) (seats ++ record { table = table'; id = id; draws = one_part v } ∷ [])
+  cut-more table' id of few h = let new : SeatView = record { table = table'; id = id; draws = one_part v } in record {
+    of = h.of;
+    total = h.total;
+    numbers = h.numbers;
+    misses = h.misses;
+    left = omega (arith, h.left, few);
+    cut = omega (arith, sum_by_push (λ (s : SeatView). s.draws.parts) seats new, h.cut);
+    count = omega (arith, length-append seats (new ∷ []), h.count);
+    fresh = All-push IsFresh seats new h.fresh (record { empty = refl; open_yet = refl });
+    each = All-push (IsSeatOf c) seats new h.each (record { of = of; part = omega arith; total = h.total });
+  }

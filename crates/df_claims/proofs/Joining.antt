@@ -1,12 +1,16 @@
 -- A seat that takes in another keeps the rule.
-use Rattle.std.proofs.Common.{◌≡◌, ◌≢◌, ℕ, ◌+◌, ◌<◌, ◌≤◌, List, [], ◌∷◌, ◌++◌, set, refl, sym, ◌∙◌, subst, ⊎_elim, arith}
+use Rattle.std.proofs.Common.{◌≡◌, ◌≢◌, ℕ, ◌+◌, ◌<◌, ◌≤◌, List, [], ◌∷◌, ◌++◌, All, Some, set, refl, sym, ap, ◌∙◌, subst, ⊎_elim, arith}
+use Rattle.std.proofs.lemmas.List.Elements.{All-pop}
+use Rattle.std.proofs.lemmas.List.Sums.{sum_by_push}
 use Rattle.std.specs.List.{sum_by}
 use mathlib.Core.Option.{some}
 use lib.ListN.{get_elem?}
+use Rattle.atomic_table.specs.Seated.{TableId}
 use Rattle.atomic_table.specs.Table.{Joins}
 use Rattle.atomic_table.proofs.Lists.{at_set}
 use Rattle.df_claims.specs.declared.rule.Draws.{Draws}
 use Rattle.df_claims.specs.Lawful.{FitsSeat, Lawful, both_draws, no_draws, times, times_in}
+use Rattle.df_claims.specs.Seats.{ClaimsView, IsGathered, IsSeatOf, SeatView, times_drawn}
 use Rattle.df_claims.proofs.Sums.{sum_by-set, times-append}
 use Rattle.df_claims.proofs.Keeping.{fits-no_draws, fits-set}
 
@@ -31,4 +35,40 @@ joins total id v other w part s h at apart there =
       parts = omega (arith, h.parts, sum (λ u. u.parts));
       each = fits-set total (set s.views id both) other no_draws
           (fits-set total s.views id both h.each (record { bounded = omega (arith, mine.bounded, theirs.bounded); knows = λ _. mine.knows part; empty = λ none. absurd (omega (arith, none, part)) })) (fits-no_draws total);
+    }
+
+-- of these seats, the rest is still to be joined
+pub record IsJoining (c : ClaimsView) (seats rest : List SeatView) (table : TableId) (v : Draws) : Type 0 where
+  pub of : table ≡ c.table
+  pub total : v.total ≡ c.total
+  pub part : 0 < v.parts
+  pub each : All (IsSeatOf c) rest
+  pub numbers : (n : ℕ) → times n v.numbers + times_drawn n rest ≡ times_drawn n seats
+  pub misses : v.misses + sum_by (λ s. s.draws.misses) rest ≡ sum_by (λ s. s.draws.misses) seats
+  pub parts : v.parts + sum_by (λ s. s.draws.parts) rest ≡ sum_by (λ s. s.draws.parts) seats
+
+pub joined-all : (c : ClaimsView) (seats rest : List SeatView) (table : TableId) (v : Draws) → rest ≡ [] → IsJoining c seats rest table v → IsGathered c seats table v
+joined-all c seats rest table v none h =
+    let h' = subst (λ (r : List SeatView). IsJoining c seats r table v) none h in
+    record { of = h'.of; total = h'.total; numbers = λ n. omega (arith, h'.numbers n); misses = omega (arith, h'.misses); parts = omega (arith, h'.parts) }
+
+-- the last seat is taken, and then each before it
+pub joins-first : (c : ClaimsView) (seats rest : List SeatView) (s : SeatView) → All (IsSeatOf c) seats → seats ≡ rest ++ s ∷ [] → IsJoining c seats rest s.table s.draws
+joins-first c seats rest s each split =
+    let both = All-pop (IsSeatOf c) seats rest (Some s) split each in
+    let sum : (f : SeatView → ℕ) → f s + sum_by f rest ≡ sum_by f seats = λ f. omega (arith, sum_by_push f rest s, ap (sum_by f) split) in
+    record { of = both.1.of; total = both.1.total; part = both.1.part; each = both.0; numbers = λ n. sum (λ x. times n x.draws.numbers); misses = sum (λ x. x.draws.misses); parts = sum (λ x. x.draws.parts) }
+
+pub joins-next : (c : ClaimsView) (seats rest less : List SeatView) (s : SeatView) (table : TableId) (v : Draws) → rest ≡ less ++ s ∷ [] → IsJoining c seats rest table v → IsJoining c seats less table (both_draws v s.draws)
+joins-next c seats rest less s table v split h =
+    let both = All-pop (IsSeatOf c) rest less (Some s) split h.each in
+    let sum : (f : SeatView → ℕ) → sum_by f rest ≡ sum_by f less + f s = λ f. ap (sum_by f) split ∙ sum_by_push f less s in
+    record {
+      of = h.of;
+      total = h.total;
+      part = omega (arith, h.part);
+      each = both.0;
+      numbers = λ n. omega (arith, h.numbers n, sum (λ x. times n x.draws.numbers), times-append n v.numbers s.draws.numbers);
+      misses = omega (arith, h.misses, sum (λ x. x.draws.misses));
+      parts = omega (arith, h.parts, sum (λ x. x.draws.parts));
     }
