@@ -19,12 +19,12 @@ joins total id v other w part s h at apart there =
     let both : Draws = both_draws v w in
     let views = set (set s.views id both) other no_draws in
     let sum : (f : Draws → ℕ) → sum_by f (set (set s.views id both) other no_draws) + f w + f v ≡ sum_by f s.views + f both + f no_draws =
-        λ f. omega (arith, sum_by-set f (set s.views id both) other w no_draws there, sum_by-set f s.views id v both at) in
+    λ f. omega (arith, sum_by-set f (set s.views id both) other w no_draws there, sum_by-set f s.views id v both at) in
     let same : (n : ℕ) → times_in n (set (set s.views id both) other no_draws) ≡ times_in n s.views = λ n. omega (arith, sum (λ u. times n u.numbers), times-append n v.numbers w.numbers) in
     let word : ℕ = h.word in
     let mine = h.each id v at in
     let theirs : FitsSeat total w =
-        ⊎_elim (λ (t : (other ≡ id) × (both ≡ w)). absurd (apart t.0)) (λ (t : (other ≢ id) × (get_elem? s.views other ≡ some w)). h.each other w t.1) (at_set s.views id other both w there) in
+    ⊎_elim (λ (t : (other ≡ id) × (both ≡ w)). absurd (apart t.0)) (λ (t : (other ≢ id) × (get_elem? s.views other ≡ some w)). h.each other w t.1) (at_set s.views id other both w there) in
     record {
       word = h.word;
       words = h.words;
