@@ -47,18 +47,6 @@ pub record IsJoining (c : ClaimsView) (seats rest : List SeatView) (table : Tabl
   pub misses : v.misses + sum_by (λ s. s.draws.misses) rest ≡ sum_by (λ s. s.draws.misses) seats
   pub parts : v.parts + sum_by (λ s. s.draws.parts) rest ≡ sum_by (λ s. s.draws.parts) seats
 
-pub joined-all : (c : ClaimsView) (seats rest : List SeatView) (table : TableId) (v : Draws) → rest ≡ [] → IsJoining c seats rest table v → IsGathered c seats table v
-joined-all c seats rest table v none h =
-    let h' = subst (λ (r : List SeatView). IsJoining c seats r table v) none h in
-    record { of = h'.of; total = h'.total; numbers = λ n. omega (arith, h'.numbers n); misses = omega (arith, h'.misses); parts = omega (arith, h'.parts) }
-
--- the last seat is taken, and then each before it
-pub joins-first : (c : ClaimsView) (seats rest : List SeatView) (s : SeatView) → All (IsSeatOf c) seats → seats ≡ rest ++ s ∷ [] → IsJoining c seats rest s.table s.draws
-joins-first c seats rest s each split =
-    let both = All-pop (IsSeatOf c) seats rest (Some s) split each in
-    let sum : (f : SeatView → ℕ) → f s + sum_by f rest ≡ sum_by f seats = λ f. omega (arith, sum_by_push f rest s, ap (sum_by f) split) in
-    record { of = both.1.of; total = both.1.total; part = both.1.part; each = both.0; numbers = λ n. sum (λ x. times n x.draws.numbers); misses = sum (λ x. x.draws.misses); parts = sum (λ x. x.draws.parts) }
-
 pub joins-next : (c : ClaimsView) (seats rest less : List SeatView) (s : SeatView) (table : TableId) (v : Draws) → rest ≡ less ++ s ∷ [] → IsJoining c seats rest table v → IsJoining c seats less table (both_draws v s.draws)
 joins-next c seats rest less s table v split h =
     let both = All-pop (IsSeatOf c) rest less (Some s) split h.each in

@@ -4,3 +4,4 @@ pub mod Drawing
 pub mod Cutting
 pub mod Joining
 pub mod Counting
+pub mod Crosses
