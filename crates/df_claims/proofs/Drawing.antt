@@ -1,12 +1,12 @@
 -- A draw keeps the rule.
-use Rattle.std.proofs.Common.{◌≡◌, ◌≢◌, ℕ, ◌+◌, ◌%◌, ◌^◌, ◌<◌, ◌≤◌, min, List, [], ◌∷◌, ◌++◌, length, set, refl, sym, ap, ◌∙◌, subst, ⊎_elim, arith}
+use Rattle.std.proofs.Common.{◌≡◌, ◌≢◌, ℕ, ◌+◌, ◌%◌, ◌^◌, ◌<◌, ◌≤◌, List, [], ◌∷◌, set, refl, sym, ap, ◌∙◌, subst, ⊎_elim, arith}
 use Rattle.std.specs.Prelude.{slice_index, slice_set}
 use Rattle.std.specs.List.{sum_by}
 use mathlib.Core.Option.{Option, some, none}
 use lib.ListN.{get_elem?}
-use Rattle.atomic_table.specs.Table.{State, Me, Allows, keeps, step}
+use Rattle.atomic_table.specs.Table.{State, Allows, keeps, step}
 use Rattle.df_claims.specs.declared.rule.Draws.{Draws}
-use Rattle.df_claims.specs.Lawful.{Drew, FitsSeat, Lawful, having_drawn, having_missed, times, times_in}
+use Rattle.df_claims.specs.Lawful.{Drew, Lawful, having_drawn, having_missed, times, times_in}
 use Rattle.df_claims.proofs.Sums.{below_or, same_or, sum_by-le, sum_by-set, times-push, times-push_other}
 use Rattle.df_claims.proofs.Keeping.{fits-set}
 

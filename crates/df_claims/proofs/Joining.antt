@@ -1,5 +1,5 @@
 -- A seat that takes in another keeps the rule.
-use Rattle.std.proofs.Common.{◌≡◌, ◌≢◌, ℕ, ◌+◌, ◌<◌, ◌≤◌, List, [], ◌∷◌, ◌++◌, All, Some, set, refl, sym, ap, ◌∙◌, subst, ⊎_elim, arith}
+use Rattle.std.proofs.Common.{◌≡◌, ◌≢◌, ℕ, ◌+◌, ◌<◌, List, [], ◌∷◌, ◌++◌, All, Some, set, ap, ◌∙◌, ⊎_elim, arith}
 use Rattle.std.proofs.lemmas.List.Elements.{All-pop}
 use Rattle.std.proofs.lemmas.List.Sums.{sum_by_push}
 use Rattle.std.specs.List.{sum_by}
@@ -10,7 +10,7 @@ use Rattle.atomic_table.specs.Table.{Joins}
 use Rattle.atomic_table.proofs.Lists.{at_set}
 use Rattle.df_claims.specs.declared.rule.Draws.{Draws}
 use Rattle.df_claims.specs.Lawful.{FitsSeat, Lawful, both_draws, no_draws, times, times_in}
-use Rattle.df_claims.specs.Seats.{ClaimsView, IsGathered, IsSeatOf, SeatView, times_drawn}
+use Rattle.df_claims.specs.Seats.{ClaimsView, IsSeatOf, SeatView, times_drawn}
 use Rattle.df_claims.proofs.Sums.{sum_by-set, times-append}
 use Rattle.df_claims.proofs.Keeping.{fits-no_draws, fits-set}
 

@@ -1,4 +1,3 @@
-use Rattle.std.proofs.Common.{◌≡◌}
 use Rattle.df_claims.proofs.Joining.{IsJoining}
 use Rattle.df_claims.proofs.claims.Claims.gather.Given as goal
 

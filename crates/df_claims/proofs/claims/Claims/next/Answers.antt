@@ -1,4 +1,4 @@
-use Rattle.std.proofs.Common.{◌≡◌, ◌<◌, ◌≤◌, ◌∙◌, ap, sym, subst, arith, ℕ, rules, Bool, if◌then◌else◌}
+use Rattle.std.proofs.Common.{◌≡◌, ◌<◌, ◌∙◌, ap, sym, subst, arith, rules, Bool, if◌then◌else◌}
 use Rattle.df_claims.specs.Seats.{SeatView}
 use Rattle.df_claims.proofs.Drawing.{draws}
 use Rattle.df_claims.proofs.Keeping.{all_drawn}
