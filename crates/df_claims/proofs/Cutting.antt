@@ -34,8 +34,8 @@ splits total id v fresh some_parts s h at =
     }
 
 -- before the turn of this number, counted from 1, a part was cut off in each turn, and the seats have these parts
-pub record IsCutting (c : ClaimsView) (turn : ℕ) (table : TableId) (v : Draws) (seats : List SeatView) : Type 0 where
-  pub of : table ≡ c.table
+pub record HasCut (c : ClaimsView) (turn : ℕ) (table : TableId) (v : Draws) (seats : List SeatView) : Type 0 where
+  pub same_table : table ≡ c.table
   pub total : v.total ≡ c.total
   pub numbers : v.numbers ≡ []
   pub misses : v.misses ≡ 0
@@ -47,26 +47,26 @@ pub record IsCutting (c : ClaimsView) (turn : ℕ) (table : TableId) (v : Draws)
 
 module _ (c : ClaimsView) (turn : ℕ) (table : TableId) (v : Draws) (seats : List SeatView) where
   -- the seat itself goes behind those that were cut from it
-  pub cut-last : (id : ℕ) → turn ≤ 16 → IsCutting c turn table v seats → AreAllSeats c (seats ++ record { table = table; id = id; draws = v } ∷ [])
+  pub cut-last : (id : ℕ) → turn ≤ 16 → HasCut c turn table v seats → AreAllSeats c (seats ++ record { table = table; id = id; draws = v } ∷ [])
   cut-last id few h = let new : SeatView = record { table = table; id = id; draws = v } in record {
-    each = All-push (IsSeatOf c) seats new h.each (record { of = h.of; part = omega (arith, h.left, few); total = h.total });
+    each = All-push (IsSeatOf c) seats new h.each (record { same_table = h.same_table; part = omega (arith, h.left, few); total = h.total });
     parts = omega (arith, sum_by_push (λ (s : SeatView). s.draws.parts) seats new, h.left, h.cut);
   }
 
-  pub cut-last-fresh : (id : ℕ) → IsCutting c turn table v seats → All IsFresh (seats ++ record { table = table; id = id; draws = v } ∷ [])
-  cut-last-fresh id h = All-push IsFresh seats _ h.fresh (record { empty = h.numbers; open_yet = h.misses })
+  pub cut-last-fresh : (id : ℕ) → HasCut c turn table v seats → All IsFresh (seats ++ record { table = table; id = id; draws = v } ∷ [])
+  cut-last-fresh id h = All-push IsFresh seats _ h.fresh (record { empty = h.numbers; unfinished = h.misses })
 
   -- one part more
-  pub cut-more : (table' : TableId) (id : ℕ) → table' ≡ c.table → turn ≤ 16 → IsCutting c turn table v seats
-      → IsCutting c (turn + 1) table (less_a_part v) (seats ++ record { table = table'; id = id; draws = one_part v } ∷ [])
-  cut-more table' id of few h = let new : SeatView = record { table = table'; id = id; draws = one_part v } in record {
-    of = h.of;
+  pub cut-more : (table' : TableId) (id : ℕ) → table' ≡ c.table → turn ≤ 16 → HasCut c turn table v seats
+      → HasCut c (turn + 1) table (less_a_part v) (seats ++ record { table = table'; id = id; draws = one_part v } ∷ [])
+  cut-more table' id same few h = let new : SeatView = record { table = table'; id = id; draws = one_part v } in record {
+    same_table = h.same_table;
     total = h.total;
     numbers = h.numbers;
     misses = h.misses;
     left = omega (arith, h.left, few);
     cut = omega (arith, sum_by_push (λ (s : SeatView). s.draws.parts) seats new, h.cut);
     count = omega (arith, length-append seats (new ∷ []), h.count);
-    fresh = All-push IsFresh seats new h.fresh (record { empty = refl; open_yet = refl });
-    each = All-push (IsSeatOf c) seats new h.each (record { of = of; part = omega arith; total = h.total });
+    fresh = All-push IsFresh seats new h.fresh (record { empty = refl; unfinished = refl });
+    each = All-push (IsSeatOf c) seats new h.each (record { same_table = same; part = omega arith; total = h.total });
   }

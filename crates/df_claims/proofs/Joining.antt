@@ -38,8 +38,8 @@ joins total id v other w part s h at apart there =
     }
 
 -- of these seats, the rest is still to be joined
-pub record IsJoining (c : ClaimsView) (seats rest : List SeatView) (table : TableId) (v : Draws) : Type 0 where
-  pub of : table ≡ c.table
+pub record HasJoined (c : ClaimsView) (seats rest : List SeatView) (table : TableId) (v : Draws) : Type 0 where
+  pub same_table : table ≡ c.table
   pub total : v.total ≡ c.total
   pub part : 0 < v.parts
   pub each : All (IsSeatOf c) rest
@@ -47,12 +47,12 @@ pub record IsJoining (c : ClaimsView) (seats rest : List SeatView) (table : Tabl
   pub misses : v.misses + sum_by (λ s. s.draws.misses) rest ≡ sum_by (λ s. s.draws.misses) seats
   pub parts : v.parts + sum_by (λ s. s.draws.parts) rest ≡ sum_by (λ s. s.draws.parts) seats
 
-pub joins-next : (c : ClaimsView) (seats rest less : List SeatView) (s : SeatView) (table : TableId) (v : Draws) → rest ≡ less ++ s ∷ [] → IsJoining c seats rest table v → IsJoining c seats less table (both_draws v s.draws)
+pub joins-next : (c : ClaimsView) (seats rest less : List SeatView) (s : SeatView) (table : TableId) (v : Draws) → rest ≡ less ++ s ∷ [] → HasJoined c seats rest table v → HasJoined c seats less table (both_draws v s.draws)
 joins-next c seats rest less s table v split h =
     let both = All-pop (IsSeatOf c) rest less (Some s) split h.each in
     let sum : (f : SeatView → ℕ) → sum_by f rest ≡ sum_by f less + f s = λ f. ap (sum_by f) split ∙ sum_by_push f less s in
     record {
-      of = h.of;
+      same_table = h.same_table;
       total = h.total;
       part = omega (arith, h.part);
       each = both.0;

@@ -6,13 +6,17 @@ use lib.ListN.{get_elem?}
 use Rattle.atomic_table.specs.Table.{State, Me, Step}
 use Rattle.df_claims.specs.declared.rule.Draws.{Draws}
 
+-- how many seats claims may have. The claims have as many parts, and each seat has one or more of them
+abbrev pub most_seats : ℕ
+most_seats = 16
+
 -- a seat of so many parts that drew nothing yet
 abbrev pub fresh_draws : ℕ → ℕ → Draws
 fresh_draws parts total = record { numbers = []; misses = 0; parts = parts; total = total }
 
 -- the first seat has all parts
 abbrev pub first_draws : ℕ → Draws
-first_draws total = fresh_draws 16 total
+first_draws total = fresh_draws most_seats total
 
 -- how often a number stands in a list
 abbrev pub times : ℕ → List ℕ → ℕ
@@ -36,7 +40,7 @@ pub record Lawful (total : ℕ) (s : State (Unit {0}) Draws) : Type 0 where
   pub once : (n : ℕ) → n < min word total → times_in n s.views ≡ 1
   pub no_other : (n : ℕ) → min word total ≤ n → times_in n s.views ≡ 0
   pub counted : word ≡ min word total + sum_by (λ v. v.misses) s.views
-  pub parts : sum_by (λ v. v.parts) s.views ≡ 16
+  pub parts : sum_by (λ v. v.parts) s.views ≡ most_seats
   pub each : (seat : ℕ) (v : Draws) → get_elem? s.views seat ≡ some v → FitsSeat total v
 
 -- the seat drew one more number
@@ -61,7 +65,7 @@ pub record IsCountOf (word : ℕ) (v : Draws) : Type 0 where
 
 -- a look at the word by a seat that has all parts
 abbrev pub Counted : Step (Unit {0}) → Me (Unit {0}) Draws → ℕ → Me (Unit {0}) Draws → Type 0
-Counted s m n m' = m.0.parts ≡ 16 → IsCountOf n m.0
+Counted s m n m' = m.0.parts ≡ most_seats → IsCountOf n m.0
 
 -- a part is cut off
 abbrev pub less_a_part : Draws → Draws

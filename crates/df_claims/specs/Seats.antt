@@ -6,7 +6,7 @@ use lib.ListN.{get_elem?}
 use Rattle.atomic_table.specs.Table.{State}
 use Rattle.atomic_table.specs.Seated.{TableId}
 use Rattle.df_claims.specs.declared.rule.Draws.{Draws}
-use Rattle.df_claims.specs.Lawful.{Lawful, times, times_in}
+use Rattle.df_claims.specs.Lawful.{Lawful, most_seats, times, times_in}
 
 -- which claims they are, and of how many numbers
 pub record ClaimsView : Type 0 where
@@ -21,23 +21,23 @@ pub record SeatView : Type 0 where
 
 -- the seat is one of these claims
 pub record IsSeatOf (c : ClaimsView) (s : SeatView) : Type 0 where
-  pub of : s.table ≡ c.table
+  pub same_table : s.table ≡ c.table
   pub part : 0 < s.draws.parts
   pub total : s.draws.total ≡ c.total
 
 -- nothing was drawn with it
 pub record IsFresh (s : SeatView) : Type 0 where
   pub empty : s.draws.numbers ≡ []
-  pub open_yet : s.draws.misses ≡ 0
+  pub unfinished : s.draws.misses ≡ 0
 
 -- it got none
 abbrev pub IsFinished : SeatView → Type 0
 IsFinished s = 0 < s.draws.misses
 
--- they are seats of these claims, and have all 16 parts, so that no other seat has any
+-- they are seats of these claims, and have all parts, so that no other seat has any
 pub record AreAllSeats (c : ClaimsView) (seats : List SeatView) : Type 0 where
   pub each : All (IsSeatOf c) seats
-  pub parts : sum_by (λ s. s.draws.parts) seats ≡ 16
+  pub parts : sum_by (λ s. s.draws.parts) seats ≡ most_seats
 
 -- how often a number was drawn with these seats
 abbrev pub times_drawn : ℕ → List SeatView → ℕ
@@ -58,7 +58,7 @@ AreAllDrawn c seat = (s : State (Unit {0}) Draws) → Lawful c.total s → get_e
 
 -- a seat that has taken in these seats
 pub record IsGathered (c : ClaimsView) (seats : List SeatView) (table : TableId) (v : Draws) : Type 0 where
-  pub of : table ≡ c.table
+  pub same_table : table ≡ c.table
   pub total : v.total ≡ c.total
   pub numbers : (n : ℕ) → times n v.numbers ≡ times_drawn n seats
   pub misses : v.misses ≡ sum_by (λ s. s.draws.misses) seats

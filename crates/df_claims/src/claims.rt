@@ -1,6 +1,6 @@
 //! The claims, and the seats by which workers draw numbers.
 ghost use Rattle.std.specs.Prelude.{◌≡◌, ℕ, ◌<◌, ◌≤◌, ◌^◌, ◌++◌, ◌∷◌, [], All, Any, IfNone, IfOk, IfSome, None, length, vec_capacity};
-ghost use Rattle.df_claims.specs.Lawful.{first_draws};
+ghost use Rattle.df_claims.specs.Lawful.{first_draws, most_seats};
 ghost use Rattle.df_claims.specs.Seats.{AreAllDrawn, AreAllSeats, IsFinished, IsFresh, IsGathered, IsSeatOf, seat_after, times_drawn};
 
 use crate::rule::{Count, Draw, DrawnOnce, Draws, Gather, Part};
@@ -26,8 +26,8 @@ impl Model for Claims {
     ghost invariant = { λ c. (c.table.shared.key ≡ c.total) × (c.table.shared.table_id.words ≡ 1) };
 }
 
-/// What a worker draws with. It has the list of the numbers drawn with it, in proofs alone, and knows whether it
-/// got none.
+/// What a worker draws with. It knows whether it got none; the list of the numbers drawn with it exists in
+/// proofs alone.
 #[derive(Drop)]
 pub struct ClaimSeat {
     seat: Seat<(), Draws>,
@@ -46,14 +46,15 @@ impl Model for ClaimSeat {
 }
 
 impl Claims {
-    /// The claims of the numbers below `total`, and so many seats of them.
+    /// The claims of the numbers below `total`, and as many seats as `seats` says: 1 to 16, one for each thread that
+    /// draws. The word and the seats are allocated here, and nothing is later.
     pub fn new(
         alloc: Global,
         total: u64,
         seats: usize,
     ) -> Result<(Claims, Vec<ClaimSeat>), AllocError>
         requires total { total ≤ 2 ^ 32 }
-        requires seats { (1 ≤ seats) × (seats ≤ 16) }
+        requires seats { (1 ≤ seats) × (seats ≤ most_seats) }
         ensures total { IfOk result (λ made. made.0.total ≡ total) }
         ensures count { IfOk result (λ made. length made.1.items ≡ seats) }
         ensures fresh { IfOk result (λ made. All IsFresh made.1.items) }
@@ -74,8 +75,9 @@ impl Claims {
         mut seats: Vec<ClaimSeat>,
     ) -> Vec<ClaimSeat>
         requires total { self.now.total ≤ 2 ^ 32 }
-        requires first { (first.table_id ≡ self.now.table) × (first.me ≡ (first_draws self.now.total, [])) }
-        requires count { (1 ≤ count) × (count ≤ 16) }
+        requires first { (first.table_id ≡ self.now.table)
+            × (first.me ≡ (first_draws self.now.total, [])) }
+        requires count { (1 ≤ count) × (count ≤ most_seats) }
         requires room { (seats.items ≡ []) × (count ≤ vec_capacity seats) }
         ensures count { length result.items ≡ count }
         ensures fresh { All IsFresh result.items }
@@ -95,12 +97,13 @@ impl Claims {
         seats
     }
 
-    /// Draws a number: one that is below the total, and that no other call has drawn or will draw. None where all
-    /// were drawn, and from then on for this seat. It waits for nobody.
+    /// Draws a number below the total that no other call has drawn or will draw. None once all are drawn; from then
+    /// on the seat makes no step, and gets None again. It waits for nobody: it makes one atomic step, or none.
     pub fn next(&self, seat: &mut ClaimSeat) -> Option<u64>
         requires { IsSeatOf self.now seat.old }
         ensures seat { IsSeatOf self.now seat.new × (seat.new ≡ seat_after result seat.old) }
-        ensures drawn { IfSome result (λ n. (n < self.now.total) × (seat.new.draws.numbers ≡ seat.old.draws.numbers ++ n ∷ [])) }
+        ensures drawn { IfSome result (λ n. (n < self.now.total)
+            × (seat.new.draws.numbers ≡ seat.old.draws.numbers ++ n ∷ [])) }
         ensures none { IfNone result (IsFinished seat.new × AreAllDrawn self.now seat.new) }
         ensures finished { IsFinished seat.old → (result ≡ None) × (seat.new ≡ seat.old) }
     {
@@ -116,8 +119,8 @@ impl Claims {
         }
     }
 
-    /// How many numbers were drawn: each below that count was drawn once, and no other. The seats are all that
-    /// [`Claims::new`] gave, in any order.
+    /// How many numbers were drawn: each below that count once, and no other. The seats are all that
+    /// [`Claims::new`] gave, in any order, and whatever was drawn with them.
     pub fn close(self, seats: Vec<ClaimSeat>) -> u64
         requires { AreAllSeats self seats.items }
         ensures once { (n : ℕ) → n < result → times_drawn n seats.items ≡ 1 }

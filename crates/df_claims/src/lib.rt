@@ -1,11 +1,11 @@
 //! Claims: numbers below a total, which several threads draw, each number at most once.
 //!
-//! [`Claims::new`] gives the claims and a seat for each worker. A worker draws with [`Claims::next`] until
-//! it gets none. Once the workers are done, [`Claims::close`] says how many numbers were drawn.
+//! [`Claims::new`] gives the claims and a seat for each thread. A thread draws by [`Claims::next`] until it gets
+//! none. Once the threads are done, [`Claims::close`] says how many numbers were drawn.
 #![tactic(auto)]
 
 mod claims;
 mod rule;
 
 pub use claims::{ClaimSeat, Claims};
-pub use rule::{DrawnOnce, Draws};
+pub use rule::Draws;

@@ -8,14 +8,14 @@ pub struct Draws {
     pub numbers: [u64; 0],
     /// How often the seat got none: at most once, and in seats that were joined at most once each.
     pub misses: u64,
-    /// How many of the 16 parts of the claims the seat has.
+    /// How many of the claims' parts the seat has, 16 in all.
     pub parts: u64,
     /// The total of the claims.
     pub total: u64,
 }
 
-/// Between any two steps, each number below the total was drawn at most once.
-pub struct DrawnOnce;
+// Between any two steps, each number below the total was drawn at most once.
+pub(crate) struct DrawnOnce;
 
 impl TableRule<(), Draws, u64> for DrawnOnce {
     ghost use Rattle.df_claims.specs.Lawful.{Lawful, first_draws};

@@ -6,10 +6,10 @@ use Rattle.df_claims.proofs.claims.Claims.next.Goals as goal
 
 pub fetch_add-found-requires : goal.fetch_add-found-requires
 fetch_add-found-requires c =
-    let open_yet : c.seat.inside.seat.me.0.misses ≡ 0 = c.seat.invariant.0 ∙ ap (λ (b : Bool). if b then 1 else 0) c.if-seat.false in
+    let unfinished : c.seat.inside.seat.me.0.misses ≡ 0 = c.seat.invariant.0 ∙ ap (λ (b : Bool). if b then 1 else 0) c.if-seat.false in
     let part = subst (λ (v : SeatView). 0 < v.draws.parts) (sym c.seat.view_is) c.requires.part in
     let total = ap (λ (v : SeatView). v.draws.total) c.seat.view_is in
-    (search rules, search rules, draws _ _ _ c.seat.inside.seat.me open_yet part (total ∙ (c.requires.total ∙ (ap (λ v. v.total) (sym c.self.view_is) ∙ sym c.self.invariant.0))))
+    (search rules, search rules, draws _ _ _ c.seat.inside.seat.me unfinished part (total ∙ (c.requires.total ∙ (ap (λ v. v.total) (sym c.self.view_is) ∙ sym c.self.invariant.0))))
 
 pub returns-then-seat-clause-none : goal.returns-then-seat-clause-none
 returns-then-seat-clause-none c =
