@@ -1,11 +1,11 @@
 -- What the rule says of one seat stays where that seat, or another, steps.
-use Rattle.std.proofs.Common.{◌≡◌, ◌≢◌, ℕ, zero, suc, ◌^◌, ◌<◌, ◌≤◌, List, [], ◌∷◌, set, refl, sym, subst, ⊎_elim, arith}
-use mathlib.Core.Option.{Option, some, some-injective, some-ne-none}
+use Rattle.std.proofs.Common.{◌≡◌, ◌≢◌, ℕ, ◌<◌, List, set, refl, subst, ⊎_elim, arith}
+use mathlib.Core.Option.{some}
 use lib.ListN.{get_elem?}
 use Rattle.atomic_table.specs.Table.{State}
 use Rattle.atomic_table.proofs.Lists.{at_set}
 use Rattle.df_claims.specs.declared.rule.Draws.{Draws}
-use Rattle.df_claims.specs.Lawful.{FitsSeat, Lawful, first_draws, no_draws, times_in}
+use Rattle.df_claims.specs.Lawful.{FitsSeat, Lawful, no_draws, times_in}
 use Rattle.df_claims.proofs.Sums.{sum_by-set}
 
 abbrev pub AllFit : ℕ → List Draws → Type 0
@@ -17,23 +17,6 @@ fits-set total views seat w all mine j u e =
 
 pub fits-no_draws : (total : ℕ) → FitsSeat total no_draws
 fits-no_draws total = record { bounded = omega arith; knows = λ h. absurd (omega (arith, h)); empty = λ _. refl }
-
-first_fits : (total seat : ℕ) (v : Draws) → get_elem? (first_draws total ∷ []) seat ≡ some v → FitsSeat total v
-first_fits total zero v e = subst (FitsSeat total) (some-injective _ v e) (record { bounded = omega arith; knows = λ _. refl; empty = λ _. refl })
-first_fits total (suc seat) v e = absurd (some-ne-none v (sym e))
-
--- the first seat alone, before any draw
-pub begins : (total : ℕ) (homes : List (Option (Unit {0}))) → total ≤ 2 ^ 32 → Lawful total (record { words = 0 ∷ []; homes = homes; views = first_draws total ∷ [] })
-begins total homes small = record {
-  word = 0;
-  words = refl;
-  small = small;
-  once = λ n less. absurd (omega (arith, less));
-  no_other = λ n more. refl;
-  counted = omega arith;
-  parts = refl;
-  each = first_fits total;
-}
 
 -- a seat got none only where all numbers are drawn
 pub all_drawn : (total id : ℕ) (d : Draws) (s : State (Unit {0}) Draws) → 0 < d.misses → Lawful total s → get_elem? s.views id ≡ some d → (n : ℕ) → n < total → times_in n s.views ≡ 1

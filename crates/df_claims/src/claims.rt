@@ -74,7 +74,6 @@ impl Claims {
         count: usize,
         mut seats: Vec<ClaimSeat>,
     ) -> Vec<ClaimSeat>
-        requires total { self.now.total ≤ 2 ^ 32 }
         requires first { (first.table_id ≡ self.now.table)
             × (first.me ≡ (first_draws self.now.total, [])) }
         requires count { (1 ≤ count) × (count ≤ most_seats) }
