@@ -1,0 +1,7 @@
+pub mod Sums
+pub mod Keeping
+pub mod Drawing
+pub mod Cutting
+pub mod Joining
+pub mod Counting
+pub mod Crosses
