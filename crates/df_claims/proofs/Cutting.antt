@@ -19,8 +19,7 @@ splits total id v fresh some_parts s h at =
     let sum : (f : Draws → ℕ) → sum_by f (set s.views id left ++ right ∷ []) + f v ≡ sum_by f s.views + f left + f right = λ f. omega (arith, sum_by_push f (set s.views id left) right, sum_by-set f s.views id v left at) in
     let same : (n : ℕ) → times_in n (set s.views id left ++ right ∷ []) ≡ times_in n s.views = λ n. omega (arith, sum (λ u. times n u.numbers)) in
     let word : ℕ = h.word in
-    let fits = h.each id v at in
-    let knows : v.total ≡ total = fits.knows (omega (arith, some_parts)) in
+    let knows : v.total ≡ total = (h.each id v at).knows in
     record {
       word = h.word;
       words = h.words;
@@ -29,8 +28,8 @@ splits total id v fresh some_parts s h at =
       no_other = λ n more. same n ∙ h.no_other n more;
       counted = omega (arith, h.counted, sum (λ u. u.misses), fresh);
       parts = omega (arith, h.parts, sum (λ u. u.parts), some_parts);
-      each = λ j u e. ⊎_elim (λ old. fits-set total s.views id left h.each (record { bounded = omega (arith, fresh); knows = λ _. knows; empty = λ none. absurd (omega (arith, none, some_parts)) }) j u old)
-          (λ (new : right ≡ u). subst (FitsSeat total) new (record { bounded = omega arith; knows = λ _. knows; empty = λ _. refl })) (at_snoc (set s.views id left) right u j e);
+      each = λ j u e. ⊎_elim (λ old. fits-set total s.views id left h.each (record { bounded = omega (arith, fresh); knows = knows }) j u old)
+          (λ (new : right ≡ u). subst (FitsSeat total) new (record { bounded = omega arith; knows = knows })) (at_snoc (set s.views id left) right u j e);
     }
 
 -- before the turn of this number, counted from 1, a part was cut off in each turn, and the seats have these parts

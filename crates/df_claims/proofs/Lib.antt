@@ -2,6 +2,4 @@ pub mod Sums
 pub mod Keeping
 pub mod Drawing
 pub mod Cutting
-pub mod Joining
-pub mod Counting
 pub mod Crosses

@@ -18,15 +18,6 @@ pub sum_by-le : (f g : Draws → ℕ) (xs : List Draws) → ((i : ℕ) (v : Draw
 sum_by-le f g [] h = omega arith
 sum_by-le f g (x ∷ xs) h = let a : f x ≤ g x = h 0 x refl in let b = sum_by-le f g xs (λ i v e. h (suc i) v e) in omega (arith, a, b, sum_by-cons f x xs, sum_by-cons g x xs)
 
--- where g adds up to nothing, and f is nothing wherever g is
-pub sum_by-none : (f g : Draws → ℕ) (xs : List Draws) → sum_by g xs ≡ 0 → ((i : ℕ) (v : Draws) → get_elem? xs i ≡ some v → g v ≡ 0 → f v ≡ 0) → sum_by f xs ≡ 0
-sum_by-none f g [] e h = refl
-sum_by-none f g (x ∷ xs) e h =
-    let split = sum_by-cons g x xs in
-    let here : f x ≡ 0 = h 0 x refl (omega (arith, split, e)) in
-    let rest = sum_by-none f g xs (omega (arith, split, e)) (λ i v at. h (suc i) v at) in
-    omega (arith, here, rest, sum_by-cons f x xs)
-
 pub times-push : (n : ℕ) (xs : List ℕ) → times n (xs ++ n ∷ []) ≡ times n xs + 1
 times-push n [] = grind (arith, nat_tests, common_steps)
 times-push n (x ∷ xs) = let h = times-push n xs in grind (arith, nat_tests, common_steps, h)
@@ -34,10 +25,6 @@ times-push n (x ∷ xs) = let h = times-push n xs in grind (arith, nat_tests, co
 pub times-push_other : (m n : ℕ) (xs : List ℕ) → m ≢ n → times n (xs ++ m ∷ []) ≡ times n xs
 times-push_other m n [] apart = grind (arith, nat_tests, common_steps)
 times-push_other m n (x ∷ xs) apart = let h = times-push_other m n xs apart in grind (arith, nat_tests, common_steps, h)
-
-pub times-append : (n : ℕ) (xs ys : List ℕ) → times n (xs ++ ys) ≡ times n xs + times n ys
-times-append n [] ys = grind (arith, nat_tests, common_steps)
-times-append n (x ∷ xs) ys = let h = times-append n xs ys in grind (arith, nat_tests, common_steps, h)
 
 pub same_or : (a b : ℕ) → (a ≡ b) ⊎ (a ≢ b)
 same_or zero zero = inl refl

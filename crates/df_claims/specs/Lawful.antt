@@ -26,11 +26,10 @@ times n xs = count_by (λ x. x == n) xs
 abbrev pub times_in : ℕ → List Draws → ℕ
 times_in n views = sum_by (λ v. times n v.numbers) views
 
--- what holds of one seat: it got none at most once for each part, it knows the total, and without a part it drew nothing
+-- what holds of one seat: it got none no more often than it has parts, and it knows the total
 pub record FitsSeat (total : ℕ) (v : Draws) : Type 0 where
   pub bounded : v.misses ≤ v.parts
-  pub knows : 0 < v.parts → v.total ≡ total
-  pub empty : v.parts ≡ 0 → v.numbers ≡ []
+  pub knows : v.total ≡ total
 
 -- The numbers below the lesser of word and total are drawn, each once, and no other. The word is the count of these and of the answers that there was none, of which there are no more than parts: so it cannot wrap, and a seat got none only where the word is past the total.
 pub record Lawful (total : ℕ) (s : State (Unit {0}) Draws) : Type 0 where
@@ -57,16 +56,6 @@ pub record Drew (s : Step (Unit {0})) (m : Me (Unit {0}) Draws) (n : ℕ) (m' : 
   pub above : m.0.total ≤ n → m'.0 ≡ having_missed m.0
   pub slots : m'.1 ≡ m.1
 
--- the list has each number below the lesser of the word and the total once, and no other
-pub record IsCountOf (word : ℕ) (v : Draws) : Type 0 where
-  pub once : (n : ℕ) → n < min word v.total → times n v.numbers ≡ 1
-  pub no_other : (n : ℕ) → min word v.total ≤ n → times n v.numbers ≡ 0
-  pub counted : word ≡ min word v.total + v.misses
-
--- a look at the word by a seat that has all parts
-abbrev pub Counted : Step (Unit {0}) → Me (Unit {0}) Draws → ℕ → Me (Unit {0}) Draws → Type 0
-Counted s m n m' = m.0.parts ≡ most_seats → IsCountOf n m.0
-
 -- a part is cut off
 abbrev pub less_a_part : Draws → Draws
 less_a_part v = record v { parts = v.parts - 1 }
@@ -74,11 +63,3 @@ less_a_part v = record v { parts = v.parts - 1 }
 -- and goes to a new seat
 abbrev pub one_part : Draws → Draws
 one_part v = fresh_draws 1 v.total
-
--- what two seats drew
-abbrev pub both_draws : Draws → Draws → Draws
-both_draws v w = record { numbers = v.numbers ++ w.numbers; misses = v.misses + w.misses; parts = v.parts + w.parts; total = v.total }
-
--- what is left of a seat that was joined to another
-abbrev pub no_draws : Draws
-no_draws = fresh_draws 0 0

@@ -6,7 +6,7 @@ use lib.ListN.{get_elem?}
 use Rattle.atomic_table.specs.Table.{State}
 use Rattle.atomic_table.specs.Seated.{TableId}
 use Rattle.df_claims.specs.declared.rule.Draws.{Draws}
-use Rattle.df_claims.specs.Lawful.{Lawful, most_seats, times, times_in}
+use Rattle.df_claims.specs.Lawful.{Lawful, most_seats, times_in}
 
 -- which claims they are, and of how many numbers
 pub record ClaimsView : Type 0 where
@@ -39,10 +39,6 @@ pub record AreAllSeats (c : ClaimsView) (seats : List SeatView) : Type 0 where
   pub each : All (IsSeatOf c) seats
   pub parts : sum_by (λ s. s.draws.parts) seats ≡ most_seats
 
--- how often a number was drawn with these seats
-abbrev pub times_drawn : ℕ → List SeatView → ℕ
-times_drawn n seats = sum_by (λ s. times n s.draws.numbers) seats
-
 -- the misses of a seat after an answer
 abbrev pub misses_after : Option ℕ → ℕ → ℕ
 misses_after (Some n) misses = misses
@@ -55,11 +51,3 @@ seat_after answer s = record s { draws = record s.draws { numbers = s.draws.numb
 -- whenever the rule holds and the seat is as it is here, each number below the total is drawn, once
 abbrev pub AreAllDrawn : ClaimsView → SeatView → Type 0
 AreAllDrawn c seat = (s : State (Unit {0}) Draws) → Lawful c.total s → get_elem? s.views seat.id ≡ some seat.draws → (n : ℕ) → n < c.total → times_in n s.views ≡ 1
-
--- a seat that has taken in these seats
-pub record IsGathered (c : ClaimsView) (seats : List SeatView) (table : TableId) (v : Draws) : Type 0 where
-  pub same_table : table ≡ c.table
-  pub total : v.total ≡ c.total
-  pub numbers : (n : ℕ) → times n v.numbers ≡ times_drawn n seats
-  pub misses : v.misses ≡ sum_by (λ s. s.draws.misses) seats
-  pub parts : v.parts ≡ sum_by (λ s. s.draws.parts) seats

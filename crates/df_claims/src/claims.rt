@@ -1,9 +1,9 @@
 //! The claims, and the seats by which workers draw numbers.
-ghost use Rattle.std.specs.Prelude.{◌≡◌, ℕ, ◌<◌, ◌≤◌, ◌^◌, ◌++◌, ◌∷◌, [], All, Any, IfNone, IfOk, IfSome, None, length, vec_capacity};
+ghost use Rattle.std.specs.Prelude.{◌≡◌, ◌<◌, ◌≤◌, ◌^◌, ◌++◌, ◌∷◌, [], All, IfNone, IfOk, IfSome, None, length, vec_capacity};
 ghost use Rattle.df_claims.specs.Lawful.{first_draws, most_seats};
-ghost use Rattle.df_claims.specs.Seats.{AreAllDrawn, AreAllSeats, IsFinished, IsFresh, IsGathered, IsSeatOf, seat_after, times_drawn};
+ghost use Rattle.df_claims.specs.Seats.{AreAllDrawn, AreAllSeats, IsFinished, IsFresh, IsSeatOf, seat_after};
 
-use crate::rule::{Count, Draw, DrawnOnce, Draws, Gather, Part};
+use crate::rule::{Draw, DrawnOnce, Draws, Part};
 use atomic_table::{Seat, Table};
 use std::alloc::{AllocError, Global};
 use std::marker::Model;
@@ -116,36 +116,5 @@ impl Claims {
             seat.is_finished = true;
             None
         }
-    }
-
-    /// How many numbers were drawn: each below that count once, and no other. The seats are all that
-    /// [`Claims::new`] gave, in any order, and whatever was drawn with them.
-    pub fn close(self, seats: Vec<ClaimSeat>) -> u64
-        requires { AreAllSeats self seats.items }
-        ensures once { (n : ℕ) → n < result → times_drawn n seats.items ≡ 1 }
-        ensures no_other { (n : ℕ) → result ≤ n → times_drawn n seats.items ≡ 0 }
-        ensures within { result ≤ self.total }
-        ensures finished { Any IsFinished seats.items → result ≡ self.total }
-    {
-        let mut seat = self.gather(seats);
-        let found = self.table.shared.load::<Count>(&mut seat, 0);
-        found.min(self.total)
-    }
-
-    // Joins all seats to one.
-    fn gather(&self, mut seats: Vec<ClaimSeat>) -> Seat<(), Draws>
-        requires { AreAllSeats self.now seats.items }
-        ensures { IsGathered self.now seats.items result.table_id result.me.0 }
-    {
-        let Some(last) = seats.pop() else {
-            unreachable!()
-        };
-        let mut gathered = last.seat;
-        while let Some(next) = seats.pop() {
-            self.table
-                .shared
-                .join_seat::<Gather>(&mut gathered, next.seat);
-        }
-        gathered
     }
 }

@@ -1,7 +1,7 @@
 //! Claims: numbers below a total, which several threads draw, each number at most once.
 //!
 //! [`Claims::new`] gives the claims and a seat for each thread. A thread draws by [`Claims::next`] until it gets
-//! none. Once the threads are done, [`Claims::close`] says how many numbers were drawn.
+//! none.
 #![tactic(auto)]
 
 mod claims;

@@ -1,12 +1,12 @@
 //! The rule between any two steps on the claims, and what each kind of step does to the views of the seats.
 
-use atomic_table::{Join, Play, Split, TableRule};
+use atomic_table::{Play, Split, TableRule};
 
 /// What a seat knows. It exists in proofs alone: no value of it is made.
 pub struct Draws {
-    /// The numbers that the seat drew, in order. A clause reads an array as a list of any length.
+    /// The numbers that the seat drew, in order: `[u64; 0]` stands for a list of any length.
     pub numbers: [u64; 0],
-    /// How often the seat got none: at most once, and in seats that were joined at most once each.
+    /// How often the seat got none: at most once.
     pub misses: u64,
     /// How many of the claims' parts the seat has, 16 in all.
     pub parts: u64,
@@ -34,15 +34,6 @@ impl Play<(), Draws> for Draw {
     ghost then = { Drew };
 }
 
-// The word is read, and a seat that has all parts knows what it says.
-pub(crate) struct Count;
-
-impl Play<(), Draws> for Count {
-    ghost use Rattle.df_claims.specs.Lawful.{Counted};
-
-    ghost then = { Counted };
-}
-
 // A new seat takes one part.
 pub(crate) struct Part;
 
@@ -52,15 +43,4 @@ impl Split<Draws> for Part {
     ghost left = { less_a_part };
 
     ghost right = { one_part };
-}
-
-// One seat takes in what another drew.
-pub(crate) struct Gather;
-
-impl Join<Draws> for Gather {
-    ghost use Rattle.df_claims.specs.Lawful.{both_draws, no_draws};
-
-    ghost both = { both_draws };
-
-    ghost spent = { no_draws };
 }
