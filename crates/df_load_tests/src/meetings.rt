@@ -71,12 +71,7 @@ fn load_by_two<
     Acc: Ledger + Send + Sync,
     Del: Ledger + Send + Sync,
     R: Threads + Wait + Abort + Sync,
->(
-    rt: &R,
-    alloc: Global,
-    accepted: Blank,
-    deleted: Blank,
-) -> Result<(), Fail>
+>(rt: &R, alloc: Global, accepted: Blank, deleted: Blank) -> Result<(), Fail>
     requires accepted_name { accepted.name ≡ Acc.name }
     requires accepted_parts { (accepted.parts ≡ Acc.parts)
         × (accepted.parts ≡ ledgers.parts_of_ledger) }

@@ -16,7 +16,7 @@ use std::test::Fail;
 use std::thread::Threads;
 
 // What is done in the hall before the load.
-#[derive(Drop)]
+#[derive(Clone, Copy)]
 enum Before {
     Nothing,
     // A row of this number is committed to the frame.
@@ -28,7 +28,7 @@ enum Before {
 }
 
 // A load and what it answers.
-#[derive(Drop)]
+#[derive(Clone, Copy)]
 struct Case {
     name: &'static str,
     before: Before,
@@ -74,18 +74,15 @@ fn accepted_in<Acc: Ledger, Del: Ledger>(fault: &LoadFault<Acc, Del>) -> Option<
     let (catalogue, totals) = fault.left.as_ref()?;
     match totals.accepted.as_slice() {
         [zeroth, first] => {
-            let same = catalogue.accepted(0) == Some(*zeroth) && catalogue.accepted(1) == Some(*first);
+            let same = catalogue.accepted(0) == Some(*zeroth)
+                && catalogue.accepted(1) == Some(*first);
             if same { Some([*zeroth, *first]) } else { None }
         }
         _ => None,
     }
 }
 
-fn refuse<
-    Acc: Ledger + Send + Sync,
-    Del: Ledger + Send + Sync,
-    R: Threads + Wait + Abort + Sync,
->(
+fn refuse<Acc: Ledger + Send + Sync, Del: Ledger + Send + Sync, R: Threads + Wait + Abort + Sync>(
     rt: &R,
     alloc: Global,
     accepted: Blank,
@@ -107,82 +104,114 @@ fn refuse<
         Pairs::new(alloc, zeroth.0, zeroth.1)?,
         Pairs::new(alloc, first.0, first.1)?,
     ];
-    let answer = load_all(rt, alloc, hall, desks, views.as_slice(), &sources, 1, &OpenGate);
+    let answer = load_all(
+        rt,
+        alloc,
+        hall,
+        desks,
+        views.as_slice(),
+        &sources,
+        1,
+        &OpenGate,
+    );
     let fault = answer.err().ok_or(case.name)?;
     assert!(rt; fault.cause == case.cause, "{}", case.name);
     assert!(rt; accepted_in(&fault) == case.left, "{}", case.name);
-    assert!(rt; [sources[0].calls(), sources[1].calls()] == case.calls, "{}", case.name);
+    assert!(rt;
+        [sources[0].calls(), sources[1].calls()] == case.calls,
+        "{}",
+        case.name
+    );
     Ok(())
 }
 
+static CASES: [Case; 9] = [
+    Case {
+        name: "the second of two chunks that share a number",
+        before: Before::Nothing,
+        views: &["t"],
+        sources: [(2, 1), (0, 0)],
+        cause: LoadCause::Lost(1),
+        left: Some([2, 0]),
+        calls: [2, 0],
+    },
+    Case {
+        name: "the same of the second frame",
+        before: Before::Nothing,
+        views: &["t"],
+        sources: [(2, 2), (2, 1)],
+        cause: LoadCause::Lost(3),
+        left: Some([4, 2]),
+        calls: [2, 2],
+    },
+    Case {
+        name: "two views of one name",
+        before: Before::Nothing,
+        views: &["t", "u", "t"],
+        sources: [(1, 2), (1, 2)],
+        cause: LoadCause::Refused(CatalogueFault::ViewExists),
+        left: Some([0, 0]),
+        calls: [0, 0],
+    },
+    Case {
+        name: "a row in the first frame before the load",
+        before: Before::Row(0, 100),
+        views: &["t"],
+        sources: [(1, 2), (1, 2)],
+        cause: LoadCause::Unlike(0),
+        left: Some([3, 2]),
+        calls: [1, 1],
+    },
+    Case {
+        name: "a row in the second frame before the load",
+        before: Before::Row(1, 100),
+        views: &["t"],
+        sources: [(1, 2), (1, 2)],
+        cause: LoadCause::Unlike(1),
+        left: Some([2, 3]),
+        calls: [1, 1],
+    },
+    Case {
+        name: "a chunk with the number of a row before the load",
+        before: Before::Row(0, 1),
+        views: &["t"],
+        sources: [(1, 2), (1, 2)],
+        cause: LoadCause::Lost(0),
+        left: Some([1, 2]),
+        calls: [1, 1],
+    },
+    Case {
+        name: "a view before the load",
+        before: Before::View("u"),
+        views: &["t"],
+        sources: [(1, 2), (1, 2)],
+        cause: LoadCause::ViewsUnlike,
+        left: Some([2, 2]),
+        calls: [1, 1],
+    },
+    Case {
+        name: "a desk that the load is not given",
+        before: Before::RowOfAbsentDesk(1, 100),
+        views: &["t"],
+        sources: [(1, 2), (1, 2)],
+        cause: LoadCause::MissingDesk(1),
+        left: None,
+        calls: [1, 1],
+    },
+    Case {
+        name: "such a desk, and a chunk with the number of its row",
+        before: Before::RowOfAbsentDesk(1, 1),
+        views: &["t"],
+        sources: [(1, 2), (1, 2)],
+        cause: LoadCause::MissingDesk(1),
+        left: None,
+        calls: [1, 1],
+    },
+];
+
 #[test]
 fn loads_are_refused(rt: HostRuntime) -> Result<(), Fail> {
-    let cases = [
-        Case {
-            name: "the second of two chunks that share a number",
-            before: Before::Nothing,
-            views: &["t"],
-            sources: [(2, 1), (0, 0)],
-            cause: LoadCause::Lost(1),
-            left: Some([2, 0]),
-            calls: [2, 0],
-        },
-        Case {
-            name: "the same of the second frame",
-            before: Before::Nothing,
-            views: &["t"],
-            sources: [(2, 2), (2, 1)],
-            cause: LoadCause::Lost(3),
-            left: Some([4, 2]),
-            calls: [2, 2],
-        },
-        Case {
-            name: "two views of one name",
-            before: Before::Nothing,
-            views: &["t", "u", "t"],
-            sources: [(1, 2), (1, 2)],
-            cause: LoadCause::Refused(CatalogueFault::ViewExists),
-            left: Some([0, 0]),
-            calls: [0, 0],
-        },
-        Case {
-            name: "a row in the first frame before the load",
-            before: Before::Row(0, 100),
-            views: &["t"],
-            sources: [(1, 2), (1, 2)],
-            cause: LoadCause::Unlike(0),
-            left: Some([3, 2]),
-            calls: [1, 1],
-        },
-        Case {
-            name: "a row in the second frame before the load",
-            before: Before::Row(1, 100),
-            views: &["t"],
-            sources: [(1, 2), (1, 2)],
-            cause: LoadCause::Unlike(1),
-            left: Some([2, 3]),
-            calls: [1, 1],
-        },
-        Case {
-            name: "a view before the load",
-            before: Before::View("u"),
-            views: &["t"],
-            sources: [(1, 2), (1, 2)],
-            cause: LoadCause::ViewsUnlike,
-            left: Some([2, 2]),
-            calls: [1, 1],
-        },
-        Case {
-            name: "a desk that the load is not given",
-            before: Before::RowOfAbsentDesk(1, 100),
-            views: &["t"],
-            sources: [(1, 2), (1, 2)],
-            cause: LoadCause::MissingDesk(1),
-            left: None,
-            calls: [1, 1],
-        },
-    ];
-    for case in cases.iter() {
+    for case in &CASES {
         refuse::<Brand, Brand, _>(
             &rt,
             rt.alloc(),
