@@ -1,6 +1,6 @@
 -- What a run writes of a loaded document is the document's output.
 use Rattle.std.proofs.Common.{◌≡◌, ℕ, zero, suc, ◌+◌, ◌*◌, ◌<◌, ◌≤◌, Bool, true, false, cond, ◌∙◌, List, [], ◌∷◌, ◌++◌, length, map, refl, ap, sym, subst, arith, length-append}
-use Rattle.std.specs.Prelude.{All, IfErr, IfOk, Option, Some, None, IfSome, Result, Ok, Err, codes, filter_map, flat_map, nat_lt, not, option_map, position}
+use Rattle.std.specs.Prelude.{◌≢◌, All, IfErr, IfOk, Option, Some, None, IfSome, Result, Ok, Err, codes, filter_map, flat_map, nat_lt, not, option_map, position}
 use Rattle.std.specs.List.{AllByRecursion, join_by, position_from}
 use Rattle.std.specs.Int.{div_ceil}
 use Rattle.std.proofs.Math.Nat.{suc-mul}
@@ -253,3 +253,12 @@ not-refused schemas frames e few base =
     ap (position (λ s. not (is_base s))) e ∙ (position_from-zero (λ s. not (is_base s)) (schemas_of frames) ∙ none-derived 0 frames base) in
     ap (λ (b : Bool). cond b (Some new_fault_as.TooManyFrames) (option_map new_fault_as.DerivedType (position (λ s. not (is_base s)) schemas))) not_many
     ∙ ap (option_map new_fault_as.DerivedType) derived
+
+-- a fault other than memory that is answered to them is no fault
+pub no-other-fault :
+    (schemas : List Columns) (frames : List FrameSpec) (f : NewFault) → schemas ≡ schemas_of frames → length frames ≤ 8 → All (λ (f : FrameSpec). is_base f.schema ≡ true) frames →
+    (f ≢ new_fault_as.Memory → new_fault schemas ≡ Some f) → f ≢ new_fault_as.Memory → ⊥
+no-other-fault schemas frames f e few base answered other =
+    let none = not-refused schemas frames e few base in
+    let some = answered other in
+    absurd (cc)
