@@ -6,3 +6,8 @@ pub mod OutcomeFacts
 pub mod RowFacts
 pub mod LostFacts
 pub mod ViewFacts
+pub mod CrossingPlans
+pub mod CrossingTrees
+pub mod CrossingNodes
+pub mod CrossingViews
+pub mod Crosses
