@@ -1,16 +1,17 @@
 -- What a run writes of a loaded document is the document's output.
 use Rattle.std.proofs.Common.{◌≡◌, ℕ, zero, suc, ◌+◌, ◌*◌, ◌<◌, ◌≤◌, Bool, true, false, cond, ◌∙◌, List, [], ◌∷◌, ◌++◌, length, map, refl, ap, sym, subst, arith, length-append}
-use Rattle.std.specs.Prelude.{All, IfErr, IfOk, Option, Some, None, IfSome, Result, Ok, Err, codes, filter_map, flat_map, nat_lt}
-use Rattle.std.specs.List.{AllByRecursion, join_by}
+use Rattle.std.specs.Prelude.{◌≢◌, All, IfErr, IfOk, Option, Some, None, IfSome, Result, Ok, Err, codes, filter_map, flat_map, nat_lt, not, option_map, position}
+use Rattle.std.specs.List.{AllByRecursion, join_by, position_from}
 use Rattle.std.specs.Int.{div_ceil}
 use Rattle.std.proofs.Math.Nat.{suc-mul}
-use Rattle.std.proofs.lemmas.Bool.{ltb-false}
+use Rattle.std.proofs.lemmas.Bool.{le-ltb}
 use Rattle.std.proofs.lemmas.Grind.{div_ceil_times}
+use Rattle.std.proofs.lemmas.Iterator.Adapters.{position_from-zero}
 use Rattle.std.proofs.lemmas.List.{length-map}
 use Rattle.df_value.specs.Outcomes.{then_next}
 use Rattle.df_value.specs.declared.chunk.Piece.{Piece}
 use Rattle.df_value.specs.Pieces.{rows_of_pieces}
-use Rattle.df_value.specs.Schemas.{Columns}
+use Rattle.df_value.specs.Schemas.{Columns, is_base}
 use Rattle.df_csv.specs.PieceStarts.{pieces_length}
 use Rattle.df_csv.specs.Sources as csv_sources
 use Rattle.df_csv.specs.Sources.{CsvParts}
@@ -234,10 +235,30 @@ output_of_load d s refused views shown frames sources o are is named printed_as 
   ends = ends;
 }
 
-not-many : (b : Bool) (n : ℕ) (r : Option NewFault) → nat_lt 8 n ≡ b → cond b (Some new_fault_as.TooManyFrames) r ≡ None → n ≤ 8
-not-many true n r e h = absurd (cc)
-not-many false n r e h = ltb-false 8 n e
+-- no frame of a document is of a derived type
+none-derived : (at : ℕ) (frames : List FrameSpec) → All (λ (f : FrameSpec). is_base f.schema ≡ true) frames → position_from (λ s. not (is_base s)) at (schemas_of frames) ≡ None
+none-derived at [] base = refl
+none-derived at (f ∷ fs) base =
+    let here : is_base f.schema ≡ true = base zero f (omega arith) in
+    ap (λ (b : Bool). cond (not b) (Some at) (position_from (λ s. not (is_base s)) (at + 1) (schemas_of fs))) here
+    ∙ none-derived (at + 1) fs (λ k d lt. base (suc k) d (omega (arith, lt)))
 
--- a hall has few frames
-pub few_frames : (schemas : List Columns) → new_fault schemas ≡ None → length schemas ≤ 8
-few_frames schemas h = not-many (nat_lt 8 (length schemas)) (length schemas) _ refl h
+-- so few frames of base types are not refused
+pub not-refused : (schemas : List Columns) (frames : List FrameSpec) → schemas ≡ schemas_of frames → length frames ≤ 8 → All (λ (f : FrameSpec). is_base f.schema ≡ true) frames →
+    new_fault schemas ≡ None
+not-refused schemas frames e few base =
+    let long = schemas_long schemas frames e in
+    let not_many : nat_lt 8 (length schemas) ≡ false = le-ltb 8 (length schemas) (omega (arith, long, few)) in
+    let derived : position (λ s. not (is_base s)) schemas ≡ None =
+    ap (position (λ s. not (is_base s))) e ∙ (position_from-zero (λ s. not (is_base s)) (schemas_of frames) ∙ none-derived 0 frames base) in
+    ap (λ (b : Bool). cond b (Some new_fault_as.TooManyFrames) (option_map new_fault_as.DerivedType (position (λ s. not (is_base s)) schemas))) not_many
+    ∙ ap (option_map new_fault_as.DerivedType) derived
+
+-- a fault other than memory that is answered to them is no fault
+pub no-other-fault :
+    (schemas : List Columns) (frames : List FrameSpec) (f : NewFault) → schemas ≡ schemas_of frames → length frames ≤ 8 → All (λ (f : FrameSpec). is_base f.schema ≡ true) frames →
+    (f ≢ new_fault_as.Memory → new_fault schemas ≡ Some f) → f ≢ new_fault_as.Memory → ⊥
+no-other-fault schemas frames f e few base answered other =
+    let none = not-refused schemas frames e few base in
+    let some = answered other in
+    absurd (cc)

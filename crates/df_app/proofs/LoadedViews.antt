@@ -1,6 +1,6 @@
 -- The tables of a loaded state: those of the plans over the rows of the pieces.
-use Rattle.std.proofs.Common.{◌≡◌, ℕ, zero, suc, Bool, true, false, cond, ◌∙◌, List, [], ◌∷◌, length, map, refl, ap, sym, subst, arith}
-use Rattle.std.specs.Prelude.{Option, Some, bytes_eq, ok_or, option_map, slice_get, flat_map}
+use Rattle.std.proofs.Common.{◌≡◌, ℕ, zero, suc, ◌<◌, Bool, true, false, cond, ◌∙◌, List, [], ◌∷◌, length, map, refl, ap, sym, subst, arith}
+use Rattle.std.specs.Prelude.{All, IsOk, Option, Some, bytes_eq, ok_or, option_map, slice_get, slice_index_or, flat_map}
 use Rattle.std.specs.List.{AllByRecursion, AllZip, IsDistinct}
 use Rattle.std.proofs.lemmas.Slice.Eq.{bytes_eq-Decides}
 use Rattle.df_value.specs.declared.cell.Cell.{Cell}
@@ -16,7 +16,7 @@ use Rattle.df_catalogue.specs.declared.state.FrameState.{FrameState}
 use Rattle.df_catalogue.specs.declared.state.State.{State}
 use Rattle.df_catalogue.specs.declared.state.ViewState.{ViewState}
 use Rattle.df_catalogue.specs.Frames.{IsFrame, IsNumbered, rows_of}
-use Rattle.df_catalogue.specs.Reads.{view_named}
+use Rattle.df_catalogue.specs.Reads.{view_named, view_rows_of}
 use Rattle.df_catalogue.specs.States.{IsLegal, IsPlanOver, tables_of_frames, value_over}
 use Rattle.df_store.specs.Loaded.{AreLoaded, IsLoaded, job_rows, made_rows}
 use Rattle.df_store.specs.Loads.{headings_of}
@@ -78,6 +78,23 @@ view-found (w ∷ ws) zero v distinct h =
     ap (λ (b : Bool). cond b (Some w) (view_named v.name ws)) here ∙ ap Some same
 view-found (w ∷ ws) (suc i) v distinct h =
     ap (λ (b : Bool). cond b (Some w) (view_named v.name ws)) (others-differ w.name ws i v distinct.0 h) ∙ view-found ws i v distinct.1 h
+
+view-there : (s : State) (i : ℕ) (v : ViewState) → IsLegal s → slice_get s.views i ≡ Some v → IsOk (view_rows_of s v.name)
+view-there s i v legal h =
+    let found = view-found s.views i v legal.names h in
+    subst (λ (o : Option ViewState). IsOk (ok_or (option_map (λ w. w.table) o) catalogue_fault.NoView)) (sym found) refl
+
+there-at : (s : State) (ws : List ViewState) (k : ℕ) (d : List ℕ × CheckedParts) → ((i : ℕ) (v : ViewState) → slice_get ws i ≡ Some v → IsOk (view_rows_of s v.name)) →
+    k < length (map (λ v. (v.name, v.plan)) ws) → IsOk (view_rows_of s (slice_index_or (map (λ v. (v.name, v.plan)) ws) k d).0)
+there-at s [] k d each lt = absurd (omega (arith, lt))
+there-at s (w ∷ ws) zero d each lt = each zero w refl
+there-at s (w ∷ ws) (suc k) d each lt = there-at s ws k d (λ i v h. each (suc i) v h) (omega (arith, lt))
+
+-- each view of a loaded state is there under its name
+pub views-there : (s : State) (views : List (List ℕ × CheckedParts)) → IsLegal s → headings_of s ≡ views → All (λ h. IsOk (view_rows_of s h.0)) views
+views-there s views legal e =
+    subst (λ (hs : List (List ℕ × CheckedParts)). All (λ h. IsOk (view_rows_of s h.0)) hs) e
+    (λ k d lt. there-at s s.views k d (λ i v h. view-there s i v legal h) lt)
 
 same-at : {X Y : Type 0} (f g : X → Y) (xs : List X) (i : ℕ) (x : X) → map f xs ≡ map g xs → slice_get xs i ≡ Some x → f x ≡ g x
 same-at f g [] i x e h = absurd (cc)

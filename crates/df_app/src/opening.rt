@@ -96,6 +96,7 @@ pub(crate) fn open_sources<V: Read, F: Files>(
         (λ bytes. KnowsFiles (F.file_at files.old) bytes →
         IsOpening bytes (F.file_at files.old) chunk (opened_by result)) }
     ensures untouched { IfErr result (LeavesFiles files.old files.new) }
+    ensures sound { IfOk result (λ d. IsDocument d.document) }
     ensures plans { IfOk result (λ d. length d.plans ≡ length d.document.views) }
     ensures sources { IfOk result (λ d. length d.sources ≡ length d.document.frames) }
     ensures each { IfOk result (λ d. All (IsSourceOf chunk) d.sources) }
@@ -121,6 +122,7 @@ fn open_bytes<F: Files>(
         AnswersOrFails (MayFailFrom bytes.now (F.file_at files.old) chunk)
         (opened_from bytes.now (F.file_at files.old) chunk) (opened_by result) }
     ensures untouched { IfErr result (LeavesFiles files.old files.new) }
+    ensures sound { IfOk result (λ d. IsDocument d.document) }
     ensures plans { IfOk result (λ d. length d.plans ≡ length d.document.views) }
     ensures sources { IfOk result (λ d. length d.sources ≡ length d.document.frames) }
     ensures each { IfOk result (λ d. All (IsSourceOf chunk) d.sources) }
@@ -145,6 +147,7 @@ fn open_views<F: Files>(
         AnswersOrFails (MayFailIn document (F.file_at files.old) chunk)
         (opened_in document (F.file_at files.old) chunk) (opened_by result) }
     ensures untouched { IfErr result (LeavesFiles files.old files.new) }
+    ensures sound { IfOk result (λ d. IsDocument d.document) }
     ensures plans { IfOk result (λ d. length d.plans ≡ length d.document.views) }
     ensures sources { IfOk result (λ d. length d.sources ≡ length d.document.frames) }
     ensures each { IfOk result (λ d. All (IsSourceOf chunk) d.sources) }

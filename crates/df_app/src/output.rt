@@ -1,12 +1,13 @@
 //! The output of a document.
-ghost use Rattle.std.specs.Prelude.{◌≡◌, ◌++◌, IfOk, OnOk, codes, flat_map, map};
+ghost use Rattle.std.specs.Prelude.{◌≡◌, ◌++◌, All, IfOk, IsOk, OnOk, codes, flat_map, map};
 ghost use Rattle.std.specs.List.{join_by};
+ghost use Rattle.df_catalogue.specs.Reads.{view_rows_of};
 ghost use Rattle.df_app.specs.Loading.{outcome_of_load, printed_in, text_of_load};
 ghost use Rattle.df_app.specs.Output.{refused_block};
 
 use crate::outcome::{Outcome, Output};
 use crate::refused::lines_of;
-use df_catalogue::Catalogue;
+use df_catalogue::{Catalogue, CatalogueFault};
 use df_plan::CheckedPlan;
 use df_store::{Loaded, Refused};
 use df_text::{FrameSpec, print_table};
@@ -14,13 +15,14 @@ use df_value::{List, Text};
 use std::alloc::{AllocError, Global};
 use std::sync::ledger::Ledger;
 
-/// What a run over a document of these frames and views writes of what was loaded.
+/// What a run over a document of these frames and views writes of what was loaded with the views.
 pub(crate) fn output<Acc: Ledger, Del: Ledger>(
     alloc: Global,
     frames: &[FrameSpec],
     views: &[(Text, CheckedPlan)],
     loaded: &Loaded<Acc, Del>,
 ) -> Result<Output, AllocError>
+    requires { All (λ view. IsOk (view_rows_of loaded.now.catalogue.state view.0)) views.now }
     ensures text { IfOk result (λ o. o.text
         ≡ text_of_load loaded.now.catalogue.state frames.now views.now loaded.now.refused) }
     ensures ends { IfOk result (λ o. o.outcome ≡ outcome_of_load loaded.now.refused) }
@@ -60,6 +62,7 @@ fn print_views<Acc: Ledger, Del: Ledger>(
     catalogue: &Catalogue<Acc, Del>,
     views: &[(Text, CheckedPlan)],
 ) -> Result<Vec<List<u8>>, AllocError>
+    requires { All (λ view. IsOk (view_rows_of catalogue.now.state view.0)) views.now }
     ensures { IfOk result
         (λ tables. tables.items ≡ map (printed_in catalogue.now.state) views.now) }
 {
@@ -70,12 +73,13 @@ fn print_views<Acc: Ledger, Del: Ledger>(
     Ok(tables)
 }
 
-// The catalogue has the view, so that only memory can be refused.
+// The catalogue has the view, so that nothing but memory is refused.
 fn print_view<Acc: Ledger, Del: Ledger>(
     alloc: Global,
     catalogue: &Catalogue<Acc, Del>,
     view: &(Text, CheckedPlan),
 ) -> Result<List<u8>, AllocError>
+    requires { IsOk (view_rows_of catalogue.now.state view.now.0) }
     ensures { IfOk result (λ table. table ≡ printed_in catalogue.now.state view.now) }
 {
     let (name, plan) = view;
@@ -84,7 +88,8 @@ fn print_view<Acc: Ledger, Del: Ledger>(
             let table = print_table(alloc, name, plan.schema(), rows.as_slice())?;
             Ok(List::from_vec(table))
         }
-        Err(_) => Err(AllocError),
+        Err(CatalogueFault::Memory) => Err(AllocError),
+        Err(_) => unreachable!(),
     }
 }
 
