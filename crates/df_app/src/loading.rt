@@ -9,7 +9,7 @@ use crate::opening::{SourcedDocument, copy_schemas};
 use crate::outcome::Output;
 use crate::output::output;
 use df_plan::CheckedPlan;
-use df_store::{Hall, LoadCause, OpenGate, load_all};
+use df_store::{Gate, Hall, LoadCause, load_all};
 use df_text::ViewSpec;
 use df_value::{Duplicate, List, Text};
 use std::alloc::{AllocError, Global};
@@ -21,7 +21,7 @@ use std::thread::Threads;
 ///
 /// The frames of a document are few and of base types, so that only memory can be refused to a hall
 /// over them.
-pub(crate) fn load_output<Acc: Ledger, Del: Ledger, R: Threads + Wait + Sync>(
+pub(crate) fn load_output<Acc: Ledger, Del: Ledger, G: Gate + Sync, R: Threads + Wait + Sync>(
     rt: &R,
     alloc: Global,
     accepted: Blank,
@@ -29,6 +29,7 @@ pub(crate) fn load_output<Acc: Ledger, Del: Ledger, R: Threads + Wait + Sync>(
     sourced: &SourcedDocument,
     workers: usize,
     chunk: usize,
+    gate: &G,
 ) -> Result<Output, RunFault>
     requires accepted_name { accepted.name ≡ Acc.name }
     requires accepted_parts { (accepted.parts ≡ Acc.parts)
@@ -61,7 +62,7 @@ pub(crate) fn load_output<Acc: Ledger, Del: Ledger, R: Threads + Wait + Sync>(
         views.as_slice(),
         sources,
         workers,
-        &OpenGate,
+        gate,
     ) {
         Ok(loaded) => {
             let frames = sourced.document.frames.as_slice();
