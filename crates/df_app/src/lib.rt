@@ -19,6 +19,7 @@ mod refused;
 mod running;
 
 pub use command_line::Words;
+pub use df_store::{Gate, OpenGate};
 pub use fault::RunFault;
 pub use fault_texts::{csv_text, fault_text};
 pub use files::{FileState, Files};

@@ -14,7 +14,7 @@ use crate::outcome::Output;
 use crate::output::output;
 use df_catalogue::{Desk, NewFault};
 use df_plan::CheckedPlan;
-use df_store::{Hall, LoadCause, OpenGate, load_all};
+use df_store::{Gate, Hall, LoadCause, load_all};
 use df_text::{FrameSpec, ViewSpec};
 use df_value::{Duplicate, List, Text};
 use std::alloc::{AllocError, Global};
@@ -22,10 +22,12 @@ use std::sync::Wait;
 use std::sync::ledger::{Blank, Ledger};
 use std::thread::Threads;
 
-/// Loads the sources of a document by so many workers, and gives what a run writes.
+/// Loads the sources of a document by so many workers, each of which passes the gate before it makes
+/// a chunk, and gives what a run writes.
 pub(crate) fn load_output<
     Acc: Ledger + Send + Sync,
     Del: Ledger + Send + Sync,
+    G: Gate + Sync,
     R: Threads + Wait + Sync,
 >(
     rt: &R,
@@ -35,6 +37,7 @@ pub(crate) fn load_output<
     sourced: &SourcedDocument,
     workers: usize,
     chunk: usize,
+    gate: &G,
 ) -> Result<Output, RunFault>
     requires accepted_name { accepted.name ≡ Acc.name }
     requires accepted_parts { (accepted.parts ≡ Acc.parts)
@@ -66,7 +69,7 @@ pub(crate) fn load_output<
         views.as_slice(),
         sources,
         workers,
-        &OpenGate,
+        gate,
     ) {
         Ok(loaded) => Ok(output(alloc, frames, views.as_slice(), &loaded)?),
         Err(fault) => Err(fault_of_load(fault.cause)),

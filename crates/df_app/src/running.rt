@@ -11,6 +11,7 @@ use crate::loading::load_output;
 use crate::opening::open_sources;
 use crate::outcome::{Outcome, Output};
 use df_catalogue::PARTS_OF_LEDGER;
+use df_store::Gate;
 use df_text::write_text;
 use std::alloc::Global;
 use std::io::{Read, Write};
@@ -28,15 +29,16 @@ use std::thread::Threads;
 /// opened before all plans are checked. A chunk with a bad cell does not enter its frame. Only then
 /// is anything written: the tables of the views in the document's order, then a line for each
 /// refused chunk. At a fault other than [`RunFault::Write`] nothing was written, at that one a
-/// prefix of the output. So many workers, 1 to 16, type the chunks; what is
-/// written does not depend on their number.
-pub fn run<V: Read, F: Files, W: Write, R: Threads + Wait + Sync>(
+/// prefix of the output. So many workers, 1 to 16, type the chunks, and pass the gate before each; what is
+/// written depends neither on their number nor on the gate.
+pub fn run<V: Read, F: Files, W: Write, G: Gate + Sync, R: Threads + Wait + Sync>(
     rt: &R,
     alloc: Global,
     reader: &mut V,
     files: &mut F,
     workers: usize,
     chunk: usize,
+    gate: &G,
     writer: &mut W,
 ) -> Result<Outcome, RunFault>
     requires workers { 1 ≤ workers }
@@ -58,19 +60,20 @@ pub fn run<V: Read, F: Files, W: Write, R: Threads + Wait + Sync>(
         IsSameUnlessRefused (output_of bytes (F.file_at files.old) chunk)
         (output_of bytes (F.file_at files.old) size)) }
 {
-    match read_output(rt, alloc, reader, files, workers, chunk) {
+    match read_output(rt, alloc, reader, files, workers, chunk, gate) {
         Ok(output) => write_output(writer, &output),
         Err(fault) => Err(fault),
     }
 }
 
-fn read_output<V: Read, F: Files, R: Threads + Wait + Sync>(
+fn read_output<V: Read, F: Files, G: Gate + Sync, R: Threads + Wait + Sync>(
     rt: &R,
     alloc: Global,
     reader: &mut V,
     files: &mut F,
     workers: usize,
     chunk: usize,
+    gate: &G,
 ) -> Result<Output, RunFault>
     requires some { 1 ≤ chunk }
     requires few { chunk ≤ most_rows_of_chunk }
@@ -81,7 +84,7 @@ fn read_output<V: Read, F: Files, R: Threads + Wait + Sync>(
         IsOutput bytes (F.file_at files.old) chunk result) }
 {
     match open_sources(alloc, reader, files, chunk) {
-        Ok(sourced) => load_output::<Brand, Brand, R>(
+        Ok(sourced) => load_output::<Brand, Brand, G, R>(
             rt,
             alloc,
             Blank::new(PARTS_OF_LEDGER),
@@ -89,6 +92,7 @@ fn read_output<V: Read, F: Files, R: Threads + Wait + Sync>(
             &sourced,
             workers,
             chunk,
+            gate,
         ),
         Err(fault) => Err(fault),
     }

@@ -2,6 +2,7 @@
 //! standard output.
 #![tactic(auto)]
 
+mod progress;
 mod system_files;
 
 ghost use Rattle.std.specs.Prelude.{◌≤◌};
@@ -9,6 +10,7 @@ ghost use Rattle.df_value.specs.Limits.{most_rows_of_chunk};
 
 use clap::error::ErrorKind;
 use df_app::{Outcome, RunFault, Words, fault_text, run, words};
+use progress::Progress;
 use std::alloc::AllocError;
 use std::io::Read;
 use std::process::ExitCode;
@@ -93,6 +95,7 @@ fn run_reader<V: Read, R: Threads + Wait + Sync>(
         &mut files,
         words.workers,
         words.chunk,
+        &Progress::new(rt),
         &mut output,
     )
 }
