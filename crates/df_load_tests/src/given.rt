@@ -4,9 +4,10 @@ ghost use Rattle.df_catalogue.specs.Ledgers as ledgers;
 ghost use Rattle.df_load_tests.specs.Pairs.{row_of};
 
 use df_catalogue::{Desk, NewFault};
+use df_ops::Agg;
 use df_plan::{CheckedPlan, Plan};
 use df_store::Hall;
-use df_value::{Cell, CellType, Chunk, List, Row, Schema, Text};
+use df_value::{Boxed, Cell, CellType, Chunk, List, Row, Schema, Text};
 use std::alloc::{AllocError, Global};
 use std::sync::ledger::{Blank, Ledger};
 
@@ -42,6 +43,14 @@ pub fn chunk(alloc: Global, first: u32, count: u8) -> Result<Chunk, AllocError> 
 /// The plan of the first frame itself.
 pub fn scan(alloc: Global) -> Result<CheckedPlan, AllocError> {
     CheckedPlan::new(alloc, Plan::Scan(0), schemas(alloc)?.as_slice()).map_err(|_| AllocError)
+}
+
+/// The groups of equal rows of the first frame, with how many rows each has.
+pub fn groups(alloc: Global) -> Result<CheckedPlan, AllocError> {
+    let keys = List::from_vec(vec![in alloc; Text::from_str(alloc, "x")?]?);
+    let lens = List::from_vec(vec![in alloc; (Text::from_str(alloc, "n")?, Agg::Len)]?);
+    let plan = Plan::GroupBy(Boxed::new(alloc, Plan::Scan(0))?, keys, lens);
+    CheckedPlan::new(alloc, plan, schemas(alloc)?.as_slice()).map_err(|_| AllocError)
 }
 
 /// Views of the first frame under these names.

@@ -13,3 +13,5 @@ mod meetings;
 mod pairs;
 #[cfg(test)]
 mod refusals;
+#[cfg(test)]
+mod soak;
