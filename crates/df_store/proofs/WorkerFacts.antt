@@ -1,6 +1,6 @@
 -- Lists of workers, and the desks of all of them.
 use Rattle.std.proofs.Common.{◌≡◌, ℕ, zero, suc, ◌+◌, ◌*◌, ◌<◌, ◌≤◌, ◌∙◌, List, [], ◌∷◌, ◌++◌, length, map, take, drop, get_or, set, refl, ap, sym, subst, arith}
-use Rattle.std.specs.Prelude.{All, flat_map}
+use Rattle.std.specs.Prelude.{All}
 use Rattle.std.proofs.lemmas.List.{append-nil, drop-set-lt, flat_map_more}
 use Rattle.std.proofs.lemmas.List.Concat.{length-flat_map}
 use Rattle.std.proofs.lemmas.List.Elements.{All-drop, All-nil}
@@ -13,7 +13,7 @@ use Rattle.df_value.specs.declared.chunk.Piece.{Piece}
 use Rattle.df_store.specs.Closing.{HaveSameSums}
 use Rattle.df_store.specs.Jobs.{AreOutcomes, IsOutcome}
 use Rattle.df_store.specs.Workers.{HasNotBegun, IsIdle, IsWorker, desks_of}
-use Rattle.df_store.proofs.ListFacts.{same-default, take-more}
+use Rattle.df_store.proofs.ListFacts.{take-more}
 
 -- a list that was lent whole, put back
 pub put-back : {X : Type 0} (n : ℕ) (now was : List X) → length now ≡ n → length was ≡ n → take n (now ++ drop (length now) was) ≡ now
@@ -139,6 +139,7 @@ begun-workers claims most chunks ws begun k d h =
 pub ready-workers :
     {A D : Type 0} (claims : ClaimsView) (most : ℕ) (chunks : List (List (ℕ × Piece))) (ws now : List (Worker A D)) (seats room : ℕ) → ws ≡ now →
     All (HasNotBegun claims most) now → length now ≡ seats → seats * most ≤ room → All (IsWorker claims most chunks) ws × (length ws * most ≤ room)
-ready-workers {A = A} {D = D} claims most chunks ws now seats room same begun many fits =
-    (subst (λ (vs : List (Worker A D)). All (IsWorker claims most chunks) vs) (sym same) (begun-workers claims most chunks now begun),
-    subst (λ n. n * most ≤ room) (sym (ap length same ∙ many)) fits)
+ready-workers {A = A} {D = D} claims most chunks ws now seats room same begun many fits = (
+  subst (λ (vs : List (Worker A D)). All (IsWorker claims most chunks) vs) (sym same) (begun-workers claims most chunks now begun),
+  subst (λ n. n * most ≤ room) (sym (ap length same ∙ many)) fits,
+)

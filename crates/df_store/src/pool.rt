@@ -110,9 +110,9 @@ pub(crate) fn run_pool<
     R: Threads + Wait + Sync,
 >(rt: &R, hall: &Hall<Acc, Del>, work: &Work<S, G>, pool: &mut WorkerPool<Acc, Del>)
     requires { IsPool work.now.claims.now work.now.desks
-            (chunks_of S.made S.start_of work.now.sources.now) pool.old }
+        (chunks_of S.made S.start_of work.now.sources.now) pool.old }
     ensures { IsPool work.now.claims.now work.now.desks
-            (chunks_of S.made S.start_of work.now.sources.now) pool.new }
+        (chunks_of S.made S.start_of work.now.sources.now) pool.new }
 {
     run_workers(rt, hall, work, pool.workers.as_mut_slice());
 }
@@ -127,17 +127,22 @@ fn run_workers<
 >(rt: &R, hall: &Hall<Acc, Del>, work: &Work<S, G>, workers: &mut [Worker<Acc, Del>])
     requires { All (λ w.
         IsWorker work.now.claims.now work.now.desks
-            (chunks_of S.made S.start_of work.now.sources.now) w) workers.old }
+        (chunks_of S.made S.start_of work.now.sources.now) w) workers.old }
     ensures all { All (λ w.
         IsWorker work.now.claims.now work.now.desks
-            (chunks_of S.made S.start_of work.now.sources.now) w) workers.new }
+        (chunks_of S.made S.start_of work.now.sources.now) w) workers.new }
     ensures count { length workers.new ≡ length workers.old }
 {
     if workers.is_empty() {
         return;
     }
     let threads = workers.len();
-    thread::for_each_mut(rt, workers, threads, &|_, worker| worker.run(rt, hall, work));
+    thread::for_each_mut(
+        rt,
+        workers,
+        threads,
+        &|_, worker| worker.run(rt, hall, work),
+    );
 }
 
 // Moves desks behind others, where there is room for them.
@@ -164,12 +169,12 @@ fn take_desks<Acc: Ledger, Del: Ledger, S: Source, G>(
 )
     requires workers { All (λ w.
         IsWorker work.now.claims.now work.now.desks
-            (chunks_of S.made S.start_of work.now.sources.now) w) workers.old }
+        (chunks_of S.made S.start_of work.now.sources.now) w) workers.old }
     requires room { length gathered.old.items + length (desks_of workers.old)
         ≤ vec_capacity gathered.old }
     ensures workers { All (λ w.
         IsWorker work.now.claims.now work.now.desks
-            (chunks_of S.made S.start_of work.now.sources.now) w) workers.new }
+        (chunks_of S.made S.start_of work.now.sources.now) w) workers.new }
     ensures count { length workers.new ≡ length workers.old }
     ensures gathered { gathered.new.items ≡ gathered.old.items ++ desks_of workers.old }
 {
@@ -186,7 +191,7 @@ fn outcomes_of<Acc: Ledger, Del: Ledger, S: Source, G>(
 ) -> Result<Vec<Outcome>, AllocError>
     requires { All (λ w.
         IsWorker work.now.claims.now work.now.desks
-            (chunks_of S.made S.start_of work.now.sources.now) w) workers.items }
+        (chunks_of S.made S.start_of work.now.sources.now) w) workers.items }
     ensures { IfOk result (λ os.
         AreOutcomes (chunks_of S.made S.start_of work.now.sources.now) os.items) }
 {

@@ -1,4 +1,4 @@
-use Rattle.std.proofs.Common.{◌++◌, ◌∙◌, ap, get_or, length, length-append, length-set, set, take, refl, arith}
+use Rattle.std.proofs.Common.{◌∙◌, ap, get_or, length, length-append, length-set, take, refl, arith}
 use Rattle.std.proofs.lemmas.List.Elements.{All-set}
 use Rattle.df_store.specs.Jobs.{chunks_of}
 use Rattle.df_store.specs.Workers.{IsWorker, desks_of}
@@ -23,10 +23,10 @@ loop-at-preserved g c =
     let was = get_or c.loop-at.workers at c.index-workers-at.result in
     let low = c.loop-at-test.true in record {
       workers = All-set (IsWorker c.args.work.now.claims.now c.args.work.now.desks chunks) c.loop-at.workers at _
-      (without-desks c.args.work.now.claims.now c.args.work.now.desks chunks was _ (inv.workers at c.index-workers-at.result (let n = inv.count in omega (arith, low, n))) refl c.move_desks.ensures.left refl) inv.workers;
+          (without-desks c.args.work.now.claims.now c.args.work.now.desks chunks was _ (inv.workers at c.index-workers-at.result (let n = inv.count in omega (arith, low, n))) refl c.move_desks.ensures.left refl) inv.workers;
       count = length-set c.loop-at.workers at _ ∙ inv.count;
       rest = drop-set c.loop-at.workers c.args.workers.now at _ inv.rest;
       capacity = let a = inv.capacity in let b = c.move_desks.ensures.capacity in omega (arith, a, b);
       gathered = one-more-worker c.args.workers.now c.loop-at.workers at c.index-workers-at.result c.args.gathered.now.items c.loop-at.gathered.items c.move_desks.new.to.items low inv.rest
-      inv.count inv.gathered c.move_desks.ensures.moved;
+          inv.count inv.gathered c.move_desks.ensures.moved;
     }

@@ -1,4 +1,4 @@
-use Rattle.std.proofs.Common.{ap, length, subst, sym, ◌∙◌, arith}
+use Rattle.std.proofs.Common.{ap, length, subst, sym, arith}
 use Rattle.std.specs.Prelude.{All}
 use Rattle.df_store.specs.Jobs.{chunks_of}
 use Rattle.df_store.specs.Workers.{IsWorker, desks_of}
