@@ -3,14 +3,16 @@ use Rattle.std.proofs.Common.{◌≡◌, ℕ, zero, suc, ◌+◌, ◌*◌, ◌<�
 use Rattle.std.specs.Prelude.{All}
 use Rattle.std.proofs.lemmas.List.{append-nil, drop-set-lt, flat_map_more}
 use Rattle.std.proofs.lemmas.List.Concat.{length-flat_map}
+use Rattle.std.proofs.lemmas.List.Elements.{All-drop, All-nil}
 use Rattle.std.proofs.lemmas.List.Folds.{length-flat_map-take}
 use Rattle.std.proofs.lemmas.List.Sums.{sum_by-le}
 use Rattle.df_catalogue.specs.Desks.{DeskParts}
 use Rattle.df_store.specs.declared.worker.Worker.{Worker}
+use Rattle.df_claims.specs.Seats.{ClaimsView, IsSeatOf}
 use Rattle.df_value.specs.declared.chunk.Piece.{Piece}
 use Rattle.df_store.specs.Closing.{HaveSameSums}
-use Rattle.df_store.specs.Jobs.{AreOutcomes}
-use Rattle.df_store.specs.Workers.{IsIdle, IsWorker, desks_of}
+use Rattle.df_store.specs.Jobs.{AreOutcomes, IsOutcome}
+use Rattle.df_store.specs.Workers.{HasNotBegun, IsIdle, IsWorker, desks_of}
 use Rattle.df_store.proofs.ListFacts.{take-more}
 
 -- a list that was lent whole, put back
@@ -31,18 +33,18 @@ few-desks {A = A} {D = D} most ws few =
     let b = sum_by-le (λ (w : Worker A D). length w.desks.items) most ws few in
     omega (arith, a, b)
 
-none-idle : {A D : Type 0} (most : ℕ) (ws : List (Worker A D)) → All (IsIdle most) ws → desks_of ws ≡ []
-none-idle most [] idle = refl
-none-idle most (w ∷ ws) idle =
+none-idle : {A D : Type 0} (claims : ClaimsView) (most : ℕ) (ws : List (Worker A D)) → All (IsIdle claims most) ws → desks_of ws ≡ []
+none-idle claims most [] idle = refl
+none-idle claims most (w ∷ ws) idle =
     ap (λ ds. ds ++ desks_of ws) (idle zero w (omega arith)).desks
-    ∙ none-idle most ws (λ k d h. idle (suc k) d (omega (arith, h)))
+    ∙ none-idle claims most ws (λ k d h. idle (suc k) d (omega (arith, h)))
 
 -- of idle workers the first one got desks
 first-alone :
-    {A D : Type 0} (most : ℕ) (ws : List (Worker A D)) (w : Worker A D) → All (IsIdle most) ws → 0 < length ws → desks_of (set ws 0 w) ≡ w.desks.items
-first-alone most [] w idle h = absurd (omega (arith, h))
-first-alone most (v ∷ ws) w idle h =
-    ap (λ ds. w.desks.items ++ ds) (none-idle most ws (λ k d h. idle (suc k) d (omega (arith, h))))
+    {A D : Type 0} (claims : ClaimsView) (most : ℕ) (ws : List (Worker A D)) (w : Worker A D) → All (IsIdle claims most) ws → 0 < length ws → desks_of (set ws 0 w) ≡ w.desks.items
+first-alone claims most [] w idle h = absurd (omega (arith, h))
+first-alone claims most (v ∷ ws) w idle h =
+    ap (λ ds. w.desks.items ++ ds) (none-idle claims most ws (λ k d h. idle (suc k) d (omega (arith, h))))
     ∙ append-nil w.desks.items
 
 drop-at : {X : Type 0} (xs ys : List X) (i : ℕ) (d : X) → drop i xs ≡ drop i ys → length xs ≡ length ys → get_or xs i d ≡ get_or ys i d
@@ -76,9 +78,10 @@ one-more-worker {A = A} {D = D} was now i d given before after low rest same so_
 
 -- a worker whose desks were taken
 pub without-desks :
-    {A D : Type 0} (most : ℕ) (chunks : List (List (ℕ × Piece))) (was now : Worker A D) → IsWorker most chunks was → now.desks.items ≡ [] → now.done.items ≡ was.done.items →
-    IsWorker most chunks now
-without-desks most chunks was now is none same = record {
+    {A D : Type 0} (claims : ClaimsView) (most : ℕ) (chunks : List (List (ℕ × Piece))) (was now : Worker A D) → IsWorker claims most chunks was → now.seat ≡ was.seat →
+    now.desks.items ≡ [] → now.done.items ≡ was.done.items → IsWorker claims most chunks now
+without-desks claims most chunks was now is seat none same = record {
+  seat = subst (λ s. IsSeatOf claims s) (sym seat) is.seat;
   desks = let e = ap length none in omega (arith, e);
   done = subst (λ os. AreOutcomes chunks os) (sym same) is.done;
 }
@@ -107,10 +110,36 @@ keys-set key (y ∷ ys) (suc i) x d h e = ap (λ ks. key y ∷ ks) (keys-set key
 
 -- the first worker got these desks, and shared them out
 pub shared-out :
-    {A D : Type 0} (most : ℕ) (ws lent now : List (Worker A D)) (v w : Worker A D) (given : List DeskParts) → All (IsIdle most) ws → 0 < length ws → v ≡ get_or ws 0 v →
+    {A D : Type 0} (claims : ClaimsView) (most : ℕ) (ws lent now : List (Worker A D)) (v w : Worker A D) (given : List DeskParts) → All (IsIdle claims most) ws → 0 < length ws → v ≡ get_or ws 0 v →
     w.desks.items ≡ v.desks.items ++ given → lent ≡ set ws 0 w → HaveSameSums (desks_of lent) (desks_of now) → HaveSameSums given (desks_of now)
-shared-out {A = A} {D = D} most ws lent now v w given idle some is moved set_to same =
+shared-out {A = A} {D = D} claims most ws lent now v w given idle some is moved set_to same =
     let none : v.desks.items ≡ [] = ap (λ (x : Worker A D). x.desks.items) is ∙ (idle 0 v some).desks in
     let first : desks_of lent ≡ given =
-    ap desks_of set_to ∙ (first-alone most ws w idle some ∙ (moved ∙ ap (λ ds. ds ++ given) none)) in
+    ap desks_of set_to ∙ (first-alone claims most ws w idle some ∙ (moved ∙ ap (λ ds. ds ++ given) none)) in
     subst (λ ds. HaveSameSums ds (desks_of now)) first same
+
+-- behind the first place the workers are as they were
+pub rest-idle :
+    {A D : Type 0} (claims : ClaimsView) (most : ℕ) (ws : List (Worker A D)) (w : Worker A D) → All (IsIdle claims most) ws → All (IsIdle claims most) (drop 1 (set ws 0 w))
+rest-idle claims most ws w idle =
+    subst (λ vs. All (IsIdle claims most) vs) (sym (drop-set-lt 1 ws 0 w (omega arith))) (All-drop (IsIdle claims most) 1 ws idle)
+
+-- workers that have not begun are workers
+begun-workers :
+    {A D : Type 0} (claims : ClaimsView) (most : ℕ) (chunks : List (List (ℕ × Piece))) (ws : List (Worker A D)) → All (HasNotBegun claims most) ws →
+    All (IsWorker claims most chunks) ws
+begun-workers claims most chunks ws begun k d h =
+    let w = begun k d h in record {
+      seat = w.seat;
+      desks = w.desks;
+      done = subst (λ os. AreOutcomes chunks os) (sym w.done) (All-nil (IsOutcome chunks));
+    }
+
+-- the workers of a pool that have their desks, as a list that is the same
+pub ready-workers :
+    {A D : Type 0} (claims : ClaimsView) (most : ℕ) (chunks : List (List (ℕ × Piece))) (ws now : List (Worker A D)) (seats room : ℕ) → ws ≡ now →
+    All (HasNotBegun claims most) now → length now ≡ seats → seats * most ≤ room → All (IsWorker claims most chunks) ws × (length ws * most ≤ room)
+ready-workers {A = A} {D = D} claims most chunks ws now seats room same begun many fits = (
+  subst (λ (vs : List (Worker A D)). All (IsWorker claims most chunks) vs) (sym same) (begun-workers claims most chunks now begun),
+  subst (λ n. n * most ≤ room) (sym (ap length same ∙ many)) fits,
+)

@@ -20,12 +20,16 @@ use crate::refused::Refused;
 use crate::totals::Totals;
 use crate::worker::Work;
 use df_catalogue::{Catalogue, Desk};
+use df_claims::Claims;
 use df_plan::CheckedPlan;
 use df_value::{Duplicate, List, Source, Text};
 use std::alloc::{AllocError, Global};
 use std::sync::Wait;
 use std::sync::ledger::Ledger;
 use std::thread::Threads;
+
+// The most workers of a load.
+const MOST_WORKERS: usize = 16;
 
 /// A catalogue that was loaded.
 #[derive(Drop)]
@@ -46,12 +50,14 @@ pub struct LoadFault<Acc: Ledger, Del: Ledger> {
     pub left: Option<(Catalogue<Acc, Del>, Totals)>,
 }
 
-/// Registers copies of the views in the hall, splits the desks among so many workers, at least one,
-/// has them load the sources, a source for each frame, and closes the hall.
+/// Registers copies of the views in the hall, splits the desks among workers, has these load the
+/// sources, a source for each frame, and closes the hall. There are 1 to 16 workers: of another number
+/// the nearest of these is taken.
 ///
-/// A worker takes its jobs in turn. Of each it passes the gate, makes the chunk, and commits it, if it
-/// is good, through its own desk of the frame; only the commit holds the hall's lock. After all workers
-/// have ended, what came of the jobs is compared with the sources and the views, once.
+/// Each worker draws one job after another, until none is left. It passes the gate, makes the job's
+/// chunk, and commits it, if it is good, through its own desk of the frame; only the commit holds the
+/// hall's lock. After all workers have ended, what came of the jobs is compared with the sources and
+/// the views, once.
 ///
 /// The causes of a fault are looked for in the order of [`LoadCause`]. A worker that is refused memory
 /// stops, and the others go on: what has entered is then in [`LoadFault::left`]. A desk of few parts
@@ -92,15 +98,19 @@ pub fn load_all<
     if let Err(cause) = register_all(rt, alloc, &hall, views) {
         return Err(given_up(hall, desks, cause));
     }
+    let jobs = job_count(sources);
+    let Ok((claims, seats)) = Claims::new(alloc, jobs, workers.clamp(1, MOST_WORKERS)) else {
+        return Err(given_up(hall, desks, LoadCause::Memory));
+    };
     let work = Work {
         alloc,
         sources,
         gate,
-        jobs: job_count(sources),
-        workers: workers.max(1),
+        jobs,
+        claims: &claims,
         desks: desks.len(),
     };
-    let mut pool = match WorkerPool::new(&work, desks) {
+    let mut pool = match WorkerPool::new(&work, seats, desks) {
         Ok(pool) => pool,
         Err(desks) => return Err(given_up(hall, desks, LoadCause::Memory)),
     };

@@ -1,5 +1,6 @@
 //! The workers of a load: they share out desks, run, and give the desks back.
 ghost use Rattle.std.specs.Prelude.{◌≡◌, ◌+◌, ◌<◌, ◌≤◌, ◌*◌, ◌++◌, [], All, IfErr, IfOk, length, vec_capacity};
+ghost use Rattle.df_claims.specs.Seats.{IsSeatOf};
 ghost use Rattle.df_store.specs.Closing.{HaveSameSums};
 ghost use Rattle.df_store.specs.Jobs.{AreOutcomes, chunks_of};
 ghost use Rattle.df_store.specs.Workers.{IsIdle, IsPool, IsWorker, desks_of};
@@ -10,6 +11,7 @@ use crate::jobs::Outcome;
 use crate::splitting::share_desks;
 use crate::worker::{Work, Worker};
 use df_catalogue::Desk;
+use df_claims::ClaimSeat;
 use df_value::Source;
 use std::alloc::AllocError;
 use std::sync::Wait;
@@ -29,43 +31,50 @@ pub(crate) struct WorkerPool<Acc: Ledger, Del: Ledger> {
 }
 
 impl<Acc: Ledger, Del: Ledger> WorkerPool<Acc, Del> {
-    /// Workers among which these desks are split. Where memory is refused the desks come back as they
-    /// were.
+    /// A worker for each seat, among which these desks are split. Where memory is refused the desks
+    /// come back as they were.
     pub(crate) fn new<S: Source, G>(
         work: &Work<S, G>,
+        seats: Vec<ClaimSeat>,
         desks: Vec<Desk<Acc, Del>>,
     ) -> Result<WorkerPool<Acc, Del>, Vec<Desk<Acc, Del>>>
-        requires workers { 0 < work.now.workers }
+        requires some { 0 < length seats.items }
+        requires seats { All (IsSeatOf work.now.claims.now) seats.items }
         requires desks { length desks.items ≤ work.now.desks }
-        ensures pool { IfOk result (IsPool work.now.desks
+        ensures pool { IfOk result (IsPool work.now.claims.now work.now.desks
             (chunks_of S.made S.start_of work.now.sources.now)) }
         ensures sums { IfOk result (λ pool.
             HaveSameSums desks.items (desks_of pool.workers.items)) }
         ensures back { IfErr result (λ back. back.items ≡ desks.items) }
     {
         let mut desks = desks;
-        let mut pool = match WorkerPool::with_room(work) {
+        let mut pool = match WorkerPool::with_room(work, seats) {
             Ok(pool) => pool,
             Err(_) => return Err(desks),
         };
         move_desks(&mut desks, &mut pool.workers[0].desks);
-        share_desks(pool.workers.as_mut_slice(), work.desks);
+        share_desks(work, pool.workers.as_mut_slice());
         Ok(pool)
     }
 
-    // Workers without desks, with room for as many as each of them may have.
-    fn with_room<S, G>(work: &Work<S, G>) -> Result<WorkerPool<Acc, Del>, AllocError>
-        ensures idle { IfOk result (λ pool. All (IsIdle work.now.desks) pool.workers.items) }
-        ensures count { IfOk result (λ pool. length pool.workers.items ≡ work.now.workers) }
+    // A worker for each seat, without desks, with room for as many as it may have.
+    fn with_room<S, G>(
+        work: &Work<S, G>,
+        seats: Vec<ClaimSeat>,
+    ) -> Result<WorkerPool<Acc, Del>, AllocError>
+        requires { All (IsSeatOf work.now.claims.now) seats.items }
+        ensures idle { IfOk result (λ pool.
+            All (IsIdle work.now.claims.now work.now.desks) pool.workers.items) }
+        ensures count { IfOk result (λ pool. length pool.workers.items ≡ length seats.items) }
         ensures gathered { IfOk result (λ pool. pool.gathered.items ≡ []) }
         ensures room { IfOk result (λ pool.
-            work.now.workers * work.now.desks ≤ vec_capacity pool.gathered) }
+            length seats.items * work.now.desks ≤ vec_capacity pool.gathered) }
     {
-        let mut workers = Vec::with_capacity(work.alloc, work.workers)?;
-        for _ in 0..work.workers {
-            workers.push(Worker::idle(work.alloc, work.desks)?)?;
+        let room = seats.len().saturating_mul(work.desks);
+        let mut workers = Vec::with_capacity(work.alloc, seats.len())?;
+        for seat in seats {
+            workers.push(Worker::idle(work, seat)?)?;
         }
-        let room = work.workers.saturating_mul(work.desks);
         Ok(WorkerPool {
             workers,
             gathered: Vec::with_capacity(work.alloc, room)?,
@@ -78,7 +87,8 @@ impl<Acc: Ledger, Del: Ledger> WorkerPool<Acc, Del> {
         self,
         work: &Work<S, G>,
     ) -> (Vec<Desk<Acc, Del>>, Result<Vec<Outcome>, AllocError>)
-        requires { IsPool work.now.desks (chunks_of S.made S.start_of work.now.sources.now) self }
+        requires { IsPool work.now.claims.now work.now.desks
+            (chunks_of S.made S.start_of work.now.sources.now) self }
         ensures desks { result.0.items ≡ desks_of self.workers.items }
         ensures outcomes { IfOk result.1 (λ os.
             AreOutcomes (chunks_of S.made S.start_of work.now.sources.now) os.items) }
@@ -99,8 +109,10 @@ pub(crate) fn run_pool<
     G: Gate + Sync,
     R: Threads + Wait + Sync,
 >(rt: &R, hall: &Hall<Acc, Del>, work: &Work<S, G>, pool: &mut WorkerPool<Acc, Del>)
-    requires { IsPool work.now.desks (chunks_of S.made S.start_of work.now.sources.now) pool.old }
-    ensures { IsPool work.now.desks (chunks_of S.made S.start_of work.now.sources.now) pool.new }
+    requires { IsPool work.now.claims.now work.now.desks
+        (chunks_of S.made S.start_of work.now.sources.now) pool.old }
+    ensures { IsPool work.now.claims.now work.now.desks
+        (chunks_of S.made S.start_of work.now.sources.now) pool.new }
 {
     run_workers(rt, hall, work, pool.workers.as_mut_slice());
 }
@@ -114,9 +126,11 @@ fn run_workers<
     R: Threads + Wait + Sync,
 >(rt: &R, hall: &Hall<Acc, Del>, work: &Work<S, G>, workers: &mut [Worker<Acc, Del>])
     requires { All (λ w.
-        IsWorker work.now.desks (chunks_of S.made S.start_of work.now.sources.now) w) workers.old }
+        IsWorker work.now.claims.now work.now.desks
+        (chunks_of S.made S.start_of work.now.sources.now) w) workers.old }
     ensures all { All (λ w.
-        IsWorker work.now.desks (chunks_of S.made S.start_of work.now.sources.now) w) workers.new }
+        IsWorker work.now.claims.now work.now.desks
+        (chunks_of S.made S.start_of work.now.sources.now) w) workers.new }
     ensures count { length workers.new ≡ length workers.old }
 {
     if workers.is_empty() {
@@ -127,7 +141,7 @@ fn run_workers<
         rt,
         workers,
         threads,
-        &|index, worker| { worker.run(rt, hall, work, index) },
+        &|_, worker| worker.run(rt, hall, work),
     );
 }
 
@@ -154,11 +168,13 @@ fn take_desks<Acc: Ledger, Del: Ledger, S: Source, G>(
     gathered: &mut Vec<Desk<Acc, Del>>,
 )
     requires workers { All (λ w.
-        IsWorker work.now.desks (chunks_of S.made S.start_of work.now.sources.now) w) workers.old }
+        IsWorker work.now.claims.now work.now.desks
+        (chunks_of S.made S.start_of work.now.sources.now) w) workers.old }
     requires room { length gathered.old.items + length (desks_of workers.old)
         ≤ vec_capacity gathered.old }
     ensures workers { All (λ w.
-        IsWorker work.now.desks (chunks_of S.made S.start_of work.now.sources.now) w) workers.new }
+        IsWorker work.now.claims.now work.now.desks
+        (chunks_of S.made S.start_of work.now.sources.now) w) workers.new }
     ensures count { length workers.new ≡ length workers.old }
     ensures gathered { gathered.new.items ≡ gathered.old.items ++ desks_of workers.old }
 {
@@ -174,7 +190,8 @@ fn outcomes_of<Acc: Ledger, Del: Ledger, S: Source, G>(
     workers: Vec<Worker<Acc, Del>>,
 ) -> Result<Vec<Outcome>, AllocError>
     requires { All (λ w.
-        IsWorker work.now.desks (chunks_of S.made S.start_of work.now.sources.now) w) workers.items }
+        IsWorker work.now.claims.now work.now.desks
+        (chunks_of S.made S.start_of work.now.sources.now) w) workers.items }
     ensures { IfOk result (λ os.
         AreOutcomes (chunks_of S.made S.start_of work.now.sources.now) os.items) }
 {

@@ -3,44 +3,46 @@ ghost use Rattle.std.specs.Prelude.{◌≡◌, ◌+◌, ◌<◌, ◌≤◌, ◌�
 ghost use Rattle.df_store.specs.Closing.{HaveSameSums};
 ghost use Rattle.df_store.specs.Workers.{HasNotBegun, IsIdle, desks_of};
 
-use crate::worker::Worker;
+use crate::worker::{Work, Worker};
 use df_catalogue::Desk;
 use std::sync::ledger::Ledger;
 
-/// Splits the desks of the first worker among all, of which the others have none yet, and room for
-/// `most` of them.
+/// Splits the desks of the first worker among all, of which the others have none yet.
 ///
 /// The worker at each place `at` gets its desks from the one at `(at - 1) / 2`, so that none gives
 /// more than twice.
-pub(crate) fn share_desks<Acc: Ledger, Del: Ledger>(workers: &mut [Worker<Acc, Del>], most: usize)
-    requires begun { All (HasNotBegun most) workers.old }
-    requires idle { All (IsIdle most) (drop 1 workers.old) }
-    ensures begun { All (HasNotBegun most) workers.new }
+pub(crate) fn share_desks<Acc: Ledger, Del: Ledger, S, G>(
+    work: &Work<S, G>,
+    workers: &mut [Worker<Acc, Del>],
+)
+    requires begun { All (HasNotBegun work.now.claims.now work.now.desks) workers.old }
+    requires idle { All (IsIdle work.now.claims.now work.now.desks) (drop 1 workers.old) }
+    ensures begun { All (HasNotBegun work.now.claims.now work.now.desks) workers.new }
     ensures count { length workers.new ≡ length workers.old }
     ensures sums { HaveSameSums (desks_of workers.old) (desks_of workers.new) }
 {
     for at in 1..workers.len() {
-        split_between(workers, (at - 1) / 2, at, most);
+        split_between(work, workers, (at - 1) / 2, at);
     }
 }
 
 // Splits each desk of the worker at `from` for the one at `to`, which has none yet.
-fn split_between<Acc: Ledger, Del: Ledger>(
+fn split_between<Acc: Ledger, Del: Ledger, S, G>(
+    work: &Work<S, G>,
     workers: &mut [Worker<Acc, Del>],
     from: usize,
     to: usize,
-    most: usize,
 )
     requires order { from < to }
     requires within { to < length workers.old }
-    requires begun { All (HasNotBegun most) workers.old }
-    requires idle { All (IsIdle most) (drop to workers.old) }
-    ensures begun { All (HasNotBegun most) workers.new }
-    ensures idle { All (IsIdle most) (drop (to + 1) workers.new) }
+    requires begun { All (HasNotBegun work.now.claims.now work.now.desks) workers.old }
+    requires idle { All (IsIdle work.now.claims.now work.now.desks) (drop to workers.old) }
+    ensures begun { All (HasNotBegun work.now.claims.now work.now.desks) workers.new }
+    ensures idle { All (IsIdle work.now.claims.now work.now.desks) (drop (to + 1) workers.new) }
     ensures count { length workers.new ≡ length workers.old }
     ensures sums { HaveSameSums (desks_of workers.old) (desks_of workers.new) }
 {
-    let _ = most;
+    let _ = work;
     let (givers, takers) = workers.split_at_mut(to);
     split_desks(&mut givers[from].desks, &mut takers[0].desks);
 }

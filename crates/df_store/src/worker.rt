@@ -1,5 +1,6 @@
 //! Workers: threads that make the chunks of jobs, and commit those that are good.
 ghost use Rattle.std.specs.Prelude.{◌≡◌, ◌<◌, IfOk, IfSome, OnOk, length, map};
+ghost use Rattle.df_claims.specs.Seats.{IsSeatOf};
 ghost use Rattle.df_store.specs.Jobs.{AreOutcomes, chunks_of};
 ghost use Rattle.df_store.specs.Workers.{IsIdle, IsWorker};
 
@@ -8,15 +9,17 @@ use crate::gate::Gate;
 use crate::hall::Hall;
 use crate::jobs::{Outcome, make};
 use df_catalogue::Desk;
+use df_claims::{ClaimSeat, Claims};
 use df_value::{Piece, Source};
 use std::alloc::{AllocError, Global};
 use std::sync::Wait;
 use std::sync::ledger::Ledger;
 
-/// What a thread that does jobs owns: its desks, and what it has done so far.
+/// What a thread that does jobs owns: its desks, what it draws jobs with, and what it has done so far.
 #[derive(Drop)]
 pub(crate) struct Worker<Acc: Ledger, Del: Ledger> {
     pub(crate) desks: Vec<Desk<Acc, Del>>,
+    seat: ClaimSeat,
     done: Vec<Outcome>,
     // Whether it stopped since it was refused memory.
     stopped: bool,
@@ -32,62 +35,45 @@ pub(crate) struct Work<'a, S, G> {
     pub(crate) sources: &'a [S],
     pub(crate) gate: &'a G,
     pub(crate) jobs: u64,
-    pub(crate) workers: usize,
+    /// The numbers of the jobs, each of which one worker draws.
+    pub(crate) claims: &'a Claims,
     /// The most desks that a worker may have.
     pub(crate) desks: usize,
 }
 
-// The jobs of one worker: every so many, from a first one on.
-#[derive(Drop)]
-struct Turns {
-    next: u64,
-    step: u64,
-    end: u64,
-}
-
-impl Turns {
-    fn take(&mut self) -> Option<u64> {
-        if self.next >= self.end {
-            return None;
-        }
-        let job = self.next;
-        self.next = self.next.saturating_add(self.step);
-        Some(job)
-    }
-}
-
 impl<Acc: Ledger, Del: Ledger> Worker<Acc, Del> {
-    /// A worker without desks that has done nothing, with room for so many desks.
-    pub(crate) fn idle(alloc: Global, desks: usize) -> Result<Worker<Acc, Del>, AllocError>
-        ensures { IfOk result (IsIdle desks) }
+    /// A worker that has done nothing, and has no desks, but room for as many as it may have.
+    pub(crate) fn idle<S, G>(
+        work: &Work<S, G>,
+        seat: ClaimSeat,
+    ) -> Result<Worker<Acc, Del>, AllocError>
+        requires { IsSeatOf work.now.claims.now seat }
+        ensures { IfOk result (IsIdle work.now.claims.now work.now.desks) }
     {
         Ok(Worker {
-            desks: Vec::with_capacity(alloc, desks)?,
-            done: Vec::new(alloc),
+            desks: Vec::with_capacity(work.alloc, work.desks)?,
+            seat,
+            done: Vec::new(work.alloc),
             stopped: false,
         })
     }
 
-    /// Does its jobs, until memory is refused.
+    /// Does the jobs that it draws, until none is left or memory is refused.
     pub(crate) fn run<S: Source, G: Gate, R: Wait>(
         &mut self,
         rt: &R,
         hall: &Hall<Acc, Del>,
         work: &Work<S, G>,
-        index: usize,
     )
-        requires { IsWorker work.now.desks (chunks_of S.made S.start_of work.now.sources.now)
+        requires { IsWorker work.now.claims.now work.now.desks
+            (chunks_of S.made S.start_of work.now.sources.now)
             self.old }
-        ensures { IsWorker work.now.desks (chunks_of S.made S.start_of work.now.sources.now)
+        ensures { IsWorker work.now.claims.now work.now.desks
+            (chunks_of S.made S.start_of work.now.sources.now)
             self.new }
     {
-        let mut turns = Turns {
-            next: index as u64,
-            step: work.workers as u64,
-            end: work.jobs,
-        };
         for _ in 0..work.jobs {
-            let Some(job) = turns.take() else {
+            let Some(job) = work.claims.next(&mut self.seat) else {
                 return;
             };
             if self.do_job(rt, hall, work, job).is_err() {
@@ -105,9 +91,11 @@ impl<Acc: Ledger, Del: Ledger> Worker<Acc, Del> {
         work: &Work<S, G>,
         job: u64,
     ) -> Result<(), AllocError>
-        requires { IsWorker work.now.desks (chunks_of S.made S.start_of work.now.sources.now)
+        requires { IsWorker work.now.claims.now work.now.desks
+            (chunks_of S.made S.start_of work.now.sources.now)
             self.old }
-        ensures { IsWorker work.now.desks (chunks_of S.made S.start_of work.now.sources.now)
+        ensures { IsWorker work.now.claims.now work.now.desks
+            (chunks_of S.made S.start_of work.now.sources.now)
             self.new }
     {
         work.gate.pass(job);
@@ -128,7 +116,7 @@ impl<Acc: Ledger, Del: Ledger> Worker<Acc, Del> {
         work: &Work<S, G>,
         all: &mut Vec<Outcome>,
     ) -> Result<(), AllocError>
-        requires worker { IsWorker work.now.desks
+        requires worker { IsWorker work.now.claims.now work.now.desks
             (chunks_of S.made S.start_of work.now.sources.now) self.old }
         requires outcomes { AreOutcomes (chunks_of S.made S.start_of work.now.sources.now)
             all.old.items }

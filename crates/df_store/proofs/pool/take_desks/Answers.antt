@@ -22,8 +22,8 @@ loop-at-preserved g c =
     let at = c.loop-at.at in
     let was = get_or c.loop-at.workers at c.index-workers-at.result in
     let low = c.loop-at-test.true in record {
-      workers = All-set (IsWorker c.args.work.now.desks chunks) c.loop-at.workers at _
-          (without-desks c.args.work.now.desks chunks was _ (inv.workers at c.index-workers-at.result (let n = inv.count in omega (arith, low, n))) c.move_desks.ensures.left refl) inv.workers;
+      workers = All-set (IsWorker c.args.work.now.claims.now c.args.work.now.desks chunks) c.loop-at.workers at _
+          (without-desks c.args.work.now.claims.now c.args.work.now.desks chunks was _ (inv.workers at c.index-workers-at.result (let n = inv.count in omega (arith, low, n))) refl c.move_desks.ensures.left refl) inv.workers;
       count = length-set c.loop-at.workers at _ ∙ inv.count;
       rest = drop-set c.loop-at.workers c.args.workers.now at _ inv.rest;
       capacity = let a = inv.capacity in let b = c.move_desks.ensures.capacity in omega (arith, a, b);

@@ -6,8 +6,8 @@ use Rattle.df_store.proofs.splitting.share_desks.Given as goal
 
 abbrev pub invariant-loop-at : goal.invariant-loop-at
 invariant-loop-at g l = record {
-  begun : All (HasNotBegun l.most) l.workers;
-  idle : All (IsIdle l.most) (drop l.at l.workers);
+  begun : All (HasNotBegun l.work.claims.now l.work.desks) l.workers;
+  idle : All (IsIdle l.work.claims.now l.work.desks) (drop l.at l.workers);
   count : length l.workers ≡ length l.fn.workers;
   sums : HaveSameSums (desks_of l.fn.workers) (desks_of l.workers);
 }

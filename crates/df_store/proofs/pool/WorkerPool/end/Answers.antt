@@ -18,6 +18,6 @@ outcomes_of-requires g c =
     let chunks = chunks_of g.S.Source.made g.S.Source.start_of c.args.work.now.sources.now in
     let lent = ap length c.as_mut_slice.ensures.value in
     let same = c.take_desks.ensures.count in
-    subst (λ ws. All (IsWorker c.args.work.now.desks chunks) ws)
+    subst (λ ws. All (IsWorker c.args.work.now.claims.now c.args.work.now.desks chunks) ws)
     (sym (put-back c.args.self.workers.len c.take_desks.new.workers c.args.self.workers.items (let n = c.as_mut_slice.ensures.len in omega (arith, same, n)) (let n = c.as_mut_slice.ensures.len in omega (arith, lent, n))))
     c.take_desks.ensures.workers
