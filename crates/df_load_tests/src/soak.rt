@@ -15,7 +15,7 @@ use std::test::Fail;
 use std::thread;
 use std::thread::Threads;
 
-const CLIENTS: usize = 4;
+const CLIENTS: u32 = 4;
 
 // How many rounds of four changes each client makes, an even number. For a long run by hand put 6,250 here: those are
 // 100,000 changes.
@@ -25,19 +25,19 @@ const ROUNDS: u32 = 26;
 #[derive(Drop)]
 struct Client<Acc: Ledger, Del: Ledger> {
     alloc: Global,
+    // Its number, below that of the clients.
+    number: u32,
     desks: Vec<Desk<Acc, Del>>,
     // Whether all answers were those that were wanted.
     served: bool,
 }
 
 impl<Acc: Ledger, Del: Ledger> Client<Acc, Del> {
-    // All rounds of the client of this index.
-    fn run<R: Wait>(&mut self, rt: &R, hall: &Hall<Acc, Del>, index: usize) {
+    // Makes all rounds.
+    fn run<R: Wait>(&mut self, rt: &R, hall: &Hall<Acc, Del>) {
         for round in 0..ROUNDS {
             // Three numbers for each client and round.
-            let turn = round
-                .wrapping_mul(CLIENTS as u32)
-                .wrapping_add(index as u32);
+            let turn = round.wrapping_mul(CLIENTS).wrapping_add(self.number);
             let served = self.change(rt, hall, turn.wrapping_mul(3), (round % 2) as usize);
             self.served = self.served && matches!(served, Ok(true));
         }
@@ -73,16 +73,18 @@ fn clients<Acc: Ledger, Del: Ledger>(
 ) -> Result<Vec<Client<Acc, Del>>, Fail> {
     let mut desks = desks;
     let mut clients = Vec::new(alloc);
-    for _more in 1..CLIENTS {
+    for number in 1..CLIENTS {
         let split = split_each(alloc, desks.as_mut_slice())?;
         clients.push(Client {
             alloc,
+            number,
             desks: split,
             served: true,
         })?;
     }
     clients.push(Client {
         alloc,
+        number: 0,
         desks,
         served: true,
     })?;
@@ -162,8 +164,8 @@ fn run_clients<Acc: Ledger + Send + Sync, Del: Ledger + Send + Sync, R: Threads 
     thread::for_each_mut(
         rt,
         clients,
-        CLIENTS,
-        &|index, client| { client.run(rt, hall, index) },
+        CLIENTS as usize,
+        &|_index, client| { client.run(rt, hall) },
     );
 }
 
