@@ -1,18 +1,18 @@
 -- Lists of workers, and the desks of all of them.
-use Rattle.std.proofs.Common.{◌≡◌, ℕ, zero, suc, ◌+◌, ◌*◌, ◌<◌, ◌≤◌, ◌∙◌, List, [], ◌∷◌, ◌++◌, length, map, take, drop, get_or, set, refl, ap, sym, subst, arith}
-use Rattle.std.specs.Prelude.{All}
-use Rattle.std.proofs.lemmas.List.{append-nil, drop-set-lt, flat_map_more}
+use Rattle.std.proofs.Common.{◌≡◌, ℕ, zero, suc, ◌+◌, ◌*◌, ◌<◌, ◌≤◌, ◌∙◌, List, [], ◌∷◌, ◌++◌, false, length, map, take, drop, get_or, set, refl, ap, sym, subst, arith}
+use Rattle.std.specs.Prelude.{All, flat_map}
+use Rattle.std.proofs.lemmas.List.{append-nil, drop-set-lt, flat_map_more, map-append}
 use Rattle.std.proofs.lemmas.List.Concat.{length-flat_map}
-use Rattle.std.proofs.lemmas.List.Elements.{All-drop, All-nil}
+use Rattle.std.proofs.lemmas.List.Elements.{All-append, All-cons, All-drop, All-nil}
 use Rattle.std.proofs.lemmas.List.Folds.{length-flat_map-take}
 use Rattle.std.proofs.lemmas.List.Sums.{sum_by-le}
 use Rattle.df_catalogue.specs.Desks.{DeskParts}
 use Rattle.df_store.specs.declared.worker.Worker.{Worker}
-use Rattle.df_claims.specs.Seats.{ClaimsView, IsSeatOf}
+use Rattle.df_claims.specs.Seats.{ClaimsView}
 use Rattle.df_value.specs.declared.chunk.Piece.{Piece}
 use Rattle.df_store.specs.Closing.{HaveSameSums}
 use Rattle.df_store.specs.Jobs.{AreOutcomes, IsOutcome}
-use Rattle.df_store.specs.Workers.{HasNotBegun, IsIdle, IsWorker, desks_of}
+use Rattle.df_store.specs.Workers.{HasNotBegun, IsIdle, IsWorker, desks_of, frame_and_parts, frames_and_parts, outcomes_in}
 use Rattle.df_store.proofs.ListFacts.{take-more}
 
 -- a list that was lent whole, put back
@@ -76,15 +76,45 @@ one-more-worker {A = A} {D = D} was now i d given before after low rest same so_
     ∙ (ap (λ w. given ++ desks_of (take i was ++ w ∷ [])) (drop-at now was i d rest same)
     ∙ ap (λ ws. given ++ desks_of ws) (sym (take-more was i d low)))))
 
--- a worker whose desks were taken
-pub without-desks :
-    {A D : Type 0} (claims : ClaimsView) (most : ℕ) (chunks : List (List (ℕ × Piece))) (was now : Worker A D) → IsWorker claims most chunks was → now.seat ≡ was.seat →
-    now.desks.items ≡ [] → now.done.items ≡ was.done.items → IsWorker claims most chunks now
-without-desks claims most chunks was now is seat none same = record {
-  seat = subst (λ s. IsSeatOf claims s) (sym seat) is.seat;
-  desks = let e = ap length none in omega (arith, e);
-  done = subst (λ os. AreOutcomes chunks os) (sym same) is.done;
-}
+-- what is gathered of an item stays where the item is set to one of which the same is gathered
+pub gathered-set :
+    {X Y : Type 0} (f : X → List Y) (xs : List X) (i : ℕ) (x d : X) → i < length xs → f x ≡ f (get_or xs i d) → flat_map f (set xs i x) ≡ flat_map f xs
+gathered-set f [] i x d h e = refl
+gathered-set f (y ∷ ys) zero x d h e = ap (λ zs. zs ++ flat_map f ys) e
+gathered-set f (y ∷ ys) (suc i) x d h e = ap (λ zs. f y ++ zs) (gathered-set f ys i x d (omega (arith, h)) e)
+
+-- workers of which each has desks of the same frames and parts as before
+pub same-parts :
+    {A D : Type 0} (was now : List (Worker A D)) → length now ≡ length was →
+    ((i : ℕ) (d : Worker A D) → i < length was → frames_and_parts (get_or now i d).desks.items ≡ frames_and_parts (get_or was i d).desks.items) →
+    frames_and_parts (desks_of now) ≡ frames_and_parts (desks_of was)
+same-parts [] [] len each = refl
+same-parts [] (w ∷ now) len each = absurd (omega (arith, len))
+same-parts (v ∷ was) [] len each = absurd (omega (arith, len))
+same-parts (v ∷ was) (w ∷ now) len each =
+    map-append frame_and_parts w.desks.items (desks_of now)
+    ∙ (ap (λ ps. ps ++ frames_and_parts (desks_of now)) (each 0 w (omega arith))
+    ∙ (ap (λ ps. frames_and_parts v.desks.items ++ ps) (same-parts was now (omega (arith, len)) (λ i d h. each (suc i) d (omega (arith, h))))
+    ∙ sym (map-append frame_and_parts v.desks.items (desks_of was))))
+
+-- what workers have done are outcomes
+pub all-outcomes :
+    {A D : Type 0} (claims : ClaimsView) (most : ℕ) (chunks : List (List (ℕ × Piece))) (ws : List (Worker A D)) → All (IsWorker claims most chunks) ws →
+    AreOutcomes chunks (outcomes_in ws)
+all-outcomes claims most chunks [] are = All-nil (IsOutcome chunks)
+all-outcomes claims most chunks (w ∷ ws) are =
+    All-append (IsOutcome chunks) w.done.items (outcomes_in ws) (are 0 w (omega arith)).done
+    (all-outcomes claims most chunks ws (λ k d h. are (suc k) d (omega (arith, h))))
+
+-- workers of whom the same are stopped as of those of whom none is
+pub all-running :
+    {A D : Type 0} (was now : List (Worker A D)) → map (λ w. w.stopped) now ≡ map (λ w. w.stopped) was → All (λ w. w.stopped ≡ false) now → All (λ w. w.stopped ≡ false) was
+all-running {A = A} {D = D} [] now same running = All-nil (λ (w : Worker A D). w.stopped ≡ false)
+all-running (v ∷ was) [] same running = absurd (cc)
+all-running {A = A} {D = D} (v ∷ was) (w ∷ now) same running =
+    let first : v.stopped ≡ false = let here = running 0 w (omega arith) in cc in
+    let rest : map (λ (x : Worker A D). x.stopped) now ≡ map (λ (x : Worker A D). x.stopped) was = cc in
+    All-cons (λ (x : Worker A D). x.stopped ≡ false) v was first (all-running was now rest (λ k d h. running (suc k) d (omega (arith, h))))
 
 drop-next : {X : Type 0} (xs : List X) (i : ℕ) → drop (suc i) xs ≡ drop 1 (drop i xs)
 drop-next xs zero = refl
@@ -103,7 +133,7 @@ drop-set xs ys i x h =
     ∙ ap (λ n. drop n ys) (sym e)))))
 
 -- an item that is set to one with the same key leaves the keys
-pub keys-set : {X : Type 0} (key : X → ℕ) (xs : List X) (i : ℕ) (x d : X) → i < length xs → key x ≡ key (get_or xs i d) → map key (set xs i x) ≡ map key xs
+pub keys-set : {X Y : Type 0} (key : X → Y) (xs : List X) (i : ℕ) (x d : X) → i < length xs → key x ≡ key (get_or xs i d) → map key (set xs i x) ≡ map key xs
 keys-set key [] i x d h e = refl
 keys-set key (y ∷ ys) zero x d h e = ap (λ k. k ∷ map key ys) e
 keys-set key (y ∷ ys) (suc i) x d h e = ap (λ ks. key y ∷ ks) (keys-set key ys i x d (omega (arith, h)) e)

@@ -1,9 +1,9 @@
 //! The workers of a load: they share out desks, run, and give the desks back.
-ghost use Rattle.std.specs.Prelude.{◌≡◌, ◌+◌, ◌<◌, ◌≤◌, ◌*◌, ◌++◌, [], All, IfErr, IfOk, length, vec_capacity};
+ghost use Rattle.std.specs.Prelude.{◌≡◌, ◌+◌, ◌<◌, ◌≤◌, ◌*◌, ◌++◌, [], All, IfErr, IfOk, false, length, map, vec_capacity};
 ghost use Rattle.df_claims.specs.Seats.{IsSeatOf};
 ghost use Rattle.df_store.specs.Closing.{HaveSameSums};
 ghost use Rattle.df_store.specs.Jobs.{AreOutcomes, chunks_of};
-ghost use Rattle.df_store.specs.Workers.{IsIdle, IsPool, IsWorker, desks_of};
+ghost use Rattle.df_store.specs.Workers.{IsIdle, IsPool, IsWorker, desks_of, frames_and_parts, outcomes_in};
 
 use crate::gate::Gate;
 use crate::hall::Hall;
@@ -13,7 +13,7 @@ use crate::worker::{Work, Worker};
 use df_catalogue::Desk;
 use df_claims::ClaimSeat;
 use df_value::Source;
-use std::alloc::AllocError;
+use std::alloc::{AllocError, Global};
 use std::sync::Wait;
 use std::sync::ledger::Ledger;
 use std::thread;
@@ -90,14 +90,16 @@ impl<Acc: Ledger, Del: Ledger> WorkerPool<Acc, Del> {
         requires { IsPool work.now.claims.now work.now.desks
             (chunks_of S.made S.start_of work.now.sources.now) self }
         ensures desks { result.0.items ≡ desks_of self.workers.items }
-        ensures outcomes { IfOk result.1 (λ os.
+        ensures outcomes { IfOk result.1 (λ os. os.items ≡ outcomes_in self.workers.items) }
+        ensures sound { IfOk result.1 (λ os.
             AreOutcomes (chunks_of S.made S.start_of work.now.sources.now) os.items) }
+        ensures running { IfOk result.1 (λ _. All (λ w. w.stopped ≡ false) self.workers.items) }
     {
         let WorkerPool { workers, gathered } = self;
         let mut workers = workers;
         let mut gathered = gathered;
-        take_desks(work, workers.as_mut_slice(), &mut gathered);
-        (gathered, outcomes_of(work, workers))
+        take_desks(workers.as_mut_slice(), &mut gathered);
+        (gathered, outcomes_of(work.alloc, workers))
     }
 }
 
@@ -111,8 +113,10 @@ pub(crate) fn run_pool<
 >(rt: &R, hall: &Hall<Acc, Del>, work: &Work<S, G>, pool: &mut WorkerPool<Acc, Del>)
     requires { IsPool work.now.claims.now work.now.desks
         (chunks_of S.made S.start_of work.now.sources.now) pool.old }
-    ensures { IsPool work.now.claims.now work.now.desks
+    ensures pool { IsPool work.now.claims.now work.now.desks
         (chunks_of S.made S.start_of work.now.sources.now) pool.new }
+    ensures desks { frames_and_parts (desks_of pool.new.workers.items)
+        ≡ frames_and_parts (desks_of pool.old.workers.items) }
 {
     run_workers(rt, hall, work, pool.workers.as_mut_slice());
 }
@@ -132,6 +136,8 @@ fn run_workers<
         IsWorker work.now.claims.now work.now.desks
         (chunks_of S.made S.start_of work.now.sources.now) w) workers.new }
     ensures count { length workers.new ≡ length workers.old }
+    ensures desks { frames_and_parts (desks_of workers.new)
+        ≡ frames_and_parts (desks_of workers.old) }
 {
     if workers.is_empty() {
         return;
@@ -162,43 +168,34 @@ fn move_desks<Acc: Ledger, Del: Ledger>(
 }
 
 // Moves the desks of all workers behind others, where there is room for them.
-fn take_desks<Acc: Ledger, Del: Ledger, S: Source, G>(
-    work: &Work<S, G>,
+fn take_desks<Acc: Ledger, Del: Ledger>(
     workers: &mut [Worker<Acc, Del>],
     gathered: &mut Vec<Desk<Acc, Del>>,
 )
-    requires workers { All (λ w.
-        IsWorker work.now.claims.now work.now.desks
-        (chunks_of S.made S.start_of work.now.sources.now) w) workers.old }
-    requires room { length gathered.old.items + length (desks_of workers.old)
+    requires { length gathered.old.items + length (desks_of workers.old)
         ≤ vec_capacity gathered.old }
-    ensures workers { All (λ w.
-        IsWorker work.now.claims.now work.now.desks
-        (chunks_of S.made S.start_of work.now.sources.now) w) workers.new }
-    ensures count { length workers.new ≡ length workers.old }
     ensures gathered { gathered.new.items ≡ gathered.old.items ++ desks_of workers.old }
+    ensures count { length workers.new ≡ length workers.old }
+    ensures outcomes { outcomes_in workers.new ≡ outcomes_in workers.old }
+    ensures stopped { map (λ w. w.stopped) workers.new ≡ map (λ w. w.stopped) workers.old }
 {
-    let _ = work;
     for at in 0..workers.len() {
         move_desks(&mut workers[at].desks, gathered);
     }
 }
 
 // All that the workers have done, if none of them was refused memory.
-fn outcomes_of<Acc: Ledger, Del: Ledger, S: Source, G>(
-    work: &Work<S, G>,
+fn outcomes_of<Acc: Ledger, Del: Ledger>(
+    alloc: Global,
     workers: Vec<Worker<Acc, Del>>,
 ) -> Result<Vec<Outcome>, AllocError>
-    requires { All (λ w.
-        IsWorker work.now.claims.now work.now.desks
-        (chunks_of S.made S.start_of work.now.sources.now) w) workers.items }
-    ensures { IfOk result (λ os.
-        AreOutcomes (chunks_of S.made S.start_of work.now.sources.now) os.items) }
+    ensures outcomes { IfOk result (λ os. os.items ≡ outcomes_in workers.items) }
+    ensures running { IfOk result (λ _. All (λ w. w.stopped ≡ false) workers.items) }
 {
-    let mut all = Vec::new(work.alloc);
+    let mut all = Vec::new(alloc);
     for worker in workers {
         let mut worker = worker;
-        worker.give_outcomes(work, &mut all)?;
+        worker.give_outcomes(&mut all)?;
     }
     Ok(all)
 }

@@ -1,8 +1,8 @@
 //! Workers: threads that make the chunks of jobs, and commit those that are good.
-ghost use Rattle.std.specs.Prelude.{◌≡◌, ◌<◌, IfOk, IfSome, OnOk, length, map};
+ghost use Rattle.std.specs.Prelude.{◌≡◌, ◌<◌, ◌++◌, IfOk, IfSome, OnOk, false, length};
 ghost use Rattle.df_claims.specs.Seats.{IsSeatOf};
-ghost use Rattle.df_store.specs.Jobs.{AreOutcomes, chunks_of};
-ghost use Rattle.df_store.specs.Workers.{IsIdle, IsWorker};
+ghost use Rattle.df_store.specs.Jobs.{chunks_of};
+ghost use Rattle.df_store.specs.Workers.{IsIdle, IsWorker, frames_and_parts};
 
 use crate::fault::HallFault;
 use crate::gate::Gate;
@@ -68,9 +68,11 @@ impl<Acc: Ledger, Del: Ledger> Worker<Acc, Del> {
         requires { IsWorker work.now.claims.now work.now.desks
             (chunks_of S.made S.start_of work.now.sources.now)
             self.old }
-        ensures { IsWorker work.now.claims.now work.now.desks
+        ensures worker { IsWorker work.now.claims.now work.now.desks
             (chunks_of S.made S.start_of work.now.sources.now)
             self.new }
+        ensures desks { frames_and_parts self.new.desks.items
+            ≡ frames_and_parts self.old.desks.items }
     {
         for _ in 0..work.jobs {
             let Some(job) = work.claims.next(&mut self.seat) else {
@@ -94,9 +96,11 @@ impl<Acc: Ledger, Del: Ledger> Worker<Acc, Del> {
         requires { IsWorker work.now.claims.now work.now.desks
             (chunks_of S.made S.start_of work.now.sources.now)
             self.old }
-        ensures { IsWorker work.now.claims.now work.now.desks
+        ensures worker { IsWorker work.now.claims.now work.now.desks
             (chunks_of S.made S.start_of work.now.sources.now)
             self.new }
+        ensures desks { frames_and_parts self.new.desks.items
+            ≡ frames_and_parts self.old.desks.items }
     {
         work.gate.pass(job);
         // The room comes first: of each chunk that has entered there is an outcome.
@@ -111,19 +115,10 @@ impl<Acc: Ledger, Del: Ledger> Worker<Acc, Del> {
     }
 
     /// Adds what it has done to the others' outcomes, unless it was stopped.
-    pub(crate) fn give_outcomes<S: Source, G>(
-        &mut self,
-        work: &Work<S, G>,
-        all: &mut Vec<Outcome>,
-    ) -> Result<(), AllocError>
-        requires worker { IsWorker work.now.claims.now work.now.desks
-            (chunks_of S.made S.start_of work.now.sources.now) self.old }
-        requires outcomes { AreOutcomes (chunks_of S.made S.start_of work.now.sources.now)
-            all.old.items }
-        ensures outcomes { OnOk result
-            (AreOutcomes (chunks_of S.made S.start_of work.now.sources.now) all.new.items) }
+    pub(crate) fn give_outcomes(&mut self, all: &mut Vec<Outcome>) -> Result<(), AllocError>
+        ensures given { OnOk result (all.new.items ≡ all.old.items ++ self.old.done.items) }
+        ensures running { OnOk result (self.old.stopped ≡ false) }
     {
-        let _ = work;
         if self.stopped {
             return Err(AllocError);
         }
@@ -142,8 +137,7 @@ fn enter<Acc: Ledger, Del: Ledger, R: Wait>(
     desks: &mut Vec<Desk<Acc, Del>>,
     outcome: &Outcome,
 ) -> Result<bool, AllocError>
-    ensures frames { map (λ d. d.frame) desks.new.items ≡ map (λ d. d.frame) desks.old.items }
-    ensures parts { map (λ d. d.parts) desks.new.items ≡ map (λ d. d.parts) desks.old.items }
+    ensures { frames_and_parts desks.new.items ≡ frames_and_parts desks.old.items }
 {
     let Piece::Good(chunk) = &outcome.made else {
         return Ok(true);
