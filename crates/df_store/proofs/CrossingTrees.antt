@@ -26,9 +26,9 @@ arc_sync R s t = search (sendable, crosses) depth 20
 count_tree_send : IsSend (CountTree.the_field).row
 count_tree_send = count_tree.both_send-Subtree arc_send
     (count_tree.both_send-Node (search (sendable, crosses, shared.the_send, cell.the_send, cell.the_sync) depth 20) (search sendable depth 20) (search sendable depth 20) (search sendable depth 20) arc_send
-        (search (sendable, crosses, shared.the_sync, cell.the_send, cell.the_sync) depth 20) (search sendable depth 20) (search sendable depth 20) (search sendable depth 20) arc_sync)
+    (search (sendable, crosses, shared.the_sync, cell.the_send, cell.the_sync) depth 20) (search sendable depth 20) (search sendable depth 20) (search sendable depth 20) arc_sync)
     (count_tree.both_sync-Node (search (sendable, crosses, shared.the_send, cell.the_send, cell.the_sync) depth 20) (search sendable depth 20) (search sendable depth 20) (search sendable depth 20) arc_send
-        (search (sendable, crosses, shared.the_sync, cell.the_send, cell.the_sync) depth 20) (search sendable depth 20) (search sendable depth 20) (search sendable depth 20) arc_sync)
+    (search (sendable, crosses, shared.the_sync, cell.the_send, cell.the_sync) depth 20) (search sendable depth 20) (search sendable depth 20) (search sendable depth 20) arc_sync)
 
 pub counts_send : IsSend (Counts.the_field).row
 counts_send = let t = count_tree_send in search sendable depth 20

@@ -1,5 +1,7 @@
 pub mod ListFacts
 pub mod FirstFacts
+pub mod ShareFacts
+pub mod WorkerFacts
 pub mod TotalsFacts
 pub mod JobFacts
 pub mod OutcomeFacts

@@ -1,26 +1,31 @@
-//! Workers: threads that make the chunks of jobs.
-ghost use Rattle.std.specs.Prelude.{◌≡◌, [], All, IfOk, OnOk};
+//! Workers: threads that make the chunks of jobs, and commit those that are good.
+ghost use Rattle.std.specs.Prelude.{◌≡◌, ◌<◌, IfOk, IfSome, OnOk, length, map};
 ghost use Rattle.df_store.specs.Jobs.{AreOutcomes, chunks_of};
+ghost use Rattle.df_store.specs.Workers.{IsIdle, IsWorker};
 
+use crate::fault::HallFault;
 use crate::gate::Gate;
+use crate::hall::Hall;
 use crate::jobs::{Outcome, make};
-use df_value::Source;
+use df_catalogue::Desk;
+use df_value::{Piece, Source};
 use std::alloc::{AllocError, Global};
-use std::thread;
-use std::thread::Threads;
+use std::sync::Wait;
+use std::sync::ledger::Ledger;
 
-/// What a thread that makes chunks owns: what it has made so far.
+/// What a thread that does jobs owns: its desks, and what it has done so far.
 #[derive(Drop)]
-pub(crate) struct Worker {
+pub(crate) struct Worker<Acc: Ledger, Del: Ledger> {
+    pub(crate) desks: Vec<Desk<Acc, Del>>,
     done: Vec<Outcome>,
     // Whether it stopped since it was refused memory.
     stopped: bool,
 }
 
-/// What the workers of a load share.
+/// What the workers of a load share beside the hall.
 ///
-/// The closure that crosses threads captures this alone: with more captures the check finds no proof
-/// that it may cross.
+/// The closure that crosses threads captures this, the hall and the handle alone: with more captures
+/// the check finds no proof that it may cross.
 #[derive(Drop)]
 pub(crate) struct Work<'a, S, G> {
     pub(crate) alloc: Global,
@@ -28,6 +33,8 @@ pub(crate) struct Work<'a, S, G> {
     pub(crate) gate: &'a G,
     pub(crate) jobs: u64,
     pub(crate) workers: usize,
+    /// The most desks that a worker may have.
+    pub(crate) desks: usize,
 }
 
 // The jobs of one worker: every so many, from a first one on.
@@ -49,20 +56,30 @@ impl Turns {
     }
 }
 
-impl Worker {
-    fn new(alloc: Global) -> Worker
-        ensures { result.done.items ≡ [] }
+impl<Acc: Ledger, Del: Ledger> Worker<Acc, Del> {
+    /// A worker without desks that has done nothing, with room for so many desks.
+    pub(crate) fn idle(alloc: Global, desks: usize) -> Result<Worker<Acc, Del>, AllocError>
+        ensures { IfOk result (IsIdle desks) }
     {
-        Worker {
+        Ok(Worker {
+            desks: Vec::with_capacity(alloc, desks)?,
             done: Vec::new(alloc),
             stopped: false,
-        }
+        })
     }
 
-    // Does its jobs, until memory is refused.
-    fn run<S: Source, G: Gate>(&mut self, work: &Work<S, G>, index: usize)
-        requires { AreOutcomes (chunks_of S.made S.start_of work.now.sources.now) self.old.done.items }
-        ensures { AreOutcomes (chunks_of S.made S.start_of work.now.sources.now) self.new.done.items }
+    /// Does its jobs, until memory is refused.
+    pub(crate) fn run<S: Source, G: Gate, R: Wait>(
+        &mut self,
+        rt: &R,
+        hall: &Hall<Acc, Del>,
+        work: &Work<S, G>,
+        index: usize,
+    )
+        requires { IsWorker work.now.desks (chunks_of S.made S.start_of work.now.sources.now)
+            self.old }
+        ensures { IsWorker work.now.desks (chunks_of S.made S.start_of work.now.sources.now)
+            self.new }
     {
         let mut turns = Turns {
             next: index as u64,
@@ -73,38 +90,52 @@ impl Worker {
             let Some(job) = turns.take() else {
                 return;
             };
-            if self.do_job(work, job).is_err() {
+            if self.do_job(rt, hall, work, job).is_err() {
                 self.stopped = true;
                 return;
             }
         }
     }
 
-    // Passes the gate, makes the job's chunk, and keeps it.
-    fn do_job<S: Source, G: Gate>(&mut self, work: &Work<S, G>, job: u64) -> Result<(), AllocError>
-        requires { AreOutcomes (chunks_of S.made S.start_of work.now.sources.now) self.old.done.items }
-        ensures { AreOutcomes (chunks_of S.made S.start_of work.now.sources.now) self.new.done.items }
+    // Passes the gate, makes the job's chunk, commits it if it is good, and keeps the outcome.
+    fn do_job<S: Source, G: Gate, R: Wait>(
+        &mut self,
+        rt: &R,
+        hall: &Hall<Acc, Del>,
+        work: &Work<S, G>,
+        job: u64,
+    ) -> Result<(), AllocError>
+        requires { IsWorker work.now.desks (chunks_of S.made S.start_of work.now.sources.now)
+            self.old }
+        ensures { IsWorker work.now.desks (chunks_of S.made S.start_of work.now.sources.now)
+            self.new }
     {
         work.gate.pass(job);
+        // The room comes first: of each chunk that has entered there is an outcome.
         self.done.reserve(1)?;
-        if let Some(outcome) = make(work.alloc, work.sources, job)? {
+        let Some(outcome) = make(work.alloc, work.sources, job)? else {
+            return Ok(());
+        };
+        if enter(rt, work.alloc, hall, &mut self.desks, &outcome)? {
             self.done.push_reserved(outcome);
         }
         Ok(())
     }
 
-    // Adds what it has done to the others' outcomes, unless it was stopped.
-    fn give_outcomes<S: Source>(
+    /// Adds what it has done to the others' outcomes, unless it was stopped.
+    pub(crate) fn give_outcomes<S: Source, G>(
         &mut self,
-        sources: &[S],
+        work: &Work<S, G>,
         all: &mut Vec<Outcome>,
     ) -> Result<(), AllocError>
-        requires worker { AreOutcomes (chunks_of S.made S.start_of sources.now) self.old.done.items }
-        requires outcomes { AreOutcomes (chunks_of S.made S.start_of sources.now) all.old.items }
+        requires worker { IsWorker work.now.desks
+            (chunks_of S.made S.start_of work.now.sources.now) self.old }
+        requires outcomes { AreOutcomes (chunks_of S.made S.start_of work.now.sources.now)
+            all.old.items }
         ensures outcomes { OnOk result
-            (AreOutcomes (chunks_of S.made S.start_of sources.now) all.new.items) }
+            (AreOutcomes (chunks_of S.made S.start_of work.now.sources.now) all.new.items) }
     {
-        let _ = sources;
+        let _ = work;
         if self.stopped {
             return Err(AllocError);
         }
@@ -113,63 +144,35 @@ impl Worker {
     }
 }
 
-/// What the workers make of the jobs, each in a thread if one can be started, once all have ended; or
-/// that one of them was refused memory. That one stops, and the others go on.
-pub(crate) fn make_all<S: Source + Sync, G: Gate + Sync, R: Threads + Sync>(
+// Commits a good chunk through a desk of its frame, and tells whether the outcome stands: that of a
+// bad chunk does, which changes nothing. It does not where the catalogue refuses the chunk, or no desk
+// here is of its frame.
+fn enter<Acc: Ledger, Del: Ledger, R: Wait>(
     rt: &R,
-    work: &Work<S, G>,
-) -> Result<Vec<Outcome>, AllocError>
-    ensures { IfOk result (λ os.
-        AreOutcomes (chunks_of S.made S.start_of work.now.sources.now) os.items) }
-{
-    let mut crew = crew_of(work.alloc, work.workers)?;
-    run_workers(rt, work, crew.as_mut_slice());
-    outcomes_of(work.alloc, work.sources, crew)
-}
-
-// So many workers that have done nothing.
-fn crew_of(alloc: Global, workers: usize) -> Result<Vec<Worker>, AllocError>
-    ensures { IfOk result (λ crew. All (λ w. w.done.items ≡ []) crew.items) }
-{
-    let mut crew = Vec::with_capacity(alloc, workers)?;
-    for _ in 0..workers {
-        crew.push(Worker::new(alloc))?;
-    }
-    Ok(crew)
-}
-
-// Runs the workers, each in a thread if one can be started, and returns when all have ended.
-fn run_workers<S: Source + Sync, G: Gate + Sync, R: Threads + Sync>(
-    rt: &R,
-    work: &Work<S, G>,
-    crew: &mut [Worker],
-)
-    requires { All (λ w. AreOutcomes (chunks_of S.made S.start_of work.now.sources.now) w.done.items)
-        crew.old }
-    ensures { All (λ w. AreOutcomes (chunks_of S.made S.start_of work.now.sources.now) w.done.items)
-        crew.new }
-{
-    if crew.is_empty() {
-        return;
-    }
-    let threads = crew.len();
-    thread::for_each_mut(rt, crew, threads, &|index, worker| worker.run(work, index));
-}
-
-// All that the workers have done, if none of them was refused memory.
-fn outcomes_of<S: Source>(
     alloc: Global,
-    sources: &[S],
-    crew: Vec<Worker>,
-) -> Result<Vec<Outcome>, AllocError>
-    requires { All (λ w. AreOutcomes (chunks_of S.made S.start_of sources.now) w.done.items)
-        crew.items }
-    ensures { IfOk result (λ os. AreOutcomes (chunks_of S.made S.start_of sources.now) os.items) }
+    hall: &Hall<Acc, Del>,
+    desks: &mut Vec<Desk<Acc, Del>>,
+    outcome: &Outcome,
+) -> Result<bool, AllocError>
+    ensures frames { map (λ d. d.frame) desks.new.items ≡ map (λ d. d.frame) desks.old.items }
+    ensures parts { map (λ d. d.parts) desks.new.items ≡ map (λ d. d.parts) desks.old.items }
 {
-    let mut all = Vec::new(alloc);
-    for worker in crew {
-        let mut worker = worker;
-        worker.give_outcomes(sources, &mut all)?;
+    let Piece::Good(chunk) = &outcome.made else {
+        return Ok(true);
+    };
+    let Some(at) = desk_of(desks.as_slice(), outcome.frame) else {
+        return Ok(false);
+    };
+    match hall.commit_chunk(rt, alloc, &mut desks[at], chunk) {
+        Ok(()) => Ok(true),
+        Err(HallFault::Refused(_)) => Ok(false),
+        Err(HallFault::Memory) => Err(AllocError),
     }
-    Ok(all)
+}
+
+// The place of the first desk of a frame.
+fn desk_of<Acc: Ledger, Del: Ledger>(desks: &[Desk<Acc, Del>], frame: usize) -> Option<usize>
+    ensures { IfSome result (λ at. at < length desks.now) }
+{
+    desks.iter().position(|desk| desk.frame() == frame)
 }
