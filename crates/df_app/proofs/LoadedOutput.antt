@@ -262,3 +262,6 @@ no-other-fault schemas frames f e few base answered other =
     let none = not-refused schemas frames e few base in
     let some = answered other in
     absurd (cc)
+
+pub derived-is-not-memory : (f : NewFault) (frame : ℕ) → f ≡ new_fault_as.DerivedType frame → f ≢ new_fault_as.Memory
+derived-is-not-memory f frame is = λ memory. absurd (cc)

@@ -84,8 +84,11 @@ view-there s i v legal h =
     let found = view-found s.views i v legal.names h in
     subst (λ (o : Option ViewState). IsOk (ok_or (option_map (λ w. w.table) o) catalogue_fault.NoView)) (sym found) refl
 
+abbrev heading : ViewState → List ℕ × CheckedParts
+heading v = (v.name, v.plan)
+
 there-at : (s : State) (ws : List ViewState) (k : ℕ) (d : List ℕ × CheckedParts) → ((i : ℕ) (v : ViewState) → slice_get ws i ≡ Some v → IsOk (view_rows_of s v.name)) →
-    k < length (map (λ v. (v.name, v.plan)) ws) → IsOk (view_rows_of s (slice_index_or (map (λ v. (v.name, v.plan)) ws) k d).0)
+    k < length (map heading ws) → IsOk (view_rows_of s (slice_index_or (map heading ws) k d).0)
 there-at s [] k d each lt = absurd (omega (arith, lt))
 there-at s (w ∷ ws) zero d each lt = each zero w refl
 there-at s (w ∷ ws) (suc k) d each lt = there-at s ws k d (λ i v h. each (suc i) v h) (omega (arith, lt))
