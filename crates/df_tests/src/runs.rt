@@ -42,7 +42,16 @@ fn a_run_over_memory(rt: HostRuntime) -> Result<(), Fail> {
     };
     let mut input = DOCUMENT.as_bytes();
     let mut output = Vec::new(alloc);
-    let outcome = run(run(&rt, alloc, &mut input, &mut files, 2, 2, &mut output)rt, alloc, &mut input, &mut files, 2, 2, &OpenGate, &mut output);
+    let outcome = run(
+        &rt,
+        alloc,
+        &mut input,
+        &mut files,
+        2,
+        2,
+        &OpenGate,
+        &mut output,
+    );
     assert!(rt; outcome == Ok(Outcome::Refused));
     let want = "t (1 x 1)\nx\n7\n\nrefused t 0: record 2, column x\n";
     assert!(rt; output.as_slice() == want.as_bytes());
@@ -58,7 +67,16 @@ fn a_run_over_an_absent_file(rt: HostRuntime) -> Result<(), Fail> {
     };
     let mut input = DOCUMENT.as_bytes();
     let mut output = Vec::new(alloc);
-    let outcome = run(run(&rt, alloc, &mut input, &mut files, 2, 2, &mut output)rt, alloc, &mut input, &mut files, 2, 2, &OpenGate, &mut output);
+    let outcome = run(
+        &rt,
+        alloc,
+        &mut input,
+        &mut files,
+        2,
+        2,
+        &OpenGate,
+        &mut output,
+    );
     let name = Text::from_str(alloc, "t")?;
     assert!(rt; outcome == Err(RunFault::Csv(name, CsvFault::ReadFault)));
     assert!(rt; output.is_empty());
