@@ -20,21 +20,23 @@ jobs-few schema step count start one other few small =
     let second = pairs-long (schema other) (step other) (count other) in
     omega (arith, all, first, second, few, small)
 
--- the first number of a chunk is small
-pub first-small : (n step count : ℕ) → n < count → count ≤ 255 → step ≤ 255 → n * step ≤ 65025
-first-small n step count within few small =
-    let most : n ≤ 255 = omega (arith, within, few) in
-    mul-le-mul most small
+-- the index and the first number of a chunk are small
+pub index-small : (schema : Columns) (step count n : ℕ) → n < length (pairs_of schema step count) → count ≤ 255 → n ≤ 255
+index-small schema step count n within few = let long = pairs-long schema step count in omega (arith, long, within, few)
+
+pub first-small : (schema : Columns) (step count n : ℕ) → n < length (pairs_of schema step count) → count ≤ 255 → step ≤ 255 → n * step ≤ 65025
+first-small schema step count n within few short = mul-le-mul (index-small schema step count n within few) short
 
 -- the chunk of these two rows is the pair of its index
 pub is-pair :
-    (schema : Columns) (step count n first : ℕ) (rows : List (List Cell)) (chunk : ChunkParts) → n < count → first ≡ n * step →
+    (schema : Columns) (step count n first : ℕ) (rows : List (List Cell)) (chunk : ChunkParts) → n < length (pairs_of schema step count) → first ≡ n * step →
     rows ≡ row_of first ∷ row_of (first + 1) ∷ [] → MakesChunk schema first rows chunk → slice_get (pairs_of schema step count) n ≡ Some (made.Good chunk)
 is-pair schema step count n first rows chunk within at are is =
     let row_list : ℕ → List (List Cell) = λ f. row_of f ∷ row_of (f + 1) ∷ [] in
     let of_rows : row_list (n * step) ≡ chunk.rows = ap row_list (sym at) ∙ (sym are ∙ sym is.of_rows) in
     let of_first : n * step ≡ chunk.first = sym at ∙ sym is.of_first in
-    pair-there schema step count n within
+    let long = pairs-long schema step count in
+    pair-there schema step count n (omega (arith, long, within))
     ∙ (ap (λ (s : Columns). Some (made.Good (record { schema = s; first = n * step; rows = row_list (n * step) }))) (sym is.of_schema)
     ∙ (ap (λ (f : ℕ). Some (made.Good (record { schema = chunk.schema; first = f; rows = row_list (n * step) }))) of_first
     ∙ ap (λ (rs : List (List Cell)). Some (made.Good (record { schema = chunk.schema; first = chunk.first; rows = rs }))) of_rows))

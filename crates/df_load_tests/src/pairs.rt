@@ -1,8 +1,9 @@
 //! A source of good chunks.
-ghost use Rattle.std.specs.Prelude.{◌≡◌, ◌*◌, ◌≤◌, IfOk};
+ghost use Rattle.std.specs.Prelude.{◌≡◌, ◌+◌, ◌*◌, ◌<◌, ◌≤◌, ◌∷◌, [], IfOk};
+ghost use Rattle.df_load_tests.specs.Pairs.{row_of};
 
 use crate::given::{row, schema};
-use df_value::{Chunk, List, Piece, Schema, Source};
+use df_value::{Chunk, List, Piece, Row, Schema, Source};
 use std::alloc::{AllocError, Global};
 use std::sync::atomic::{AtomicU64, Ordering};
 
@@ -11,20 +12,20 @@ use std::sync::atomic::{AtomicU64, Ordering};
 #[derive(Drop)]
 pub struct Pairs {
     schema: Schema,
-    pub count: u8,
-    step: u8,
+    count: u32,
+    step: u32,
     calls: AtomicU64,
+    ghost few: { count ≤ 255 },
+    ghost short: { step ≤ 255 },
 }
 
 impl Pairs {
     /// So many chunks, with this step.
-    pub fn new(alloc: Global, count: u8, step: u8) -> Result<Pairs, AllocError>
-        ensures { IfOk result (λ source. source.count ≤ 255) }
-    {
+    pub fn new(alloc: Global, count: u8, step: u8) -> Result<Pairs, AllocError> {
         Ok(Pairs {
             schema: schema(alloc)?,
-            count,
-            step,
+            count: u32::from(count),
+            step: u32::from(step),
             calls: AtomicU64::new(0),
         })
     }
@@ -51,12 +52,22 @@ impl Source for Pairs {
     fn chunk(&self, alloc: Global, n: u64) -> Result<Piece, AllocError> {
         self.calls.fetch_add(1, Ordering::SeqCst);
         let first = self.start(n);
-        let rows = vec![in alloc; row(alloc, first)?, row(alloc, first + 1)?]?;
-        let chunk = Chunk::new(alloc, &self.schema, first, List::from_vec(rows));
-        Ok(Piece::Good(chunk.map_err(|_| AllocError)?))
+        match Chunk::new(alloc, &self.schema, first, two_rows(alloc, first)?) {
+            Ok(chunk) => Ok(Piece::Good(chunk)),
+            Err(_) => Err(AllocError),
+        }
     }
 
     fn start(&self, n: u64) -> u32 {
-        n as u32 * u32::from(self.step)
+        n as u32 * self.step
     }
+}
+
+// The rows of this number and of the next.
+fn two_rows(alloc: Global, first: u32) -> Result<List<Row>, AllocError>
+    requires { first < 65536 }
+    ensures { IfOk result (λ rows. rows ≡ row_of first ∷ row_of (first + 1) ∷ []) }
+{
+    let rows = vec![in alloc; row(alloc, first)?, row(alloc, first + 1)?]?;
+    Ok(List::from_vec(rows))
 }
