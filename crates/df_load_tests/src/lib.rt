@@ -8,6 +8,8 @@ mod claims;
 #[cfg(test)]
 mod closes;
 #[cfg(test)]
+mod drawing;
+#[cfg(test)]
 mod given;
 #[cfg(test)]
 mod meetings;
