@@ -4,12 +4,11 @@ use Rattle.std.specs.Prelude.{Some, slice_get}
 use Rattle.std.proofs.Math.Nat.{mul-le-mul}
 use Rattle.df_value.specs.Chunks.{ChunkParts, MakesChunk}
 use Rattle.df_value.specs.declared.cell.Cell.{Cell}
-use Rattle.df_value.specs.declared.chunk.Piece.{Piece}
 use Rattle.df_value.specs.declared.chunk.Piece.TheVariants as made
 use Rattle.df_value.specs.Schemas.{Columns}
 use Rattle.df_store.specs.Jobs.{chunks_of, jobs_of}
 use Rattle.df_store.proofs.JobFacts.{jobs-of-chunks}
-use Rattle.df_load_tests.specs.Pairs.{pair-there, pair_at, pairs-long, pairs_of, row_of}
+use Rattle.df_load_tests.specs.Pairs.{pair-there, pairs-long, pairs_of, row_of}
 
 -- two sources of at most 255 chunks have few jobs
 pub jobs-few : {S : Type 0} (schema : S → Columns) (step count : S → ℕ) (start : S → ℕ → ℕ) (one other : S) → count one ≤ 255 → count other ≤ 255 →

@@ -1,7 +1,7 @@
 -- The chunks of the tests' source: each has two rows, and the one cell of a row is its number.
 use Rattle.std.specs.Prelude.{◌≡◌, ◌+◌, ◌*◌, ◌<◌, ℕ, List, [], ◌∷◌, length, map, Some, option_map, pos, slice_get}
 use Rattle.std.specs.List.{range_with_len}
-use Rattle.std.proofs.Common.{zero, suc, ap, arith, refl, sym, ◌∙◌, zero-add}
+use Rattle.std.proofs.Common.{zero, suc, ap, arith, sym, ◌∙◌, zero-add}
 use Rattle.std.proofs.lemmas.List.FromFn.{length-map-range_with_len}
 use Rattle.std.proofs.lemmas.Option.{same_Some, slice_get-map, slice_get_within}
 use Rattle.df_value.specs.Chunks.{ChunkParts}
