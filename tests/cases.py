@@ -2,6 +2,7 @@
 """Runs the program over documents and compares what it answers.
 
     cases.py PROGRAM [FILE..]             the cases of these files; without one those of tests/cases/*.toml
+    cases.py PROGRAM --workers N [FILE..] the same by so many workers, where a case has no words of its own
     cases.py --export FOLDER [FILE..]     writes each document there in place of running it, with the words as
                                           NAME.args and the output as NAME.stdout, as `rt try --cases` reads
                                           them; a case with files of its own is left out
@@ -51,14 +52,14 @@ class Case:
 
         return re.sub(r"<(\w+)>", part, text)
 
-    def run(self, program):
-        """What differs, or None."""
+    def run(self, program, words):
+        """What differs, or None. The words are for a case that has none."""
         with tempfile.TemporaryDirectory() as folder:
             for path, contents in self.files.items():
                 file = pathlib.Path(folder, path)
                 file.parent.mkdir(parents=True, exist_ok=True)
                 file.write_bytes(contents)
-            line = [program, *self.words]
+            line = [program, *(self.words or words)]
             try:
                 run = subprocess.run(
                     line, input=self.document, capture_output=True, cwd=folder, timeout=SECONDS, check=False
@@ -116,10 +117,12 @@ def main(first, *rest):
     if first == "--export":
         export(pathlib.Path(rest[0]), cases_of_files(rest[1:]))
         return 0
-    program = os.path.realpath(first)
+    program, words = os.path.realpath(first), []
+    if rest[:1] == ("--workers",):
+        words, rest = [*rest[:2]], rest[2:]
     cases = cases_of_files(rest)
     with concurrent.futures.ThreadPoolExecutor(os.cpu_count()) as pool:
-        differences = [text for text in pool.map(lambda case: case.run(program), cases) if text]
+        differences = [text for text in pool.map(lambda case: case.run(program, words), cases) if text]
     print("".join(differences) + f"cases: {len(cases)} runs, {len(differences)} differ")
     return 1 if differences else 0
 

@@ -11,7 +11,7 @@
 typedef __SIZE_TYPE__ size_t;
 typedef long ssize_t;
 
-enum { CALL_READ = 0, CALL_WRITE = 1, NO_MEMORY = 12, INPUT_OUTPUT = 5, WRITE_CREATE_EMPTY = 01 | 0100 | 01000 };
+enum { CALL_READ = 0, CALL_WRITE = 1, CALL_EXIT_GROUP = 231, NO_MEMORY = 12, INPUT_OUTPUT = 5, WRITE_CREATE_EMPTY = 01 | 0100 | 01000 };
 
 extern char *getenv(const char *name);
 extern long atol(const char *text);
@@ -33,26 +33,30 @@ static long number(const char *name) {
     return text ? atol(text) : 0;
 }
 
-static int refused(long *calls, const char *name) { return ++*calls == number(name); }
-
-void *malloc(size_t size) {
-    return refused(&allocs, "FAIL_ALLOC") ? 0 : __libc_malloc(size);
+// Several threads count at once.
+static int refused(long *calls, const char *name) {
+    return __atomic_add_fetch(calls, 1, __ATOMIC_RELAXED) == number(name);
 }
 
-void *calloc(size_t count, size_t size) {
-    return refused(&allocs, "FAIL_ALLOC") ? 0 : __libc_calloc(count, size);
+// The C library, which makes the stacks of threads, wants the reason of a refusal.
+static int no_memory(void) {
+    if (!refused(&allocs, "FAIL_ALLOC")) return 0;
+    *__errno_location() = NO_MEMORY;
+    return 1;
 }
 
-void *realloc(void *block, size_t size) {
-    return refused(&allocs, "FAIL_ALLOC") ? 0 : __libc_realloc(block, size);
-}
+void *malloc(size_t size) { return no_memory() ? 0 : __libc_malloc(size); }
+
+void *calloc(size_t count, size_t size) { return no_memory() ? 0 : __libc_calloc(count, size); }
+
+void *realloc(void *block, size_t size) { return no_memory() ? 0 : __libc_realloc(block, size); }
 
 void *aligned_alloc(size_t align, size_t size) {
-    return refused(&allocs, "FAIL_ALLOC") ? 0 : __libc_memalign(align, size);
+    return no_memory() ? 0 : __libc_memalign(align, size);
 }
 
 int posix_memalign(void **block, size_t align, size_t size) {
-    if (refused(&allocs, "FAIL_ALLOC")) return NO_MEMORY;
+    if (no_memory()) return NO_MEMORY;
     *block = __libc_memalign(align, size);
     return *block ? 0 : NO_MEMORY;
 }
@@ -89,4 +93,10 @@ __attribute__((destructor)) static void count(void) {
     int length = snprintf(line, sizeof line, "%ld %ld %ld %ld\n", allocs, reads, file_reads, writes);
     int file = open(path, WRITE_CREATE_EMPTY, 0600);
     if (file >= 0) syscall(CALL_WRITE, file, line, (size_t)length);
+}
+
+// A program with threads ends by this call, which runs no destructor.
+void _exit(int status) {
+    count();
+    for (;;) syscall(CALL_EXIT_GROUP, status);
 }

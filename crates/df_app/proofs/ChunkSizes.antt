@@ -23,7 +23,7 @@ use Rattle.df_app.specs.declared.outcome.Outcome.TheVariants as outcome
 use Rattle.df_app.specs.declared.outcome.Output.{Output}
 use Rattle.df_app.specs.declared.opening.OpenedDocument.{OpenedDocument}
 use Rattle.df_app.specs.ChunkSizes.{IsSameUnlessRefused}
-use Rattle.df_app.specs.Output.{Contents, of_records, records_in, pieces_in, results_after, refused_line, refused_in, outcome_of, paired, text_from, printed_view, plans_of, opened_in, opened_of, opened_from, of_document, output_made, output_of, refused_block, most_bytes_of_document}
+use Rattle.df_app.specs.Output.{Contents, of_records, records_in, pieces_in, results_after, refused_line, refused_in, outcome_of, paired, text_from, printed_view, plans_of, opened_in, opened_from, of_document, output_made, output_of, refused_block, most_bytes_of_document}
 
 -- the pieces of one file in two sizes
 abbrev AreSizes : ℕ → ℕ → List Piece → List Piece → Type 0

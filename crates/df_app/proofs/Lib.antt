@@ -3,3 +3,8 @@ pub mod PlaceFacts
 mod OptionFacts
 pub mod Unread
 pub mod ChunkSizes
+pub mod RisingRows
+pub mod SourceRows
+pub mod LoadedText
+pub mod LoadedViews
+pub mod LoadedOutput

@@ -21,6 +21,7 @@ stopped bytes contents chunk old new (fault.Views f) told kept = (told, kept)
 stopped bytes contents chunk old new (fault.Plan view f) told kept = (told, kept)
 stopped bytes contents chunk old new (fault.Csv frame f) told kept = (told, kept)
 stopped bytes contents chunk old new fault.Memory told kept = (told, kept)
+stopped bytes contents chunk old new (fault.Load cause) told kept = (told, kept)
 stopped bytes contents chunk old new fault.ReadFault told kept = (told, kept)
 stopped bytes contents chunk old new fault.TooLarge told kept = (told, kept)
 stopped bytes contents chunk old new fault.Write told kept = absurd told
@@ -87,6 +88,7 @@ tells b contents chunk (fault.Csv frame f) few is said unread = tells_csv b cont
 tells b contents chunk fault.Memory few is said unread = tt
 tells b contents chunk fault.ReadFault few is said unread = tt
 tells b contents chunk fault.TooLarge few is said unread = absurd is
+tells b contents chunk (fault.Load cause) few is said unread = absurd is
 tells b contents chunk fault.Write few is said unread = absurd is
 
 opened_answer : (b : List ℕ) (contents : Contents) (chunk : ℕ) (r : Result OpenedDocument RunFault) → length b ≤ 1048576 →
@@ -113,7 +115,7 @@ pub opened_too_large :
 opened_too_large None contents chunk many = many
 opened_too_large (Some b) contents chunk many = λ knows. fault_of_output b contents chunk fault.TooLarge (too_large b contents chunk many)
 
-made_of_opened :
+pub made_of_opened :
     (b : List ℕ) (contents : Contents) (chunk : ℕ) (opened : OpenedDocument) (o : Output) → opened_of b contents chunk ≡ Ok opened →
     o.text ≡ text_from opened.document opened.plans opened.pieces chunk → o.outcome ≡ outcome_of opened.pieces → output_of b contents chunk ≡ Ok o
 made_of_opened b contents chunk opened o e text outcome =
@@ -143,6 +145,7 @@ keeps_before old new (fault.Views f) kept = kept
 keeps_before old new (fault.Plan view f) kept = kept
 keeps_before old new (fault.Csv frame f) kept = kept
 keeps_before old new fault.Memory kept = kept
+keeps_before old new (fault.Load cause) kept = kept
 keeps_before old new fault.ReadFault kept = kept
 keeps_before old new fault.TooLarge kept = kept
 keeps_before old new fault.Write kept = tt

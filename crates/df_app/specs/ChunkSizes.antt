@@ -1,5 +1,5 @@
 -- What the size of chunks does not change in a run.
-use Rattle.std.specs.Prelude.{◌≡◌, Result, Ok, Err, IsOkAnd, MatchResult}
+use Rattle.std.specs.Prelude.{◌≡◌, Result, Err, IsOkAnd, MatchResult}
 use Rattle.df_app.specs.declared.fault.RunFault.{RunFault}
 use Rattle.df_app.specs.declared.outcome.Outcome.TheVariants as outcome
 use Rattle.df_app.specs.declared.outcome.Output.{Output}

@@ -189,6 +189,7 @@ ComesFromFrames fault.ReadFault = ⊥
 ComesFromFrames fault.TooLarge = ⊥
 ComesFromFrames (fault.Views f) = ⊥
 ComesFromFrames (fault.Plan view f) = ⊥
+ComesFromFrames (fault.Load cause) = ⊥
 ComesFromFrames fault.Write = ⊥
 
 -- a fault that bytes can have which are not too many, or want of memory
@@ -199,6 +200,7 @@ ComesFromBytes (fault.Csv frame f) = ⊤
 ComesFromBytes fault.Memory = ⊤
 ComesFromBytes fault.ReadFault = ⊥
 ComesFromBytes fault.TooLarge = ⊥
+ComesFromBytes (fault.Load cause) = ⊥
 ComesFromBytes fault.Write = ⊥
 
 -- a fault that tells of the bytes: memory was not refused, and no frame's file cannot be read

@@ -11,14 +11,26 @@ use Rattle.df_app.specs.Output.{most_bytes_of_document, Contents, MayFailFrom, o
 
 -- What a fault says that comes before anything is written. But for a failed read of the document or of a file and for
 -- want of memory, it is the fault that the bytes have in the place of an output. A file of which a read fails is there,
--- and is that of a frame to which the run comes.
+-- and is that of a frame to which the run comes. That frames which were read cannot be loaded, no clause rules out.
 abbrev pub IsFaultBefore : List ℕ → Contents → ℕ → RunFault → Type 0
 IsFaultBefore bytes contents chunk fault.ReadFault = ⊤
 IsFaultBefore bytes contents chunk (fault.Csv frame csv.ReadFault) =
     output_of bytes contents chunk ≢ Err (fault.Csv frame csv.ReadFault) → (length bytes ≤ most_bytes_of_document) × MayFailFrom bytes contents chunk frame
 IsFaultBefore bytes contents chunk fault.Memory = ⊤
+IsFaultBefore bytes contents chunk (fault.Load cause) = ⊤
 IsFaultBefore bytes contents chunk fault.Write = ⊥
 IsFaultBefore bytes contents chunk f = output_of bytes contents chunk ≡ Err f
+
+-- memory was refused to a load, or what was read cannot be loaded
+abbrev pub IsFaultOfLoad : RunFault → Type 0
+IsFaultOfLoad fault.ReadFault = ⊥
+IsFaultOfLoad fault.TooLarge = ⊥
+IsFaultOfLoad (fault.Views f) = ⊥
+IsFaultOfLoad (fault.Plan view f) = ⊥
+IsFaultOfLoad (fault.Csv frame f) = ⊥
+IsFaultOfLoad (fault.Load cause) = ⊤
+IsFaultOfLoad fault.Write = ⊥
+IsFaultOfLoad fault.Memory = ⊤
 
 -- what the bytes of a document and of its files gave: the document, opened, or a fault
 abbrev pub IsOpening : List ℕ → Contents → ℕ → Result OpenedDocument RunFault → Type 0
@@ -60,4 +72,5 @@ LeavesFiles old new (fault.Views f) = new ≡ old
 LeavesFiles old new (fault.Plan view f) = new ≡ old
 LeavesFiles old new (fault.Csv frame f) = ⊤
 LeavesFiles old new fault.Memory = ⊤
+LeavesFiles old new (fault.Load cause) = ⊤
 LeavesFiles old new fault.Write = ⊤

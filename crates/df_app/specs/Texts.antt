@@ -9,6 +9,8 @@ use Rattle.df_plan.specs.declared.fault.PlanFault.TheVariants as plan
 use Rattle.df_csv.specs.declared.fault.CsvFault.{CsvFault}
 use Rattle.df_csv.specs.declared.fault.CsvFault.TheVariants as csv
 use Rattle.df_print.specs.Printed.{escaped_text}
+use Rattle.df_store.specs.declared.fault.LoadCause.{LoadCause}
+use Rattle.df_store.specs.declared.fault.LoadCause.TheVariants as load
 use Rattle.df_text.specs.declared.document.Location.{Location}
 use Rattle.df_text.specs.declared.document.Location.TheVariants as location
 use Rattle.df_text.specs.declared.fault.ViewsFault.{ViewsFault}
@@ -71,6 +73,14 @@ csv_text (csv.DoubledHeader name) = code_with_name (codes "F6") name
 csv_text csv.TooManyRecords = codes "F7"
 csv_text csv.Memory = codes "memory"
 
+abbrev pub load_text : LoadCause → List ℕ
+load_text (load.Refused f) = codes "L7"
+load_text load.Memory = codes "memory"
+load_text (load.MissingDesk frame) = codes "L5 " ++ decimal frame
+load_text (load.Lost job) = codes "L2 " ++ decimal job
+load_text (load.Unlike frame) = codes "L3 " ++ decimal frame
+load_text load.ViewsUnlike = codes "L4"
+
 -- a text under the name of a frame or a view
 abbrev pub text_under_name : List ℕ → List ℕ → List ℕ
 text_under_name name text = escaped_text name ++ (codes ": " ++ text)
@@ -82,6 +92,7 @@ is_memory (fault.Views views.Memory) = true
 is_memory (fault.Plan view plan.Memory) = true
 is_memory (fault.Plan view (plan.Expr expr.Memory)) = true
 is_memory (fault.Csv frame csv.Memory) = true
+is_memory (fault.Load load.Memory) = true
 is_memory _ = false
 
 abbrev pub text_in_full : RunFault → List ℕ
@@ -90,6 +101,7 @@ text_in_full fault.TooLarge = codes "V9"
 text_in_full (fault.Views f) = views_text f
 text_in_full (fault.Plan view f) = text_under_name view (plan_text f)
 text_in_full (fault.Csv frame f) = text_under_name frame (csv_text f)
+text_in_full (fault.Load cause) = load_text cause
 text_in_full fault.Write = codes "write"
 text_in_full fault.Memory = codes "memory"
 

@@ -3,6 +3,7 @@ ghost use Rattle.std.specs.Prelude.{◌≡◌};
 ghost use Rattle.df_app.specs.declared.fault.RunFault.TheVariants.{Memory as OutOfMemory};
 
 use df_plan::PlanFault;
+use df_store::LoadCause;
 use df_text::{CsvFault, ViewsFault};
 use df_value::Text;
 use std::alloc::{AllocError, AllocFailed};
@@ -26,6 +27,10 @@ pub enum RunFault {
     /// The CSV of the frame of this name cannot be read.
     #[error("frame {0:?}: {1}")]
     Csv(Text, CsvFault),
+    /// The frames were read and could not be loaded, for another cause than memory. No clause says
+    /// that it never comes.
+    #[error("{0}")]
+    Load(LoadCause),
     /// A write failed, or took no byte. A prefix of the output was written.
     #[error("the output cannot be written")]
     Write,

@@ -6,6 +6,7 @@ ghost use Rattle.df_app.specs.Texts.{text_in_full, fault_text_of};
 use crate::fault::RunFault;
 use df_expr::ExprFault;
 use df_plan::PlanFault;
+use df_store::LoadCause;
 use df_text::{CsvFault, Location, ViewsFault, escape};
 use df_value::{SchemaFault, Text};
 use std::alloc::{AllocError, Global};
@@ -31,6 +32,7 @@ fn is_memory(fault: &RunFault) -> bool
         RunFault::Plan(_, PlanFault::Memory) => true,
         RunFault::Plan(_, PlanFault::Expr(ExprFault::Memory)) => true,
         RunFault::Csv(_, CsvFault::Memory) => true,
+        RunFault::Load(LoadCause::Memory) => true,
         _ => false,
     }
 }
@@ -44,6 +46,7 @@ fn full_text(alloc: Global, fault: &RunFault) -> Result<String, AllocError>
         RunFault::Views(fault) => views_text(alloc, fault),
         RunFault::Plan(view, fault) => text_under_name(alloc, view, plan_text(alloc, fault)?),
         RunFault::Csv(frame, fault) => text_under_name(alloc, frame, csv_text(alloc, fault)?),
+        RunFault::Load(cause) => load_text(alloc, *cause),
         RunFault::Write => String::from_str(alloc, "write"),
         RunFault::Memory => String::from_str(alloc, "memory"),
     }
@@ -132,6 +135,19 @@ fn plan_text(alloc: Global, fault: &PlanFault) -> Result<String, AllocError>
         PlanFault::ConstantColumn(name) => code_with_name(alloc, "P9", name),
         PlanFault::WrongType(name) => code_with_name(alloc, "P10", name),
         PlanFault::Memory => String::from_str(alloc, "memory"),
+    }
+}
+
+fn load_text(alloc: Global, cause: LoadCause) -> Result<String, AllocError>
+    ensures { IfOk result (λ text. string_bytes text ≡ texts.load_text cause) }
+{
+    match cause {
+        LoadCause::Refused(_) => String::from_str(alloc, "L7"),
+        LoadCause::Memory => String::from_str(alloc, "memory"),
+        LoadCause::MissingDesk(frame) => format!(in alloc; "L5 {frame}"),
+        LoadCause::Lost(job) => format!(in alloc; "L2 {job}"),
+        LoadCause::Unlike(frame) => format!(in alloc; "L3 {frame}"),
+        LoadCause::ViewsUnlike => String::from_str(alloc, "L4"),
     }
 }
 

@@ -9,6 +9,7 @@ mod command_line;
 mod fault;
 mod fault_texts;
 mod files;
+mod loading;
 mod opening;
 mod outcome;
 mod output;
@@ -18,6 +19,7 @@ mod refused;
 mod running;
 
 pub use command_line::Words;
+pub use df_store::{Gate, OpenGate};
 pub use fault::RunFault;
 pub use fault_texts::{csv_text, fault_text};
 pub use files::{FileState, Files};

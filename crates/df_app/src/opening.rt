@@ -1,15 +1,18 @@
 //! The opening of a document: its plans are checked, and its frames are read.
-ghost use Rattle.std.specs.Prelude.{◌≡◌, ◌≤◌, [], IfErr, IfOk, IfSome, length};
+ghost use Rattle.std.specs.Prelude.{◌≡◌, ◌≤◌, [], All, IfErr, IfOk, IfSome, length};
 ghost use Rattle.df_value.specs.Limits.{most_rows_of_chunk};
-ghost use Rattle.df_text.specs.Document.{document_of};
+ghost use Rattle.df_text.specs.Document.{IsDocument, document_of};
+ghost use Rattle.df_app.specs.Loading.{IsSourceOf, opened_by, opened_with};
 ghost use Rattle.df_app.specs.Output.{AnswersOfBytes, AnswersOrFails, KnowsFiles, KnowsFilesOf, MayFailFrom, MayFailIn, results_after, of_document, opened_from, opened_in, plan_of, plans_of, schemas_of};
 ghost use Rattle.df_app.specs.Ran.{IsOpening, LeavesFiles};
 
 use crate::fault::RunFault;
 use crate::files::Files;
-use crate::pieces::all_pieces;
+use crate::pieces::{all_pieces, all_sources};
 use df_plan::{CheckedPlan, PlanFault};
-use df_text::{FrameSpec, ReadLimitedFault, ViewSpec, Views, ViewsFault, read_limited, read_views};
+use df_text::{
+    CsvSource, FrameSpec, ReadLimitedFault, ViewSpec, Views, ViewsFault, read_limited, read_views,
+};
 use df_value::{Duplicate, List, Piece, Schema};
 use std::alloc::{AllocError, Global};
 use std::io::Read;
@@ -26,10 +29,19 @@ pub struct OpenedDocument {
     pub pieces: List<List<Piece>>,
 }
 
+/// A document that was read, with the checked plans of its views and a source of each frame's records,
+/// each in the document's order.
+#[derive(Debug, Drop)]
+pub(crate) struct SourcedDocument {
+    pub(crate) document: Views,
+    pub(crate) plans: List<CheckedPlan>,
+    pub(crate) sources: List<CsvSource>,
+}
+
 /// Reads a view document and the files that it names.
 ///
 /// The document is read whole, at most 1,048,576 bytes; its plans are checked in the order of the
-/// views; its frames are read in their order and typed in pieces of `chunk` records, 1 to 65,536. A
+/// views; its frames are read in their order, and then typed in pieces of `chunk` records, 1 to 65,536. A
 /// file that cannot be opened, or of which a read fails, is a `ReadFault` of its frame. No file is
 /// opened before all plans are checked.
 pub fn open_document<V: Read, F: Files>(
@@ -48,6 +60,47 @@ pub fn open_document<V: Read, F: Files>(
     ensures plans { IfOk result (λ o. length o.plans ≡ length o.document.views) }
     ensures pieces { IfOk result (λ o. length o.pieces ≡ length o.document.frames) }
 {
+    match open_sources(alloc, reader, files, chunk) {
+        Ok(sourced) => Ok(typed(alloc, sourced)?),
+        Err(fault) => Err(fault),
+    }
+}
+
+fn typed(alloc: Global, sourced: SourcedDocument) -> Result<OpenedDocument, AllocError>
+    ensures { IfOk result (λ o. o ≡ opened_with sourced) }
+{
+    let SourcedDocument {
+        document,
+        plans,
+        sources,
+    } = sourced;
+    let pieces = all_pieces(alloc, sources.as_slice())?;
+    Ok(OpenedDocument {
+        document,
+        plans,
+        pieces,
+    })
+}
+
+/// Reads a view document and the files that it names, as [`open_document`] does, and types nothing.
+pub(crate) fn open_sources<V: Read, F: Files>(
+    alloc: Global,
+    reader: &mut V,
+    files: &mut F,
+    chunk: usize,
+) -> Result<SourcedDocument, RunFault>
+    requires some { 1 ≤ chunk }
+    requires few { chunk ≤ most_rows_of_chunk }
+    ensures same { F.file_at files.new ≡ F.file_at files.old }
+    ensures value { IfSome (V.remaining reader.old)
+        (λ bytes. KnowsFiles (F.file_at files.old) bytes →
+        IsOpening bytes (F.file_at files.old) chunk (opened_by result)) }
+    ensures untouched { IfErr result (LeavesFiles files.old files.new) }
+    ensures sound { IfOk result (λ d. IsDocument d.document) }
+    ensures plans { IfOk result (λ d. length d.plans ≡ length d.document.views) }
+    ensures sources { IfOk result (λ d. length d.sources ≡ length d.document.frames) }
+    ensures each { IfOk result (λ d. All (IsSourceOf chunk) d.sources) }
+{
     match read_limited(alloc, reader, MOST_BYTES_OF_DOCUMENT) {
         Ok(bytes) => open_bytes(alloc, bytes.as_slice(), files, chunk),
         Err(ReadLimitedFault::Failed) => Err(RunFault::ReadFault),
@@ -61,16 +114,18 @@ fn open_bytes<F: Files>(
     bytes: &[u8],
     files: &mut F,
     chunk: usize,
-) -> Result<OpenedDocument, RunFault>
+) -> Result<SourcedDocument, RunFault>
     requires some { 1 ≤ chunk }
     requires few { chunk ≤ most_rows_of_chunk }
     ensures same { F.file_at files.new ≡ F.file_at files.old }
     ensures value { IfOk (document_of bytes.now) (KnowsFilesOf (F.file_at files.old)) →
         AnswersOrFails (MayFailFrom bytes.now (F.file_at files.old) chunk)
-        (opened_from bytes.now (F.file_at files.old) chunk) result }
+        (opened_from bytes.now (F.file_at files.old) chunk) (opened_by result) }
     ensures untouched { IfErr result (LeavesFiles files.old files.new) }
-    ensures plans { IfOk result (λ o. length o.plans ≡ length o.document.views) }
-    ensures pieces { IfOk result (λ o. length o.pieces ≡ length o.document.frames) }
+    ensures sound { IfOk result (λ d. IsDocument d.document) }
+    ensures plans { IfOk result (λ d. length d.plans ≡ length d.document.views) }
+    ensures sources { IfOk result (λ d. length d.sources ≡ length d.document.frames) }
+    ensures each { IfOk result (λ d. All (IsSourceOf chunk) d.sources) }
 {
     match read_document(alloc, bytes) {
         Ok(document) => open_views(alloc, document, files, chunk),
@@ -83,23 +138,26 @@ fn open_views<F: Files>(
     document: Views,
     files: &mut F,
     chunk: usize,
-) -> Result<OpenedDocument, RunFault>
+) -> Result<SourcedDocument, RunFault>
     requires some { 1 ≤ chunk }
     requires few { chunk ≤ most_rows_of_chunk }
+    requires sound { IsDocument document }
     ensures same { F.file_at files.new ≡ F.file_at files.old }
     ensures value { KnowsFilesOf (F.file_at files.old) document →
         AnswersOrFails (MayFailIn document (F.file_at files.old) chunk)
-        (opened_in document (F.file_at files.old) chunk) result }
+        (opened_in document (F.file_at files.old) chunk) (opened_by result) }
     ensures untouched { IfErr result (LeavesFiles files.old files.new) }
-    ensures plans { IfOk result (λ o. length o.plans ≡ length o.document.views) }
-    ensures pieces { IfOk result (λ o. length o.pieces ≡ length o.document.frames) }
+    ensures sound { IfOk result (λ d. IsDocument d.document) }
+    ensures plans { IfOk result (λ d. length d.plans ≡ length d.document.views) }
+    ensures sources { IfOk result (λ d. length d.sources ≡ length d.document.frames) }
+    ensures each { IfOk result (λ d. All (IsSourceOf chunk) d.sources) }
 {
     match checked_views(alloc, &document) {
-        Ok(plans) => match all_pieces(alloc, files, document.frames.as_slice(), chunk) {
-            Ok(pieces) => Ok(OpenedDocument {
+        Ok(plans) => match all_sources(alloc, files, document.frames.as_slice(), chunk) {
+            Ok(sources) => Ok(SourcedDocument {
                 document,
                 plans,
-                pieces,
+                sources,
             }),
             Err(fault) => Err(fault),
         },
@@ -117,7 +175,8 @@ fn checked_views(alloc: Global, document: &Views) -> Result<List<CheckedPlan>, R
 }
 
 fn read_document(alloc: Global, bytes: &[u8]) -> Result<Views, RunFault>
-    ensures { AnswersOfBytes (of_document (document_of bytes.now)) result }
+    ensures value { AnswersOfBytes (of_document (document_of bytes.now)) result }
+    ensures sound { IfOk result IsDocument }
 {
     match read_views(alloc, bytes) {
         Ok(document) => Ok(document),
@@ -126,7 +185,7 @@ fn read_document(alloc: Global, bytes: &[u8]) -> Result<Views, RunFault>
     }
 }
 
-fn copy_schemas(alloc: Global, frames: &[FrameSpec]) -> Result<Vec<Schema>, AllocError>
+pub(crate) fn copy_schemas(alloc: Global, frames: &[FrameSpec]) -> Result<Vec<Schema>, AllocError>
     ensures { IfOk result (λ schemas. schemas.items ≡ schemas_of frames.now) }
 {
     let mut schemas = Vec::with_capacity(alloc, frames.len())?;

@@ -1,52 +1,49 @@
 //! The output of a document.
-ghost use Rattle.std.specs.Prelude.{◌≡◌, ◌++◌, IfOk, OnOk, codes, flat_map, length, map};
+ghost use Rattle.std.specs.Prelude.{◌≡◌, ◌++◌, All, IfOk, IsOk, OnOk, codes, flat_map, map};
 ghost use Rattle.std.specs.List.{join_by};
-ghost use Rattle.df_app.specs.Output.{outcome_of, paired, refused_block, printed_view, text_from};
+ghost use Rattle.df_catalogue.specs.Reads.{view_rows_of};
+ghost use Rattle.df_app.specs.Loading.{outcome_of_load, printed_in, text_of_load};
+ghost use Rattle.df_app.specs.Output.{refused_block};
 
-use crate::opening::OpenedDocument;
-use crate::outcome::Output;
-use crate::pieces::{all_rows, outcome};
-use crate::refused::refused_lines;
-use df_plan::{CheckedPlan, evaluate};
-use df_text::{ViewSpec, Views, print_table};
-use df_value::{List, Piece, Row};
+use crate::outcome::{Outcome, Output};
+use crate::refused::lines_of;
+use df_catalogue::{Catalogue, CatalogueFault};
+use df_plan::CheckedPlan;
+use df_store::{Loaded, Refused};
+use df_text::{FrameSpec, print_table};
+use df_value::{List, Text};
 use std::alloc::{AllocError, Global};
+use std::sync::ledger::Ledger;
 
-/// What a run over an opened document writes, its frames typed in chunks of so many records.
-pub fn output(alloc: Global, opened: OpenedDocument, chunk: usize) -> Result<Output, AllocError>
-    requires of_views { length opened.plans ≡ length opened.document.views }
-    requires of_frames { length opened.pieces ≡ length opened.document.frames }
-    ensures { IfOk result
-        (λ o. (o.text ≡ text_from opened.document opened.plans opened.pieces chunk)
-        × (o.outcome ≡ outcome_of opened.pieces)) }
+/// What a run over a document of these frames and views writes of what was loaded with the views.
+pub(crate) fn output<Acc: Ledger, Del: Ledger>(
+    alloc: Global,
+    frames: &[FrameSpec],
+    views: &[(Text, CheckedPlan)],
+    loaded: &Loaded<Acc, Del>,
+) -> Result<Output, AllocError>
+    requires { All (λ view. IsOk (view_rows_of loaded.now.catalogue.state view.0)) views.now }
+    ensures text { IfOk result (λ o. o.text
+        ≡ text_of_load loaded.now.catalogue.state frames.now views.now loaded.now.refused) }
+    ensures ends { IfOk result (λ o. o.outcome ≡ outcome_of_load loaded.now.refused) }
 {
-    let OpenedDocument {
-        document,
-        plans,
-        pieces,
-    } = opened;
-    let outcome = outcome(pieces.as_slice());
-    let text = output_text(alloc, &document, plans.as_slice(), pieces, chunk)?;
-    Ok(Output { text, outcome })
+    let refused = loaded.refused.as_slice();
+    let lines = lines_of(alloc, frames, refused)?;
+    let mut blocks = print_views(alloc, &loaded.catalogue, views)?;
+    add_lines(&mut blocks, lines)?;
+    Ok(Output {
+        text: joined(alloc, blocks.as_slice())?,
+        outcome: outcome(refused),
+    })
 }
 
-// The tables and the refused lines, with an empty line between each two blocks.
-fn output_text(
-    alloc: Global,
-    document: &Views,
-    plans: &[CheckedPlan],
-    pieces: List<List<Piece>>,
-    chunk: usize,
-) -> Result<List<u8>, AllocError>
-    requires of_views { length plans.now ≡ length document.now.views }
-    requires of_frames { length pieces ≡ length document.now.frames }
-    ensures { IfOk result (λ text. text ≡ text_from document.now plans.now pieces chunk) }
+fn outcome(refused: &[Refused]) -> Outcome
+    ensures { result ≡ outcome_of_load refused.now }
 {
-    let lines = refused_lines(alloc, document.frames.as_slice(), pieces.as_slice(), chunk)?;
-    let rows = all_rows(alloc, pieces)?;
-    let mut blocks = print_views(alloc, document.views.as_slice(), plans, rows.as_slice())?;
-    add_lines(&mut blocks, lines)?;
-    joined(alloc, blocks.as_slice())
+    match refused {
+        [] => Outcome::Clean,
+        [_, ..] => Outcome::Refused,
+    }
 }
 
 // The refused lines are the last block, if there are any.
@@ -60,34 +57,40 @@ fn add_lines(blocks: &mut Vec<List<u8>>, lines: List<u8>) -> Result<(), AllocErr
     Ok(())
 }
 
-fn print_views(
+fn print_views<Acc: Ledger, Del: Ledger>(
     alloc: Global,
-    views: &[ViewSpec],
-    plans: &[CheckedPlan],
-    frames: &[List<Row>],
+    catalogue: &Catalogue<Acc, Del>,
+    views: &[(Text, CheckedPlan)],
 ) -> Result<Vec<List<u8>>, AllocError>
-    requires { length plans.now ≡ length views.now }
+    requires { All (λ view. IsOk (view_rows_of catalogue.now.state view.0)) views.now }
     ensures { IfOk result
-        (λ tables. tables.items ≡ map (printed_view frames.now) (paired views.now plans.now)) }
+        (λ tables. tables.items ≡ map (printed_in catalogue.now.state) views.now) }
 {
-    let mut tables = Vec::with_capacity(alloc, views.len() + 1)?;
-    for i in 0..views.len() {
-        tables.push(print_view(alloc, &views[i], &plans[i], frames)?)?;
+    let mut tables = Vec::new(alloc);
+    for view in views {
+        tables.push(print_view(alloc, catalogue, view)?)?;
     }
     Ok(tables)
 }
 
-fn print_view(
+// The catalogue has the view, so that nothing but memory is refused.
+fn print_view<Acc: Ledger, Del: Ledger>(
     alloc: Global,
-    view: &ViewSpec,
-    plan: &CheckedPlan,
-    frames: &[List<Row>],
+    catalogue: &Catalogue<Acc, Del>,
+    view: &(Text, CheckedPlan),
 ) -> Result<List<u8>, AllocError>
-    ensures { IfOk result (λ table. table ≡ printed_view frames.now (view.now, plan.now)) }
+    requires { IsOk (view_rows_of catalogue.now.state view.now.0) }
+    ensures { IfOk result (λ table. table ≡ printed_in catalogue.now.state view.now) }
 {
-    let rows = evaluate(alloc, plan, frames)?;
-    let table = print_table(alloc, &view.name, plan.schema(), rows.as_slice())?;
-    Ok(List::from_vec(table))
+    let (name, plan) = view;
+    match catalogue.view_rows(alloc, name.as_str()) {
+        Ok(rows) => {
+            let table = print_table(alloc, name, plan.schema(), rows.as_slice())?;
+            Ok(List::from_vec(table))
+        }
+        Err(CatalogueFault::Memory) => Err(AllocError),
+        Err(_) => unreachable!(),
+    }
 }
 
 // The blocks with an empty line between each two.

@@ -1,65 +1,64 @@
-//! The frames of a document in pieces: chunks of rows, or bad cells.
-ghost use Rattle.std.specs.Prelude.{◌≡◌, ◌≢◌, ◌++◌, ◌≤◌, [], Err, IfErr, IfOk, OnOk, length, map};
+//! The frames of a document: their sources, and these in pieces, chunks of rows or bad cells.
+ghost use Rattle.std.specs.Prelude.{◌≡◌, ◌≢◌, ◌≤◌, [], All, Err, IfErr, IfOk, length, true};
 ghost use Rattle.df_value.specs.Limits.{most_rows_of_chunk};
-ghost use Rattle.std.specs.List.{list_all};
+ghost use Rattle.df_value.specs.Schemas.{is_base};
 ghost use Rattle.df_csv.specs.Records.{GivesRead, IsRecords};
-ghost use Rattle.df_csv.specs.Typed.{pieces_of};
-ghost use Rattle.df_value.specs.Pieces as pieces_spec;
+ghost use Rattle.df_csv.specs.Sources.{chunks_of};
 ghost use Rattle.df_app.specs.Files.{IsKnownState};
-ghost use Rattle.df_app.specs.Output as output;
-ghost use Rattle.df_app.specs.Output.{AnswersOrFails, AreKnown, ComesFromFrames, IsKnown, IsRead, MayFail, results_after, pieces_in, outcome_of, records_in, records_of_file};
+ghost use Rattle.df_app.specs.Loading.{IsSourceOf, pieces_by, pieces_by_one, pieces_of_sources};
+ghost use Rattle.df_app.specs.Output.{AnswersOrFails, AreKnown, ComesFromFrames, IsKnown, IsRead, MayFail, results_after, pieces_in, records_in, records_of_file};
 
 use crate::fault::RunFault;
 use crate::files::Files;
-use crate::outcome::Outcome;
-use df_text::{
-    CsvFault, FrameSource, FrameSpec, Records, count_pieces, parse_records, read_records,
-    type_piece,
-};
-use df_value::{Duplicate, List, Piece, Row, Schema};
+use df_text::{CsvFault, CsvSource, FrameSource, FrameSpec, Records, parse_records, read_records};
+use df_value::{Duplicate, List, Piece, Schema, Source};
 use std::alloc::{AllocError, Global};
 
-/// The pieces of the frames, in their order.
-pub fn all_pieces<F: Files>(
+/// The sources of the frames, in their order.
+pub(crate) fn all_sources<F: Files>(
     alloc: Global,
     files: &mut F,
     frames: &[FrameSpec],
     chunk: usize,
-) -> Result<List<List<Piece>>, RunFault>
+) -> Result<List<CsvSource>, RunFault>
     requires some { 1 ≤ chunk }
     requires few { chunk ≤ most_rows_of_chunk }
+    requires base { All (λ f. is_base f.schema ≡ true) frames.now }
     ensures same { F.file_at files.new ≡ F.file_at files.old }
     ensures value { AreKnown (F.file_at files.old) frames.now →
         AnswersOrFails (MayFail (F.file_at files.old) chunk frames.now)
-        (results_after (pieces_in (F.file_at files.old) chunk) [] frames.now) result }
-    ensures each { IfOk result (λ pieces. length pieces ≡ length frames.now) }
+        (results_after (pieces_in (F.file_at files.old) chunk) [] frames.now) (pieces_by result) }
+    ensures each { IfOk result (λ sources. length sources ≡ length frames.now) }
+    ensures sound { IfOk result (λ sources. All (IsSourceOf chunk) sources) }
     ensures of_frames { IfErr result ComesFromFrames }
 {
     let mut all = Vec::new(alloc);
     for frame in frames {
-        all.push(read_pieces(alloc, files, frame, chunk)?)?;
+        all.push(read_source(alloc, files, frame, chunk)?)?;
     }
     Ok(List::from_vec(all))
 }
 
-fn read_pieces<F: Files>(
+fn read_source<F: Files>(
     alloc: Global,
     files: &mut F,
     frame: &FrameSpec,
     chunk: usize,
-) -> Result<List<Piece>, RunFault>
+) -> Result<CsvSource, RunFault>
     requires some { 1 ≤ chunk }
     requires few { chunk ≤ most_rows_of_chunk }
+    requires base { is_base frame.now.schema ≡ true }
     ensures same { F.file_at files.new ≡ F.file_at files.old }
     ensures value { IsKnown (F.file_at files.old) frame.now.source →
         AnswersOrFails (λ name. (frame.now.name ≡ name)
         × IsRead (F.file_at files.old) frame.now.source)
-        (pieces_in (F.file_at files.old) chunk frame.now) result }
+        (pieces_in (F.file_at files.old) chunk frame.now) (pieces_by_one result) }
+    ensures sound { IfOk result (IsSourceOf chunk) }
     ensures of_frames { IfErr result ComesFromFrames }
 {
     match read_frame(alloc, files, frame) {
-        Ok(records) => match pieces(alloc, &records, &frame.schema, chunk) {
-            Ok(pieces) => Ok(pieces),
+        Ok(records) => match frame.schema.copy(alloc) {
+            Ok(schema) => Ok(CsvSource::new(records, schema, chunk)),
             Err(_) => Err(RunFault::Memory),
         },
         Err(CsvFault::Memory) => Err(RunFault::Memory),
@@ -107,88 +106,26 @@ fn read_file<F: Files>(
     }
 }
 
-// The pieces of the records, each of `chunk` of them but perhaps the last.
-fn pieces(
+/// The pieces of the sources, in their order.
+pub(crate) fn all_pieces(
     alloc: Global,
-    records: &Records,
-    schema: &Schema,
-    chunk: usize,
-) -> Result<List<Piece>, AllocError>
-    requires some { 1 ≤ chunk }
-    requires few { chunk ≤ most_rows_of_chunk }
-    requires sound { IsRecords (length schema.now) records.now }
-    ensures { IfOk result (λ pieces. pieces ≡ pieces_of schema.now chunk records.now) }
+    sources: &[CsvSource],
+) -> Result<List<List<Piece>>, AllocError>
+    ensures { IfOk result (λ pieces. pieces ≡ pieces_of_sources sources.now) }
 {
-    let count = count_pieces(records, chunk);
-    let mut out = Vec::with_capacity(alloc, count)?;
-    for n in 0..count {
-        out.push(type_piece(alloc, records, schema, chunk, n)?)?;
+    let mut all = Vec::with_capacity(alloc, sources.len())?;
+    for source in sources {
+        all.push(pieces(alloc, source)?)?;
+    }
+    Ok(List::from_vec(all))
+}
+
+fn pieces(alloc: Global, source: &CsvSource) -> Result<List<Piece>, AllocError>
+    ensures { IfOk result (λ pieces. pieces ≡ chunks_of source.now) }
+{
+    let mut out = Vec::new(alloc);
+    for n in 0..source.chunks() {
+        out.push(source.chunk(alloc, n)?)?;
     }
     Ok(List::from_vec(out))
-}
-
-/// Whether a chunk was refused.
-pub fn outcome(pieces: &[List<Piece>]) -> Outcome
-    ensures { result ≡ outcome_of pieces.now }
-{
-    if all_frames_good(pieces) {
-        Outcome::Clean
-    } else {
-        Outcome::Refused
-    }
-}
-
-fn all_frames_good(pieces: &[List<Piece>]) -> bool
-    ensures { result ≡ list_all (list_all pieces_spec.is_good) pieces.now }
-{
-    pieces.iter().all(|of_frame| all_good(of_frame))
-}
-
-fn all_good(pieces: &List<Piece>) -> bool
-    ensures { result ≡ list_all pieces_spec.is_good pieces.now }
-{
-    pieces.as_slice().iter().all(|made| is_good(made))
-}
-
-fn is_good(made: &Piece) -> bool
-    ensures { result ≡ pieces_spec.is_good made.now }
-{
-    match made {
-        Piece::Good(_) => true,
-        Piece::Bad(_) => false,
-    }
-}
-
-/// The rows of the frames: those of their good pieces.
-pub fn all_rows(alloc: Global, pieces: List<List<Piece>>) -> Result<Vec<List<Row>>, AllocError>
-    ensures { IfOk result (λ rows. rows.items ≡ map pieces_spec.rows_of_pieces pieces) }
-{
-    let mut all = Vec::with_capacity(alloc, pieces.len())?;
-    for of_frame in pieces.into_vec() {
-        all.push(rows_of_pieces(alloc, of_frame)?)?;
-    }
-    Ok(all)
-}
-
-fn rows_of_pieces(alloc: Global, pieces: List<Piece>) -> Result<List<Row>, AllocError>
-    ensures { IfOk result (λ rows. rows ≡ pieces_spec.rows_of_pieces pieces) }
-{
-    let mut rows = Vec::new(alloc);
-    for made in pieces.into_vec() {
-        append_good(&mut rows, made)?;
-    }
-    Ok(List::from_vec(rows))
-}
-
-// Moves the rows of a good piece behind the others.
-fn append_good(rows: &mut Vec<Row>, made: Piece) -> Result<(), AllocError>
-    ensures { OnOk result (rows.new.items ≡ rows.old.items ++ pieces_spec.rows_of_piece made) }
-{
-    match made {
-        Piece::Good(chunk) => {
-            let mut more = chunk.into_rows().into_vec();
-            rows.append(&mut more)
-        }
-        Piece::Bad(_) => Ok(()),
-    }
 }

@@ -7,12 +7,18 @@ ghost use Rattle.df_app.specs.Ran.{IsOutput, KeepsUnlessWrite, IsRunOn, IsWritin
 
 use crate::fault::RunFault;
 use crate::files::Files;
-use crate::opening::open_document;
+use crate::loading::load_output;
+use crate::opening::open_sources;
 use crate::outcome::{Outcome, Output};
-use crate::output::output;
+use df_catalogue::PARTS_OF_LEDGER;
+use df_store::Gate;
 use df_text::write_text;
 use std::alloc::Global;
 use std::io::{Read, Write};
+use std::marker::Brand;
+use std::sync::Wait;
+use std::sync::ledger::Blank;
+use std::thread::Threads;
 
 /// Reads a view document and the files that it names, and writes its views and the chunks that were
 /// refused.
@@ -23,14 +29,16 @@ use std::io::{Read, Write};
 /// opened before all plans are checked. A chunk with a bad cell does not enter its frame. Only then
 /// is anything written: the tables of the views in the document's order, then a line for each
 /// refused chunk. At a fault other than [`RunFault::Write`] nothing was written, at that one a
-/// prefix of the output. What is written does not depend on `workers`, 1 to 16; one thread does the
-/// work.
-pub fn run<V: Read, F: Files, W: Write>(
+/// prefix of the output. So many workers, 1 to 16, type the chunks, and pass the gate before each; what is
+/// written depends neither on their number nor on the gate.
+pub fn run<V: Read, F: Files, W: Write, G: Gate + Sync, R: Threads + Wait + Sync>(
+    rt: &R,
     alloc: Global,
     reader: &mut V,
     files: &mut F,
     workers: usize,
     chunk: usize,
+    gate: &G,
     writer: &mut W,
 ) -> Result<Outcome, RunFault>
     requires workers { 1 ≤ workers }
@@ -52,17 +60,20 @@ pub fn run<V: Read, F: Files, W: Write>(
         IsSameUnlessRefused (output_of bytes (F.file_at files.old) chunk)
         (output_of bytes (F.file_at files.old) size)) }
 {
-    match read_output(alloc, reader, files, chunk) {
+    match read_output(rt, alloc, reader, files, workers, chunk, gate) {
         Ok(output) => write_output(writer, &output),
         Err(fault) => Err(fault),
     }
 }
 
-fn read_output<V: Read, F: Files>(
+fn read_output<V: Read, F: Files, G: Gate + Sync, R: Threads + Wait + Sync>(
+    rt: &R,
     alloc: Global,
     reader: &mut V,
     files: &mut F,
+    workers: usize,
     chunk: usize,
+    gate: &G,
 ) -> Result<Output, RunFault>
     requires some { 1 ≤ chunk }
     requires few { chunk ≤ most_rows_of_chunk }
@@ -72,8 +83,17 @@ fn read_output<V: Read, F: Files>(
         (λ bytes. KnowsFiles (F.file_at files.old) bytes →
         IsOutput bytes (F.file_at files.old) chunk result) }
 {
-    match open_document(alloc, reader, files, chunk) {
-        Ok(opened) => Ok(output(alloc, opened, chunk)?),
+    match open_sources(alloc, reader, files, chunk) {
+        Ok(sourced) => load_output::<Brand, Brand, G, R>(
+            rt,
+            alloc,
+            Blank::new(PARTS_OF_LEDGER),
+            Blank::new(PARTS_OF_LEDGER),
+            &sourced,
+            workers,
+            chunk,
+            gate,
+        ),
         Err(fault) => Err(fault),
     }
 }

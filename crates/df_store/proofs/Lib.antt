@@ -1,8 +1,15 @@
 pub mod ListFacts
 pub mod FirstFacts
+pub mod ShareFacts
+pub mod WorkerFacts
 pub mod TotalsFacts
 pub mod JobFacts
 pub mod OutcomeFacts
 pub mod RowFacts
 pub mod LostFacts
 pub mod ViewFacts
+pub mod CrossingPlans
+pub mod CrossingTrees
+pub mod CrossingNodes
+pub mod CrossingViews
+pub mod Crosses

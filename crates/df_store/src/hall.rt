@@ -22,8 +22,8 @@ use std::sync::{Mutex, MutexGuard, Wait};
 /// A catalogue behind a lock. What is under the lock is a [`Catalogue`], so its state is legal and its
 /// books are those of the state: the lock needs no fact of its own.
 ///
-/// One thread uses it today. A thread shares only what is proved to cross threads, and of a catalogue,
-/// whose joins keep their rows in a tree of `Arc`s, there is no such proof.
+/// Threads share a hall by reference. Each call holds the lock from its first step to its last, so
+/// that calls come one after another, and nobody sees half of a change.
 #[derive(Drop)]
 pub struct Hall<Acc: Ledger, Del: Ledger> {
     catalogue: Mutex<Catalogue<Acc, Del>>,
@@ -40,7 +40,7 @@ pub struct Missing<Acc: Ledger, Del: Ledger> {
     pub frame: usize,
     /// The hall, as it was.
     pub hall: Hall<Acc, Del>,
-    /// The desks that were given, joined to one for each frame of which there was one.
+    /// Everything that the given desks had, in one desk for each frame of which any was given.
     pub desks: Vec<Desk<Acc, Del>>,
 }
 

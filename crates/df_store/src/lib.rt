@@ -1,13 +1,13 @@
-//! A catalogue behind a lock, and loads of it, whose chunks several threads make.
+//! A catalogue behind a lock, and loads of it by several threads.
 //!
-//! A [`Hall`] is a lock round a catalogue. Whoever has a desk of a frame changes the frame through the
-//! hall; [`Hall::close`] gives the catalogue back once the desks account for every row. One thread uses a
-//! hall today: [`Hall`] says why.
+//! A [`Hall`] is a lock round a catalogue, which threads share. Whoever has a desk of a frame changes
+//! the frame through the hall; [`Hall::close`] gives the catalogue back once the desks account for
+//! every row. [`load_all`] runs workers, each with desks of its own: a worker makes its chunks outside
+//! of the lock, and commits them under it.
 #![tactic(auto)]
 
 mod closing;
 mod comparing;
-mod entering;
 mod fault;
 mod findings;
 mod gate;
@@ -15,7 +15,9 @@ mod hall;
 mod jobs;
 mod load;
 mod outcomes;
+mod pool;
 mod refused;
+mod splitting;
 mod totals;
 mod views;
 mod worker;

@@ -10,22 +10,26 @@ ghost use Rattle.df_store.specs.Loads as loads;
 ghost use Rattle.df_store.specs.Refused.{refusal};
 
 use crate::closing::{Unsettled, settle};
-use crate::entering::enter_all;
 use crate::fault::LoadCause;
 use crate::findings::compare;
 use crate::gate::Gate;
 use crate::hall::Hall;
 use crate::jobs::{Outcome, job_count};
+use crate::pool::{WorkerPool, run_pool};
 use crate::refused::Refused;
 use crate::totals::Totals;
-use crate::worker::{Work, make_all};
+use crate::worker::Work;
 use df_catalogue::{Catalogue, Desk};
+use df_claims::Claims;
 use df_plan::CheckedPlan;
 use df_value::{Duplicate, List, Source, Text};
 use std::alloc::{AllocError, Global};
 use std::sync::Wait;
 use std::sync::ledger::Ledger;
 use std::thread::Threads;
+
+// The most workers of a load.
+const MOST_WORKERS: usize = 16;
 
 /// A catalogue that was loaded.
 #[derive(Drop)]
@@ -46,17 +50,21 @@ pub struct LoadFault<Acc: Ledger, Del: Ledger> {
     pub left: Option<(Catalogue<Acc, Del>, Totals)>,
 }
 
-/// Registers copies of the views in the hall, has so many workers make the chunks of the sources, a
-/// source for each frame, commits the good ones, and closes the hall. Each worker does the jobs of its
-/// turns: it passes the gate and makes the chunk of the job. What came of it is compared with the
-/// sources and the views once, after all.
+/// Registers copies of the views in the hall, splits the desks among workers, has these load the
+/// sources, a source for each frame, and closes the hall. There are 1 to 16 workers: of another number
+/// the nearest of these is taken.
+///
+/// Each worker draws one job after another, until none is left. It passes the gate, makes the job's
+/// chunk, and commits it, if it is good, through its own desk of the frame; only the commit holds the
+/// hall's lock. After all workers have ended, what came of the jobs is compared with the sources and
+/// the views, once.
 ///
 /// The causes of a fault are looked for in the order of [`LoadCause`]. A worker that is refused memory
-/// stops, and the others go on; then no chunk enters. A commit that is refused memory ends the load:
-/// the chunks before it have entered.
+/// stops, and the others go on: what has entered is then in [`LoadFault::left`]. A desk of few parts
+/// cannot be split for all workers, and the chunk of a worker without a desk of its frame is lost.
 pub fn load_all<
-    Acc: Ledger,
-    Del: Ledger,
+    Acc: Ledger + Send + Sync,
+    Del: Ledger + Send + Sync,
     S: Source + Sync,
     G: Gate + Sync,
     R: Threads + Wait + Sync,
@@ -90,19 +98,25 @@ pub fn load_all<
     if let Err(cause) = register_all(rt, alloc, &hall, views) {
         return Err(given_up(hall, desks, cause));
     }
+    let jobs = job_count(sources);
+    let Ok((claims, seats)) = Claims::new(alloc, jobs, workers.clamp(1, MOST_WORKERS)) else {
+        return Err(given_up(hall, desks, LoadCause::Memory));
+    };
     let work = Work {
         alloc,
         sources,
         gate,
-        jobs: job_count(sources),
-        workers,
+        jobs,
+        claims: &claims,
+        desks: desks.len(),
     };
-    let Ok(outcomes) = make_all(rt, &work) else {
-        return Err(given_up(hall, desks, LoadCause::Memory));
+    let mut pool = match WorkerPool::new(&work, seats, desks) {
+        Ok(pool) => pool,
+        Err(desks) => return Err(given_up(hall, desks, LoadCause::Memory)),
     };
-    let mut desks = desks;
-    let entered = enter_all(rt, alloc, &hall, &mut desks, sources, outcomes);
-    finish(hall, desks, &work, views, entered)
+    run_pool(rt, &hall, &work, &mut pool);
+    let (desks, outcomes) = pool.end(&work);
+    finish(hall, desks, &work, views, outcomes)
 }
 
 // Registers copies of the views, in their order.

@@ -1,110 +1,124 @@
-//! Workers: threads that make the chunks of jobs.
-ghost use Rattle.std.specs.Prelude.{◌≡◌, [], All, IfOk, OnOk};
-ghost use Rattle.df_store.specs.Jobs.{AreOutcomes, chunks_of};
+//! Workers: threads that make the chunks of jobs, and commit those that are good.
+ghost use Rattle.std.specs.Prelude.{◌≡◌, ◌<◌, ◌++◌, IfOk, IfSome, OnOk, false, length};
+ghost use Rattle.df_claims.specs.Seats.{IsSeatOf};
+ghost use Rattle.df_store.specs.Jobs.{chunks_of};
+ghost use Rattle.df_store.specs.Workers.{IsIdle, IsWorker, frames_and_parts};
 
+use crate::fault::HallFault;
 use crate::gate::Gate;
+use crate::hall::Hall;
 use crate::jobs::{Outcome, make};
-use df_value::Source;
+use df_catalogue::Desk;
+use df_claims::{ClaimSeat, Claims};
+use df_value::{Piece, Source};
 use std::alloc::{AllocError, Global};
-use std::thread;
-use std::thread::Threads;
+use std::sync::Wait;
+use std::sync::ledger::Ledger;
 
-/// What a thread that makes chunks owns: what it has made so far.
+/// What a thread that does jobs owns: its desks, what it draws jobs with, and what it has done so far.
 #[derive(Drop)]
-pub(crate) struct Worker {
+pub(crate) struct Worker<Acc: Ledger, Del: Ledger> {
+    pub(crate) desks: Vec<Desk<Acc, Del>>,
+    seat: ClaimSeat,
     done: Vec<Outcome>,
     // Whether it stopped since it was refused memory.
     stopped: bool,
 }
 
-/// What the workers of a load share.
+/// What the workers of a load share beside the hall.
 ///
-/// The closure that crosses threads captures this alone: with more captures the check finds no proof
-/// that it may cross.
+/// The closure that crosses threads captures this, the hall and the handle alone: with more captures
+/// the check finds no proof that it may cross.
 #[derive(Drop)]
 pub(crate) struct Work<'a, S, G> {
     pub(crate) alloc: Global,
     pub(crate) sources: &'a [S],
     pub(crate) gate: &'a G,
     pub(crate) jobs: u64,
-    pub(crate) workers: usize,
+    /// The numbers of the jobs, each of which one worker draws.
+    pub(crate) claims: &'a Claims,
+    /// The most desks that a worker may have.
+    pub(crate) desks: usize,
 }
 
-// The jobs of one worker: every so many, from a first one on.
-#[derive(Drop)]
-struct Turns {
-    next: u64,
-    step: u64,
-    end: u64,
-}
-
-impl Turns {
-    fn take(&mut self) -> Option<u64> {
-        if self.next >= self.end {
-            return None;
-        }
-        let job = self.next;
-        self.next = self.next.saturating_add(self.step);
-        Some(job)
-    }
-}
-
-impl Worker {
-    fn new(alloc: Global) -> Worker
-        ensures { result.done.items ≡ [] }
+impl<Acc: Ledger, Del: Ledger> Worker<Acc, Del> {
+    /// A worker that has done nothing, and has no desks, but room for as many as it may have.
+    pub(crate) fn idle<S, G>(
+        work: &Work<S, G>,
+        seat: ClaimSeat,
+    ) -> Result<Worker<Acc, Del>, AllocError>
+        requires { IsSeatOf work.now.claims.now seat }
+        ensures { IfOk result (IsIdle work.now.claims.now work.now.desks) }
     {
-        Worker {
-            done: Vec::new(alloc),
+        Ok(Worker {
+            desks: Vec::with_capacity(work.alloc, work.desks)?,
+            seat,
+            done: Vec::new(work.alloc),
             stopped: false,
-        }
+        })
     }
 
-    // Does its jobs, until memory is refused.
-    fn run<S: Source, G: Gate>(&mut self, work: &Work<S, G>, index: usize)
-        requires { AreOutcomes (chunks_of S.made S.start_of work.now.sources.now) self.old.done.items }
-        ensures { AreOutcomes (chunks_of S.made S.start_of work.now.sources.now) self.new.done.items }
+    /// Does the jobs that it draws, until none is left or memory is refused.
+    pub(crate) fn run<S: Source, G: Gate, R: Wait>(
+        &mut self,
+        rt: &R,
+        hall: &Hall<Acc, Del>,
+        work: &Work<S, G>,
+    )
+        requires { IsWorker work.now.claims.now work.now.desks
+            (chunks_of S.made S.start_of work.now.sources.now)
+            self.old }
+        ensures worker { IsWorker work.now.claims.now work.now.desks
+            (chunks_of S.made S.start_of work.now.sources.now)
+            self.new }
+        ensures desks { frames_and_parts self.new.desks.items
+            ≡ frames_and_parts self.old.desks.items }
     {
-        let mut turns = Turns {
-            next: index as u64,
-            step: work.workers as u64,
-            end: work.jobs,
-        };
         for _ in 0..work.jobs {
-            let Some(job) = turns.take() else {
+            let Some(job) = work.claims.next(&mut self.seat) else {
                 return;
             };
-            if self.do_job(work, job).is_err() {
+            if self.do_job(rt, hall, work, job).is_err() {
                 self.stopped = true;
                 return;
             }
         }
     }
 
-    // Passes the gate, makes the job's chunk, and keeps it.
-    fn do_job<S: Source, G: Gate>(&mut self, work: &Work<S, G>, job: u64) -> Result<(), AllocError>
-        requires { AreOutcomes (chunks_of S.made S.start_of work.now.sources.now) self.old.done.items }
-        ensures { AreOutcomes (chunks_of S.made S.start_of work.now.sources.now) self.new.done.items }
+    // Passes the gate, makes the job's chunk, commits it if it is good, and keeps the outcome.
+    fn do_job<S: Source, G: Gate, R: Wait>(
+        &mut self,
+        rt: &R,
+        hall: &Hall<Acc, Del>,
+        work: &Work<S, G>,
+        job: u64,
+    ) -> Result<(), AllocError>
+        requires { IsWorker work.now.claims.now work.now.desks
+            (chunks_of S.made S.start_of work.now.sources.now)
+            self.old }
+        ensures worker { IsWorker work.now.claims.now work.now.desks
+            (chunks_of S.made S.start_of work.now.sources.now)
+            self.new }
+        ensures desks { frames_and_parts self.new.desks.items
+            ≡ frames_and_parts self.old.desks.items }
     {
         work.gate.pass(job);
+        // The room comes first: of each chunk that has entered there is an outcome.
         self.done.reserve(1)?;
-        if let Some(outcome) = make(work.alloc, work.sources, job)? {
+        let Some(outcome) = make(work.alloc, work.sources, job)? else {
+            return Ok(());
+        };
+        if enter(rt, work.alloc, hall, &mut self.desks, &outcome)? {
             self.done.push_reserved(outcome);
         }
         Ok(())
     }
 
-    // Adds what it has done to the others' outcomes, unless it was stopped.
-    fn give_outcomes<S: Source>(
-        &mut self,
-        sources: &[S],
-        all: &mut Vec<Outcome>,
-    ) -> Result<(), AllocError>
-        requires worker { AreOutcomes (chunks_of S.made S.start_of sources.now) self.old.done.items }
-        requires outcomes { AreOutcomes (chunks_of S.made S.start_of sources.now) all.old.items }
-        ensures outcomes { OnOk result
-            (AreOutcomes (chunks_of S.made S.start_of sources.now) all.new.items) }
+    /// Adds what it has done to the others' outcomes, unless it was stopped.
+    pub(crate) fn give_outcomes(&mut self, all: &mut Vec<Outcome>) -> Result<(), AllocError>
+        ensures given { OnOk result (all.new.items ≡ all.old.items ++ self.old.done.items) }
+        ensures running { OnOk result (self.old.stopped ≡ false) }
     {
-        let _ = sources;
         if self.stopped {
             return Err(AllocError);
         }
@@ -113,63 +127,34 @@ impl Worker {
     }
 }
 
-/// What the workers make of the jobs, each in a thread if one can be started, once all have ended; or
-/// that one of them was refused memory. That one stops, and the others go on.
-pub(crate) fn make_all<S: Source + Sync, G: Gate + Sync, R: Threads + Sync>(
+// Commits a good chunk through a desk of its frame, and tells whether the outcome stands: that of a
+// bad chunk does, which changes nothing. It does not where the catalogue refuses the chunk, or no desk
+// here is of its frame.
+fn enter<Acc: Ledger, Del: Ledger, R: Wait>(
     rt: &R,
-    work: &Work<S, G>,
-) -> Result<Vec<Outcome>, AllocError>
-    ensures { IfOk result (λ os.
-        AreOutcomes (chunks_of S.made S.start_of work.now.sources.now) os.items) }
-{
-    let mut crew = crew_of(work.alloc, work.workers)?;
-    run_workers(rt, work, crew.as_mut_slice());
-    outcomes_of(work.alloc, work.sources, crew)
-}
-
-// So many workers that have done nothing.
-fn crew_of(alloc: Global, workers: usize) -> Result<Vec<Worker>, AllocError>
-    ensures { IfOk result (λ crew. All (λ w. w.done.items ≡ []) crew.items) }
-{
-    let mut crew = Vec::with_capacity(alloc, workers)?;
-    for _ in 0..workers {
-        crew.push(Worker::new(alloc))?;
-    }
-    Ok(crew)
-}
-
-// Runs the workers, each in a thread if one can be started, and returns when all have ended.
-fn run_workers<S: Source + Sync, G: Gate + Sync, R: Threads + Sync>(
-    rt: &R,
-    work: &Work<S, G>,
-    crew: &mut [Worker],
-)
-    requires { All (λ w. AreOutcomes (chunks_of S.made S.start_of work.now.sources.now) w.done.items)
-        crew.old }
-    ensures { All (λ w. AreOutcomes (chunks_of S.made S.start_of work.now.sources.now) w.done.items)
-        crew.new }
-{
-    if crew.is_empty() {
-        return;
-    }
-    let threads = crew.len();
-    thread::for_each_mut(rt, crew, threads, &|index, worker| worker.run(work, index));
-}
-
-// All that the workers have done, if none of them was refused memory.
-fn outcomes_of<S: Source>(
     alloc: Global,
-    sources: &[S],
-    crew: Vec<Worker>,
-) -> Result<Vec<Outcome>, AllocError>
-    requires { All (λ w. AreOutcomes (chunks_of S.made S.start_of sources.now) w.done.items)
-        crew.items }
-    ensures { IfOk result (λ os. AreOutcomes (chunks_of S.made S.start_of sources.now) os.items) }
+    hall: &Hall<Acc, Del>,
+    desks: &mut Vec<Desk<Acc, Del>>,
+    outcome: &Outcome,
+) -> Result<bool, AllocError>
+    ensures { frames_and_parts desks.new.items ≡ frames_and_parts desks.old.items }
 {
-    let mut all = Vec::new(alloc);
-    for worker in crew {
-        let mut worker = worker;
-        worker.give_outcomes(sources, &mut all)?;
+    let Piece::Good(chunk) = &outcome.made else {
+        return Ok(true);
+    };
+    let Some(at) = desk_of(desks.as_slice(), outcome.frame) else {
+        return Ok(false);
+    };
+    match hall.commit_chunk(rt, alloc, &mut desks[at], chunk) {
+        Ok(()) => Ok(true),
+        Err(HallFault::Refused(_)) => Ok(false),
+        Err(HallFault::Memory) => Err(AllocError),
     }
-    Ok(all)
+}
+
+// The place of the first desk of a frame.
+fn desk_of<Acc: Ledger, Del: Ledger>(desks: &[Desk<Acc, Del>], frame: usize) -> Option<usize>
+    ensures { IfSome result (λ at. at < length desks.now) }
+{
+    desks.iter().position(|desk| desk.frame() == frame)
 }

@@ -3,7 +3,7 @@ ghost use Rattle.std.specs.Prelude.{if◌then◌else◌};
 ghost use Rattle.std.specs.Str.{bytes_eq};
 ghost use Rattle.df_app.specs.declared.files.FileState.TheVariants as known;
 
-use df_app::{Files, Outcome, RunFault, run};
+use df_app::{Files, OpenGate, Outcome, RunFault, run};
 use df_csv::CsvFault;
 use df_value::Text;
 use std::test::Fail;
@@ -42,7 +42,16 @@ fn a_run_over_memory(rt: HostRuntime) -> Result<(), Fail> {
     };
     let mut input = DOCUMENT.as_bytes();
     let mut output = Vec::new(alloc);
-    let outcome = run(alloc, &mut input, &mut files, 1, 2, &mut output);
+    let outcome = run(
+        &rt,
+        alloc,
+        &mut input,
+        &mut files,
+        2,
+        2,
+        &OpenGate,
+        &mut output,
+    );
     assert!(rt; outcome == Ok(Outcome::Refused));
     let want = "t (1 x 1)\nx\n7\n\nrefused t 0: record 2, column x\n";
     assert!(rt; output.as_slice() == want.as_bytes());
@@ -58,7 +67,16 @@ fn a_run_over_an_absent_file(rt: HostRuntime) -> Result<(), Fail> {
     };
     let mut input = DOCUMENT.as_bytes();
     let mut output = Vec::new(alloc);
-    let outcome = run(alloc, &mut input, &mut files, 1, 2, &mut output);
+    let outcome = run(
+        &rt,
+        alloc,
+        &mut input,
+        &mut files,
+        2,
+        2,
+        &OpenGate,
+        &mut output,
+    );
     let name = Text::from_str(alloc, "t")?;
     assert!(rt; outcome == Err(RunFault::Csv(name, CsvFault::ReadFault)));
     assert!(rt; output.is_empty());

@@ -2,6 +2,7 @@
 //! standard output.
 #![tactic(auto)]
 
+mod progress;
 mod system_files;
 
 ghost use Rattle.std.specs.Prelude.{◌≤◌};
@@ -9,15 +10,18 @@ ghost use Rattle.df_value.specs.Limits.{most_rows_of_chunk};
 
 use clap::error::ErrorKind;
 use df_app::{Outcome, RunFault, Words, fault_text, run, words};
+use progress::Progress;
 use std::alloc::AllocError;
 use std::io::Read;
 use std::process::ExitCode;
+use std::sync::Wait;
+use std::thread::Threads;
 use std::{env, io};
 use system_files::{SystemFiles, open};
 
 fn main(rt: HostRuntime) -> ExitCode {
     match env::args(&rt) {
-        Ok(arguments) => match run_arguments(&rt, arguments) {
+        Ok(arguments) => match run_arguments(&rt, &rt, arguments) {
             Ok(code) => code,
             Err(_) => report(&rt, &RunFault::Memory),
         },
@@ -25,19 +29,24 @@ fn main(rt: HostRuntime) -> ExitCode {
     }
 }
 
-// The first argument is the program's name.
-fn run_arguments(rt: &HostRuntime, arguments: env::Args) -> Result<ExitCode, AllocError> {
+// The first argument is the program's name. `threads` is the runtime once more, which `main` alone can hand on as what
+// starts threads.
+fn run_arguments<R: Threads + Wait + Sync>(
+    rt: &HostRuntime,
+    threads: &R,
+    arguments: env::Args,
+) -> Result<ExitCode, AllocError> {
     let arguments: Vec<String> = arguments.skip(1).collect(rt.alloc())?;
     let line: Vec<&str> = arguments
         .iter()
         .map(|word| word.as_str())
         .collect(rt.alloc())?;
-    Ok(run_line(rt, line.as_slice()))
+    Ok(run_line(rt, threads, line.as_slice()))
 }
 
-fn run_line(rt: &HostRuntime, line: &[&str]) -> ExitCode {
+fn run_line<R: Threads + Wait + Sync>(rt: &HostRuntime, threads: &R, line: &[&str]) -> ExitCode {
     match words(rt.alloc(), line) {
-        Ok(words) => match run_words(rt, words) {
+        Ok(words) => match run_words(rt, threads, words) {
             Ok(Outcome::Clean) => ExitCode::from(0),
             Ok(Outcome::Refused) => ExitCode::from(1),
             Err(fault) => report(rt, &fault),
@@ -47,7 +56,11 @@ fn run_line(rt: &HostRuntime, line: &[&str]) -> ExitCode {
 }
 
 // A view document that cannot be opened is one that cannot be read.
-fn run_words(rt: &HostRuntime, words: Words<'_>) -> Result<Outcome, RunFault>
+fn run_words<R: Threads + Wait + Sync>(
+    rt: &HostRuntime,
+    threads: &R,
+    words: Words<'_>,
+) -> Result<Outcome, RunFault>
     requires some_workers { 1 ≤ words.workers }
     requires few_workers { words.workers ≤ 16 }
     requires some { 1 ≤ words.chunk }
@@ -55,15 +68,16 @@ fn run_words(rt: &HostRuntime, words: Words<'_>) -> Result<Outcome, RunFault>
 {
     match words.views {
         Some(path) => match open(rt, path) {
-            Some(mut file) => run_reader(rt, &mut file, words),
+            Some(mut file) => run_reader(rt, threads, &mut file, words),
             None => Err(RunFault::ReadFault),
         },
-        None => run_reader(rt, &mut rt.stdin(), words),
+        None => run_reader(rt, threads, &mut rt.stdin(), words),
     }
 }
 
-fn run_reader<V: Read>(
+fn run_reader<V: Read, R: Threads + Wait + Sync>(
     rt: &HostRuntime,
+    threads: &R,
     reader: &mut V,
     words: Words<'_>,
 ) -> Result<Outcome, RunFault>
@@ -75,11 +89,13 @@ fn run_reader<V: Read>(
     let mut files = SystemFiles { rt };
     let mut output = rt.stdout();
     run(
+        threads,
         rt.alloc(),
         reader,
         &mut files,
         words.workers,
         words.chunk,
+        &Progress::new(rt),
         &mut output,
     )
 }

@@ -1,8 +1,6 @@
-use Rattle.std.proofs.Common.{◌≡◌, ◌++◌, drop, map}
-use Rattle.df_app.specs.Output.{paired, printed_view}
+use Rattle.std.proofs.Common.{◌≡◌, map, take}
+use Rattle.df_app.specs.Loading.{printed_in}
 use Rattle.df_app.proofs.output.print_views.Given as goal
 
-abbrev pub invariant-loop-i : goal.invariant-loop-i
-invariant-loop-i l =
-    map (printed_view l.frames) (paired l.views l.plans)
-    ≡ l.tables.items ++ map (printed_view l.frames) (paired (drop l.i l.views) (drop l.i l.plans))
+abbrev pub invariant-loop-view : goal.invariant-loop-view
+invariant-loop-view g l = l.tables.items ≡ map (printed_in l.catalogue.state) (take l.view-index l.views)

@@ -1,15 +1,6 @@
-use Rattle.std.proofs.Common.{◌≡◌, ℕ, List, [], drop, length}
-use Rattle.df_app.specs.Output.{AreKnown, MayFail, results_after, pieces_in}
+use Rattle.std.proofs.Common.{◌≡◌, take}
+use Rattle.df_app.specs.Loading.{pieces_of_sources}
 use Rattle.df_app.proofs.pieces.all_pieces.Given as goal
 
-abbrev pub invariant-loop-frame : goal.invariant-loop-frame
-invariant-loop-frame g l = record {
-  same : g.F.Files.file_at l.files ≡ g.F.Files.file_at l.initial.files;
-  so_far : AreKnown (g.F.Files.file_at l.initial.files) l.frames →
-      results_after (pieces_in (g.F.Files.file_at l.initial.files) l.chunk) [] l.frames
-      ≡ results_after (pieces_in (g.F.Files.file_at l.initial.files) l.chunk) l.all.items (drop l.frame-index l.frames);
-  may_fail : AreKnown (g.F.Files.file_at l.initial.files) l.frames →
-      (name : List ℕ) → MayFail (g.F.Files.file_at l.initial.files) l.chunk (drop l.frame-index l.frames) name →
-      MayFail (g.F.Files.file_at l.initial.files) l.chunk l.frames name;
-  each : length l.all.items ≡ l.frame-index;
-}
+abbrev pub invariant-loop-source : goal.invariant-loop-source
+invariant-loop-source l = l.all.items ≡ pieces_of_sources (take l.source-index l.sources)

@@ -1,6 +1,6 @@
 use Rattle.std.proofs.Common.{◌≡◌, take}
-use Rattle.df_csv.specs.Typed.{pieces_of}
+use Rattle.df_csv.specs.Sources.{chunks_of}
 use Rattle.df_app.proofs.pieces.pieces.Given as goal
 
 abbrev pub invariant-loop-n : goal.invariant-loop-n
-invariant-loop-n l = l.out.items ≡ take l.n (pieces_of l.schema l.chunk l.records)
+invariant-loop-n l = l.out.items ≡ take l.n (chunks_of l.source)

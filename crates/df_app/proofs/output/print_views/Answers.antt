@@ -1,8 +1,0 @@
-use Rattle.std.proofs.Common.{add-one, append_assoc, arith}
-use Rattle.df_app.proofs.PlaceFacts.{paired-drop}
-use Rattle.df_app.proofs.output.print_views.Goals as goal
-
-pub loop-i-preserved : goal.loop-i-preserved
-loop-i-preserved c =
-    let next = paired-drop c.args.views.now c.args.plans.now c.loop-i.i c.index-views-i.result c.index-plans-i.result (omega arith) (omega arith) c.index-views-i.is c.index-plans-i.is in
-    rw (add-one, c.in_ok-push.ensures.items, append_assoc, c.in_ok-print_view.ensures) (rw next at c.loop-i.invariant)

@@ -1,0 +1,10 @@
+use Rattle.df_app.proofs.LoadedOutput.{gave_run, left_by_run}
+use Rattle.df_app.proofs.running.read_output.Goals as goal
+
+pub returns-in-Ok-clause-value : goal.returns-in-Ok-clause-value
+returns-in-Ok-clause-value g c =
+    gave_run (g.V.Read.remaining c.args.reader.now) (g.F.Files.file_at c.args.files.now) c.args.chunk c.in-Ok.sourced c.load_output.result
+    c.in-Ok.ensures.value c.in-Ok.ensures.sources c.in-Ok.ensures.each c.load_output.ensures.output c.load_output.ensures.fault
+
+pub returns-in-Ok-clause-untouched : goal.returns-in-Ok-clause-untouched
+returns-in-Ok-clause-untouched g c = left_by_run _ _ c.load_output.result c.load_output.ensures.fault

@@ -1,0 +1,104 @@
+-- A document with a source of each frame's records, and what a run writes of the catalogue that they were loaded into.
+use Rattle.std.specs.Prelude.{◌≡◌, ◌≤◌, ℕ, List, [], ◌∷◌, ◌++◌, length, map, codes, filter_map, flat_map, slice_get, Option, Some, None, Result, Ok, Err}
+use Rattle.std.specs.List.{join_by}
+use Rattle.df_value.specs.Limits.{most_rows_of_frame}
+use Rattle.df_value.specs.declared.cell.Cell.{Cell}
+use Rattle.df_value.specs.declared.chunk.Piece.{Piece}
+use Rattle.df_csv.specs.Sources as csv_sources
+use Rattle.df_csv.specs.Sources.{CsvParts}
+use Rattle.df_plan.specs.CheckedParts.{CheckedParts}
+use Rattle.df_print.specs.Printed.{printed}
+use Rattle.df_catalogue.specs.declared.fault.CatalogueFault.{CatalogueFault}
+use Rattle.df_catalogue.specs.declared.state.State.{State}
+use Rattle.df_catalogue.specs.Reads.{view_rows_of}
+use Rattle.df_catalogue.specs.States.{IsLegal}
+use Rattle.df_store.specs.declared.refused.Refused.{Refused}
+use Rattle.df_store.specs.Jobs as jobs
+use Rattle.df_store.specs.Loaded.{AreLoaded}
+use Rattle.df_store.specs.Loads.{headings_of}
+use Rattle.df_store.specs.Refused.{refusal}
+use Rattle.df_text.specs.declared.document.FrameSpec.{FrameSpec}
+use Rattle.df_text.specs.declared.document.ViewSpec.{ViewSpec}
+use Rattle.df_app.specs.Output.{paired, refused_block, refused_line}
+use Rattle.df_app.specs.declared.fault.RunFault.{RunFault}
+use Rattle.df_app.specs.declared.opening.OpenedDocument.{OpenedDocument}
+use Rattle.df_app.specs.declared.opening.SourcedDocument.{SourcedDocument}
+use Rattle.df_app.specs.declared.outcome.Outcome.{Outcome}
+use Rattle.df_app.specs.declared.outcome.Outcome.TheVariants as outcome
+use Rattle.df_app.specs.declared.outcome.Output.{Output}
+
+-- the pieces that sources make
+abbrev pub pieces_of_sources : List CsvParts → List (List Piece)
+pieces_of_sources sources = map csv_sources.chunks_of sources
+
+-- a document with these sources, opened
+abbrev pub opened_with : SourcedDocument → OpenedDocument
+opened_with d = record { document = d.document; plans = d.plans; pieces = pieces_of_sources d.sources }
+
+-- or the fault
+abbrev pub opened_by : Result SourcedDocument RunFault → Result OpenedDocument RunFault
+opened_by (Ok d) = Ok (opened_with d)
+opened_by (Err f) = Err f
+
+-- the pieces of the sources, or the fault
+abbrev pub pieces_by : Result (List CsvParts) RunFault → Result (List (List Piece)) RunFault
+pieces_by (Ok sources) = Ok (pieces_of_sources sources)
+pieces_by (Err f) = Err f
+
+-- the pieces of one source, or the fault
+abbrev pub pieces_by_one : Result CsvParts RunFault → Result (List Piece) RunFault
+pieces_by_one (Ok source) = Ok (csv_sources.chunks_of source)
+pieces_by_one (Err f) = Err f
+
+-- a source whose pieces have so many records, and that has no more of them than a frame accepts
+pub record IsSourceOf (chunk : ℕ) (source : CsvParts) : Type 0 where
+  pub size : source.size ≡ chunk
+  pub few : length source.records ≤ most_rows_of_frame
+
+-- the views of a document by name and plan
+abbrev pub headings_in : List ViewSpec → List CheckedParts → List (List ℕ × CheckedParts)
+headings_in views plans = map (λ v. (v.0.name, v.1)) (paired views plans)
+
+-- the jobs of sources
+abbrev pub jobs_of_sources : List CsvParts → List (ℕ × (ℕ × Piece))
+jobs_of_sources sources = jobs.jobs_of (jobs.chunks_of csv_sources.chunks_of csv_sources.start_of sources)
+
+abbrev pub rows_or_none : Result (List (List Cell)) CatalogueFault → List (List Cell)
+rows_or_none (Ok rows) = rows
+rows_or_none (Err f) = []
+
+-- the printed table that a state has under the name of a view
+abbrev pub printed_in : State → List ℕ × CheckedParts → List ℕ
+printed_in s view = printed view.0 view.1.schema (rows_or_none (view_rows_of s view.0))
+
+abbrev pub line_in_frame : Refused → Option FrameSpec → List ℕ
+line_in_frame r None = []
+line_in_frame r (Some frame) = refused_line frame (r.first, r.cell)
+
+-- the line of a chunk that was refused
+abbrev pub line_of : List FrameSpec → Refused → List ℕ
+line_of frames r = line_in_frame r (slice_get frames r.frame)
+
+-- the tables of a state and the lines of the refused chunks
+abbrev pub text_of_load : State → List FrameSpec → List (List ℕ × CheckedParts) → List Refused → List ℕ
+text_of_load s frames views refused =
+    join_by (λ block. block) (codes "\n") (map (printed_in s) views ++ refused_block (flat_map (line_of frames) refused))
+
+abbrev pub outcome_of_load : List Refused → Outcome
+outcome_of_load [] = outcome.Clean
+outcome_of_load (r ∷ rs) = outcome.Refused
+
+-- a state into which the sources of a document were loaded with its views, and the chunks that were refused
+pub record IsLoadOf (d : SourcedDocument) (s : State) (refused : List Refused) : Type 0 where
+  pub legal : IsLegal s
+  pub loaded : AreLoaded (jobs_of_sources d.sources) s
+  pub views : headings_of s ≡ headings_in d.document.views d.plans
+  pub left_out : refused ≡ filter_map refusal (jobs_of_sources d.sources)
+
+-- what is written of such a state
+pub record IsOutputOfLoad (d : SourcedDocument) (o : Output) : Type 0 where
+  pub state : State
+  pub refused : List Refused
+  pub load : IsLoadOf d state refused
+  pub text : o.text ≡ text_of_load state d.document.frames (headings_in d.document.views d.plans) refused
+  pub ends : o.outcome ≡ outcome_of_load refused

@@ -1,0 +1,132 @@
+//! The loading of a document: workers bring the chunks of its sources into a hall.
+ghost use Rattle.std.specs.Prelude.{◌≡◌, ◌≤◌, All, IfErr, IfOk, length, true};
+ghost use Rattle.df_value.specs.Limits as limits;
+ghost use Rattle.df_value.specs.Schemas.{is_base};
+ghost use Rattle.df_catalogue.specs.Desks as desks_spec;
+ghost use Rattle.df_catalogue.specs.Ledgers as ledgers;
+ghost use Rattle.df_text.specs.Document.{IsDocument};
+ghost use Rattle.df_app.specs.Loading.{IsOutputOfLoad, IsSourceOf, headings_in};
+ghost use Rattle.df_app.specs.Ran.{IsFaultOfLoad};
+
+use crate::fault::RunFault;
+use crate::opening::{SourcedDocument, copy_schemas};
+use crate::outcome::Output;
+use crate::output::output;
+use df_catalogue::{Desk, NewFault};
+use df_plan::CheckedPlan;
+use df_store::{Gate, Hall, LoadCause, load_all};
+use df_text::{FrameSpec, ViewSpec};
+use df_value::{Duplicate, List, Text};
+use std::alloc::{AllocError, Global};
+use std::sync::Wait;
+use std::sync::ledger::{Blank, Ledger};
+use std::thread::Threads;
+
+/// Loads the sources of a document by so many workers, each of which passes the gate before it makes
+/// a chunk, and gives what a run writes.
+pub(crate) fn load_output<
+    Acc: Ledger + Send + Sync,
+    Del: Ledger + Send + Sync,
+    G: Gate + Sync,
+    R: Threads + Wait + Sync,
+>(
+    rt: &R,
+    alloc: Global,
+    accepted: Blank,
+    deleted: Blank,
+    sourced: &SourcedDocument,
+    workers: usize,
+    chunk: usize,
+    gate: &G,
+) -> Result<Output, RunFault>
+    requires accepted_name { accepted.name ≡ Acc.name }
+    requires accepted_parts { (accepted.parts ≡ Acc.parts)
+        × (accepted.parts ≡ ledgers.parts_of_ledger) }
+    requires deleted_name { deleted.name ≡ Del.name }
+    requires deleted_parts { (deleted.parts ≡ Del.parts)
+        × (deleted.parts ≡ ledgers.parts_of_ledger) }
+    requires sound { IsDocument sourced.now.document }
+    requires plans { length sourced.now.plans ≡ length sourced.now.document.views }
+    requires sources { length sourced.now.sources ≡ length sourced.now.document.frames }
+    requires some { 1 ≤ chunk }
+    requires each { All (IsSourceOf chunk) sourced.now.sources }
+    ensures output { IfOk result (IsOutputOfLoad sourced.now) }
+    ensures fault { IfErr result IsFaultOfLoad }
+{
+    let frames = sourced.document.frames.as_slice();
+    let (hall, desks) = open_hall::<Acc, Del>(alloc, accepted, deleted, frames)?;
+    let views = headings(
+        alloc,
+        sourced.document.views.as_slice(),
+        sourced.plans.as_slice(),
+    )?;
+    let sources = sourced.sources.as_slice();
+    match load_all(
+        rt,
+        alloc,
+        hall,
+        desks,
+        views.as_slice(),
+        sources,
+        workers,
+        gate,
+    ) {
+        Ok(loaded) => Ok(output(alloc, frames, views.as_slice(), &loaded)?),
+        Err(fault) => Err(fault_of_load(fault.cause)),
+    }
+}
+
+// A hall over empty frames, with the first desk of each. To so few frames of base types nothing but
+// memory is refused.
+fn open_hall<Acc: Ledger, Del: Ledger>(
+    alloc: Global,
+    accepted: Blank,
+    deleted: Blank,
+    frames: &[FrameSpec],
+) -> Result<(Hall<Acc, Del>, Vec<Desk<Acc, Del>>), AllocError>
+    requires accepted_name { accepted.name ≡ Acc.name }
+    requires accepted_parts { (accepted.parts ≡ Acc.parts)
+        × (accepted.parts ≡ ledgers.parts_of_ledger) }
+    requires deleted_name { deleted.name ≡ Del.name }
+    requires deleted_parts { (deleted.parts ≡ Del.parts)
+        × (deleted.parts ≡ ledgers.parts_of_ledger) }
+    requires few { length frames.now ≤ limits.most_frames }
+    requires base { All (λ f. is_base f.schema ≡ true) frames.now }
+    ensures desks { IfOk result (λ made.
+        made.1.items ≡ desks_spec.first_desks (length frames.now)) }
+{
+    let schemas = List::from_vec(copy_schemas(alloc, frames)?);
+    match Hall::new(alloc, accepted, deleted, schemas) {
+        Ok(made) => Ok(made),
+        Err(NewFault::Memory) => Err(AllocError),
+        Err(NewFault::TooManyFrames) => unreachable!(),
+        Err(NewFault::DerivedType(_)) => unreachable!(),
+    }
+}
+
+// The views by name and plan.
+fn headings(
+    alloc: Global,
+    views: &[ViewSpec],
+    plans: &[CheckedPlan],
+) -> Result<Vec<(Text, CheckedPlan)>, AllocError>
+    requires { length plans.now ≡ length views.now }
+    ensures { IfOk result (λ out. out.items ≡ headings_in views.now plans.now) }
+{
+    let mut out = Vec::with_capacity(alloc, views.len())?;
+    for i in 0..views.len() {
+        let name = views[i].name.copy(alloc)?;
+        let plan = plans[i].copy(alloc)?;
+        out.push((name, plan))?;
+    }
+    Ok(out)
+}
+
+fn fault_of_load(cause: LoadCause) -> RunFault
+    ensures { IsFaultOfLoad result }
+{
+    match cause {
+        LoadCause::Memory => RunFault::Memory,
+        cause => RunFault::Load(cause),
+    }
+}

@@ -1,0 +1,5 @@
+pub mod Sums
+pub mod Keeping
+pub mod Drawing
+pub mod Cutting
+pub mod Crosses

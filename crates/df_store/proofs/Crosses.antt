@@ -1,0 +1,23 @@
+-- Threads may share a hall: its catalogue may go to another thread, and a lock is shared where its contents may go.
+use denote.RattleType.{RattleType}
+use denote.Param.Send.{IsSend, IsSync, sendable}
+use Rattle.std.specs.declared.sync.ledger.Ledger.{Ghosts}
+use Rattle.std.proofs.Crossing.{crosses}
+use Rattle.std.proofs.sync.ledger.Book.TheSendSync as book
+use Rattle.std.proofs.sync.ledger.Share.TheSendSync as share
+use Rattle.df_value.proofs.text.Text.TheSendSync as text
+use Rattle.df_catalogue.specs.contracts.views.View as View
+use Rattle.df_catalogue.specs.contracts.catalogue.Catalogue as Catalogue
+use Rattle.df_catalogue.proofs.frame.Frame.TheSendSync as frame
+use Rattle.df_store.specs.contracts.hall.Hall as Hall
+use Rattle.df_store.proofs.CrossingViews.{live_send}
+
+view_send : IsSend (View.the_field).row
+view_send = let l = live_send in search (sendable, crosses, text.the_send) depth 20
+
+module _ (A D : RattleType) (a : Ghosts A.Denot) (d : Ghosts D.Denot) where
+  pub catalogue_send : IsSend (Catalogue.the_row A D a d)
+  catalogue_send = let v = view_send in search (sendable, crosses, frame.the_send, book.the_send, share.the_send) depth 40
+
+  pub hall_sync : IsSync (Hall.the_row A D a d)
+  hall_sync = let c = catalogue_send in search (sendable, crosses) depth 20

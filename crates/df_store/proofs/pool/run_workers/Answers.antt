@@ -1,0 +1,19 @@
+use denote.Param.{param}
+use denote.Param.Send.{sendable}
+use Rattle.df_store.proofs.Crosses.{hall_sync}
+use Rattle.df_store.proofs.worker.Work.TheSendSync as shared
+use Rattle.std.proofs.Common.{rules}
+use Rattle.df_store.proofs.WorkerFacts.{same-parts}
+use Rattle.df_store.proofs.pool.run_workers.Goals as goal
+
+pub for_each_mut-requires-sync-F : goal.for_each_mut-requires-sync-F
+for_each_mut-requires-sync-F g c κs within =
+    let hall = hall_sync (param 0 g.row.Acc) (param 1 g.row.Del) g.Acc.Ledger g.Del.Ledger in
+    let b = c.type_bounds in
+    search (sendable, shared.the_sync) depth 20
+
+pub returns-clause-desks : goal.returns-clause-desks
+returns-clause-desks g c =
+    same-parts c.args.workers.now c.for_each_mut.new.s c.for_each_mut.auto.s (λ i d h.
+    let each = c.for_each_mut.ensures i d h in
+    search rules)

@@ -1,5 +1,0 @@
-use Rattle.df_store.specs.Jobs.{AreOutcomes, chunks_of}
-use Rattle.df_store.proofs.worker.outcomes_of.Given as goal
-
-abbrev pub invariant-loop-worker : goal.invariant-loop-worker
-invariant-loop-worker g l = AreOutcomes (chunks_of g.S.Source.made g.S.Source.start_of l.sources) l.all.items
