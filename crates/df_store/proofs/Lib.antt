@@ -2,6 +2,7 @@ pub mod ListFacts
 pub mod FirstFacts
 pub mod ShareFacts
 pub mod WorkerFacts
+pub mod CountFacts
 pub mod TotalsFacts
 pub mod JobFacts
 pub mod OutcomeFacts

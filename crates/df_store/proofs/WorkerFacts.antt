@@ -12,7 +12,7 @@ use Rattle.df_claims.specs.Seats.{ClaimsView}
 use Rattle.df_value.specs.declared.chunk.Piece.{Piece}
 use Rattle.df_store.specs.Closing.{HaveSameSums}
 use Rattle.df_store.specs.Jobs.{AreOutcomes, IsOutcome}
-use Rattle.df_store.specs.Workers.{HasNotBegun, IsIdle, IsWorker, desks_of, frame_and_parts, frames_and_parts, outcomes_in}
+use Rattle.df_store.specs.Workers.{HasNotBegun, IsIdle, IsWorker, all_without_accepted, desks_of, outcomes_in, without_accepted}
 use Rattle.df_store.proofs.ListFacts.{take-more}
 
 -- a list that was lent whole, put back
@@ -83,19 +83,19 @@ gathered-set f [] i x d h e = refl
 gathered-set f (y ∷ ys) zero x d h e = ap (λ zs. zs ++ flat_map f ys) e
 gathered-set f (y ∷ ys) (suc i) x d h e = ap (λ zs. f y ++ zs) (gathered-set f ys i x d (omega (arith, h)) e)
 
--- workers of which each has desks of the same frames and parts as before
-pub same-parts :
+-- workers whose desks each stay, but for what was accepted
+pub same-desks :
     {A D : Type 0} (was now : List (Worker A D)) → length now ≡ length was →
-    ((i : ℕ) (d : Worker A D) → i < length was → frames_and_parts (get_or now i d).desks.items ≡ frames_and_parts (get_or was i d).desks.items) →
-    frames_and_parts (desks_of now) ≡ frames_and_parts (desks_of was)
-same-parts [] [] len each = refl
-same-parts [] (w ∷ now) len each = absurd (omega (arith, len))
-same-parts (v ∷ was) [] len each = absurd (omega (arith, len))
-same-parts (v ∷ was) (w ∷ now) len each =
-    map-append frame_and_parts w.desks.items (desks_of now)
-    ∙ (ap (λ ps. ps ++ frames_and_parts (desks_of now)) (each 0 w (omega arith))
-    ∙ (ap (λ ps. frames_and_parts v.desks.items ++ ps) (same-parts was now (omega (arith, len)) (λ i d h. each (suc i) d (omega (arith, h))))
-    ∙ sym (map-append frame_and_parts v.desks.items (desks_of was))))
+    ((i : ℕ) (d : Worker A D) → i < length was → all_without_accepted (get_or now i d).desks.items ≡ all_without_accepted (get_or was i d).desks.items) →
+    all_without_accepted (desks_of now) ≡ all_without_accepted (desks_of was)
+same-desks [] [] len each = refl
+same-desks [] (w ∷ now) len each = absurd (omega (arith, len))
+same-desks (v ∷ was) [] len each = absurd (omega (arith, len))
+same-desks (v ∷ was) (w ∷ now) len each =
+    map-append without_accepted w.desks.items (desks_of now)
+    ∙ (ap (λ ds. ds ++ all_without_accepted (desks_of now)) (each 0 w (omega arith))
+    ∙ (ap (λ ds. all_without_accepted v.desks.items ++ ds) (same-desks was now (omega (arith, len)) (λ i d h. each (suc i) d (omega (arith, h))))
+    ∙ sym (map-append without_accepted v.desks.items (desks_of was))))
 
 -- what workers have done are outcomes
 pub all-outcomes :
@@ -173,3 +173,10 @@ ready-workers {A = A} {D = D} claims most chunks ws now seats room same begun ma
   subst (λ (vs : List (Worker A D)). All (IsWorker claims most chunks) vs) (sym same) (begun-workers claims most chunks now begun),
   subst (λ n. n * most ≤ room) (sym (ap length same ∙ many)) fits,
 )
+
+-- workers that have not begun have done nothing
+pub nothing-done : {A D : Type 0} (claims : ClaimsView) (most : ℕ) (ws : List (Worker A D)) → All (HasNotBegun claims most) ws → outcomes_in ws ≡ []
+nothing-done claims most [] begun = refl
+nothing-done claims most (w ∷ ws) begun =
+    ap (λ os. os ++ outcomes_in ws) (begun zero w (omega arith)).done
+    ∙ nothing-done claims most ws (λ k d h. begun (suc k) d (omega (arith, h)))

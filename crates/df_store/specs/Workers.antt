@@ -1,11 +1,13 @@
 -- Workers: what each of them holds, and the desks of all of them.
-use Rattle.std.specs.Prelude.{◌≡◌, ◌≤◌, ◌*◌, ℕ, All, List, [], flat_map, length, map, vec_capacity}
+use Rattle.std.specs.Prelude.{◌≡◌, ◌≤◌, ◌+◌, ◌*◌, ◌==◌, ℕ, All, List, [], flat_map, if◌then◌else◌, length, map, sum_by, vec_capacity}
 use Rattle.df_catalogue.specs.Desks.{DeskParts}
 use Rattle.df_claims.specs.Seats.{ClaimsView, IsSeatOf}
 use Rattle.df_value.specs.declared.chunk.Piece.{Piece}
+use Rattle.df_value.specs.declared.chunk.Piece.TheVariants.{Bad, Good}
 use Rattle.df_store.specs.declared.jobs.Outcome.{Outcome}
 use Rattle.df_store.specs.declared.pool.WorkerPool.{WorkerPool}
 use Rattle.df_store.specs.declared.worker.Worker.{Worker}
+use Rattle.df_store.specs.Closing.{accepted_at}
 use Rattle.df_store.specs.Jobs.{AreOutcomes}
 
 -- a worker draws jobs from these claims, has at most so many desks, and what it has done are outcomes of jobs
@@ -35,12 +37,26 @@ desks_of ws = flat_map (λ w. w.desks.items) ws
 abbrev pub outcomes_in : {A D : Type 0} → List (Worker A D) → List Outcome
 outcomes_in ws = flat_map (λ w. w.done.items) ws
 
--- the frame of a desk and its parts, which stay where a chunk is committed through it
-abbrev pub frame_and_parts : DeskParts → ℕ × ℕ
-frame_and_parts d = (d.frame, d.parts)
+-- a desk but for how many rows were accepted through it: where a chunk is committed, this stays
+abbrev pub without_accepted : DeskParts → DeskParts
+without_accepted d = record d { accepted = 0 }
 
-abbrev pub frames_and_parts : List DeskParts → List (ℕ × ℕ)
-frames_and_parts desks = map frame_and_parts desks
+abbrev pub all_without_accepted : List DeskParts → List DeskParts
+all_without_accepted desks = map without_accepted desks
+
+-- how many rows a chunk has, if it is good
+abbrev pub rows_of : Piece → ℕ
+rows_of (Good c) = length c.rows
+rows_of (Bad b) = 0
+
+-- how many rows these outcomes brought into a frame
+abbrev pub entered_at : ℕ → List Outcome → ℕ
+entered_at frame os = sum_by (λ o. if o.frame == frame then rows_of o.made else 0) os
+
+-- desks and outcomes, before and after: of each frame as many rows more were accepted through the desks as the outcomes
+-- that came brought into it
+pub record AreCounted (desks : List DeskParts) (done : List Outcome) (desks' : List DeskParts) (done' : List Outcome) : Type 0 where
+  pub same : (frame : ℕ) → accepted_at frame desks' + entered_at frame done ≡ accepted_at frame desks + entered_at frame done'
 
 -- the workers of a load, with room for the desks that they give back
 pub record IsPool {A D : Type 0} (claims : ClaimsView) (most : ℕ) (chunks : List (List (ℕ × Piece))) (p : WorkerPool A D) : Type 0 where

@@ -15,7 +15,7 @@ use crate::findings::compare;
 use crate::gate::Gate;
 use crate::hall::Hall;
 use crate::jobs::{Outcome, job_count};
-use crate::pool::{WorkerPool, run_pool};
+use crate::pool::do_jobs;
 use crate::refused::Refused;
 use crate::totals::Totals;
 use crate::worker::Work;
@@ -110,12 +110,7 @@ pub fn load_all<
         claims: &claims,
         desks: desks.len(),
     };
-    let mut pool = match WorkerPool::new(&work, seats, desks) {
-        Ok(pool) => pool,
-        Err(desks) => return Err(given_up(hall, desks, LoadCause::Memory)),
-    };
-    run_pool(rt, &hall, &work, &mut pool);
-    let (desks, outcomes) = pool.end(&work);
+    let (desks, outcomes) = do_jobs(rt, &hall, &work, seats, desks);
     finish(hall, desks, &work, views, outcomes)
 }
 

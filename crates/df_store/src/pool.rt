@@ -1,9 +1,10 @@
 //! The workers of a load: they share out desks, run, and give the desks back.
-ghost use Rattle.std.specs.Prelude.{◌≡◌, ◌+◌, ◌<◌, ◌≤◌, ◌*◌, ◌++◌, [], All, IfErr, IfOk, false, length, map, vec_capacity};
+ghost use Rattle.std.specs.Prelude.{◌≡◌, ℕ, ◌+◌, ◌<◌, ◌≤◌, ◌*◌, ◌++◌, [], All, IfErr, IfOk, false, length, map, vec_capacity};
+ghost use Rattle.df_catalogue.specs.Desks as desks_spec;
 ghost use Rattle.df_claims.specs.Seats.{IsSeatOf};
-ghost use Rattle.df_store.specs.Closing.{HaveSameSums};
+ghost use Rattle.df_store.specs.Closing.{HaveSameSums, accepted_at};
 ghost use Rattle.df_store.specs.Jobs.{AreOutcomes, chunks_of};
-ghost use Rattle.df_store.specs.Workers.{IsIdle, IsPool, IsWorker, desks_of, frames_and_parts, outcomes_in};
+ghost use Rattle.df_store.specs.Workers.{AreCounted, IsIdle, IsPool, IsWorker, all_without_accepted, desks_of, entered_at, outcomes_in};
 
 use crate::gate::Gate;
 use crate::hall::Hall;
@@ -19,21 +20,21 @@ use std::sync::ledger::Ledger;
 use std::thread;
 use std::thread::Threads;
 
-/// The workers of a load.
-///
-/// A worker is lent to its thread and is never moved, and there is room for the desks of all of them.
-/// So each desk comes back, whatever was refused meanwhile.
+// The workers of a load.
+//
+// A worker is lent to its thread and is never moved, and there is room for the desks of all of them.
+// So each desk comes back, whatever was refused meanwhile.
 #[derive(Drop)]
-pub(crate) struct WorkerPool<Acc: Ledger, Del: Ledger> {
+struct WorkerPool<Acc: Ledger, Del: Ledger> {
     workers: Vec<Worker<Acc, Del>>,
     // No desk, until the workers have ended.
     gathered: Vec<Desk<Acc, Del>>,
 }
 
 impl<Acc: Ledger, Del: Ledger> WorkerPool<Acc, Del> {
-    /// A worker for each seat, among which these desks are split. Where memory is refused the desks
-    /// come back as they were.
-    pub(crate) fn new<S: Source, G>(
+    // A worker for each seat, among which these desks are split. Where memory is refused the desks
+    // come back as they were.
+    fn new<S: Source, G>(
         work: &Work<S, G>,
         seats: Vec<ClaimSeat>,
         desks: Vec<Desk<Acc, Del>>,
@@ -45,6 +46,7 @@ impl<Acc: Ledger, Del: Ledger> WorkerPool<Acc, Del> {
             (chunks_of S.made S.start_of work.now.sources.now)) }
         ensures sums { IfOk result (λ pool.
             HaveSameSums desks.items (desks_of pool.workers.items)) }
+        ensures nothing_done { IfOk result (λ pool. outcomes_in pool.workers.items ≡ []) }
         ensures back { IfErr result (λ back. back.items ≡ desks.items) }
     {
         let mut desks = desks;
@@ -81,9 +83,9 @@ impl<Acc: Ledger, Del: Ledger> WorkerPool<Acc, Del> {
         })
     }
 
-    /// Ends the workers, and gives back their desks. Beside them is all that the workers have done, or
-    /// that memory was refused, to a worker or here.
-    pub(crate) fn end<S: Source, G>(
+    // Ends the workers, and gives back their desks. Beside them is all that the workers have done, or
+    // that memory was refused, to a worker or here.
+    fn end<S: Source, G>(
         self,
         work: &Work<S, G>,
     ) -> (Vec<Desk<Acc, Del>>, Result<Vec<Outcome>, AllocError>)
@@ -103,8 +105,41 @@ impl<Acc: Ledger, Del: Ledger> WorkerPool<Acc, Del> {
     }
 }
 
-/// Runs the workers of a pool, and returns when all have ended.
-pub(crate) fn run_pool<
+/// Has workers do all jobs, one worker for each seat. What comes back are the desks, with every part and
+/// every row that was accepted through them, and all that the workers did, or that memory was refused
+/// to one of them or to the pool.
+pub(crate) fn do_jobs<
+    Acc: Ledger + Send + Sync,
+    Del: Ledger + Send + Sync,
+    S: Source + Sync,
+    G: Gate + Sync,
+    R: Threads + Wait + Sync,
+>(
+    rt: &R,
+    hall: &Hall<Acc, Del>,
+    work: &Work<S, G>,
+    seats: Vec<ClaimSeat>,
+    desks: Vec<Desk<Acc, Del>>,
+) -> (Vec<Desk<Acc, Del>>, Result<Vec<Outcome>, AllocError>)
+    requires some { 0 < length seats.items }
+    requires seats { All (IsSeatOf work.now.claims.now) seats.items }
+    requires desks { length desks.items ≤ work.now.desks }
+    ensures parts { desks_spec.parts_of result.0.items ≡ desks_spec.parts_of desks.items }
+    ensures counted { IfOk result.1 (λ os. (frame : ℕ) → accepted_at frame result.0.items
+        ≡ accepted_at frame desks.items + entered_at frame os.items) }
+    ensures outcomes { IfOk result.1 (λ os.
+        AreOutcomes (chunks_of S.made S.start_of work.now.sources.now) os.items) }
+{
+    let mut pool = match WorkerPool::new(work, seats, desks) {
+        Ok(pool) => pool,
+        Err(desks) => return (desks, Err(AllocError)),
+    };
+    run_pool(rt, hall, work, &mut pool);
+    pool.end(work)
+}
+
+// Runs the workers of a pool, and returns when all have ended.
+fn run_pool<
     Acc: Ledger + Send + Sync,
     Del: Ledger + Send + Sync,
     S: Source + Sync,
@@ -115,8 +150,11 @@ pub(crate) fn run_pool<
         (chunks_of S.made S.start_of work.now.sources.now) pool.old }
     ensures pool { IsPool work.now.claims.now work.now.desks
         (chunks_of S.made S.start_of work.now.sources.now) pool.new }
-    ensures desks { frames_and_parts (desks_of pool.new.workers.items)
-        ≡ frames_and_parts (desks_of pool.old.workers.items) }
+    ensures desks { all_without_accepted (desks_of pool.new.workers.items)
+        ≡ all_without_accepted (desks_of pool.old.workers.items) }
+    ensures counted { AreCounted (desks_of pool.old.workers.items)
+        (outcomes_in pool.old.workers.items) (desks_of pool.new.workers.items)
+        (outcomes_in pool.new.workers.items) }
 {
     run_workers(rt, hall, work, pool.workers.as_mut_slice());
 }
@@ -136,8 +174,10 @@ fn run_workers<
         IsWorker work.now.claims.now work.now.desks
         (chunks_of S.made S.start_of work.now.sources.now) w) workers.new }
     ensures count { length workers.new ≡ length workers.old }
-    ensures desks { frames_and_parts (desks_of workers.new)
-        ≡ frames_and_parts (desks_of workers.old) }
+    ensures desks { all_without_accepted (desks_of workers.new)
+        ≡ all_without_accepted (desks_of workers.old) }
+    ensures counted { AreCounted (desks_of workers.old) (outcomes_in workers.old)
+        (desks_of workers.new) (outcomes_in workers.new) }
 {
     if workers.is_empty() {
         return;

@@ -1,8 +1,9 @@
 //! Workers: threads that make the chunks of jobs, and commit those that are good.
-ghost use Rattle.std.specs.Prelude.{◌≡◌, ◌<◌, ◌++◌, IfOk, IfSome, OnOk, false, length};
+ghost use Rattle.std.specs.Prelude.{◌≡◌, ◌<◌, ◌++◌, ◌∷◌, [], IfOk, IfSome, OnErr, OnOk, false, if◌then◌else◌, length, slice_index_or};
+ghost use Rattle.df_catalogue.specs.Desks.{DeskParts};
 ghost use Rattle.df_claims.specs.Seats.{IsSeatOf};
 ghost use Rattle.df_store.specs.Jobs.{chunks_of};
-ghost use Rattle.df_store.specs.Workers.{IsIdle, IsWorker, frames_and_parts};
+ghost use Rattle.df_store.specs.Workers.{AreCounted, IsIdle, IsWorker, all_without_accepted};
 
 use crate::fault::HallFault;
 use crate::gate::Gate;
@@ -71,8 +72,10 @@ impl<Acc: Ledger, Del: Ledger> Worker<Acc, Del> {
         ensures worker { IsWorker work.now.claims.now work.now.desks
             (chunks_of S.made S.start_of work.now.sources.now)
             self.new }
-        ensures desks { frames_and_parts self.new.desks.items
-            ≡ frames_and_parts self.old.desks.items }
+        ensures desks { all_without_accepted self.new.desks.items
+            ≡ all_without_accepted self.old.desks.items }
+        ensures counted { AreCounted self.old.desks.items self.old.done.items
+            self.new.desks.items self.new.done.items }
     {
         for _ in 0..work.jobs {
             let Some(job) = work.claims.next(&mut self.seat) else {
@@ -99,8 +102,10 @@ impl<Acc: Ledger, Del: Ledger> Worker<Acc, Del> {
         ensures worker { IsWorker work.now.claims.now work.now.desks
             (chunks_of S.made S.start_of work.now.sources.now)
             self.new }
-        ensures desks { frames_and_parts self.new.desks.items
-            ≡ frames_and_parts self.old.desks.items }
+        ensures desks { all_without_accepted self.new.desks.items
+            ≡ all_without_accepted self.old.desks.items }
+        ensures counted { AreCounted self.old.desks.items self.old.done.items
+            self.new.desks.items self.new.done.items }
     {
         work.gate.pass(job);
         // The room comes first: of each chunk that has entered there is an outcome.
@@ -137,7 +142,10 @@ fn enter<Acc: Ledger, Del: Ledger, R: Wait>(
     desks: &mut Vec<Desk<Acc, Del>>,
     outcome: &Outcome,
 ) -> Result<bool, AllocError>
-    ensures { frames_and_parts desks.new.items ≡ frames_and_parts desks.old.items }
+    ensures desks { all_without_accepted desks.new.items ≡ all_without_accepted desks.old.items }
+    ensures counted { IfOk result (λ stands. AreCounted desks.old.items [] desks.new.items
+        (if stands then outcome.now ∷ [] else [])) }
+    ensures refused { OnErr result (desks.new.items ≡ desks.old.items) }
 {
     let Piece::Good(chunk) = &outcome.made else {
         return Ok(true);
@@ -154,7 +162,9 @@ fn enter<Acc: Ledger, Del: Ledger, R: Wait>(
 
 // The place of the first desk of a frame.
 fn desk_of<Acc: Ledger, Del: Ledger>(desks: &[Desk<Acc, Del>], frame: usize) -> Option<usize>
-    ensures { IfSome result (λ at. at < length desks.now) }
+    ensures within { IfSome result (λ at. at < length desks.now) }
+    ensures found { IfSome result (λ at. (d : DeskParts) →
+        (slice_index_or desks.now at d).frame ≡ frame) }
 {
     desks.iter().position(|desk| desk.frame() == frame)
 }

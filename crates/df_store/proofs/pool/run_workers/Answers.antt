@@ -3,7 +3,8 @@ use denote.Param.Send.{sendable}
 use Rattle.df_store.proofs.Crosses.{hall_sync}
 use Rattle.df_store.proofs.worker.Work.TheSendSync as shared
 use Rattle.std.proofs.Common.{rules}
-use Rattle.df_store.proofs.WorkerFacts.{same-parts}
+use Rattle.df_store.proofs.CountFacts.{all-counted}
+use Rattle.df_store.proofs.WorkerFacts.{same-desks}
 use Rattle.df_store.proofs.pool.run_workers.Goals as goal
 
 pub for_each_mut-requires-sync-F : goal.for_each_mut-requires-sync-F
@@ -14,6 +15,8 @@ for_each_mut-requires-sync-F g c κs within =
 
 pub returns-clause-desks : goal.returns-clause-desks
 returns-clause-desks g c =
-    same-parts c.args.workers.now c.for_each_mut.new.s c.for_each_mut.auto.s (λ i d h.
-    let each = c.for_each_mut.ensures i d h in
-    search rules)
+    same-desks c.args.workers.now c.for_each_mut.new.s c.for_each_mut.auto.s (λ i d h. let each = c.for_each_mut.ensures i d h in search rules)
+
+pub returns-clause-counted : goal.returns-clause-counted
+returns-clause-counted g c =
+    all-counted c.args.workers.now c.for_each_mut.new.s c.for_each_mut.auto.s (λ i d h. let each = c.for_each_mut.ensures i d h in search rules)

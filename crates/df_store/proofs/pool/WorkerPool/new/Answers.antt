@@ -1,10 +1,10 @@
-use Rattle.std.proofs.Common.{ap, length, length-set, drop, set, subst, sym, arith}
+use Rattle.std.proofs.Common.{◌∙◌, ap, length, length-set, drop, set, subst, sym, arith}
 use Rattle.std.specs.Prelude.{All, vec_capacity}
 use Rattle.df_store.specs.declared.worker.Worker.{Worker}
 use Rattle.df_store.specs.Jobs.{chunks_of}
 use Rattle.df_store.specs.Closing.{HaveSameSums}
-use Rattle.df_store.specs.Workers.{IsIdle, desks_of}
-use Rattle.df_store.proofs.WorkerFacts.{put-back, ready-workers, rest-idle, shared-out}
+use Rattle.df_store.specs.Workers.{IsIdle, desks_of, outcomes_in}
+use Rattle.df_store.proofs.WorkerFacts.{nothing-done, put-back, ready-workers, rest-idle, shared-out}
 use Rattle.df_store.proofs.pool.WorkerPool.new.Goals as goal
 
 pub share_desks-requires-clause-idle : goal.share_desks-requires-clause-idle
@@ -30,6 +30,16 @@ returns-clause-pool g c =
     let both = ready-workers c.args.work.now.claims.now c.args.work.now.desks (chunks_of g.S.Source.made g.S.Source.start_of c.args.work.now.sources.now) _ now (length c.args.seats.items)
     (vec_capacity pool.gathered) back c.share_desks.ensures.begun (omega (arith, same, as_many, set_len, many)) ok.room in
     record { workers = both.0; gathered = ok.gathered; room = both.1 }
+
+pub returns-clause-nothing_done : goal.returns-clause-nothing_done
+returns-clause-nothing_done g c =
+    let pool = c.in-Ok.pool in
+    let now = c.share_desks.new.workers in
+    let len = c.as_mut_slice.ensures.len in
+    let same = c.share_desks.ensures.count in
+    let as_many = ap length c.as_mut_slice.ensures.value in
+    ap outcomes_in (put-back pool.workers.len now _ (omega (arith, same, len)) (omega (arith, as_many, len)))
+    ∙ nothing-done c.args.work.now.claims.now c.args.work.now.desks now c.share_desks.ensures.begun
 
 pub returns-clause-sums : goal.returns-clause-sums
 returns-clause-sums g c =

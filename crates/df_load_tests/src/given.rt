@@ -1,0 +1,79 @@
+//! What the tests are given: rows of one column `x`, views of the first frame, and a hall over two frames.
+ghost use Rattle.std.specs.Prelude.{◌≡◌, IfOk};
+ghost use Rattle.df_catalogue.specs.Ledgers as ledgers;
+ghost use Rattle.df_load_tests.specs.Pairs.{row_of};
+
+use df_catalogue::{Desk, NewFault};
+use df_ops::Agg;
+use df_plan::{CheckedPlan, Plan};
+use df_store::Hall;
+use df_value::{Boxed, Cell, CellType, Chunk, List, Row, Schema, Text};
+use std::alloc::{AllocError, Global};
+use std::sync::ledger::{Blank, Ledger};
+
+/// A hall, and a desk of each frame.
+pub type Opened<Acc, Del> = (Hall<Acc, Del>, Vec<Desk<Acc, Del>>);
+
+pub fn schema(alloc: Global) -> Result<Schema, AllocError> {
+    let columns = vec![in alloc; (Text::from_str(alloc, "x")?, CellType::Int)]?;
+    Schema::new(List::from_vec(columns)).map_err(|_| AllocError)
+}
+
+fn schemas(alloc: Global) -> Result<List<Schema>, AllocError> {
+    let schemas = vec![in alloc; schema(alloc)?, schema(alloc)?]?;
+    Ok(List::from_vec(schemas))
+}
+
+/// The row whose cell is this number.
+pub fn row(alloc: Global, number: u32) -> Result<Row, AllocError>
+    ensures { IfOk result (λ row. row ≡ row_of number) }
+{
+    Row::new(alloc, vec![in alloc; Cell::Int(i64::from(number))]?)
+}
+
+/// A chunk of so many rows, each of which has its number as its cell.
+pub fn chunk(alloc: Global, first: u32, count: u8) -> Result<Chunk, AllocError> {
+    let mut rows = Vec::new(alloc);
+    for at in 0..count {
+        rows.push(row(alloc, first.wrapping_add(u32::from(at)))?)?;
+    }
+    Chunk::new(alloc, &schema(alloc)?, first, List::from_vec(rows)).map_err(|_| AllocError)
+}
+
+/// The plan of the first frame itself.
+pub fn scan(alloc: Global) -> Result<CheckedPlan, AllocError> {
+    CheckedPlan::new(alloc, Plan::Scan(0), schemas(alloc)?.as_slice()).map_err(|_| AllocError)
+}
+
+/// The groups of equal rows of the first frame, with how many rows each has.
+pub fn groups(alloc: Global) -> Result<CheckedPlan, AllocError> {
+    let keys = List::from_vec(vec![in alloc; Text::from_str(alloc, "x")?]?);
+    let lens = List::from_vec(vec![in alloc; (Text::from_str(alloc, "n")?, Agg::Len)]?);
+    let plan = Plan::GroupBy(Boxed::new(alloc, Plan::Scan(0))?, keys, lens);
+    CheckedPlan::new(alloc, plan, schemas(alloc)?.as_slice()).map_err(|_| AllocError)
+}
+
+/// Views of the first frame under these names.
+pub fn views(alloc: Global, names: &[&str]) -> Result<Vec<(Text, CheckedPlan)>, AllocError> {
+    let mut views = Vec::new(alloc);
+    for name in names {
+        views.push((Text::from_str(alloc, *name)?, scan(alloc)?))?;
+    }
+    Ok(views)
+}
+
+/// A hall over two empty frames.
+pub fn opened<Acc: Ledger, Del: Ledger>(
+    alloc: Global,
+    accepted: Blank,
+    deleted: Blank,
+) -> Result<Opened<Acc, Del>, NewFault>
+    requires accepted_name { accepted.name ≡ Acc.name }
+    requires accepted_parts { (accepted.parts ≡ Acc.parts)
+        × (accepted.parts ≡ ledgers.parts_of_ledger) }
+    requires deleted_name { deleted.name ≡ Del.name }
+    requires deleted_parts { (deleted.parts ≡ Del.parts)
+        × (deleted.parts ≡ ledgers.parts_of_ledger) }
+{
+    Hall::new(alloc, accepted, deleted, schemas(alloc)?)
+}

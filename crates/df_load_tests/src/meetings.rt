@@ -1,0 +1,104 @@
+//! Two workers run at once.
+ghost use Rattle.std.specs.Prelude.{◌≡◌};
+ghost use Rattle.df_catalogue.specs.Ledgers as ledgers;
+
+use crate::given::{opened, row, views};
+use crate::pairs::Pairs;
+use df_catalogue::{Catalogue, PARTS_OF_LEDGER};
+use df_store::{Gate, load_all};
+use std::alloc::{AllocError, Global};
+use std::marker::Brand;
+use std::process::Abort;
+use std::sync::Wait;
+use std::sync::atomic::{AtomicBool, Ordering};
+use std::sync::ledger::{Blank, Ledger};
+use std::test::Fail;
+use std::thread;
+use std::thread::Threads;
+
+// Marks each of two jobs and holds it until the other one is marked, for at most a million turns.
+#[derive(Drop)]
+struct Meeting {
+    marks: [AtomicBool; 2],
+    met: [AtomicBool; 2],
+}
+
+impl Meeting {
+    fn new() -> Meeting {
+        Meeting {
+            marks: [AtomicBool::new(false), AtomicBool::new(false)],
+            met: [AtomicBool::new(false), AtomicBool::new(false)],
+        }
+    }
+
+    // Whether both jobs passed within their turns.
+    fn both_met(&self) -> bool {
+        self.met[0].load(Ordering::SeqCst) && self.met[1].load(Ordering::SeqCst)
+    }
+}
+
+impl Gate for Meeting {
+    fn pass(&self, job: u64) {
+        let mine = (job % 2) as usize;
+        self.marks[mine].store(true, Ordering::SeqCst);
+        for _turn in 0..1_000_000u32 {
+            if self.marks[1 - mine].load(Ordering::SeqCst) {
+                self.met[mine].store(true, Ordering::SeqCst);
+                return;
+            }
+            thread::yield_now();
+        }
+    }
+}
+
+// Whether both frames have the rows 0 and 1.
+fn has_pairs<Acc: Ledger, Del: Ledger>(
+    alloc: Global,
+    catalogue: &Catalogue<Acc, Del>,
+) -> Result<bool, AllocError> {
+    let zeroth = row(alloc, 0)?;
+    let first = row(alloc, 1)?;
+    let mut has = catalogue.live(0) == Some(2) && catalogue.live(1) == Some(2);
+    for frame in 0..2 {
+        has = has && catalogue.is_row(frame, 0, 0, &zeroth);
+        has = has && catalogue.is_row(frame, 1, 1, &first);
+    }
+    Ok(has)
+}
+
+// Two workers load a chunk of each frame.
+fn load_by_two<
+    Acc: Ledger + Send + Sync,
+    Del: Ledger + Send + Sync,
+    R: Threads + Wait + Abort + Sync,
+>(rt: &R, alloc: Global, accepted: Blank, deleted: Blank) -> Result<(), Fail>
+    requires accepted_name { accepted.name ≡ Acc.name }
+    requires accepted_parts { (accepted.parts ≡ Acc.parts)
+        × (accepted.parts ≡ ledgers.parts_of_ledger) }
+    requires deleted_name { deleted.name ≡ Del.name }
+    requires deleted_parts { (deleted.parts ≡ Del.parts)
+        × (deleted.parts ≡ ledgers.parts_of_ledger) }
+{
+    let (hall, desks) = opened::<Acc, Del>(alloc, accepted, deleted)?;
+    let views = views(alloc, &["t"])?;
+    let sources = [Pairs::new(alloc, 1, 2)?, Pairs::new(alloc, 1, 2)?];
+    let gate = Meeting::new();
+    let answer = load_all(rt, alloc, hall, desks, views.as_slice(), &sources, 2, &gate);
+    assert!(rt; gate.both_met());
+    let loaded = answer.map_err(|_| "a load")?;
+    assert!(rt; has_pairs(alloc, &loaded.catalogue)?);
+    assert!(rt; loaded.catalogue.view_rows(alloc, "t")?.len() == 2);
+    assert!(rt; matches!(loaded.totals.accepted.as_slice(), [2, 2]));
+    assert!(rt; loaded.refused.is_empty());
+    Ok(())
+}
+
+#[test]
+fn two_workers_run_at_once(rt: HostRuntime) -> Result<(), Fail> {
+    load_by_two::<Brand, Brand, _>(
+        &rt,
+        rt.alloc(),
+        Blank::new(PARTS_OF_LEDGER),
+        Blank::new(PARTS_OF_LEDGER),
+    )
+}

@@ -1,0 +1,98 @@
+-- What the desks of workers count, and the outcomes that they brought.
+use Rattle.std.proofs.Common.{◌≡◌, ℕ, suc, ◌+◌, ◌<◌, ◌==◌, ◌∙◌, Bool, true, false, List, [], ◌∷◌, ◌++◌, length, get_or, set, refl, ap, sym, arith, sum_by}
+use Rattle.std.specs.Prelude.{if◌then◌else◌}
+use Rattle.std.proofs.lemmas.List.Sums.{sum_by-append, sum_by-cons, sum_by-set, sum_by_push}
+use Rattle.df_catalogue.specs.Desks.{DeskParts, parts_of}
+use Rattle.df_store.specs.declared.jobs.Outcome.{Outcome}
+use Rattle.df_store.specs.declared.worker.Worker.{Worker}
+use Rattle.df_store.specs.Closing.{HaveSameSums}
+use Rattle.df_store.specs.Halls.{having_accepted}
+use Rattle.df_store.specs.Workers.{AreCounted, all_without_accepted, desks_of, outcomes_in, rows_of, without_accepted}
+
+pub nothing-new : (desks : List DeskParts) (done : List Outcome) → AreCounted desks done desks done
+nothing-new desks done = record { same = λ frame. refl }
+
+pub counted-through :
+    (a b c : List DeskParts) (x y z : List Outcome) → AreCounted a x b y → AreCounted b y c z → AreCounted a x c z
+counted-through a b c x y z p q = record {
+  same = λ frame. let first = p.same frame in let next = q.same frame in omega (arith, first, next);
+}
+
+if-sum : (b : Bool) (m n : ℕ) → (if b then m + n else 0) ≡ (if b then m else 0) + (if b then n else 0)
+if-sum true m n = refl
+if-sum false m n = refl
+
+-- a chunk was committed through a desk of its frame
+pub one-committed :
+    (desks : List DeskParts) (at : ℕ) (d now : DeskParts) (o : Outcome) (rows : ℕ) → at < length desks → rows_of o.made ≡ rows → (get_or desks at d).frame ≡ o.frame →
+    now ≡ having_accepted rows (get_or desks at d) → AreCounted desks [] (set desks at now) (o ∷ [])
+one-committed desks at d now o rows low many of_frame is = record {
+  same = λ frame.
+      let h : DeskParts → ℕ = λ x. if x.frame == frame then x.accepted else 0 in
+      let was = get_or desks at d in
+      let moved = sum_by-set h desks at now d low in
+      let more : h now ≡ h was + (if o.frame == frame then rows_of o.made else 0) =
+      ap h is
+      ∙ (if-sum (was.frame == frame) was.accepted rows
+      ∙ (ap (λ f. h was + (if f == frame then rows else 0)) of_frame
+      ∙ ap (λ n. h was + (if o.frame == frame then n else 0)) (sym many))) in
+      omega (arith, moved, more);
+}
+
+-- one more outcome behind those that were there
+pub one-more-outcome :
+    (desks now : List DeskParts) (done pushed : List Outcome) (o : Outcome) → AreCounted desks [] now (o ∷ []) → pushed ≡ done ++ o ∷ [] → AreCounted desks done now pushed
+one-more-outcome desks now done pushed o one is = record {
+  same = λ frame.
+      let h : Outcome → ℕ = λ x. if x.frame == frame then rows_of x.made else 0 in
+      let counted = one.same frame in
+      let all = ap (sum_by h) is in
+      let more = sum_by_push h done o in
+      omega (arith, counted, all, more);
+}
+
+-- no outcome came
+pub no-outcome : (desks now : List DeskParts) (done : List Outcome) → AreCounted desks [] now [] → AreCounted desks done now done
+no-outcome desks now done none = record { same = λ frame. let counted = none.same frame in omega (arith, counted) }
+
+both :
+    (a b c d : List DeskParts) (x y z w : List Outcome) → AreCounted a x b y → AreCounted c z d w → AreCounted (a ++ c) (x ++ z) (b ++ d) (y ++ w)
+both a b c d x y z w p q = record {
+  same = λ frame.
+      let h : DeskParts → ℕ = λ e. if e.frame == frame then e.accepted else 0 in
+      let k : Outcome → ℕ = λ o. if o.frame == frame then rows_of o.made else 0 in
+      let first = p.same frame in
+      let next = q.same frame in
+      let e1 = sum_by-append h a c in
+      let e2 = sum_by-append h b d in
+      let e3 = sum_by-append k x z in
+      let e4 = sum_by-append k y w in
+      omega (arith, first, next, e1, e2, e3, e4);
+}
+
+-- each worker counted what it did, so all of them did
+pub all-counted :
+    {A D : Type 0} (was now : List (Worker A D)) → length now ≡ length was →
+    ((i : ℕ) (d : Worker A D) → i < length was →
+    AreCounted (get_or was i d).desks.items (get_or was i d).done.items (get_or now i d).desks.items (get_or now i d).done.items) →
+    AreCounted (desks_of was) (outcomes_in was) (desks_of now) (outcomes_in now)
+all-counted [] [] len each = nothing-new [] []
+all-counted [] (w ∷ now) len each = absurd (omega (arith, len))
+all-counted (v ∷ was) [] len each = absurd (omega (arith, len))
+all-counted (v ∷ was) (w ∷ now) len each =
+    both v.desks.items w.desks.items (desks_of was) (desks_of now) v.done.items w.done.items (outcomes_in was) (outcomes_in now) (each 0 w (omega arith))
+    (all-counted was now (omega (arith, len)) (λ i d h. each (suc i) d (omega (arith, h))))
+
+parts-left : (desks : List DeskParts) → parts_of (all_without_accepted desks) ≡ parts_of desks
+parts-left [] = refl
+parts-left (d ∷ desks) =
+    let here = sum_by-cons (λ (x : DeskParts). x.parts) d desks in
+    let there = sum_by-cons (λ (x : DeskParts). x.parts) (without_accepted d) (all_without_accepted desks) in
+    let rest = parts-left desks in
+    omega (arith, here, there, rest)
+
+-- no part of the desks is lost from those that were given to those that come back
+pub parts-in-all :
+    (given split after : List DeskParts) → HaveSameSums given split → all_without_accepted after ≡ all_without_accepted split → parts_of after ≡ parts_of given
+parts-in-all given split after same left =
+    sym (parts-left after) ∙ (ap parts_of left ∙ (parts-left split ∙ same.same (λ d. d.parts) (λ d e h. refl)))
