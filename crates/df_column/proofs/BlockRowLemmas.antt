@@ -10,7 +10,7 @@ use Rattle.df_column.specs.Columns.{dtype_of_column}
 use Rattle.df_column.specs.declared.tag.Tag.{Tag}
 
 module _ {S : Type 0} where
-  rows_push : (bs : List (Arc BlockParts S)) (b : Arc BlockParts S) → rows_of_blocks (bs ++ b ∷ []) ≡ rows_of_blocks bs ++ block_rows (arc_value b)
+  pub rows_push : (bs : List (Arc BlockParts S)) (b : Arc BlockParts S) → rows_of_blocks (bs ++ b ∷ []) ≡ rows_of_blocks bs ++ block_rows (arc_value b)
   rows_push [] b = append-nil (block_rows (arc_value b))
   rows_push (x ∷ bs) b = ap (λ es. block_rows (arc_value x) ++ es) (rows_push bs b) ∙ sym (append_assoc (block_rows (arc_value x)) _ _)
 

@@ -19,7 +19,7 @@ one_cell e c h =
 no_cell : (e : Extreme) (c : Cell) → is_null c ≡ true → extreme_of e (c ∷ []) ≡ None
 no_cell e c h = ap (λ n. extreme_in e (cond (not n) (c ∷ []) [])) h
 
-further_none : (e : Extreme) (best : Option Cell) → further e best None ≡ best
+pub further_none : (e : Extreme) (best : Option Cell) → further e best None ≡ best
 further_none e None = refl
 further_none e (Some a) = refl
 
@@ -35,7 +35,6 @@ further_one e (Some a) c false h =
     either true = refl
     either false = refl
 
--- of one more
 pub better_is : (e : Extreme) (best : Option Cell) (c : Cell) (b : Bool) → is_better e best c ≡ b → further e best (extreme_of e (c ∷ [])) ≡ cond b (Some c) best
 better_is e best c b h = further_one e best c (is_null c) refl ∙ ap (λ b. cond b (Some c) best) h
 
@@ -59,31 +58,3 @@ above_step index value es i d e out after all lt is made done =
 
 pub above_end : (index : Option ℕ) (value : Cell) (es : List (Tag × List Cell)) (i : ℕ) (out all : List Tag) → length es ≤ i → out ++ tags_above index value (drop i es) ≡ all → out ≡ all
 above_end index value es i out all h done = sym (append-nil out) ∙ ap (λ r. out ++ tags_above index value r) (sym (drop_past es i h)) ∙ done
-
--- the cells at an index, one row more
-cells_last : (index : Option ℕ) (es : List (Tag × List Cell)) (i : ℕ) (d : Tag × List Cell) → i < length es
-    → cells_at index (take (i + 1) (map (λ r. r.1) es)) ≡ cells_at index (take i (map (λ r. r.1) es)) ++ cell_at index (get_or es i d).1 ∷ []
-cells_last index [] i d lt = absurd (omega arith)
-cells_last index (x ∷ es) zero d lt = refl
-cells_last index (x ∷ es) (suc i) d lt =
-    let e : suc i + 1 ≡ suc (i + 1) = omega arith in
-    ap (λ n. cells_at index (take n (map (λ r. r.1) (x ∷ es)))) e
-    ∙ ap (λ cs. cell_at index x.1 ∷ cs) (cells_last index es i d (omega arith))
-
-pub extreme_step : (e : Extreme) (index : Option ℕ) (es : List (Tag × List Cell)) (i : ℕ) (row : List Cell) (best next : Option Cell) → i < length es
-    → ((d : Tag × List Cell) → row ≡ (get_or es i d).1)
-    → best ≡ extreme_of e (cells_at index (take i (map (λ r. r.1) es))) → next ≡ further e best (extreme_of e (cell_at index row ∷ []))
-    → next ≡ extreme_of e (cells_at index (take (i + 1) (map (λ r. r.1) es)))
-extreme_step e index es i row best next lt is so_far made =
-    let d : Tag × List Cell = (record { first = 0; second = 0; third = 0 }, []) in
-    made
-    ∙ ap (λ b. further e b (extreme_of e (cell_at index row ∷ []))) so_far
-    ∙ ap (λ r. further e (extreme_of e (cells_at index (take i (map (λ r. r.1) es)))) (extreme_of e (cell_at index r ∷ []))) (is d)
-    ∙ sym (extreme-append e (cells_at index (take i (map (λ r. r.1) es))) (cell_at index (get_or es i d).1 ∷ []))
-    ∙ ap (extreme_of e) (sym (cells_last index es i d lt))
-
-pub extreme_end : (e : Extreme) (index : Option ℕ) (es : List (Tag × List Cell)) (i : ℕ) (best : Option Cell) → length es ≤ i
-    → best ≡ extreme_of e (cells_at index (take i (map (λ r. r.1) es))) → best ≡ extreme_of e (cells_at index (map (λ r. r.1) es))
-extreme_end e index es i best h so_far =
-    let l = mapped_length {X = Tag × List Cell} (λ r. r.1) es in
-    so_far ∙ ap (λ rs. extreme_of e (cells_at index rs)) (take_all i (map (λ r. r.1) es) (omega (arith, l)))

@@ -214,3 +214,19 @@ module _ (e : Extreme) where
 
   pub extreme-append : (xs ys : List Cell) → extreme_of e (xs ++ ys) ≡ further e (extreme_of e xs) (extreme_of e ys)
   extreme-append xs ys = ap (extreme_in e) (filter-append (λ c. not (is_null c)) xs ys) ∙ in_both (non_null xs) (non_null ys)
+
+  -- what a search finds, and where it finds nothing
+  pub lowest_found : (zs : List Cell) (g : Cell) → extreme_in e zs ≡ Some g → list_all (λ d. not (is_beyond e d g)) zs ≡ true
+  lowest_found [] g h = cc
+  lowest_found (z ∷ zs) g h =
+      let first = least_found (is_beyond e) (strict e) z zs in
+      let same : least_after (is_beyond e) (strict e) z zs ≡ g = cc (first, h) in
+      subst (λ g. list_all (λ d. not (is_beyond e d g)) (z ∷ zs) ≡ true) same (lowest_after (is_beyond e) (strict e) z zs)
+
+  pub none_found : (zs : List Cell) → extreme_in e zs ≡ None → zs ≡ []
+  none_found [] h = refl
+  none_found (z ∷ zs) h = let first = least_found (is_beyond e) (strict e) z zs in cc (first, h)
+
+  -- what does not lie beyond a cell does not lie beyond one that this does not reach
+  pub not_beyond : (d g v : Cell) → is_beyond e d g ≡ false → is_beyond e g v ≡ false → is_beyond e d v ≡ false
+  not_beyond d g v h k = no (is_beyond e d v) (λ t. above_both (is_beyond e) (strict e) v g d (is_beyond e v g) refl k h t)

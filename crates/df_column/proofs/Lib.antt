@@ -13,8 +13,11 @@ pub mod TableChanges
 pub mod PartLemmas
 pub mod BehindLemmas
 pub mod TableLemmas
+pub mod CellTests
 pub mod Furthest
 pub mod ExtremeLemmas
+pub mod BlockExtremes
+pub mod ZoneLemmas
 pub mod SpotLemmas
 mod SharedLemmas
 pub mod ReadLemmas

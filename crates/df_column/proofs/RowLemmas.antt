@@ -128,7 +128,7 @@ beside_laters n (c ∷ cs) [] h e = absurd (omega arith)
 beside_laters n ([] ∷ cs) (d ∷ ds) h e = absurd (not_even n (T-first (0 == suc n) _ h))
 beside_laters n ((c ∷ c') ∷ cs) (d ∷ ds) h e = ap (λ r. (c' ++ d) ∷ r) (beside_laters n cs ds (T-second (length (c ∷ c') == suc n) _ h) (omega arith))
 
-even_laters : (n : ℕ) (cs : List (List Cell)) → T (are_even (suc n) cs) → T (are_even n (map later_cells cs))
+pub even_laters : (n : ℕ) (cs : List (List Cell)) → T (are_even (suc n) cs) → T (are_even n (map later_cells cs))
 even_laters n [] h = tt
 even_laters n ([] ∷ cs) h = absurd (not_even n (T-first (0 == suc n) _ h))
 even_laters n ((c ∷ c') ∷ cs) h = T-both _ _ (even_one (length c') n (T-first (length (c ∷ c') == suc n) _ h)) (even_laters n cs (T-second (length (c ∷ c') == suc n) _ h)) where

@@ -62,3 +62,8 @@ tags_above index value rows = map (λ r. r.0) (filter (λ r. is_above value (cel
 abbrev pub is_better : Extreme → Option Cell → Cell → Bool
 is_better e None c = not (is_null c)
 is_better e (Some a) c = not (is_null c) && is_beyond e c a
+
+-- whether a cell lies beyond the other one, if there is one
+abbrev pub is_further : Extreme → Option Cell → Cell → Bool
+is_further e None c = true
+is_further e (Some a) c = is_beyond e c a

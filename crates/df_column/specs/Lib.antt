@@ -15,3 +15,4 @@ pub mod Blocks
 pub mod BlockRows
 pub mod TableBlocks
 pub mod Extremes
+pub mod BlockExtremes

@@ -2,7 +2,8 @@
 ghost use Rattle.std.specs.Prelude.{◌≡◌, ◌<◌, ◌≤◌, ◌+◌, ◌++◌, T, List, IfOk, map, length, slice_index_or};
 ghost use Rattle.df_value.specs.Rows.{row_eq};
 ghost use Rattle.df_value.specs.declared.cell.Cell.{Cell};
-ghost use Rattle.df_column.specs.Blocks.{IsBlock, block_rows};
+ghost use Rattle.df_column.specs.BlockExtremes.{AreExtremes, AreKnown, IsExtremeAt};
+ghost use Rattle.df_column.specs.Blocks.{block_rows};
 ghost use Rattle.df_column.specs.Changes.{IsHead};
 ghost use Rattle.df_column.specs.Columns.{column_cells, dtype_of_column};
 ghost use Rattle.df_column.specs.Picks.{AreWithin, picked_cells, all_or_none};
@@ -11,6 +12,7 @@ ghost use Rattle.df_column.specs.Rows.{AreRows, are_even, row_at};
 ghost use Rattle.df_column.specs.declared.column.Column.{Column};
 
 use crate::column::Column;
+use crate::extremes::{Extreme, Extremes, extremes_of, known_at};
 use crate::picks::Pick;
 use crate::tag::Tag;
 use df_value::{Cell, Row, both};
@@ -20,21 +22,24 @@ use std::marker::Model;
 /// The most rows of a block.
 pub const MOST_ROWS: usize = 1024;
 
-/// Some rows: a tag for each, and a cell in each column.
+/// Some rows: a tag for each, and a cell in each column. Of each column it is kept where the least and the greatest cell
+/// stand.
 #[derive(Drop)]
 pub struct Block {
     tags: Vec<Tag>,
     columns: Vec<Column>,
+    extremes: Vec<Extremes>,
 }
 
 impl Model for Block {
-    ghost use Rattle.df_column.specs.Blocks.{BlockParts, IsBlock};
+    ghost use Rattle.df_column.specs.BlockExtremes.{IsKeptBlock};
+    ghost use Rattle.df_column.specs.Blocks.{BlockParts};
 
     ghost Value = { BlockParts };
 
     ghost view = { λ b. record { tags = b.tags.items; columns = b.columns.items } };
 
-    ghost invariant = { λ b. IsBlock b.tags.items b.columns.items };
+    ghost invariant = { λ b. IsKeptBlock b.tags.items b.columns.items b.extremes.items };
 }
 
 /// The column at this index for the picked rows, behind all its cells if `whole` says so.
@@ -133,15 +138,18 @@ fn are_cells(tags: &[Tag], columns: &[Column], at: usize, cells: &[Cell]) -> boo
 }
 
 impl Block {
-    /// The picked rows of the block of these tags and columns, behind all its rows if `whole` says so.
+    /// The picked rows of the block of these tags and columns, behind all its rows if `whole` says so. Then the ends of its
+    /// columns are known, and only the picked rows are looked at for those of the new columns.
     pub fn picked(
         alloc: Global,
         tags: &[Tag],
         columns: &[Column],
+        known: &[Extremes],
         whole: bool,
         picks: &[Pick<'_>],
     ) -> Result<Block, AllocError>
         requires even { T (are_even (length tags.now) (map column_cells columns.now)) }
+        requires known { AreKnown whole (map column_cells columns.now) known.now }
         requires within { AreWithin (length tags.now) picks.now }
         requires rows { AreRows (map dtype_of_column columns.now) picks.now }
         requires some { 0 < length picks.now }
@@ -153,7 +161,12 @@ impl Block {
     {
         let made = picked_columns(alloc, tags, columns, whole, picks);
         let (tags, columns) = both(picked_tags(alloc, tags, whole, picks), made)?;
-        Ok(Block { tags, columns })
+        let extremes = extremes_of(alloc, &columns, known, tags.as_slice().len() - picks.len())?;
+        Ok(Block {
+            tags,
+            columns,
+            extremes,
+        })
     }
 
     /// The tags of the rows.
@@ -171,6 +184,26 @@ impl Block {
         ensures even { T (are_even (length self.now.tags) (map column_cells self.now.columns)) }
     {
         &self.columns
+    }
+
+    /// Where the ends of each column stand.
+    pub fn extremes(&self) -> &[Extremes]
+        ensures { AreExtremes (map column_cells self.now.columns) result.now }
+    {
+        &self.extremes
+    }
+
+    /// Where one end of a column stands.
+    pub fn extreme_at(&self, extreme: Extreme, column: usize) -> Option<usize>
+        requires { column < length self.now.columns }
+        ensures { (d : Column) → IsExtremeAt extreme
+            (column_cells (slice_index_or self.now.columns column d)) result }
+    {
+        let extremes = known_at(self.extremes(), column);
+        match extreme {
+            Extreme::Least => extremes.least,
+            Extreme::Greatest => extremes.greatest,
+        }
     }
 
     /// The tag of the first row.

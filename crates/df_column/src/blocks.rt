@@ -4,6 +4,7 @@ ghost use Rattle.std.specs.Arc.{arc_value};
 ghost use Rattle.std.specs.FinMap as finite;
 ghost use Rattle.std.specs.List.{prefix_len};
 ghost use Rattle.std.specs.Ordering.{is_lt};
+ghost use Rattle.df_column.specs.BlockExtremes.{AreKnown};
 ghost use Rattle.df_column.specs.BlockRows.{AddsFirst, AddsRows};
 ghost use Rattle.df_column.specs.Blocks.{AreOfDtypes, block_rows, rows_of_blocks};
 ghost use Rattle.df_column.specs.Changes.{IsNext, after_changes};
@@ -20,6 +21,7 @@ ghost use Rattle.df_column.specs.declared.tag.Tag.{Tag};
 use crate::block::{Block, MOST_ROWS};
 use crate::column::Column;
 use crate::entry::Entry;
+use crate::extremes::Extremes;
 use crate::merge::merge;
 use crate::picks::Pick;
 use crate::tag::Tag;
@@ -36,16 +38,19 @@ fn push_shared(out: &mut Vec<Arc<Block>>, block: &Arc<Block>) -> Result<(), Allo
     Ok(())
 }
 
-/// Adds a block of the picked rows, behind all rows of these tags and columns if `whole` says so.
+/// Adds a block of the picked rows, behind all rows of these tags and columns if `whole` says so, as [`Block::picked`]
+/// makes it.
 pub fn push_picked(
     alloc: Global,
     out: &mut Vec<Arc<Block>>,
     tags: &[Tag],
     columns: &[Column],
+    known: &[Extremes],
     whole: bool,
     picks: &[Pick<'_>],
 ) -> Result<(), AllocError>
     requires even { T (are_even (length tags.now) (map column_cells columns.now)) }
+    requires known { AreKnown whole (map column_cells columns.now) known.now }
     requires within { AreWithin (length tags.now) picks.now }
     requires rows { AreRows (map dtype_of_column columns.now) picks.now }
     requires some { 0 < length picks.now }
@@ -54,7 +59,7 @@ pub fn push_picked(
         (all_or_none whole (rows.tagged_rows tags.now (map column_cells columns.now))
         ++ rows.picked_rows (map column_cells columns.now) picks.now) out.old.items out.new.items) }
 {
-    let block = Block::picked(alloc, tags, columns, whole, picks)?;
+    let block = Block::picked(alloc, tags, columns, known, whole, picks)?;
     let block = Arc::new(alloc, block)?;
     out.push(block)?;
     Ok(())
@@ -80,7 +85,7 @@ pub fn push_parts(
     let mut from = 0;
     while from < picks.len() {
         let to = from + size.min(picks.len() - from);
-        push_picked(alloc, out, tags, columns, false, &picks[from..to])?;
+        push_picked(alloc, out, tags, columns, &[], false, &picks[from..to])?;
         from = to;
     }
     Ok(())
@@ -129,7 +134,16 @@ fn push_grown(
         push_shared(out, block)?;
         return Ok(());
     }
-    push_picked(alloc, out, block.tags(), block.columns(), true, picks)?;
+    let known = block.extremes();
+    push_picked(
+        alloc,
+        out,
+        block.tags(),
+        block.columns(),
+        known,
+        true,
+        picks,
+    )?;
     Ok(())
 }
 

@@ -1,13 +1,13 @@
-//! The least and the greatest cell of a column, and the rows above a value.
-ghost use Rattle.std.specs.Prelude.{◌≡◌, ◌++◌, ◌∷◌, [], IfOk, OnOk, not};
-ghost use Rattle.std.specs.FinMap as finite;
-ghost use Rattle.df_value.specs.Rows.{cell_at};
+//! The least and the greatest cell of a column, and where they stand.
+ghost use Rattle.std.specs.Prelude.{◌≡◌, ◌+◌, ◌<◌, ◌≤◌, IfOk, IfSome, length, map, slice_index_or, take};
+ghost use Rattle.df_value.specs.CellOrder.{cell_cmp};
+ghost use Rattle.df_value.specs.declared.cell.Cell.{Cell};
+ghost use Rattle.df_value.specs.declared.cell.Cell.TheVariants as cell_as;
+ghost use Rattle.df_column.specs.BlockExtremes.{AreExtremes, AreExtremesOf, AreStarts, IsExtremeAt, cell_there, no_extremes};
+ghost use Rattle.df_column.specs.Columns.{column_cells};
 ghost use Rattle.df_column.specs.Extremes as extremes;
-ghost use Rattle.df_column.specs.Extremes.{cells_at, extreme_of, greatest_of, is_above, least_of, tags_above};
 
-use crate::table::Table;
-use crate::tag::Tag;
-use df_value::{Cell, Duplicate, Row};
+use crate::column::Column;
 use std::alloc::{AllocError, Global};
 use std::cmp::Ordering;
 
@@ -18,148 +18,100 @@ pub enum Extreme {
     Greatest,
 }
 
-/// Whether a cell lies beyond another.
-fn is_beyond(extreme: Extreme, a: &Cell, b: &Cell) -> bool
-    ensures { result ≡ extremes.is_beyond extreme a.now b.now }
+/// Where a least and a greatest cell of a column stand among those that are not null.
+#[derive(Clone, Copy)]
+pub struct Extremes {
+    pub least: Option<usize>,
+    pub greatest: Option<usize>,
+}
+
+/// Whether one cell that compares so with another lies beyond it.
+pub fn is_beyond(extreme: Extreme, ordering: Ordering) -> bool
+    ensures { (a b : Cell) → ordering ≡ cell_cmp a b → result ≡ extremes.is_beyond extreme a b }
 {
     match extreme {
-        Extreme::Least => a.cmp(b) == Ordering::Less,
-        Extreme::Greatest => a.cmp(b) == Ordering::Greater,
+        Extreme::Least => ordering.is_lt(),
+        Extreme::Greatest => ordering.is_gt(),
     }
 }
 
-/// Whether the cell is null.
-fn is_null(cell: &Cell) -> bool
-    ensures { result ≡ extremes.is_null cell.now }
+/// Whether the cell at this index is not null and lies beyond the best one.
+fn is_better(extreme: Extreme, column: &Column, best: Option<usize>, at: usize) -> bool
+    requires at { at < length (column_cells column.now) }
+    requires best { IfSome best (λ i. i < length (column_cells column.now)) }
+    ensures { result ≡ extremes.is_better extreme (cell_there (column_cells column.now) best)
+        (slice_index_or (column_cells column.now) at cell_as.Null) }
 {
-    match cell {
-        Cell::Null => true,
-        _ => false,
-    }
-}
-
-/// Whether the cell is not null and lies beyond the best one.
-fn is_better(extreme: Extreme, best: &Option<Cell>, cell: &Cell) -> bool
-    ensures { result ≡ extremes.is_better extreme best.now cell.now }
-{
-    if is_null(cell) {
+    if column.is_null(at) {
         return false;
     }
     match best {
-        Some(best) => is_beyond(extreme, cell, best),
+        Some(best) => is_beyond(extreme, column.compare(at, best)),
         None => true,
     }
 }
 
-/// The best cell, and where the other one is better, a copy of it.
-fn better(
-    alloc: Global,
-    extreme: Extreme,
-    best: Option<Cell>,
-    cell: &Cell,
-) -> Result<Option<Cell>, AllocError>
-    ensures { IfOk result (λ v. v ≡ extremes.further extreme best (extreme_of extreme (cell.now ∷ []))) }
+/// The index of the best cell, the one at this index being looked at too.
+fn better(extreme: Extreme, column: &Column, best: Option<usize>, at: usize) -> Option<usize>
+    requires at { at < length (column_cells column.now) }
+    requires best { IsExtremeAt extreme (take at (column_cells column.now)) best }
+    ensures { IsExtremeAt extreme (take (at + 1) (column_cells column.now)) result }
 {
-    if is_better(extreme, &best, cell) {
-        return Ok(Some(cell.copy(alloc)?));
+    if is_better(extreme, column, best, at) {
+        return Some(at);
     }
-    Ok(best)
+    best
 }
 
-/// The best cell, and where the row's cell at an index is better, a copy of it.
-fn better_in_row(
-    alloc: Global,
-    extreme: Extreme,
-    best: Option<Cell>,
-    index: Option<usize>,
-    row: &Row,
-) -> Result<Option<Cell>, AllocError>
-    ensures { IfOk result (λ v. v ≡ extremes.further extreme best (extreme_of extreme (cell_at index row.now ∷ []))) }
+/// The index of the best cell, all cells from an index on being looked at too.
+fn best_from(extreme: Extreme, column: &Column, known: Option<usize>, from: usize) -> Option<usize>
+    requires { IsExtremeAt extreme (take from (column_cells column.now)) known }
+    ensures { IsExtremeAt extreme (column_cells column.now) result }
 {
-    match index {
-        Some(index) => match row.get(index) {
-            Some(cell) => better(alloc, extreme, best, cell),
-            None => Ok(best),
+    let mut best = known;
+    for at in from..column.len() {
+        best = better(extreme, column, best, at);
+    }
+    best
+}
+
+/// Where both stand, all cells from an index on being looked at too.
+fn extremes_from(column: &Column, known: Extremes, from: usize) -> Extremes
+    requires { AreExtremesOf (take from (column_cells column.now)) known }
+    ensures { AreExtremesOf (column_cells column.now) result }
+{
+    Extremes {
+        least: best_from(Extreme::Least, column, known.least, from),
+        greatest: best_from(Extreme::Greatest, column, known.greatest, from),
+    }
+}
+
+/// What is known at this index; past the end that of no cells.
+pub fn known_at(known: &[Extremes], at: usize) -> Extremes
+    ensures { result ≡ slice_index_or known.now at no_extremes }
+{
+    match known.get(at) {
+        Some(known) => *known,
+        None => Extremes {
+            least: None,
+            greatest: None,
         },
-        None => Ok(best),
     }
 }
 
-/// Whether the row's cell at an index is not null and above the value.
-fn is_row_above(index: Option<usize>, value: &Cell, row: &Row) -> bool
-    ensures { result ≡ is_above value.now (cell_at index row.now) }
+/// Where both stand in each column. Those of the first cells are known; only the cells from there on are looked at.
+pub fn extremes_of(
+    alloc: Global,
+    columns: &[Column],
+    known: &[Extremes],
+    from: usize,
+) -> Result<Vec<Extremes>, AllocError>
+    requires { AreStarts from (map column_cells columns.now) known.now }
+    ensures { IfOk result (λ v. AreExtremes (map column_cells columns.now) v.items) }
 {
-    match index {
-        Some(index) => match row.get(index) {
-            Some(cell) => !is_null(cell) && *value < *cell,
-            None => false,
-        },
-        None => false,
+    let mut out = Vec::with_capacity(alloc, columns.len())?;
+    for at in 0..columns.len() {
+        out.push(extremes_from(&columns[at], known_at(known, at), from))?;
     }
-}
-
-/// Adds the row's tag if its cell at an index is not null and above the value.
-fn push_if_above(
-    tags: &mut Vec<Tag>,
-    tag: Tag,
-    index: Option<usize>,
-    value: &Cell,
-    row: &Row,
-) -> Result<(), AllocError>
-    ensures { OnOk result (tags.new.items ≡ tags.old.items
-        ++ tags_above index value.now ((tag, row.now) ∷ [])) }
-{
-    if is_row_above(index, value, row) {
-        tags.push(tag)?;
-    }
-    Ok(())
-}
-
-impl Table {
-    /// The least cell at an index that is not null, if there is one.
-    pub fn least(&self, alloc: Global, index: Option<usize>) -> Result<Option<Cell>, AllocError>
-        ensures { IfOk result (λ v. v ≡ least_of (cells_at index (finite.values self.now.rows))) }
-    {
-        self.extreme(alloc, Extreme::Least, index)
-    }
-
-    /// The greatest cell at an index that is not null, if there is one.
-    pub fn greatest(&self, alloc: Global, index: Option<usize>) -> Result<Option<Cell>, AllocError>
-        ensures { IfOk result (λ v. v ≡ greatest_of (cells_at index (finite.values self.now.rows))) }
-    {
-        self.extreme(alloc, Extreme::Greatest, index)
-    }
-
-    fn extreme(
-        &self,
-        alloc: Global,
-        extreme: Extreme,
-        index: Option<usize>,
-    ) -> Result<Option<Cell>, AllocError>
-        ensures { IfOk result (λ v. v ≡ extreme_of extreme (cells_at index (finite.values self.now.rows))) }
-    {
-        let mut best = None;
-        for at in 0..self.len() {
-            let row = self.row(alloc, at)?;
-            best = better_in_row(alloc, extreme, best, index, &row)?;
-        }
-        Ok(best)
-    }
-
-    /// The tags of the rows whose cell at an index is not null and above the value, by rising tag.
-    pub fn tags_above(
-        &self,
-        alloc: Global,
-        index: Option<usize>,
-        value: &Cell,
-    ) -> Result<Vec<Tag>, AllocError>
-        ensures { IfOk result (λ v. v.items ≡ tags_above index value.now (finite.entries self.now.rows)) }
-    {
-        let mut tags = Vec::new(alloc);
-        for at in 0..self.len() {
-            let row = self.row(alloc, at)?;
-            push_if_above(&mut tags, self.tag(at), index, value, &row)?;
-        }
-        Ok(tags)
-    }
+    Ok(out)
 }

@@ -12,6 +12,7 @@
 mod block;
 mod blocks;
 mod column;
+mod compare;
 mod entry;
 mod extremes;
 mod masked;
@@ -25,6 +26,7 @@ mod table;
 mod tag;
 mod texts;
 mod values;
+mod zones;
 
 pub use column::Column;
 pub use entry::Entry;

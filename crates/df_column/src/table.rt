@@ -117,7 +117,7 @@ impl Table {
     }
 
     /// The blocks.
-    fn blocks(&self) -> &[Arc<Block>]
+    pub(crate) fn blocks(&self) -> &[Arc<Block>]
         ensures rows { rows_of_blocks result.now ≡ finite.entries self.now.rows }
         ensures value { finite.from_sorted (rows_of_blocks result.now) ≡ self.now.rows }
         ensures sorted { T (finite.is_sorted tag_cmp (rows_of_blocks result.now)) }

@@ -1,18 +1,22 @@
-use Rattle.std.proofs.Common.{arith}
+use Rattle.std.proofs.Common.{◌≡◌, ◌∙◌, Some, None, ap, map, sym, subst, arith}
 use Rattle.std.specs.FinMap as finite
-use Rattle.df_column.proofs.ExtremeLemmas.{extreme_step, extreme_end}
+use Rattle.df_column.specs.Blocks.{block_rows}
+use Rattle.df_column.specs.Extremes.{cells_at, extreme_of, further}
+use Rattle.df_column.proofs.ZoneLemmas.{all_blocks, extreme_block, no_extreme}
 use Rattle.df_column.proofs.table.Table.extreme.Goals as goal
 
-pub loop-at-preserved : goal.loop-at-preserved
-loop-at-preserved c =
-    let rows = c.args.self.now.rows in
-    let l = finite.len-entries rows in
-    let end = c.len-at-end.ensures.value in
-    extreme_step c.args.extreme c.args.index (finite.entries rows) c.loop-at.at c.in_ok-row.row c.loop-at.best _ (omega (arith, l, end, c.loop-at-test.true)) c.in_ok-row.ensures c.loop-at.invariant c.in_ok-best.ensures
+pub returns-in_default : goal.returns-in_default
+returns-in_default c =
+    sym (ap (λ i. extreme_of c.args.extreme (cells_at i (finite.values c.args.self.now.rows))) c.in_default.is ∙ no_extreme c.args.extreme (finite.values c.args.self.now.rows))
+
+pub loop-block-preserved : goal.loop-block-preserved
+loop-block-preserved c =
+    let made = subst (λ b. c.in_ok-best.best ≡ further c.args.extreme c.loop-block.best (extreme_of c.args.extreme (cells_at (Some c.in-Some.index) (map (λ r. r.1) (block_rows b))))) c.deref.ensures c.in_ok-best.ensures in
+    extreme_block c.args.extreme (Some c.in-Some.index) c.blocks-blocks.result.now c.loop-block.block-index c.block-item.result c.loop-block.best c.in_ok-best.best (omega arith) c.block-item.is c.loop-block.invariant made
 
 pub returns : goal.returns
 returns c =
     let rows = c.args.self.now.rows in
-    let l = finite.len-entries rows in
-    let end = c.len-at-end.ensures.value in
-    extreme_end c.args.extreme c.args.index (finite.entries rows) c.loop-at.at c.loop-at.best (omega (arith, l, end, c.loop-at-test.false)) c.loop-at.invariant
+    c.loop-block.invariant
+    ∙ ap (λ es. extreme_of c.args.extreme (cells_at (Some c.in-Some.index) (map (λ r. r.1) es))) (all_blocks c.blocks-blocks.result.now c.loop-block.block-index (finite.entries rows) c.loop-block-test.false c.blocks-blocks.ensures.rows)
+    ∙ ap (λ i. extreme_of c.args.extreme (cells_at i (finite.values rows))) (sym c.in-Some.is)

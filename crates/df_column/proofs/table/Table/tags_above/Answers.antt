@@ -1,26 +1,23 @@
-use Rattle.std.proofs.Common.{◌≡◌, List, [], get_or, arith}
+use Rattle.std.proofs.Common.{◌≡◌, ◌++◌, ◌∙◌, Some, None, ap, sym, subst, arith}
 use Rattle.std.specs.FinMap as finite
-use Rattle.df_value.specs.declared.cell.Cell.{Cell}
-use Rattle.df_column.specs.declared.tag.Tag.{Tag}
-use Rattle.df_column.proofs.ExtremeLemmas.{above_end, above_step}
+use Rattle.df_column.specs.Blocks.{block_rows}
+use Rattle.df_column.specs.Extremes.{tags_above}
+use Rattle.df_column.proofs.ZoneLemmas.{all_blocks, no_tags, tags_block}
 use Rattle.df_column.proofs.table.Table.tags_above.Goals as goal
 
-pub loop-at-preserved : goal.loop-at-preserved
-loop-at-preserved c =
-    let rows = c.args.self.now.rows in
-    let es = finite.entries rows in
-    let l = finite.len-entries rows in
-    let end = c.len-at-end.ensures.value in
-    let d : Tag × List Cell = (record { first = 0; second = 0; third = 0 }, []) in
-    let tag = c.tag.ensures d in
-    let row = c.in_ok-row.ensures d in
-    let e : Tag × List Cell = (c.tag.result, c.in_ok-row.row) in
-    let is : e ≡ get_or es c.loop-at.at d = λ i. (tag i, row i) in
-    above_step c.args.index c.args.value.now es c.loop-at.at d e c.loop-at.tags.items c.push_if_above.new.tags.items _ (omega (arith, l, end, c.loop-at-test.true)) is c.in_ok-push_if_above.ensures c.loop-at.invariant
+pub returns-in_default : goal.returns-in_default
+returns-in_default c =
+    let es = finite.entries c.args.self.now.rows in
+    c.new-tags.ensures.items ∙ sym (ap (λ i. tags_above i c.args.value.now es) c.in_default.is ∙ no_tags c.args.value.now es)
+
+pub loop-block-preserved : goal.loop-block-preserved
+loop-block-preserved c =
+    let made = subst (λ b. c.push_tags_in_block.new.tags.items ≡ c.loop-block.tags.items ++ tags_above (Some c.in-Some.index) c.args.value.now (block_rows b)) c.deref.ensures c.in_ok-push_tags_in_block.ensures in
+    tags_block (Some c.in-Some.index) c.args.value.now c.blocks-blocks.result.now c.loop-block.block-index c.block-item.result c.loop-block.tags.items c.push_tags_in_block.new.tags.items (omega arith) c.block-item.is c.loop-block.invariant made
 
 pub returns : goal.returns
 returns c =
-    let rows = c.args.self.now.rows in
-    let l = finite.len-entries rows in
-    let end = c.len-at-end.ensures.value in
-    above_end c.args.index c.args.value.now (finite.entries rows) c.loop-at.at c.loop-at.tags.items _ (omega (arith, l, end, c.loop-at-test.false)) c.loop-at.invariant
+    let es = finite.entries c.args.self.now.rows in
+    c.loop-block.invariant
+    ∙ ap (tags_above (Some c.in-Some.index) c.args.value.now) (all_blocks c.blocks-blocks.result.now c.loop-block.block-index es c.loop-block-test.false c.blocks-blocks.ensures.rows)
+    ∙ ap (λ i. tags_above i c.args.value.now es) (sym c.in-Some.is)

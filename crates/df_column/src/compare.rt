@@ -1,0 +1,134 @@
+//! Comparisons of the cells of a column. They take no memory.
+ghost use Rattle.std.specs.Prelude.{◌≡◌, ◌<◌, ◌&&◌, length, map, slice_index_or};
+ghost use Rattle.df_value.specs.CellOrder.{cell_cmp};
+ghost use Rattle.df_value.specs.declared.cell.Cell.{Cell};
+ghost use Rattle.df_column.specs.Columns.{column_cells};
+ghost use Rattle.df_column.specs.Extremes as extremes;
+ghost use Rattle.df_column.specs.Extremes.{is_above};
+ghost use Rattle.df_column.specs.Texts.{text_now};
+ghost use Rattle.df_column.specs.ValueCells.{text_cell};
+
+use crate::column::Column;
+use crate::texts::Texts;
+use df_value::Cell;
+use std::cmp::Ordering;
+
+/// Whether the cell is null.
+fn is_null(cell: &Cell) -> bool
+    ensures { result ≡ extremes.is_null cell.now }
+{
+    match cell {
+        Cell::Null => true,
+        _ => false,
+    }
+}
+
+/// How two texts compare as cells, where no text is null.
+fn compare_texts(a: Option<&str>, b: Option<&str>) -> Ordering
+    ensures { result ≡ cell_cmp (text_cell (text_now a.entry)) (text_cell (text_now b.entry)) }
+{
+    match (a, b) {
+        (Some(a), Some(b)) => a.cmp(b),
+        (Some(_), None) => Ordering::Greater,
+        (None, Some(_)) => Ordering::Less,
+        (None, None) => Ordering::Equal,
+    }
+}
+
+/// How a text compares with a cell, where no text is null.
+fn compare_text(text: Option<&str>, cell: &Cell) -> Ordering
+    ensures { result ≡ cell_cmp (text_cell (text_now text.entry)) cell.now }
+{
+    match (text, cell) {
+        (Some(text), Cell::Text(other)) => text.cmp(other.as_str()),
+        (Some(_), Cell::Null) => Ordering::Greater,
+        (Some(_), Cell::Int(_)) => Ordering::Greater,
+        (Some(_), Cell::Wide(_)) => Ordering::Greater,
+        (Some(_), Cell::Bool(_)) => Ordering::Less,
+        (Some(_), Cell::Frac(_)) => Ordering::Less,
+        (None, Cell::Null) => Ordering::Equal,
+        (None, _) => Ordering::Less,
+    }
+}
+
+impl Texts {
+    /// Whether the cell at this index is null.
+    fn is_null(&self, at: usize) -> bool
+        requires { at < length (map text_cell self.now) }
+        ensures { (d : Cell) → result ≡ extremes.is_null (slice_index_or (map text_cell self.now) at d) }
+    {
+        self.get(at).is_none()
+    }
+
+    /// How two of the cells compare.
+    fn compare(&self, a: usize, b: usize) -> Ordering
+        requires first { a < length (map text_cell self.now) }
+        requires second { b < length (map text_cell self.now) }
+        ensures { (d : Cell) → result ≡ cell_cmp (slice_index_or (map text_cell self.now) a d)
+            (slice_index_or (map text_cell self.now) b d) }
+    {
+        compare_texts(self.get(a), self.get(b))
+    }
+
+    /// How the cell at this index compares with another.
+    fn compare_with(&self, at: usize, cell: &Cell) -> Ordering
+        requires { at < length (map text_cell self.now) }
+        ensures { (d : Cell) → result ≡ cell_cmp (slice_index_or (map text_cell self.now) at d) cell.now }
+    {
+        compare_text(self.get(at), cell)
+    }
+}
+
+impl Column {
+    /// Whether the cell at this index is null.
+    pub(crate) fn is_null(&self, at: usize) -> bool
+        requires { at < length (column_cells self.now) }
+        ensures { (d : Cell) → result ≡ extremes.is_null (slice_index_or (column_cells self.now) at d) }
+    {
+        match self {
+            Column::Int(values) => is_null(&values.cell(at)),
+            Column::Wide(values) => is_null(&values.cell(at)),
+            Column::Text(texts) => texts.is_null(at),
+            Column::Bool(values) => is_null(&values.cell(at)),
+            Column::Frac(values) => is_null(&values.cell(at)),
+        }
+    }
+
+    /// How two of the cells compare.
+    pub(crate) fn compare(&self, a: usize, b: usize) -> Ordering
+        requires first { a < length (column_cells self.now) }
+        requires second { b < length (column_cells self.now) }
+        ensures { (d : Cell) → result ≡ cell_cmp (slice_index_or (column_cells self.now) a d)
+            (slice_index_or (column_cells self.now) b d) }
+    {
+        match self {
+            Column::Int(values) => values.cell(a).cmp(&values.cell(b)),
+            Column::Wide(values) => values.cell(a).cmp(&values.cell(b)),
+            Column::Text(texts) => texts.compare(a, b),
+            Column::Bool(values) => values.cell(a).cmp(&values.cell(b)),
+            Column::Frac(values) => values.cell(a).cmp(&values.cell(b)),
+        }
+    }
+
+    /// How the cell at this index compares with another.
+    pub(crate) fn compare_with(&self, at: usize, cell: &Cell) -> Ordering
+        requires { at < length (column_cells self.now) }
+        ensures { (d : Cell) → result ≡ cell_cmp (slice_index_or (column_cells self.now) at d) cell.now }
+    {
+        match self {
+            Column::Int(values) => values.cell(at).cmp(cell),
+            Column::Wide(values) => values.cell(at).cmp(cell),
+            Column::Text(texts) => texts.compare_with(at, cell),
+            Column::Bool(values) => values.cell(at).cmp(cell),
+            Column::Frac(values) => values.cell(at).cmp(cell),
+        }
+    }
+
+    /// Whether the cell at this index is not null and above a value.
+    pub(crate) fn is_above(&self, at: usize, value: &Cell) -> bool
+        requires { at < length (column_cells self.now) }
+        ensures { (d : Cell) → result ≡ is_above value.now (slice_index_or (column_cells self.now) at d) }
+    {
+        !self.is_null(at) && self.compare_with(at, value).is_gt()
+    }
+}

@@ -1,0 +1,196 @@
+//! Reads of a table that pass over blocks by what they keep of their columns.
+ghost use Rattle.std.specs.Prelude.{◌≡◌, ◌<◌, ◌++◌, ◌∷◌, [], IfOk, IfSome, OnOk, Some, T, cond, length, map, not, slice_index_or};
+ghost use Rattle.std.specs.FinMap as finite;
+ghost use Rattle.std.specs.List.{list_all};
+ghost use Rattle.df_value.specs.declared.cell.Cell.{Cell};
+ghost use Rattle.df_value.specs.declared.cell.Cell.TheVariants as cell_as;
+ghost use Rattle.df_column.specs.BlockExtremes.{IsExtremeAt, cell_there};
+ghost use Rattle.df_column.specs.Blocks.{block_rows};
+ghost use Rattle.df_column.specs.Columns.{column_cells};
+ghost use Rattle.df_column.specs.Extremes as extremes;
+ghost use Rattle.df_column.specs.Extremes.{cells_at, extreme_of, greatest_of, is_above, least_of, tags_above};
+
+use crate::block::Block;
+use crate::column::Column;
+use crate::extremes::{Extreme, is_beyond};
+use crate::table::Table;
+use crate::tag::Tag;
+use df_value::Cell;
+use std::alloc::{AllocError, Global};
+
+/// Whether the cell at this index lies beyond the best one, if there is one.
+fn is_further(extreme: Extreme, best: &Option<Cell>, column: &Column, at: usize) -> bool
+    requires { at < length (column_cells column.now) }
+    ensures { result ≡ extremes.is_further extreme best.now
+        (slice_index_or (column_cells column.now) at cell_as.Null) }
+{
+    match best {
+        Some(best) => is_beyond(extreme, column.compare_with(at, best)),
+        None => true,
+    }
+}
+
+/// The best cell; where the one at this index lies beyond it, a copy of that.
+fn furthest(
+    alloc: Global,
+    extreme: Extreme,
+    best: Option<Cell>,
+    column: &Column,
+    at: usize,
+) -> Result<Option<Cell>, AllocError>
+    requires { at < length (column_cells column.now) }
+    ensures { IfOk result (λ v. v ≡ extremes.further extreme best
+        (Some (slice_index_or (column_cells column.now) at cell_as.Null))) }
+{
+    if is_further(extreme, &best, column, at) {
+        return Ok(Some(column.cell(alloc, at)?));
+    }
+    Ok(best)
+}
+
+/// The best cell; where a block has one beyond it in the column at an index, a copy of that.
+fn furthest_in_block(
+    alloc: Global,
+    extreme: Extreme,
+    best: Option<Cell>,
+    block: &Block,
+    index: usize,
+) -> Result<Option<Cell>, AllocError>
+    ensures { IfOk result (λ v. v ≡ extremes.further extreme best
+        (extreme_of extreme (cells_at (Some index) (map (λ r. r.1) (block_rows block.now))))) }
+{
+    let columns = block.columns();
+    if index >= columns.len() {
+        return Ok(best);
+    }
+    match block.extreme_at(extreme, index) {
+        Some(at) => furthest(alloc, extreme, best, &columns[index], at),
+        None => Ok(best),
+    }
+}
+
+/// Whether the column, whose greatest cell stands at this index, has none above the value.
+fn has_none_above(column: &Column, greatest: Option<usize>, value: &Cell) -> bool
+    requires { IsExtremeAt Extreme.Greatest (column_cells column.now) greatest }
+    ensures { T result → T (list_all (λ c. not (is_above value.now c)) (column_cells column.now)) }
+{
+    match greatest {
+        Some(at) => !column.compare_with(at, value).is_gt(),
+        None => true,
+    }
+}
+
+/// Adds the tag if the cell at this index is not null and above the value.
+fn push_if_above(
+    tags: &mut Vec<Tag>,
+    tag: Tag,
+    column: &Column,
+    at: usize,
+    value: &Cell,
+) -> Result<(), AllocError>
+    requires { at < length (column_cells column.now) }
+    ensures { OnOk result (tags.new.items ≡ tags.old.items ++ cond
+        (is_above value.now (slice_index_or (column_cells column.now) at cell_as.Null)) (tag ∷ []) []) }
+{
+    if column.is_above(at, value) {
+        tags.push(tag)?;
+    }
+    Ok(())
+}
+
+/// Adds the tags of the block's rows whose cell in a column is not null and above the value.
+fn push_tags_above(
+    tags: &mut Vec<Tag>,
+    block: &Block,
+    index: usize,
+    value: &Cell,
+) -> Result<(), AllocError>
+    requires { index < length block.now.columns }
+    ensures { OnOk result (tags.new.items ≡ tags.old.items
+        ++ tags_above (Some index) value.now (block_rows block.now)) }
+{
+    let row_tags = block.tags();
+    let column = &block.columns()[index];
+    for at in 0..row_tags.len() {
+        push_if_above(tags, row_tags[at], column, at, value)?;
+    }
+    Ok(())
+}
+
+/// The same for the column at an index. Where its greatest cell is not above the value, no other is looked at.
+fn push_tags_in_block(
+    tags: &mut Vec<Tag>,
+    block: &Block,
+    index: usize,
+    value: &Cell,
+) -> Result<(), AllocError>
+    ensures { OnOk result (tags.new.items ≡ tags.old.items
+        ++ tags_above (Some index) value.now (block_rows block.now)) }
+{
+    let columns = block.columns();
+    if index >= columns.len() {
+        return Ok(());
+    }
+    let greatest = block.extreme_at(Extreme::Greatest, index);
+    if has_none_above(&columns[index], greatest, value) {
+        return Ok(());
+    }
+    push_tags_above(tags, block, index, value)
+}
+
+impl Table {
+    /// The least cell at an index that is not null, if there is one. One cell of each block is read.
+    pub fn least(&self, alloc: Global, index: Option<usize>) -> Result<Option<Cell>, AllocError>
+        ensures { IfOk result (λ v. v ≡ least_of (cells_at index (finite.values self.now.rows))) }
+    {
+        self.extreme(alloc, Extreme::Least, index)
+    }
+
+    /// The greatest cell at an index that is not null, if there is one. One cell of each block is read.
+    pub fn greatest(&self, alloc: Global, index: Option<usize>) -> Result<Option<Cell>, AllocError>
+        ensures { IfOk result (λ v. v ≡ greatest_of (cells_at index (finite.values self.now.rows))) }
+    {
+        self.extreme(alloc, Extreme::Greatest, index)
+    }
+
+    /// The cell at an index that no other lies beyond, if one is not null.
+    fn extreme(
+        &self,
+        alloc: Global,
+        extreme: Extreme,
+        index: Option<usize>,
+    ) -> Result<Option<Cell>, AllocError>
+        ensures { IfOk result (λ v. v ≡ extreme_of extreme (cells_at index (finite.values self.now.rows))) }
+    {
+        let blocks = self.blocks();
+        let Some(index) = index else {
+            return Ok(None);
+        };
+        let mut best = None;
+        for block in blocks {
+            best = furthest_in_block(alloc, extreme, best, block, index)?;
+        }
+        Ok(best)
+    }
+
+    /// The tags of the rows whose cell at an index is not null and above the value, by rising tag. A block whose greatest
+    /// cell there is not above it is passed over, and no row is copied.
+    pub fn tags_above(
+        &self,
+        alloc: Global,
+        index: Option<usize>,
+        value: &Cell,
+    ) -> Result<Vec<Tag>, AllocError>
+        ensures { IfOk result (λ v. v.items ≡ tags_above index value.now (finite.entries self.now.rows)) }
+    {
+        let blocks = self.blocks();
+        let mut tags = Vec::new(alloc);
+        let Some(index) = index else {
+            return Ok(tags);
+        };
+        for block in blocks {
+            push_tags_in_block(&mut tags, block, index, value)?;
+        }
+        Ok(tags)
+    }
+}
