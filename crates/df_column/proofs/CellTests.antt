@@ -1,7 +1,6 @@
 -- Tests of cells: null, and above a value.
 use Rattle.std.proofs.Common.{◌≡◌, ℕ, Bool, true, false, List, Some, None, refl, sym, ap, ◌∙◌, not}
 use Rattle.std.specs.Prelude.{Option, ◌&&◌}
-use Rattle.std.specs.Borrow.{Bor}
 use Rattle.std.specs.Option.{is_some}
 use Rattle.std.specs.Ordering.{is_lt, is_gt, ordering_reverse}
 use Rattle.std.specs.declared.cmp.Ordering.{Ordering}
@@ -9,14 +8,14 @@ use Rattle.std.specs.declared.cmp.Ordering.TheVariants.{Less, Equal, Greater}
 use Rattle.df_value.specs.CellOrder.{cell_cmp, cell_cmp_total}
 use Rattle.df_value.specs.declared.cell.Cell.{Cell}
 use Rattle.df_column.specs.Extremes.{is_above, is_null}
-use Rattle.df_column.specs.Texts.{text_now}
+use Rattle.df_column.specs.Texts.{pool_text}
 use Rattle.df_column.specs.ValueCells.{text_cell}
 
-pub null_text : (t : Option (Bor (List ℕ))) (b : Bool) → is_some t ≡ not b → b ≡ is_null (text_cell (text_now t))
-null_text None true h = refl
-null_text None false h = cc
-null_text (Some t) true h = cc
-null_text (Some t) false h = refl
+pub null_place : (pool : List (List ℕ)) (p : Option ℕ) (b : Bool) → is_some p ≡ not b → b ≡ is_null (text_cell (pool_text pool p))
+null_place pool None true h = refl
+null_place pool None false h = cc
+null_place pool (Some p) true h = cc
+null_place pool (Some p) false h = refl
 
 reversed : (o : Ordering) → is_gt (ordering_reverse o) ≡ is_lt o
 reversed Less = refl

@@ -1,15 +1,13 @@
 -- The least and the greatest cell of some rows, and their tags above a value, one row more.
-use Rattle.std.proofs.Common.{◌≡◌, ℕ, zero, suc, ◌+◌, ◌<◌, ◌≤◌, Bool, true, false, cond, List, [], ◌∷◌, ◌++◌, length, map, take, drop, get_or, refl, sym, ap, ◌∙◌, arith, append_assoc, append-nil}
+use Rattle.std.proofs.Common.{◌≡◌, ℕ, ◌+◌, ◌<◌, ◌≤◌, Bool, true, false, cond, List, [], ◌∷◌, ◌++◌, length, map, drop, get_or, refl, sym, ap, ◌∙◌, append_assoc, append-nil}
 use Rattle.std.specs.Prelude.{Option, Some, None, filter, not, ◌&&◌}
-use Rattle.std.proofs.lemmas.List.{take_all}
 use Rattle.df_value.specs.Rows.{cell_at}
 use Rattle.df_value.specs.declared.cell.Cell.{Cell}
-use Rattle.df_column.specs.Extremes.{cells_at, extreme_in, extreme_of, further, is_above, is_better, is_beyond, is_null, tags_above}
+use Rattle.df_column.specs.Extremes.{extreme_in, extreme_of, further, is_above, is_better, is_beyond, is_null, tags_above}
 use Rattle.df_column.specs.declared.extremes.Extreme.{Extreme}
 use Rattle.df_column.specs.declared.tag.Tag.{Tag}
-use Rattle.df_column.proofs.Furthest.{extreme-append, strict}
+use Rattle.df_column.proofs.Furthest.{strict}
 use Rattle.df_column.proofs.MergeLemmas.{drop_at, drop_past}
-use Rattle.df_column.proofs.Places.{mapped_length}
 
 -- of one cell
 one_cell : (e : Extreme) (c : Cell) → is_null c ≡ false → extreme_of e (c ∷ []) ≡ Some c

@@ -1,6 +1,6 @@
 -- The least and the greatest cell of a list that is made of two: for each strict order, the lesser one of both.
 use Rattle.std.proofs.Common.{◌≡◌, ℕ, zero, suc, Bool, true, false, cond, List, [], ◌∷◌, ◌++◌, refl, sym, ap, subst, ◌∙◌, append-nil}
-use Rattle.std.specs.Prelude.{Option, Some, None, not, ◌&&◌, filter, find, slice_get}
+use Rattle.std.specs.Prelude.{Some, None, not, ◌&&◌, find, slice_get}
 use Rattle.std.specs.List.{list_all}
 use Rattle.std.specs.Ordering.{is_lt, is_gt, ordering_reverse}
 use Rattle.std.specs.declared.cmp.Ordering.{Ordering}

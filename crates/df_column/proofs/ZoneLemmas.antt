@@ -1,6 +1,6 @@
 -- The cells of a block in one column, and what its greatest cell says of its rows.
 use Rattle.std.proofs.Common.{◌≡◌, ℕ, zero, suc, ◌+◌, ◌<◌, ◌≤◌, Bool, true, false, cond, not, List, [], ◌∷◌, ◌++◌, length, map, take, drop, get_or, Some, None, refl, sym, ap, subst, ◌∙◌, arith, append-nil}
-use Rattle.std.specs.Prelude.{T, ◌==◌, ◌&&◌, Option, filter, slice_get, unwrap_or}
+use Rattle.std.specs.Prelude.{T, ◌==◌, ◌&&◌, Option, filter, unwrap_or}
 use Rattle.std.specs.Arc.{arc_value}
 use Rattle.std.specs.List.{list_all}
 use Rattle.std.specs.Ordering.{is_lt, is_gt}

@@ -52,14 +52,6 @@ fn compare_text(text: Option<&str>, cell: &Cell) -> Ordering
 }
 
 impl Texts {
-    /// Whether the cell at this index is null.
-    fn is_null(&self, at: usize) -> bool
-        requires { at < length (map text_cell self.now) }
-        ensures { (d : Cell) → result ≡ extremes.is_null (slice_index_or (map text_cell self.now) at d) }
-    {
-        self.get(at).is_none()
-    }
-
     /// How two of the cells compare.
     fn compare(&self, a: usize, b: usize) -> Ordering
         requires first { a < length (map text_cell self.now) }

@@ -4,6 +4,7 @@ ghost use Rattle.df_value.specs.CellEq.{cell_eq};
 ghost use Rattle.df_value.specs.Cells.{fits_dtype};
 ghost use Rattle.df_value.specs.declared.cell.Cell.{Cell};
 ghost use Rattle.df_value.specs.declared.cell.CellType.TheVariants as dtype_as;
+ghost use Rattle.df_column.specs.Extremes as extremes;
 ghost use Rattle.df_column.specs.Picks.{AreFit, AreWithin, is_fit, is_within, origin_cell, picked_cells, all_or_none};
 ghost use Rattle.df_column.specs.Pools as pools;
 ghost use Rattle.df_column.specs.Pools.{place_of};
@@ -277,6 +278,14 @@ impl Texts {
         ensures { (d : Cell) → result ≡ cell_eq (slice_index_or (map text_cell self.now) at d) cell.now }
     {
         is_cell_of(self.get(at), cell)
+    }
+
+    /// Whether the cell at this index is null. No text is read.
+    pub(crate) fn is_null(&self, at: usize) -> bool
+        requires { at < length (map text_cell self.now) }
+        ensures { (d : Cell) → result ≡ extremes.is_null (slice_index_or (map text_cell self.now) at d) }
+    {
+        self.places.get(at).is_none()
     }
 
     /// These texts, with room for more places.

@@ -1,6 +1,5 @@
-use Rattle.std.proofs.Common.{◌≡◌, ◌++◌, ◌∷◌, [], map, take, get_or, sym, subst, ap, ◌∙◌, arith}
+use Rattle.std.proofs.Common.{◌++◌, ◌∷◌, [], sym, subst, arith}
 use Rattle.df_column.specs.BlockExtremes.{AreExtremes}
-use Rattle.df_column.specs.Columns.{column_cells}
 use Rattle.df_column.proofs.BlockExtremes.{columns_more, extremes_last}
 use Rattle.df_column.proofs.extremes.extremes_of.Goals as goal
 

@@ -1,8 +1,6 @@
-use Rattle.std.proofs.Common.{◌≡◌, ◌++◌, ◌∷◌, ◌∙◌, [], Some, ap, arith, cond, get_or, length, map, subst, sym}
-use Rattle.df_value.specs.declared.cell.Cell.TheVariants as cell
+use Rattle.std.proofs.Common.{◌≡◌, ◌∙◌, [], Some, ap, arith, get_or, length, map, sym}
 use Rattle.df_column.specs.Blocks.{block_rows}
 use Rattle.df_column.specs.Columns.{column_cells}
-use Rattle.df_column.specs.Extremes.{is_above}
 use Rattle.df_column.proofs.BlockLemmas.{even_at}
 use Rattle.df_column.proofs.ExtremeLemmas.{above_end}
 use Rattle.df_column.proofs.Places.{mapped_at}

@@ -1,4 +1,4 @@
-use Rattle.std.proofs.Common.{◌≡◌, ◌∙◌, Some, None, ap, map, sym, subst, arith}
+use Rattle.std.proofs.Common.{◌≡◌, ◌∙◌, Some, ap, map, sym, subst, arith}
 use Rattle.std.specs.FinMap as finite
 use Rattle.df_column.specs.Blocks.{block_rows}
 use Rattle.df_column.specs.Extremes.{cells_at, extreme_of, further}

@@ -1,4 +1,4 @@
-use Rattle.std.proofs.Common.{◌≡◌, ◌++◌, ◌∙◌, Some, None, ap, sym, subst, arith}
+use Rattle.std.proofs.Common.{◌≡◌, ◌++◌, ◌∙◌, Some, ap, sym, subst, arith}
 use Rattle.std.specs.FinMap as finite
 use Rattle.df_column.specs.Blocks.{block_rows}
 use Rattle.df_column.specs.Extremes.{tags_above}
