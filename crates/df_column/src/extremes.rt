@@ -1,5 +1,5 @@
 //! The least and the greatest cell of a column, and where they stand.
-ghost use Rattle.std.specs.Prelude.{◌≡◌, ◌+◌, ◌<◌, ◌≤◌, IfOk, IfSome, length, map, slice_index_or, take};
+ghost use Rattle.std.specs.Prelude.{◌≡◌, ◌+◌, ◌<◌, IfOk, IfSome, length, map, slice_index_or, take};
 ghost use Rattle.df_value.specs.CellOrder.{cell_cmp};
 ghost use Rattle.df_value.specs.declared.cell.Cell.{Cell};
 ghost use Rattle.df_value.specs.declared.cell.Cell.TheVariants as cell_as;

@@ -5,6 +5,9 @@
 //! for each column of the schema: values under a null mask ([`Masked`]), or texts by their places in a dictionary
 //! ([`Texts`], [`TextPool`]).
 //!
+//! A block keeps where a least and a greatest cell of each of its columns stand, so that [`Table::least`],
+//! [`Table::greatest`] and [`Table::tags_above`] pass over most cells.
+//!
 //! [`Table::edited`] gives the table after the changes of some [`Entry`]s. It makes new only the blocks that are
 //! changed, column by column.
 #![tactic(auto)]

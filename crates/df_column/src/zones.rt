@@ -1,10 +1,10 @@
 //! Reads of a table that pass over blocks by what they keep of their columns.
-ghost use Rattle.std.specs.Prelude.{◌≡◌, ◌<◌, ◌++◌, ◌∷◌, [], IfOk, IfSome, OnOk, Some, T, cond, length, map, not, slice_index_or};
+ghost use Rattle.std.specs.Prelude.{◌≡◌, ◌<◌, ◌++◌, ◌∷◌, [], IfOk, OnOk, Some, T, cond, length, map, not, slice_index_or};
 ghost use Rattle.std.specs.FinMap as finite;
 ghost use Rattle.std.specs.List.{list_all};
 ghost use Rattle.df_value.specs.declared.cell.Cell.{Cell};
 ghost use Rattle.df_value.specs.declared.cell.Cell.TheVariants as cell_as;
-ghost use Rattle.df_column.specs.BlockExtremes.{IsExtremeAt, cell_there};
+ghost use Rattle.df_column.specs.BlockExtremes.{IsExtremeAt};
 ghost use Rattle.df_column.specs.Blocks.{block_rows};
 ghost use Rattle.df_column.specs.Columns.{column_cells};
 ghost use Rattle.df_column.specs.Extremes as extremes;
