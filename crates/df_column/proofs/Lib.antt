@@ -13,6 +13,8 @@ pub mod TableChanges
 pub mod PartLemmas
 pub mod BehindLemmas
 pub mod TableLemmas
+pub mod Furthest
+pub mod ExtremeLemmas
 pub mod SpotLemmas
 mod SharedLemmas
 pub mod ReadLemmas

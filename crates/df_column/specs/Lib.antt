@@ -14,3 +14,4 @@ pub mod Tables
 pub mod Blocks
 pub mod BlockRows
 pub mod TableBlocks
+pub mod Extremes

@@ -13,6 +13,7 @@ mod block;
 mod blocks;
 mod column;
 mod entry;
+mod extremes;
 mod masked;
 mod merge;
 mod picks;
