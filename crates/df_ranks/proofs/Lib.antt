@@ -9,7 +9,6 @@ pub mod MinRanks
 pub mod ChangedValues
 pub mod OutputSteps
 pub mod TagLists
-pub mod ValuesAbove
 pub mod DenseRanks
 pub mod CountsAfter
 pub mod RankDeltas
