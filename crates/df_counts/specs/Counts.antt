@@ -32,12 +32,7 @@ raised_count counts r = (unwrap_or (find cell_cmp r.0 counts) 0 + r.1) % 2 ^ 64
 abbrev pub count_change : List (Cell × ℕ) → Cell × ℕ → Cell × Change ℕ
 count_change counts r = (r.0, record { old = find cell_cmp r.0 counts; new = some_count (raised_count counts r) })
 
--- the value of the first count, if there is one
-abbrev pub first_value : List (Cell × ℕ) → Option Cell
-first_value [] = None
-first_value (e ∷ es) = Some e.0
-
--- and of the last one
+-- the value of the last count, if there is one
 abbrev pub last_value : List (Cell × ℕ) → Option Cell
 last_value [] = None
 last_value (e ∷ []) = Some e.0

@@ -1,13 +1,12 @@
 //! Counts of the values of a column.
 ghost use Rattle.std.specs.Prelude.{◌≡◌, ◌%◌, ◌^◌, [], T, IfOk, IsTrue, false, if◌then◌else◌, is_some, length, map, true, unwrap_or};
 ghost use Rattle.std.specs.List.{sum_by};
-ghost use Rattle.std.specs.Option.{option_copied};
 ghost use Rattle.std.specs.Ordering.{is_lt};
 ghost use Rattle.std.specs.FinMap.{find as entry_of, is_sorted};
 ghost use Rattle.df_value.specs.CellOrder.{cell_cmp};
 ghost use Rattle.df_value.specs.declared.cell.Cell.{Cell as AnyCell};
 ghost use Rattle.df_column.specs.Changes.{after_changes, edit};
-ghost use Rattle.df_counts.specs.Counts.{count_change, first_value, last_value, some_count};
+ghost use Rattle.df_counts.specs.Counts.{count_change, some_count};
 
 use crate::order::is_less;
 use crate::subtree::Subtree;
@@ -103,20 +102,6 @@ impl Counts {
         ensures { result ≡ sum_by (λ e. if is_lt (cell_cmp e.0 value.now) then e.1 else 0) self.now % 2 ^ 64 }
     {
         self.root.totals_below(value).rows
-    }
-
-    /// The least value, if there is one.
-    pub fn least(&self) -> Option<&Cell>
-        ensures { option_copied result ≡ first_value self.now }
-    {
-        self.root.first()
-    }
-
-    /// The greatest value, if there is one.
-    pub fn greatest(&self) -> Option<&Cell>
-        ensures { option_copied result ≡ last_value self.now }
-    {
-        self.root.last()
     }
 
     /// Whether no value is above this one.

@@ -9,4 +9,3 @@ mod subtree;
 mod totals;
 
 pub use counts::Counts;
-pub use order::is_less;

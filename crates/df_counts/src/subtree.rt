@@ -4,7 +4,7 @@ ghost use Rattle.std.specs.Option.{option_copied};
 ghost use Rattle.std.specs.FinMap.{find as entry_of, is_sorted};
 ghost use Rattle.df_value.specs.CellOrder.{cell_cmp};
 ghost use Rattle.df_column.specs.Changes.{edit};
-ghost use Rattle.df_counts.specs.Counts.{first_value, last_value};
+ghost use Rattle.df_counts.specs.Counts.{last_value};
 ghost use Rattle.df_counts.specs.Subtrees.{entries_of};
 ghost use Rattle.df_counts.specs.Totals.{AreTotals, AreTotalsBelow};
 
@@ -270,22 +270,6 @@ impl Subtree {
                     Ordering::Less => node.left.find(value),
                     Ordering::Equal => Some(node.count),
                     Ordering::Greater => node.right.find(value),
-                }
-            }
-        }
-    }
-
-    /// The first value, if there is one.
-    pub fn first(&self) -> Option<&Cell>
-        ensures { option_copied result ≡ first_value (entries_of self.now) }
-    {
-        match self {
-            Subtree::Empty => None,
-            Subtree::Fork(node) => {
-                let node: &Node = node;
-                match node.left.first() {
-                    Some(value) => Some(value),
-                    None => Some(node.value.get()),
                 }
             }
         }

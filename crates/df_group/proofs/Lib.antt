@@ -6,7 +6,6 @@ pub mod IndexMaps
 pub mod RowSums
 pub mod ValueCounts
 pub mod CountedChanges
-pub mod LeastValues
 pub mod DistinctValues
 pub mod Totals
 pub mod Followed

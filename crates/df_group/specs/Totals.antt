@@ -98,10 +98,8 @@ summed_index columns (agg.Mean name) = column_index name columns
 summed_index columns (agg.NUnique name) = column_index name columns
 summed_index columns _ = None
 
--- the index whose values an aggregate looks at; none for those that need none, so that no value is kept for them
+-- the index whose values an aggregate counts; none for those that count none, so that no value is kept for them
 abbrev pub valued_index : List (List ℕ × CellType) → Agg → Option ℕ
-valued_index columns (agg.Min name) = column_index name columns
-valued_index columns (agg.Max name) = column_index name columns
 valued_index columns (agg.NUnique name) = column_index name columns
 valued_index columns _ = None
 

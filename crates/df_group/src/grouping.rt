@@ -1,12 +1,12 @@
 //! How rows are grouped, and the row of a group.
 ghost use Rattle.std.specs.Prelude.{◌≡◌, [], IfOk, slice_get, unwrap_or};
-ghost use Rattle.std.specs.Option.{option_copied};
 ghost use Rattle.std.specs.FinMap as finite;
 ghost use Rattle.df_value.specs.Rows.{cell_at};
 ghost use Rattle.df_value.specs.declared.cell.Cell.TheVariants as cells;
-ghost use Rattle.df_ops.specs.Aggregates.{cells_of};
+ghost use Rattle.df_ops.specs.Aggregates.{cells_of, min_or_max_of};
 ghost use Rattle.df_ops.specs.NamedColumns as named_columns;
 ghost use Rattle.df_ops.specs.Tables.{aggregate_cell};
+ghost use Rattle.df_ops.specs.declared.min_max.MinMax.TheVariants as min_max;
 ghost use Rattle.df_group.specs.GroupIndex as index_spec;
 ghost use Rattle.df_group.specs.GroupIndex.{totals_of};
 ghost use Rattle.df_group.specs.Totals as totals_spec;
@@ -64,7 +64,7 @@ impl Grouping {
     }
 
     /// The row of a group of these members: the key, and after it the aggregates. Only a first and a last member are
-    /// read, where they are wanted.
+    /// read, where they are wanted, and of a least and a greatest cell one cell of each block of members.
     pub fn finished_row(
         &self,
         alloc: Global,
@@ -98,13 +98,11 @@ fn summed_index(columns: &[(Text, CellType)], agg: &Agg) -> Option<usize>
     }
 }
 
-/// The index whose values an aggregate looks at; none for those that need none.
+/// The index whose values an aggregate counts; none for those that count none.
 fn valued_index(columns: &[(Text, CellType)], agg: &Agg) -> Option<usize>
     ensures { result ≡ totals_spec.valued_index columns.now agg.now }
 {
     match agg {
-        Agg::Min(name) => column_index(name, columns),
-        Agg::Max(name) => column_index(name, columns),
         Agg::NUnique(name) => column_index(name, columns),
         _ => None,
     }
@@ -127,8 +125,8 @@ fn finished_cell(
         Agg::Count(_) => Ok(Cell::Int(total.sums.count)),
         Agg::Sum(_) => Ok(Cell::Wide(total.sums.sum)),
         Agg::Mean(_) => Ok(total.sums.mean()),
-        Agg::Min(_) => value_or_null(alloc, total.values.counts.least()),
-        Agg::Max(_) => value_or_null(alloc, total.values.counts.greatest()),
+        Agg::Min(name) => least_cell(alloc, column_index(name, columns), members),
+        Agg::Max(name) => greatest_cell(alloc, column_index(name, columns), members),
         Agg::NUnique(_) => Ok(Cell::Int(total.distinct_cells(members.len()))),
         Agg::First(name) => member_cell(alloc, column_index(name, columns), members, 0),
         Agg::Last(name) => {
@@ -138,14 +136,22 @@ fn finished_cell(
     }
 }
 
-/// A copy of the value, null where there is none.
-fn value_or_null(alloc: Global, value: Option<&Cell>) -> Result<Cell, AllocError>
-    ensures { IfOk result (λ c. c ≡ unwrap_or (option_copied value.entry) cells.Null) }
+/// The least cell at an index of the members that is no null, null where there is none.
+fn least_cell(alloc: Global, index: Option<usize>, members: &Table) -> Result<Cell, AllocError>
+    ensures { IfOk result (λ c. c
+        ≡ min_or_max_of min_max.Min (cells_of index (finite.values members.now.rows))) }
 {
-    match value {
-        Some(value) => value.copy(alloc),
-        None => Ok(Cell::Null),
-    }
+    let least = members.least(alloc, index)?;
+    Ok(least.unwrap_or(Cell::Null))
+}
+
+/// The greatest cell at an index of the members that is no null, null where there is none.
+fn greatest_cell(alloc: Global, index: Option<usize>, members: &Table) -> Result<Cell, AllocError>
+    ensures { IfOk result (λ c. c
+        ≡ min_or_max_of min_max.Max (cells_of index (finite.values members.now.rows))) }
+{
+    let greatest = members.greatest(alloc, index)?;
+    Ok(greatest.unwrap_or(Cell::Null))
 }
 
 /// The cell at an index of the member at a place, null where there is none.

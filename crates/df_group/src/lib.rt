@@ -1,8 +1,9 @@
 //! The live group-by: a row for each key of its input, which follows the input by deltas.
 //!
 //! [`LiveGroup`] keeps the members of each key's group with running totals of them and the group's finished row: counts,
-//! sums, and how many members have each value. A change touches the groups of the keys that it names: it moves their
-//! totals by the rows that go and come, and finishes each of them once, of its totals and of its first and last member.
+//! sums, and where distinct values are asked for, how many members have each value. A change touches the groups of the
+//! keys that it names: it moves their totals by the rows that go and come, and finishes each of them once, of its totals,
+//! of its first and last member, and of a least and a greatest cell that each block of members knows.
 #![tactic(auto)]
 
 mod group;

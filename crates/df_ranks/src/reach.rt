@@ -1,5 +1,5 @@
 //! The tags at which a rank looks again.
-ghost use Rattle.std.specs.Prelude.{◌≡◌, ◌==◌, ◌++◌, ◌∷◌, [], T, IfOk, OnOk, map, not};
+ghost use Rattle.std.specs.Prelude.{◌≡◌, ◌==◌, ◌++◌, T, IfOk, map, not};
 ghost use Rattle.std.specs.Option.{option_copied};
 ghost use Rattle.std.specs.FinMap as finite;
 ghost use Rattle.std.specs.FinMap.{is_sorted};
@@ -7,14 +7,13 @@ ghost use Rattle.df_value.specs.CellOrder.{cell_cmp};
 ghost use Rattle.df_column.specs.Changes.{after_changes};
 ghost use Rattle.df_counts.specs.Counts.{count_change};
 ghost use Rattle.df_ranks.specs.Counts.{RanksStay, SameBelow, changes_weight, weight};
-ghost use Rattle.df_ranks.specs.Reach.{Reaches, is_row_above, tags_above, tags_above_any};
+ghost use Rattle.df_ranks.specs.Reach.{Reaches, tags_above_any};
 
-use crate::rises::value_at;
 use df_column::{Table, Tag};
-use df_counts::{Counts, is_less};
+use df_counts::Counts;
 use df_delta::Delta;
 use df_ops::RankKind;
-use df_value::{Cell, Row};
+use df_value::Cell;
 use std::alloc::{AllocError, Global};
 use std::collections::BTreeMap;
 
@@ -109,7 +108,8 @@ fn gathered_tags(
     let Some(least) = least else {
         return Ok(tags);
     };
-    push_tags_above(alloc, &mut tags, input, index, least)?;
+    let above = input.tags_above(alloc, index, least)?;
+    tags.extend_from_slice(&above)?;
     Ok(tags)
 }
 
@@ -122,47 +122,4 @@ fn delta_tags(alloc: Global, delta: &Delta) -> Result<Vec<Tag>, AllocError>
         tags.push(entry.tag)?;
     }
     Ok(tags)
-}
-
-/// Adds the tags of the rows whose value at an index is above this one.
-fn push_tags_above(
-    alloc: Global,
-    tags: &mut Vec<Tag>,
-    input: &Table,
-    index: Option<usize>,
-    least: &Cell,
-) -> Result<(), AllocError>
-    ensures { OnOk result (tags.new.items ≡ tags.old.items
-        ++ tags_above index least.now (finite.entries input.now.rows)) }
-{
-    for at in 0..input.len() {
-        let row = input.row(alloc, at)?;
-        push_if_above(tags, input.tag(at), index, least, &row)?;
-    }
-    Ok(())
-}
-
-/// Adds the row's tag if its value at an index is above this one.
-fn push_if_above(
-    tags: &mut Vec<Tag>,
-    tag: Tag,
-    index: Option<usize>,
-    least: &Cell,
-    row: &Row,
-) -> Result<(), AllocError>
-    ensures { OnOk result (tags.new.items ≡ tags.old.items ++ tags_above index least.now ((tag, row.now) ∷ [])) }
-{
-    if is_above_least(index, least, row) {
-        tags.push(tag)?;
-    }
-    Ok(())
-}
-
-fn is_above_least(index: Option<usize>, least: &Cell, row: &Row) -> bool
-    ensures { result ≡ is_row_above index least.now row.now }
-{
-    match value_at(index, row) {
-        Some(value) => is_less(least, value),
-        None => false,
-    }
 }

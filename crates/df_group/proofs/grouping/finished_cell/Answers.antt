@@ -6,13 +6,11 @@ use Rattle.std.proofs.lemmas.Int.{ints}
 use Rattle.std.proofs.lemmas.Result.{IfOk-weaker}
 use Rattle.df_value.specs.Schemas.{column_index}
 use Rattle.df_value.specs.declared.cell.Cell.TheVariants as cell
-use Rattle.df_ops.specs.Aggregates.{cells_of, count_of, mean_at, n_unique_of}
+use Rattle.df_ops.specs.Aggregates.{cells_of, count_of, mean_at, min_or_max_of, n_unique_of}
 use Rattle.df_ops.specs.Tables.{aggregate_cell}
 use Rattle.df_ops.specs.declared.min_max.MinMax.TheVariants as min_max
-use Rattle.df_counts.specs.Counts.{first_value, last_value}
 use Rattle.df_group.specs.Totals.{total_for}
 use Rattle.df_group.proofs.DistinctValues.{few_distinct}
-use Rattle.df_group.proofs.LeastValues.{end_is}
 use Rattle.df_group.proofs.Members.{cells_length, values_length}
 use Rattle.df_group.proofs.grouping.finished_cell.Goals as goal
 
@@ -50,25 +48,21 @@ pub returns-in-Min : goal.returns-in-Min
 returns-in-Min c =
     let rows = finite.values c.args.members.now.rows in
     let columns = c.args.columns.now in
-    IfOk-weaker c.value_or_null.result _ _
+    IfOk-weaker c.least_cell.result _ _
     (λ x e own. e
-    ∙ ap (λ o. unwrap_or o cell.Null) c.least.ensures
-    ∙ ap (λ t. unwrap_or (first_value t.values.counts) cell.Null) (own ∙ ap (λ a. total_for columns a rows) c.in-Min.is)
-    ∙ end_is min_max.Min (column_index c.in-Min.field-0 columns) rows
+    ∙ ap (λ index. min_or_max_of min_max.Min (cells_of index rows)) c.column_index.ensures.value
     ∙ ap (aggregate_cell columns rows) (sym c.in-Min.is))
-    c.value_or_null.ensures
+    c.least_cell.ensures
 
 pub returns-in-Max : goal.returns-in-Max
 returns-in-Max c =
     let rows = finite.values c.args.members.now.rows in
     let columns = c.args.columns.now in
-    IfOk-weaker c.value_or_null-in-Max.result _ _
+    IfOk-weaker c.greatest_cell.result _ _
     (λ x e own. e
-    ∙ ap (λ o. unwrap_or o cell.Null) c.greatest.ensures
-    ∙ ap (λ t. unwrap_or (last_value t.values.counts) cell.Null) (own ∙ ap (λ a. total_for columns a rows) c.in-Max.is)
-    ∙ end_is min_max.Max (column_index c.in-Max.field-0 columns) rows
+    ∙ ap (λ index. min_or_max_of min_max.Max (cells_of index rows)) c.column_index-in-Max.ensures.value
     ∙ ap (aggregate_cell columns rows) (sym c.in-Max.is))
-    c.value_or_null-in-Max.ensures
+    c.greatest_cell.ensures
 
 pub returns-in-NUnique : goal.returns-in-NUnique
 returns-in-NUnique c own =
