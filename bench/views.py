@@ -4,8 +4,8 @@
 PROGRAM is dfshell. Each kind of view stands alone over a frame of a group, a key of its own in each row, and a whole
 number. The rows come in chunks of 1,000; then single rows are appended, replaced and deleted. Each session runs a
 second time with changes that are refused, which is what reading them costs, and that is taken off. Prints the
-microseconds that a row of the chunks and each kind of change take, for a group-by also in SQLite: in memory, with
-triggers that keep the sums, through Python's own library.
+microseconds that a row of the chunks and each kind of change take, and how often an appended row asks for memory; for a
+group-by also the microseconds in SQLite: in memory, with triggers that keep the sums, through Python's own library.
 """
 
 import os
@@ -17,13 +17,17 @@ import sys
 import tempfile
 import time
 
+from appends import library, requests_of
+
 CHUNK = 1000
-SINGLES = 1000
 GROUPS = 64
 STEPS = {
     "none": None,
     "filter": '["filter", [">", ["col", "v"], 0]]',
+    "select": '["select", ["v", ["col", "v"]], ["double", ["*", ["col", "v"], 2]]]',
+    "with columns": '["with_columns", ["double", ["*", ["col", "v"], 2]]]',
     "group-by": '["group_by", ["g"], ["n", "len"], ["total", "sum", "v"]]',
+    "four totals": '["group_by", ["g"], ["n", "len"], ["total", "sum", "v"], ["least", "min", "v"], ["most", "max", "v"]]',
     "unique groups": '["group_by", ["k"], ["n", "len"], ["total", "sum", "v"]]',
     "least and most": '["group_by", ["g"], ["least", "min", "v"], ["most", "max", "v"]]',
     "distinct values": '["group_by", ["g"], ["kinds", "n_unique", "v"], ["f", "first", "v"], ["l", "last", "v"]]',
@@ -33,6 +37,7 @@ STEPS = {
     "rolling sum": '["rolling_sum", "s", "v", 8, 1]',
     "cumulative sum": '["cum_sum", "s", "v"]',
     "dense rank": '["rank", "r", "dense", "g"]',
+    "minimum rank": '["rank", "r", "min", "g"]',
 }
 DOCUMENT = """[[frame]]
 name = "rows"
@@ -44,6 +49,11 @@ name = "view"
 from = "rows"
 steps = [STEP]
 """
+
+
+def singles(rows):
+    """So many single changes that they weigh as much as the noise of the load before them, or more."""
+    return max(1000, rows // 50)
 
 
 def row(source, number):
@@ -58,8 +68,9 @@ def chunks(source, rows, refused):
 
 def changes(kind, source, rows, refused):
     """Single changes behind so many rows. A refused one is of a number that was accepted, or that is not there."""
-    places = random.Random(rows).sample(range(rows), SINGLES)
-    for at in range(SINGLES):
+    many = singles(rows)
+    places = random.Random(rows).sample(range(rows), many)
+    for at in range(many):
         if kind == "append":
             yield f"append rows {0 if refused else rows + at} 1\n{row(source, rows + at)}"
         number = 4294967295 if refused else places[at]
@@ -69,12 +80,15 @@ def changes(kind, source, rows, refused):
             yield f"delete rows {number}\n"
 
 
+def write(folder, parts):
+    with open(folder / "typed", "w", encoding="ascii") as file:
+        file.writelines(parts)
+
+
 def seconds(program, folder, parts):
     """The processor seconds of a session of these commands."""
-    typed = folder / "typed"
-    with open(typed, "w", encoding="ascii") as file:
-        file.writelines(parts)
-    with open(typed, "rb") as file:
+    write(folder, parts)
+    with open(folder / "typed", "rb") as file:
         shell = subprocess.Popen([program, "rows.toml"], cwd=folder, stdin=file, stdout=subprocess.DEVNULL)
         _, status, used = os.wait4(shell.pid, 0)
     if status != 0:
@@ -82,8 +96,8 @@ def seconds(program, folder, parts):
     return used.ru_utime + used.ru_stime
 
 
-def measured(program, folder, rows):
-    """Microseconds: of a row of the chunks, and of each kind of single change."""
+def measured(program, folder, rows, preloaded):
+    """Microseconds: of a row of the chunks, and of each kind of single change. Last, the requests of an appended row."""
     source = random.Random(20260101)
     loaded = list(chunks(source, rows, False))
     made = [loaded[0], *chunks(random.Random(20260101), rows, True)]
@@ -92,7 +106,12 @@ def measured(program, folder, rows):
     for kind in ("append", "replace", "delete"):
         each = seconds(program, folder, [*loaded, *changes(kind, source, rows, False)])
         read = seconds(program, folder, [*loaded, *changes(kind, source, rows, True)])
-        result.append((each - read) / SINGLES * 1e6)
+        result.append((each - read) / singles(rows) * 1e6)
+    asked = []
+    for refused in (False, True):
+        write(folder, [*loaded, *changes("append", random.Random(1), rows, refused)])
+        asked.append(requests_of(program, folder, "typed", preloaded))
+    result.append((asked[0] - asked[1]) / singles(rows))
     return result
 
 
@@ -123,33 +142,36 @@ def in_sqlite(rows):
     def cells(number):
         return number, source.randrange(GROUPS), source.randrange(-1000, 1000)
 
-    places = random.Random(rows).sample(range(rows), 2 * SINGLES)
+    many = singles(rows)
+    places = random.Random(rows).sample(range(rows), 2 * many)
     base.execute("begin")
     load = timed("insert into rows values (?, ?, ?)", [cells(number) for number in range(rows)])
     base.execute("commit")
-    append = timed("insert into rows values (?, ?, ?)", [cells(rows + at) for at in range(SINGLES)])
-    replace = timed("update rows set g = ?2, v = ?3 where id = ?1", [cells(number) for number in places[:SINGLES]])
-    delete = timed("delete from rows where id = ?", [(number,) for number in places[SINGLES:]])
+    append = timed("insert into rows values (?, ?, ?)", [cells(rows + at) for at in range(many)])
+    replace = timed("update rows set g = ?2, v = ?3 where id = ?1", [cells(number) for number in places[:many]])
+    delete = timed("delete from rows where id = ?", [(number,) for number in places[many:]])
     return [load, append, replace, delete]
 
 
 def main():
     program = os.path.abspath(sys.argv[1])
     sizes = [int(word) for word in sys.argv[2:]] or [10_000, 100_000]
-    print(f"{'view':16}{'rows':>9}{'row':>9}{'append':>9}{'replace':>9}{'delete':>9}   microseconds")
+    print(f"{'view':16}{'rows':>9}{'row':>9}{'append':>9}{'replace':>9}{'delete':>9} microseconds{'requests':>10}")
     with tempfile.TemporaryDirectory() as name:
         folder = pathlib.Path(name)
+        preloaded = library(folder)
         for kind, steps in STEPS.items():
             view = VIEW.replace("STEP", steps) if steps else ""
             (folder / "rows.toml").write_text(DOCUMENT + view)
             for rows in sizes:
-                report(kind, rows, measured(program, folder, rows))
+                report(kind, rows, measured(program, folder, rows, preloaded))
     for rows in sizes:
         report("SQLite", rows, in_sqlite(rows))
 
 
 def report(kind, rows, numbers):
-    print(f"{kind:16}{rows:9}" + "".join(f"{number:9.1f}" for number in numbers), flush=True)
+    requests = "".join(f"{number:23.1f}" for number in numbers[4:])
+    print(f"{kind:16}{rows:9}" + "".join(f"{number:9.1f}" for number in numbers[:4]) + requests, flush=True)
 
 
 if __name__ == "__main__":

@@ -1,6 +1,6 @@
 -- The rows of a view of a legal state are those of its plan over the frames.
-use Rattle.std.proofs.Common.{◌≡◌, ◌∙◌, Bool, true, false, ℕ, List, [], ◌∷◌, cond, map, refl, ap, sym}
-use Rattle.std.specs.Prelude.{Option, Some, None, Ok, bytes_eq, find, ok_or, option_map}
+use Rattle.std.proofs.Common.{◌≡◌, ◌∙◌, true, false, ℕ, List, [], ◌∷◌, cond, map, refl, ap, sym}
+use Rattle.std.specs.Prelude.{Some, Ok, bytes_eq, ok_or, option_map}
 use Rattle.df_plan.specs.CheckedParts.{CheckedParts}
 use Rattle.df_catalogue.specs.declared.fault.CatalogueFault.TheVariants as fault
 use Rattle.df_catalogue.specs.declared.state.FrameState.{FrameState}

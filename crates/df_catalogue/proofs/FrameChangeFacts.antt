@@ -32,10 +32,10 @@ use Rattle.df_catalogue.specs.Parts.{state_of, IsCatalogue}
 use Rattle.df_catalogue.specs.Refusals.{refusal_of, append_refusal, delete_refusal, first_reason, doubled_number_after, first_not_live, numbers_refusal, replace_refusal}
 use Rattle.df_catalogue.specs.States.{IsLegal, IsPlanOver}
 use Rattle.df_catalogue.specs.Transitions.{IsTransitionOfDesk, IsTransitionOfDesks}
-use Rattle.df_catalogue.proofs.Counting.{accepted-few, deleted-few, deleted-more, sum-change}
+use Rattle.df_catalogue.proofs.Counting.{deleted-more, sum-change}
 use Rattle.df_catalogue.proofs.FrameFacts.{accepted-more, numbered-at, numbered-with_chunk, numbered-with_replaced_rows, numbered-without_rows}
 use Rattle.df_catalogue.proofs.Legal.{append-accepted, legal-after, replace-accepted}
-use Rattle.df_catalogue.proofs.LiveFacts.{are-changes, headings-plans, is-change, refreshed-headings, tagged-changed, views-live}
+use Rattle.df_catalogue.proofs.LiveFacts.{are-changes, headings-plans, is-change, tagged-changed, views-live}
 use Rattle.df_catalogue.proofs.StateFacts.{change-set}
 
 abbrev Columns : Type 0
@@ -129,7 +129,7 @@ numbered-after f (Delete ns) x sound h takes = numbered-without_rows ns.now x h
 numbered-after f (Replace rows) x sound h takes = numbered-with_replaced_rows rows.now x h
 
 -- what it makes of a state
-after-frame :
+pub after-frame :
     (s : State) (f : ℕ) (c : FrameChange) →
     let frames = change_at f (λ x. frame_after x c) s.frames in
     after s (change_of f c) ≡ record { schemas = s.schemas; frames = frames; views = refreshed_views frames s.views }
@@ -211,7 +211,7 @@ pub record IsBooked (s : State) (f : ℕ) (c : FrameChange) : Type 0 where
   pub accepted : accepted_in (after s (change_of f c)) ≡ accepted_in s + accepted_rows (change_of f c)
   pub deleted : deleted_in (after s (change_of f c)) ≡ deleted_in s + deleted_rows (change_of f c)
 
-booked : (s : State) (f : ℕ) (c : FrameChange) (x : FrameState) → IsChangeable s f c x → IsBooked s f c
+pub booked : (s : State) (f : ℕ) (c : FrameChange) (x : FrameState) → IsChangeable s f c x → IsBooked s f c
 booked s f c x h =
     let change : FrameState → FrameState = λ x. frame_after x c in record {
       accepted =
@@ -221,69 +221,6 @@ booked s f c x h =
           ap deleted_in (after-frame s f c)
           ∙ sum-change (λ y. length y.deleted) (deleted_rows (change_of f c)) f change s.frames x h.at (frame-deleted f c x h.numbered h.takes);
     }
-
--- they have room for the rows
-pub record HasRoom (s : State) (f : ℕ) (c : FrameChange) : Type 0 where
-  pub accepted : accepted_in s + accepted_rows (change_of f c) < 18446744073709551616
-  pub deleted : deleted_in s + deleted_rows (change_of f c) < 18446744073709551616
-
-pub room :
-    (s : State) (f : ℕ) (c : FrameChange) (x : FrameState) → IsLegal s → IsSound (change_of f c) → refusal_of s (change_of f c) ≡ None →
-    IsChangeable s f c x → HasRoom s f c
-room s f c x h sound free known =
-    let new : State = after s (change_of f c) in
-    let legal : IsLegal new = legal-after s (change_of f c) h sound free in
-    let few = accepted-few new.schemas new.frames legal.frames in
-    let fewer = deleted-few new.schemas new.frames legal.frames in
-    let frames = legal.few_frames in
-    let books = booked s f c x known in
-    let accepted = books.accepted in
-    let deleted = books.deleted in
-    record { accepted = omega (arith, few, frames, accepted); deleted = omega (arith, few, fewer, frames, deleted) }
-
--- the parts with the changed frame and the views over it
-pub frame-changed :
-    (schemas : List Columns) (frames : List FrameState) (views now : List View) (f : ℕ) (c : FrameChange) (x changed : FrameState)
-    (accepted deleted more_accepted more_deleted : ℕ) (of_accepted of_deleted : ℕ × ℕ) →
-    IsCatalogue (state_of schemas frames views) views accepted deleted of_accepted of_deleted →
-    IsSound (change_of f c) → refusal_of (state_of schemas frames views) (change_of f c) ≡ None →
-    IsChangeable (state_of schemas frames views) f c x → changed ≡ frame_after x c →
-    headings now ≡ headings views → AreLive now (tagged_frames (slice_set frames f changed)) →
-    more_accepted ≡ accepted + accepted_rows (change_of f c) → more_deleted ≡ deleted + deleted_rows (change_of f c) →
-    (state_of schemas (slice_set frames f changed) now ≡ after (state_of schemas frames views) (change_of f c))
-    × IsCatalogue (state_of schemas (slice_set frames f changed) now) now more_accepted more_deleted of_accepted of_deleted
-frame-changed schemas frames views now f c x changed accepted deleted more_accepted more_deleted of_accepted of_deleted h sound free known is same_views live counted gone =
-    let s : State = state_of schemas frames views in
-    let change : FrameState → FrameState = λ x. frame_after x c in
-    let frames' : List FrameState = slice_set frames f changed in
-    let legal : IsLegal (after s (change_of f c)) = legal-after s (change_of f c) h.legal sound free in
-    let at : frames' ≡ change_at f change frames = ap (slice_set frames f) is ∙ sym (change-set change frames f x known.at) in
-    let frames_sound : AllZip IsFrame schemas frames' =
-    subst (AllZip IsFrame schemas) (sym at) (subst (λ (t : State). AllZip IsFrame t.schemas t.frames) (after-frame s f c) legal.frames) in
-    let plans = subst (AllByRecursion (λ h. IsPlanOver schemas h.1)) (sym same_views) (headings-plans (IsPlanOver schemas) views h.legal.plans) in
-    let tables : map view_state now ≡ refreshed_views frames' (map view_state views) =
-    views-live schemas frames' now frames_sound plans live
-    ∙ (ap (map (λ h. view_over frames' h.0 h.1)) same_views ∙ sym (refreshed-headings frames' views)) in
-    let same : state_of schemas frames' now ≡ after s (change_of f c) =
-    ap (λ ws. record { schemas = schemas; frames = frames'; views = ws }) tables
-    ∙ (ap (λ fs. record { schemas = schemas; frames = fs; views = refreshed_views fs (map view_state views) }) at ∙ sym (after-frame s f c)) in
-    let books = booked s f c x known in (
-      same,
-      record {
-        legal = subst IsLegal (sym same) legal;
-        live = live;
-        books_accepted = counted ∙ (ap (λ n. n + accepted_rows (change_of f c)) h.books_accepted ∙ (sym books.accepted ∙ ap accepted_in (sym same)));
-        books_deleted = gone ∙ (ap (λ n. n + deleted_rows (change_of f c)) h.books_deleted ∙ (sym books.deleted ∙ ap deleted_in (sym same)));
-        accepted_of_no_desk = h.accepted_of_no_desk;
-        deleted_of_no_desk = h.deleted_of_no_desk;
-      },
-    )
-
--- the parts with schemas and states of these frames
-abbrev pub IsChangedParts : List Columns → List FrameState → List View → State → (accepted deleted : ℕ) (of_accepted of_deleted : ℕ × ℕ) → Type 0
-IsChangedParts schemas frames views s accepted deleted of_accepted of_deleted =
-    (state_of schemas frames views ≡ s)
-    × IsCatalogue (state_of schemas frames views) views accepted deleted of_accepted of_deleted
 
 -- the schemas and states of the frames, of which one is changed and keeps its schema
 pub schemas-set :
@@ -295,27 +232,6 @@ schemas-set frames f x changed lent same =
 
 pub states-set : (frames : List FrameParts) (f : ℕ) (changed : FrameParts) → states_of (slice_set frames f changed) ≡ slice_set (states_of frames) f changed.state
 states-set frames f changed = map-set (λ y. y.state) frames f changed
-
--- the same of the frames with their schemas, where that of the changed one stays
-pub parts-changed :
-    (frames : List FrameParts) (views now : List View) (f : ℕ) (c : FrameChange) (x changed : FrameParts)
-    (accepted deleted more_accepted more_deleted : ℕ) (of_accepted of_deleted : ℕ × ℕ) →
-    IsCatalogue (state_of (schemas_of frames) (states_of frames) views) views accepted deleted of_accepted of_deleted →
-    IsSound (change_of f c) → refusal_of (state_of (schemas_of frames) (states_of frames) views) (change_of f c) ≡ None →
-    IsChangeable (state_of (schemas_of frames) (states_of frames) views) f c x.state → x ≡ get_or frames f x →
-    changed.schema ≡ x.schema → changed.state ≡ frame_after x.state c →
-    headings now ≡ headings views → AreLive now (tagged_frames (states_of (slice_set frames f changed))) →
-    more_accepted ≡ accepted + accepted_rows (change_of f c) → more_deleted ≡ deleted + deleted_rows (change_of f c) →
-    IsChangedParts (schemas_of (slice_set frames f changed)) (states_of (slice_set frames f changed)) now
-    (after (state_of (schemas_of frames) (states_of frames) views) (change_of f c)) more_accepted more_deleted of_accepted of_deleted
-parts-changed frames views now f c x changed accepted deleted more_accepted more_deleted of_accepted of_deleted h sound free known lent same is same_views live counted gone =
-    let s : State = state_of (schemas_of frames) (states_of frames) views in
-    let schemas = schemas-set frames f x changed lent same in
-    let states = states-set frames f changed in
-    let live' : AreLive now (tagged_frames (slice_set (states_of frames) f changed.state)) = subst (λ fs. AreLive now (tagged_frames fs)) states live in
-    let made = frame-changed (schemas_of frames) (states_of frames) views now f c x.state changed.state accepted deleted more_accepted more_deleted of_accepted of_deleted h sound free known is same_views live' counted gone in
-    subst (λ ss. IsChangedParts ss (states_of (slice_set frames f changed)) now (after s (change_of f c)) more_accepted more_deleted of_accepted of_deleted) (sym schemas)
-    (subst (λ fs. IsChangedParts (schemas_of frames) fs now (after s (change_of f c)) more_accepted more_deleted of_accepted of_deleted) (sym states) made)
 
 -- the delta of the frame's change is one of the frames, and each view's plan is over them
 pub delta-changes :

@@ -26,3 +26,9 @@ pub mod TransitionFacts
 pub mod DeskFacts
 pub mod WorkFacts
 pub mod ComputedRows
+pub mod PictureFacts
+pub mod StagedPictureFacts
+pub mod StagingFacts
+pub mod StagedRowsFacts
+pub mod StagedFacts
+pub mod StagedViewsFacts

@@ -1,16 +1,15 @@
 -- Views that stand over a catalogue's frames have the values of their plans as tables.
-use Rattle.std.proofs.Common.{◌≡◌, ℕ, ◌+◌, ◌<◌, ◌≤◌, zero, suc, Bool, true, false, cond, ◌∙◌, List, [], ◌∷◌, length, map, get_or, refl, ap, sym, subst, arith}
-use Rattle.std.specs.Prelude.{IsTrue, T, ◌&&◌, Option, Some, None, slice_get, slice_index_or, slice_set}
+use Rattle.std.proofs.Common.{◌≡◌, ℕ, ◌<◌, zero, suc, Bool, true, false, cond, ◌∙◌, List, [], ◌∷◌, length, map, refl, ap, sym, subst, arith}
+use Rattle.std.specs.Prelude.{IsTrue, ◌&&◌, Option, Some, slice_get, slice_index_or, slice_set}
 use Rattle.std.specs.FinMap as finite
 use Rattle.std.specs.Option.{IfSome}
 use Rattle.std.specs.List.{AllByRecursion, AllZip}
-use Rattle.std.proofs.lemmas.List.{length-map, map-set}
+use Rattle.std.proofs.lemmas.List.{length-map}
 use Rattle.df_value.specs.declared.cell.Cell.{Cell}
 use Rattle.df_value.specs.declared.cell.CellType.{CellType}
 use Rattle.df_value.specs.Rows.{rows_fit}
 use Rattle.df_column.specs.Changes.{applied}
 use Rattle.df_column.specs.Tables.{TaggedRows}
-use Rattle.df_column.specs.Tags.{tag_cmp}
 use Rattle.df_column.specs.declared.tag.Tag.{Tag}
 use Rattle.df_delta.specs.Deltas.{Changes}
 use Rattle.df_delta.specs.Differences.{Fits, IsDiff}
@@ -19,16 +18,14 @@ use Rattle.df_plan.specs.CheckedParts.{CheckedParts}
 use Rattle.df_plan.specs.Meaning.{frames_fit, table_of}
 use Rattle.df_live.specs.Frames.{AreFrames, changed, frame_at, rows_of_frames}
 use Rattle.df_live.specs.Views.{IsChangeOf, IsLive}
-use Rattle.df_catalogue.specs.declared.state.State.{State}
 use Rattle.df_catalogue.specs.declared.state.FrameState.{FrameState}
-use Rattle.df_catalogue.specs.declared.state.ViewState.{ViewState}
 use Rattle.df_catalogue.specs.declared.views.View.{View}
 use Rattle.df_catalogue.specs.Changes.{refreshed_views, view_over}
 use Rattle.df_catalogue.specs.Frames.{rows_of, IsFrame, IsNumbered}
 use Rattle.df_catalogue.specs.FrameParts.{FrameParts, schemas_of, states_of}
-use Rattle.df_catalogue.specs.FrameTables.{table_parts, tagged_rows_of, at_tag, numbered_row, numbered_rows, row_tag}
+use Rattle.df_catalogue.specs.FrameTables.{table_parts, tagged_rows_of, row_tag}
 use Rattle.df_catalogue.specs.LiveViews.{headings, tagged_frames, view_state, AreChangesOf, AreLive}
-use Rattle.df_catalogue.specs.States.{empty_frame, tables_of_frames, value_over, IsLegal, IsPlanOver}
+use Rattle.df_catalogue.specs.States.{empty_frame, tables_of_frames, IsPlanOver}
 use Rattle.df_catalogue.proofs.FrameFacts.{empty-sound}
 use Rattle.df_catalogue.proofs.FrameTableFacts.{empty-table, numbered-cells, numbered-table, table-at}
 use Rattle.df_catalogue.proofs.RowLookups.{found}

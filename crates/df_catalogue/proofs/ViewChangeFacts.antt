@@ -43,7 +43,7 @@ live-with v vs frames new h zero d below = new
 live-with v vs frames new h (suc k) d below = h.at k d (omega (arith, below))
 
 -- the others stand over the frames as they did
-live-removed : (vs : List View) (i : ℕ) (frames : List TaggedRows) → AreLive vs frames → AreLive (remove vs i) frames
+pub live-removed : (vs : List View) (i : ℕ) (frames : List TaggedRows) → AreLive vs frames → AreLive (remove vs i) frames
 live-removed [] zero frames h = h
 live-removed [] (suc i) frames h = h
 live-removed (v ∷ vs) zero frames h = live-others v vs frames h

@@ -1,8 +1,8 @@
 -- What the views count one after another, and what is allowed after changes in turn.
 use Rattle.std.proofs.Common.{◌≡◌, ℕ, zero, suc, ◌+◌, ◌*◌, ◌^◌, ◌<◌, ◌≤◌, ◌∙◌, List, [], ◌∷◌, ◌++◌, drop, fold, get_or, length, map, refl, ap, sym, subst, arith}
-use Rattle.std.specs.Prelude.{Option, Some, None, Result, Ok, Err}
+use Rattle.std.specs.Prelude.{Option, None, Result, Ok, Err}
 use Rattle.std.specs.Result.{result_err}
-use Rattle.std.proofs.lemmas.List.{append-nil, drop_more, length-map}
+use Rattle.std.proofs.lemmas.List.{append-nil, drop_more}
 use Rattle.df_expr.specs.declared.meter.Meter.{Meter}
 use Rattle.df_column.specs.Tables.{TaggedRows}
 use Rattle.df_delta.specs.Work.{IsBelow, IsWithin, no_work, plus}

@@ -1,5 +1,5 @@
 -- The views of a catalogue, each over the same frames, and what was staged for each.
-use Rattle.std.specs.Prelude.{◌≡◌, ℕ, ◌<◌, List, length, map, slice_index_or}
+use Rattle.std.specs.Prelude.{ℕ, ◌<◌, List, length, map, slice_index_or}
 use Rattle.std.specs.FinMap as finite
 use Rattle.df_column.specs.Tables.{TaggedRows}
 use Rattle.df_delta.specs.Deltas.{Changes}

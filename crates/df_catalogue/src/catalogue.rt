@@ -11,6 +11,7 @@ ghost use Rattle.df_delta.specs.Work.{no_work};
 use crate::desk::{Desk, audit_all};
 use crate::fault::NewFault;
 use crate::frame::Frame;
+use crate::staging::Staging;
 use crate::views::View;
 use df_expr::Meter;
 use df_value::{List, MOST_FRAMES, Schema};
@@ -29,6 +30,7 @@ pub struct Catalogue<Acc: Ledger, Del: Ledger> {
     pub(crate) frames: Vec<Frame>,
     pub(crate) views: Vec<View>,
     pub(crate) work: Meter,
+    pub(crate) staged: Option<Staging>,
     pub(crate) accepted: Book<Acc>,
     pub(crate) deleted: Book<Del>,
     pub(crate) accepted_of_no_desk: Share<Acc>,
@@ -38,8 +40,10 @@ pub struct Catalogue<Acc: Ledger, Del: Ledger> {
 impl<Acc: Ledger, Del: Ledger> Model for Catalogue<Acc, Del> {
     ghost use Rattle.df_catalogue.specs.declared.state.CatalogueParts.{CatalogueParts};
     ghost use Rattle.df_catalogue.specs.FrameParts.{schemas_of, states_of};
-    ghost use Rattle.df_catalogue.specs.Parts.{IsCatalogue, state_of};
+    ghost use Rattle.df_catalogue.specs.Parts.{state_of};
+    ghost use Rattle.df_catalogue.specs.Staging.{IsSoundCatalogue, staged_parts};
     ghost use Rattle.std.specs.Coded.{codes};
+    ghost use Rattle.std.specs.Prelude.{option_map, vec_capacity};
     ghost use Rattle.df_plan.specs.contracts.plan.Plan as plan_type;
 
     ghost Value = { CatalogueParts };
@@ -49,11 +53,12 @@ impl<Acc: Ledger, Del: Ledger> Model for Catalogue<Acc, Del> {
     ghost view = { λ c. record {
       state = state_of (schemas_of c.frames.items) (states_of c.frames.items) c.views.items;
       work = c.work;
+      staged = option_map (staged_parts c.frames.items c.views.items c.work) c.staged;
     } };
 
     ghost invariant = { λ c.
-        IsCatalogue (state_of (schemas_of c.frames.items) (states_of c.frames.items) c.views.items)
-        c.views.items c.accepted.total c.deleted.total
+        IsSoundCatalogue c.frames.items c.views.items (vec_capacity c.views) c.staged
+        c.accepted.total c.deleted.total
         (c.accepted_of_no_desk.parts, c.accepted_of_no_desk.amount)
         (c.deleted_of_no_desk.parts, c.deleted_of_no_desk.amount) };
 }
@@ -79,6 +84,7 @@ impl<Acc: Ledger, Del: Ledger> Catalogue<Acc, Del> {
         ensures sound { OnOk result (new_spec.new_fault schemas ≡ None) }
         ensures opening { IfOk result (λ made. made.0.state ≡ opening_of schemas) }
         ensures work { IfOk result (λ made. made.0.work ≡ no_work) }
+        ensures staged { IfOk result (λ made. made.0.staged ≡ None) }
         ensures legal { IfOk result (λ made. IsLegal made.0.state) }
         ensures desks { IfOk result (λ made.
             made.1.items ≡ desks_spec.first_desks (length schemas)) }
@@ -103,6 +109,7 @@ impl<Acc: Ledger, Del: Ledger> Catalogue<Acc, Del> {
             frames,
             views: Vec::new(alloc),
             work: Meter::new(),
+            staged: None,
             accepted,
             deleted,
             accepted_of_no_desk,

@@ -9,12 +9,13 @@ use Rattle.df_catalogue.specs.Changes.{after}
 use Rattle.df_catalogue.specs.Refusals.{refusal_of}
 use Rattle.df_catalogue.specs.Work.{IsCounted, allowed_after}
 
--- nothing refuses the change, and it was made and its work counted
+-- nothing refuses the change, it was made and its work counted, and nothing is staged
 abbrev pub IsMade : CatalogueParts → CatalogueParts → Change → Type 0
 IsMade old new c =
     (refusal_of old.state c ≡ None)
     × (new.state ≡ after old.state c)
     × IsCounted (allowed_after old.state c None) old.work new.work
+    × (new.staged ≡ None)
 
 -- the catalogue refuses the change so, or memory was refused
 abbrev pub IsRefusal : State → Change → CatalogueFault → Type 0

@@ -1,5 +1,5 @@
 -- The changes that open a store: the good pieces of each frame enter in their order, and then all views are registered.
-use Rattle.std.specs.Prelude.{◌≡◌, ◌++◌, ℕ, List, [], ◌∷◌, flat_map, map}
+use Rattle.std.specs.Prelude.{◌≡◌, ◌++◌, ℕ, List, [], ◌∷◌, None, flat_map, map}
 use Rattle.std.specs.List.{enumerate_from, zip}
 use Rattle.df_value.specs.declared.chunk.Piece.{Piece}
 use Rattle.df_value.specs.declared.chunk.Piece.TheVariants as made
@@ -32,9 +32,14 @@ abbrev pub opening_changes : Definitions → List (List Piece) → List Change
 opening_changes d pieces =
     flat_map frame_appends (enumerate_from 0 pieces) ++ map registration (zip d.document.views d.plans)
 
--- a catalogue of empty frames with the document's schemas, without views, of which nothing was counted yet
+-- a catalogue of empty frames with the document's schemas, without views, of which nothing was counted yet and over which
+-- nothing is staged
 abbrev pub empty_catalogue : Definitions → CatalogueParts
-empty_catalogue d = record { state = opening_of (map (λ (f : FrameSpec). f.schema) d.document.frames); work = no_work }
+empty_catalogue d = record {
+  state = opening_of (map (λ (f : FrameSpec). f.schema) d.document.frames);
+  work = no_work;
+  staged = None;
+}
 
 -- nothing refuses any of the changes in its turn, and all were made
 abbrev pub AreMade : CatalogueParts → CatalogueParts → List Change → Type 0

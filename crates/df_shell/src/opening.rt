@@ -35,9 +35,28 @@ pub fn open_store<Acc: Ledger, Del: Ledger>(
     let schemas = copy_schemas(alloc, definitions.document.frames.as_slice())?;
     let (catalogue, desks) = Catalogue::new(alloc, accepted, deleted, schemas)?;
     let mut store = Store { catalogue, desks };
-    enter_frames(alloc, &mut store, pieces)?;
-    register_views(alloc, &mut store, definitions)?;
-    Ok(store)
+    match fill(alloc, &mut store, definitions, pieces) {
+        Ok(()) => Ok(store),
+        Err(fault) => {
+            // A call costs the proof less than a drop at the end of a block.
+            drop(store);
+            Err(fault)
+        }
+    }
+}
+
+// The rows of the pieces, and then all views.
+fn fill<Acc: Ledger, Del: Ledger>(
+    alloc: Global,
+    store: &mut Store<Acc, Del>,
+    definitions: &Definitions,
+    pieces: List<List<Piece>>,
+) -> Result<(), ShellFault>
+    ensures { OnOk result (AreMade store.old.catalogue store.new.catalogue
+        (opening_changes definitions.now pieces)) }
+{
+    enter_frames(alloc, store, pieces)?;
+    register_views(alloc, store, definitions)
 }
 
 fn copy_schemas(alloc: Global, frames: &[FrameSpec]) -> Result<List<Schema>, AllocError>

@@ -1,5 +1,5 @@
 //! The catalogue behind a shell.
-ghost use Rattle.std.specs.Prelude.{◌≡◌, IfErr, OnErr, OnOk};
+ghost use Rattle.std.specs.Prelude.{◌≡◌, true, is_none, IfErr, OnErr, OnOk};
 ghost use Rattle.df_catalogue.specs.Desks.{AreInOrder};
 ghost use Rattle.df_catalogue.specs.States.{IsLegal};
 ghost use Rattle.df_shell.specs.Changes.{IsMade, IsRefusal};
@@ -8,12 +8,13 @@ use df_catalogue::{Catalogue, CatalogueFault, Change, Desk};
 use std::alloc::Global;
 use std::sync::ledger::Ledger;
 
-/// A catalogue with the desks of its frames, in their order.
+/// A catalogue, over which nothing is staged, with the desks of its frames, in their order.
 #[derive(Drop)]
 pub struct Store<Acc: Ledger, Del: Ledger> {
     pub catalogue: Catalogue<Acc, Del>,
     pub desks: Vec<Desk<Acc, Del>>,
     ghost in_order: { AreInOrder desks.items catalogue.state },
+    ghost nothing_staged: { is_none catalogue.staged ≡ true },
 }
 
 impl<Acc: Ledger, Del: Ledger> Store<Acc, Del> {

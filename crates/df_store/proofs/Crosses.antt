@@ -6,18 +6,27 @@ use Rattle.std.proofs.Crossing.{crosses}
 use Rattle.std.proofs.sync.ledger.Book.TheSendSync as book
 use Rattle.std.proofs.sync.ledger.Share.TheSendSync as share
 use Rattle.df_value.proofs.text.Text.TheSendSync as text
+use Rattle.df_catalogue.specs.contracts.staging.StagedFrame as StagedFrame
+use Rattle.df_catalogue.specs.contracts.staging.Staging as Staging
 use Rattle.df_catalogue.specs.contracts.views.View as View
 use Rattle.df_catalogue.specs.contracts.catalogue.Catalogue as Catalogue
 use Rattle.df_catalogue.proofs.frame.Frame.TheSendSync as frame
 use Rattle.df_store.specs.contracts.hall.Hall as Hall
-use Rattle.df_store.proofs.CrossingViews.{live_send}
+use Rattle.df_store.proofs.CrossingViews.{live_send, staged_send}
 
 view_send : IsSend (View.the_field).row
 view_send = let l = live_send in search (sendable, crosses, text.the_send) depth 20
 
+-- a change that is staged
+staged_frame_send : IsSend (StagedFrame.the_field).row
+staged_frame_send = let s = staged_send in search (sendable, crosses, frame.the_send) depth 40
+
+staging_send : IsSend (Staging.the_field).row
+staging_send = let f = staged_frame_send in let v = view_send in search (sendable, crosses) depth 40
+
 module _ (A D : RattleType) (a : Ghosts A.Denot) (d : Ghosts D.Denot) where
   pub catalogue_send : IsSend (Catalogue.the_row A D a d)
-  catalogue_send = let v = view_send in search (sendable, crosses, frame.the_send, book.the_send, share.the_send) depth 40
+  catalogue_send = let v = view_send in let s = staging_send in search (sendable, crosses, frame.the_send, book.the_send, share.the_send) depth 40
 
   pub hall_sync : IsSync (Hall.the_row A D a d)
   hall_sync = let c = catalogue_send in search (sendable, crosses) depth 20

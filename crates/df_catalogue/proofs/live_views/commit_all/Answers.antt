@@ -1,4 +1,4 @@
-use Rattle.std.proofs.Common.{rules, ◌≡◌, sym, subst, length}
+use Rattle.std.proofs.Common.{rules, ◌≡◌}
 use Rattle.std.specs.Vec.{with_items}
 use Rattle.std.proofs.lemmas.List.{with_items_is}
 use Rattle.df_catalogue.proofs.live_views.commit_all.Goals as goal

@@ -15,7 +15,7 @@ pub bounds-desks-frame : goal.bounds-desks-frame
 bounds-desks-frame g c =
     let s = c.args.self.now.state in
     let some = desks-long c.args.desks.now s c.requires in
-    let same = frames-long s (subst IsLegal (state-of c.self.view_is) c.self.invariant.legal) in
+    let same = frames-long s (subst IsLegal (state-of c.self.view_is) c.self.invariant.parts.legal) in
     let long = ap (λ s. length s.frames) (state-of c.self.view_is) in
     let states = length-map c.self.inside.frames.items (λ f. f.state) in
     omega (arith, some, same, long, states, c.if-frame-len.false, c.len.ensures, c.self.inside.frames.ok.0)
@@ -28,7 +28,7 @@ desk g c =
     let states = length-map c.self.inside.frames.items (λ f. f.state) in
     let within : c.args.frame < length s.frames = omega (arith, long, states, c.if-frame-len.false, c.len.ensures, c.self.inside.frames.ok.0) in
     desk-read c.args.desks.now s c.args.frame c.index-desks-frame.result c.requires
-    (subst IsLegal (state-of c.self.view_is) c.self.invariant.legal) within
+    (subst IsLegal (state-of c.self.view_is) c.self.invariant.parts.legal) within
 
 pub returns-clause-state : goal.returns-clause-state
 returns-clause-state g c =

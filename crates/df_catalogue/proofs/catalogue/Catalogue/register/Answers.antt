@@ -1,8 +1,32 @@
-use Rattle.df_catalogue.proofs.Legal.{register-accepted}
+use Rattle.std.proofs.Common.{Err, sym, subst}
+use Rattle.std.proofs.lemmas.Result.{err_from_is_err_and}
+use Rattle.df_catalogue.specs.declared.change.Change.TheVariants.{Register}
+use Rattle.df_catalogue.specs.StagedChanges.{IsStagedChange}
+use Rattle.df_catalogue.specs.Transitions.{IsTransition}
+use Rattle.df_catalogue.specs.Work.{IsWorkOf}
+use Rattle.df_catalogue.proofs.StagedFacts.{refused-state, refused-work, whole-state, whole-work}
 use Rattle.df_catalogue.proofs.catalogue.Catalogue.register.Goals as goal
 
-pub view_over-requires : goal.view_over-requires
-view_over-requires g c = (register-accepted c.as_str.result.now c.args.plan c.args.self.now.state c.in_ok-check_register.ensures.answer).2
+pub returns-in_err-staged-clause-state : goal.returns-in_err-staged-clause-state
+returns-in_err-staged-clause-state g c =
+    let change = Register c.args.name c.args.plan in
+    let old = c.args.self.now in
+    let new = c.stage_register.new.self in
+    let made = err_from_is_err_and c.from_residual.result c.from_residual.ensures.1 in
+    subst (λ r. IsTransition old.state change r new.state) (sym made.1)
+    (refused-state made.0 old new change (subst (λ f. IsStagedChange old change (Err f) new) (sym made.2) c.in_err-staged.ensures.staged))
 
-pub returns : goal.returns
-returns g c = rw (← c.in_ok-live.ensures.plan) c.add_view.ensures
+pub returns-in_err-staged-clause-work : goal.returns-in_err-staged-clause-work
+returns-in_err-staged-clause-work g c =
+    let change = Register c.args.name c.args.plan in
+    let old = c.args.self.now in
+    let new = c.stage_register.new.self in
+    let made = err_from_is_err_and c.from_residual.result c.from_residual.ensures.1 in
+    subst (λ r. IsWorkOf old change r new) (sym made.1)
+    (refused-work made.0 old new change (subst (λ f. IsStagedChange old change (Err f) new) (sym made.2) c.in_err-staged.ensures.staged))
+
+pub returns-clause-state : goal.returns-clause-state
+returns-clause-state g c = whole-state _ tt c.args.self.now c.stage_register.new.self c.commit_views.new.self _ c.in_ok-staged.ensures.staged c.commit_views.ensures.made
+
+pub returns-clause-work : goal.returns-clause-work
+returns-clause-work g c = whole-work _ tt c.args.self.now c.stage_register.new.self c.commit_views.new.self _ c.in_ok-staged.ensures.staged c.commit_views.ensures.made

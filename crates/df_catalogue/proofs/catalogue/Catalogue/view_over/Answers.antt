@@ -1,6 +1,5 @@
 use Rattle.std.proofs.Common.{◌≡◌, ◌∙◌, map, ap, sym, subst}
 use Rattle.std.proofs.lemmas.Result.{IfOk-weaker}
-use Rattle.df_column.specs.Tables.{TaggedRows}
 use Rattle.df_live.specs.Frames.{AreFrames}
 use Rattle.df_live.specs.Tables.{tables_of}
 use Rattle.df_live.specs.Views.{IsLive}
@@ -10,7 +9,6 @@ use Rattle.df_catalogue.specs.FrameTables.{table_parts}
 use Rattle.df_catalogue.specs.LiveViews.{tagged_frames}
 use Rattle.df_catalogue.proofs.LiveFacts.{are-frames, tables-rows, tables-schemas}
 use Rattle.df_catalogue.proofs.StateFacts.{state-of}
-use Rattle.df_catalogue.proofs.catalogue.Catalogue.view_over.Given.{Over}
 use Rattle.df_catalogue.proofs.catalogue.Catalogue.view_over.Goals as goal
 
 pub new-requires-clause-schemas : goal.new-requires-clause-schemas
@@ -26,7 +24,7 @@ new-requires-clause-frames g c =
     let rows : tables_of c.deref.result.now ≡ tagged_frames (states_of c.self.inside.frames.items) = ap tables_of tables ∙ tables-rows c.self.inside.frames.items in
     subst (AreFrames c.args.plan.frames) (sym rows)
     (subst (λ ss. AreFrames ss (tagged_frames (states_of c.self.inside.frames.items))) (ap (λ (s : State). s.schemas) (state-of c.self.view_is) ∙ sym c.requires)
-    (are-frames (schemas_of c.self.inside.frames.items) (states_of c.self.inside.frames.items) c.self.invariant.legal.frames))
+    (are-frames (schemas_of c.self.inside.frames.items) (states_of c.self.inside.frames.items) c.self.invariant.parts.legal.frames))
 
 pub returns-clause-live : goal.returns-clause-live
 returns-clause-live g c =

@@ -1,7 +1,7 @@
 use Rattle.std.proofs.Common.{◌≡◌, ◌∙◌, ap, sym}
 use Rattle.std.proofs.lemmas.Result.{IfOk-weaker}
 use Rattle.df_catalogue.specs.FrameParts.{FrameParts}
-use Rattle.df_catalogue.specs.FrameTables.{table_parts, tagged_rows_of}
+use Rattle.df_catalogue.specs.FrameTables.{tagged_rows_of}
 use Rattle.df_catalogue.proofs.FrameTableFacts.{table-is}
 use Rattle.df_catalogue.proofs.frame.Frame.share.Goals as goal
 

@@ -1,0 +1,89 @@
+-- What is read of pictures.
+use Rattle.std.proofs.Common.{◌≡◌, ◌∙◌, ℕ, ◌+◌, ◌<◌, Bool, true, false, cond, List, [], ◌∷◌, ◌++◌, Some, refl, ap, sym, length, get_or, take, Result, Ok, Err, IfOk}
+use Rattle.std.proofs.lemmas.List.{map-append}
+use Rattle.std.specs.Prelude.{Option, None, bytes_eq, find, map, ok_or, option_map}
+use Rattle.std.proofs.lemmas.Option.{slice_get-map}
+use Rattle.df_value.specs.declared.cell.Cell.{Cell}
+use Rattle.df_catalogue.specs.declared.fault.CatalogueFault.TheVariants as fault
+use Rattle.df_catalogue.specs.declared.picture.PicturedView.{PicturedView}
+use Rattle.df_catalogue.specs.declared.state.State.{State}
+use Rattle.df_catalogue.specs.declared.state.ViewState.{ViewState}
+use Rattle.df_catalogue.specs.Frames.{IsFrame, rows_of}
+use Rattle.df_catalogue.specs.LiveViews.{view_state}
+use Rattle.df_catalogue.specs.Pictures.{PictureParts, frame_rows_in, named_rows, named_rows_in, picture_of, rows_in, view_rows_in}
+use Rattle.df_catalogue.specs.Reads.{frame_rows_of, view_rows_of}
+use Rattle.df_catalogue.specs.declared.views.View.{View}
+use Rattle.df_column.specs.Tables.{TableParts}
+use Rattle.df_catalogue.specs.FrameParts.{FrameParts, schemas_of, states_of}
+use Rattle.df_catalogue.specs.FrameTables.{table_parts}
+use Rattle.df_catalogue.specs.Parts.{state_of}
+use Rattle.df_catalogue.proofs.Loops.{mapped-more}
+use Rattle.df_catalogue.proofs.LiveFacts.{tagged-values}
+use Rattle.std.specs.List.{AllZip}
+
+find-step : {A B : Type 0} (f : A → B) (x : A) (u : Option B) (v : Option A) (b : Bool) → u ≡ option_map f v → cond b (Some (f x)) u ≡ option_map f (cond b (Some x) v)
+find-step f x u v true h = refl
+find-step f x u v false h = h
+
+find-map : {A B : Type 0} (p : B → Bool) (f : A → B) (xs : List A) → find p (map f xs) ≡ option_map f (find (λ a. p (f a)) xs)
+find-map p f [] = refl
+find-map p f (x ∷ xs) = find-step f x (find p (map f xs)) (find (λ a. p (f a)) xs) (p (f x)) (find-map p f xs)
+
+option_map-map : {A B C : Type 0} (f : A → B) (g : B → C) (o : Option A) → option_map g (option_map f o) ≡ option_map (λ a. g (f a)) o
+option_map-map f g None = refl
+option_map-map f g (Some a) = refl
+
+pub map-map : {A B C : Type 0} (f : A → B) (g : B → C) (xs : List A) → map g (map f xs) ≡ map (λ a. g (f a)) xs
+map-map f g [] = refl
+map-map f g (x ∷ xs) = ap (λ ys. g (f x) ∷ ys) (map-map f g xs)
+
+-- the rows of the view of a name, in the tables and in what contracts see of them
+pub view-rows :
+    (views : List PicturedView) (name : List ℕ) →
+    option_map rows_in (option_map (λ (v : PicturedView). v.table) (find (λ (v : PicturedView). bytes_eq v.name name) views))
+    ≡ option_map (λ (v : List ℕ × List (List Cell)). v.1) (find (λ (v : List ℕ × List (List Cell)). bytes_eq v.0 name) (map named_rows_in views))
+view-rows views name =
+    let found = find (λ (v : PicturedView). bytes_eq v.name name) views in
+    option_map-map (λ (v : PicturedView). v.table) rows_in found
+    ∙ sym (option_map-map named_rows_in (λ v. v.1) found)
+    ∙ ap (option_map (λ (v : List ℕ × List (List Cell)). v.1)) (sym (find-map (λ (v : List ℕ × List (List Cell)). bytes_eq v.0 name) named_rows_in views))
+
+-- the picture of a state has what is read of the state
+pub frame-of-state : (s : State) (f : ℕ) → frame_rows_in (picture_of s) f ≡ frame_rows_of s f
+frame-of-state s f = ap (λ o. ok_or o fault.NoFrame) (slice_get-map rows_of s.frames f)
+
+pub view-of-state : (s : State) (name : List ℕ) → view_rows_in (picture_of s) name ≡ view_rows_of s name
+view-of-state s name =
+    ap (λ (o : Option (List ℕ × List (List Cell))). ok_or (option_map (λ v. v.1) o) fault.NoView) (find-map (λ (v : List ℕ × List (List Cell)). bytes_eq v.0 name) named_rows s.views)
+    ∙ ap (λ o. ok_or o fault.NoView) (option_map-map named_rows (λ v. v.1) (find (λ (v : ViewState). bytes_eq v.name name) s.views))
+
+-- one view more of which there is a picture
+pub pictured-more :
+    (views : List View) (i : ℕ) (v : View) (out new : List PicturedView) (p : PicturedView) → i < length views → v ≡ get_or views i v →
+    map named_rows_in out ≡ map (λ v. named_rows (view_state v)) (take i views) → new ≡ out ++ p ∷ [] → p.name ≡ v.name → p.table ≡ v.live.table →
+    map named_rows_in new ≡ map (λ v. named_rows (view_state v)) (take (i + 1) views)
+pictured-more views i v out new p within at before pushed name table =
+    mapped-more views i v (λ v. named_rows (view_state v)) (map named_rows_in out) (map named_rows_in new) (named_rows_in p) within at before
+    (ap (map named_rows_in) pushed ∙ map-append named_rows_in out (p ∷ []))
+    (λ k. (name k, rows_in (table k)))
+
+-- the names that contracts see
+pub names-seen :
+    {E : Type 0} (views : List PicturedView) (seen : List (List ℕ × List (List Cell))) (r : Result (List (List ℕ)) E) → IfOk r (λ names. names ≡ map (λ (v : PicturedView). v.name) views) →
+    map named_rows_in views ≡ seen → IfOk r (λ names. names ≡ map (λ (v : List ℕ × List (List Cell)). v.0) seen)
+names-seen views seen (Ok names) h is = h ∙ (sym (map-map named_rows_in (λ (v : List ℕ × List (List Cell)). v.0) views) ∙ ap (map (λ (v : List ℕ × List (List Cell)). v.0)) is)
+names-seen views seen (Err e) h is = h
+
+pub frames-seen : (frames : List FrameParts) → AllZip IsFrame (schemas_of frames) (states_of frames) → map rows_in (map table_parts frames) ≡ map rows_of (states_of frames)
+frames-seen [] h = refl
+frames-seen (f ∷ fs) h = λ i. tagged-values f.state h.0.numbered i ∷ frames-seen fs h.1 i
+
+-- the tables of frames and views have the picture of their state
+pub state-seen :
+    (frames lent : List FrameParts) (views shown : List View) (tables : List TableParts) (p : PictureParts) → AllZip IsFrame (schemas_of frames) (states_of frames) →
+    lent ≡ frames → shown ≡ views → tables ≡ map table_parts lent → p.frames ≡ map rows_in tables → p.views ≡ map (λ v. named_rows (view_state v)) shown →
+    p ≡ picture_of (state_of (schemas_of frames) (states_of frames) views)
+state-seen frames lent views shown tables p sound same same_views are of_frames of_views =
+    let here : p.frames ≡ map rows_of (states_of frames) = of_frames ∙ (ap (map rows_in) (are ∙ ap (map table_parts) same) ∙ frames-seen frames sound) in
+    let there : p.views ≡ map named_rows (map view_state views) = of_views ∙ (ap (map (λ v. named_rows (view_state v))) same_views ∙ sym (map-map view_state named_rows views)) in
+    λ i. record { frames = here i; views = there i }

@@ -1,0 +1,146 @@
+use Rattle.std.proofs.Common.{◌≡◌, ◌∙◌, None, ap, refl, sym, subst}
+use Rattle.std.specs.Prelude.{option_map, OnErr}
+use Rattle.std.proofs.lemmas.Result.{err_from_is_err_and}
+use Rattle.df_catalogue.specs.declared.staging.StagedFrame.{StagedFrame}
+use Rattle.df_catalogue.specs.declared.staging.Staging.TheVariants.{Rows}
+use Rattle.df_catalogue.specs.declared.state.State.{State}
+use Rattle.df_catalogue.specs.FrameChanges.{change_of}
+use Rattle.df_catalogue.specs.FrameParts.{schemas_of, states_of}
+use Rattle.df_catalogue.specs.LiveViews.{tagged_frames, AreStaged}
+use Rattle.df_catalogue.specs.Staging.{staged_parts}
+use Rattle.df_catalogue.proofs.FrameChangeFacts.{changeable-of, fits-after, free-of, views-kept}
+use Rattle.df_catalogue.proofs.StagedRowsFacts.{rows-after, rows-counts, rows-led, rows-sound, rows-work, IsRowsOf}
+use Rattle.df_catalogue.proofs.StagedFacts.{rows-for, staged-some}
+use Rattle.df_catalogue.proofs.StagingFacts.{none-staged, nothing-staged, something-staged}
+use Rattle.df_catalogue.proofs.StateFacts.{staged-of, state-of}
+use Rattle.df_catalogue.proofs.catalogue.Catalogue.stage_rows.Goals as goal
+
+pub changed-requires-clause-sound : goal.changed-requires-clause-sound
+changed-requires-clause-sound g c =
+    let known = changeable-of _ _ _ _ _ c.args.change c.index.result.now (state-of c.self.view_is) refl c.self.invariant.parts.legal c.requires.free c.index.ensures in
+    known.numbered
+
+pub changed-requires-clause-free : goal.changed-requires-clause-free
+changed-requires-clause-free g c =
+    let known = changeable-of _ _ _ _ _ c.args.change c.index.result.now (state-of c.self.view_is) refl c.self.invariant.parts.legal c.requires.free c.index.ensures in
+    known.takes
+
+pub changed-requires-clause-fits : goal.changed-requires-clause-fits
+changed-requires-clause-fits g c =
+    let known = changeable-of _ _ _ _ _ c.args.change c.index.result.now (state-of c.self.view_is) refl c.self.invariant.parts.legal c.requires.free c.index.ensures in
+    let free = free-of _ _ _ _ c.args.change (state-of c.self.view_is) refl c.requires.free in
+    fits-after _ _ c.args.frame c.args.change c.index.result.now c.self.invariant.parts.legal (c.accepted_rows-accepted.ensures.sound c.args.frame) free known c.index.ensures
+
+pub invariant_of-self : goal.invariant_of-self
+invariant_of-self g c =
+    let parts = c.self.inside in
+    let kept = views-kept (schemas_of parts.frames.items) (states_of parts.frames.items) parts.views.items c.prepare_all.new.views.items _ _ _ _ c.self.invariant.parts
+    c.prepare_all.ensures.headings (c.prepare_all.ensures.live _ c.self.invariant.parts.live) in
+    let none = none-staged parts.frames.items parts.views.items parts.work parts.staged (staged-of c.self.view_is ∙ c.requires.nothing) in
+    nothing-staged _ _ _ _ _ _ _ _ none kept.1
+
+pub returns-in_err-views-clause-state : goal.returns-in_err-views-clause-state
+returns-in_err-views-clause-state g c =
+    let parts = c.self.inside in
+    let kept = views-kept (schemas_of parts.frames.items) (states_of parts.frames.items) parts.views.items c.prepare_all.new.views.items _ _ _ _ c.self.invariant.parts
+    c.prepare_all.ensures.headings (c.prepare_all.ensures.live _ c.self.invariant.parts.live) in
+    kept.0 ∙ state-of c.self.view_is
+
+pub returns-in_err-views-clause-legal : goal.returns-in_err-views-clause-legal
+returns-in_err-views-clause-legal g c =
+    let parts = c.self.inside in
+    let kept = views-kept (schemas_of parts.frames.items) (states_of parts.frames.items) parts.views.items c.prepare_all.new.views.items _ _ _ _ c.self.invariant.parts
+    c.prepare_all.ensures.headings (c.prepare_all.ensures.live _ c.self.invariant.parts.live) in
+    kept.1.legal
+
+pub returns-in_err-views-clause-nothing : goal.returns-in_err-views-clause-nothing
+returns-in_err-views-clause-nothing g c =
+    let parts = c.self.inside in
+    let none = none-staged parts.frames.items parts.views.items parts.work parts.staged (staged-of c.self.view_is ∙ c.requires.nothing) in
+    let made = err_from_is_err_and c.from_residual-in_err-views.result c.from_residual-in_err-views.ensures.1 in
+    let shown = option_map (staged_parts parts.frames.items c.prepare_all.new.views.items parts.work) in
+    subst (λ r. OnErr r (shown parts.staged ≡ None)) (sym made.1) (ap shown none)
+
+pub invariant_of-self-2 : goal.invariant_of-self-2
+invariant_of-self-2 g c =
+    let parts = c.self.inside in
+    let rows : StagedFrame = record {
+      frame = c.args.frame;
+      changed = c.in_ok-changed.changed;
+      views = c.in_ok-views.views;
+      work = c.prepare_all.new.meter;
+      accepted = c.accepted_rows-accepted.result;
+      deleted = c.deleted_rows-deleted.result;
+    } in
+    let known = changeable-of _ _ _ _ _ c.args.change c.index.result.now (state-of c.self.view_is) refl c.self.invariant.parts.legal c.requires.free c.index.ensures in
+    let kept = views-kept (schemas_of parts.frames.items) (states_of parts.frames.items) parts.views.items c.prepare_all.new.views.items _ _ _ _ c.self.invariant.parts
+    c.prepare_all.ensures.headings (c.prepare_all.ensures.live _ c.self.invariant.parts.live) in
+    let free = free-of _ _ _ _ c.args.change (state-of c.self.view_is) refl c.requires.free in
+    let is : IsRowsOf parts.frames.items parts.views.items c.args.change c.index.result.now rows = record {
+      legal = c.self.invariant.parts.legal;
+      sound = c.accepted_rows-accepted.ensures.sound c.args.frame;
+      free = free;
+      known = known;
+      lent = c.index.ensures;
+      schema = c.in_ok-changed.ensures.schema;
+      state = c.in_ok-changed.ensures.state;
+    } in
+    let led = rows-led parts.frames.items parts.views.items c.args.change c.index.result.now rows c.in_ok-changed.delta is c.in_ok-changed.ensures.diff in
+    let same_views = ap (λ (s : State). s.views) kept.0 in
+    let leads = subst (AreStaged c.prepare_all.new.views.items c.in_ok-views.views.items) led.1 (c.in_ok-views.ensures.staged (tagged_frames (states_of parts.frames.items)) c.self.invariant.parts.live led.0) in
+    let sound = rows-sound parts.frames.items parts.views.items c.prepare_all.new.views.items c.args.change c.index.result.now rows is same_views
+    (c.accepted_rows-accepted.ensures.value c.args.frame) (c.deleted_rows-deleted.ensures c.args.frame) c.in_ok-views.ensures.count leads c.in_ok-views.ensures.room in
+    something-staged _ _ _ _ (Rows rows) _ _ _ _ c.stage.ensures kept.1 sound
+
+pub returns-clause-state : goal.returns-clause-state
+returns-clause-state g c =
+    let parts = c.self.inside in
+    let kept = views-kept (schemas_of parts.frames.items) (states_of parts.frames.items) parts.views.items c.prepare_all.new.views.items _ _ _ _ c.self.invariant.parts
+    c.prepare_all.ensures.headings (c.prepare_all.ensures.live _ c.self.invariant.parts.live) in
+    kept.0 ∙ state-of c.self.view_is
+
+pub returns-clause-legal : goal.returns-clause-legal
+returns-clause-legal g c =
+    let parts = c.self.inside in
+    let kept = views-kept (schemas_of parts.frames.items) (states_of parts.frames.items) parts.views.items c.prepare_all.new.views.items _ _ _ _ c.self.invariant.parts
+    c.prepare_all.ensures.headings (c.prepare_all.ensures.live _ c.self.invariant.parts.live) in
+    kept.1.legal
+
+pub returns-clause-sound : goal.returns-clause-sound
+returns-clause-sound g c = c.accepted_rows-accepted.ensures.sound c.args.frame
+
+pub returns-clause-staged : goal.returns-clause-staged
+returns-clause-staged g c =
+    let parts = c.self.inside in
+    let rows : StagedFrame = record {
+      frame = c.args.frame;
+      changed = c.in_ok-changed.changed;
+      views = c.in_ok-views.views;
+      work = c.prepare_all.new.meter;
+      accepted = c.accepted_rows-accepted.result;
+      deleted = c.deleted_rows-deleted.result;
+    } in
+    let known = changeable-of _ _ _ _ _ c.args.change c.index.result.now (state-of c.self.view_is) refl c.self.invariant.parts.legal c.requires.free c.index.ensures in
+    let kept = views-kept (schemas_of parts.frames.items) (states_of parts.frames.items) parts.views.items c.prepare_all.new.views.items _ _ _ _ c.self.invariant.parts
+    c.prepare_all.ensures.headings (c.prepare_all.ensures.live _ c.self.invariant.parts.live) in
+    let free = free-of _ _ _ _ c.args.change (state-of c.self.view_is) refl c.requires.free in
+    let is : IsRowsOf parts.frames.items parts.views.items c.args.change c.index.result.now rows = record {
+      legal = c.self.invariant.parts.legal;
+      sound = c.accepted_rows-accepted.ensures.sound c.args.frame;
+      free = free;
+      known = known;
+      lent = c.index.ensures;
+      schema = c.in_ok-changed.ensures.schema;
+      state = c.in_ok-changed.ensures.state;
+    } in
+    let led = rows-led parts.frames.items parts.views.items c.args.change c.index.result.now rows c.in_ok-changed.delta is c.in_ok-changed.ensures.diff in
+    let same_views = ap (λ (s : State). s.views) kept.0 in
+    let leads = subst (AreStaged c.prepare_all.new.views.items c.in_ok-views.views.items) led.1 (c.in_ok-views.ensures.staged (tagged_frames (states_of parts.frames.items)) c.self.invariant.parts.live led.0) in
+    let sound = rows-sound parts.frames.items parts.views.items c.prepare_all.new.views.items c.args.change c.index.result.now rows is same_views
+    (c.accepted_rows-accepted.ensures.value c.args.frame) (c.deleted_rows-deleted.ensures c.args.frame) c.in_ok-views.ensures.count leads c.in_ok-views.ensures.room in
+    let after = rows-after parts.frames.items parts.views.items c.prepare_all.new.views.items c.args.change c.index.result.now rows is same_views in
+    let counted = rows-work parts.frames.items parts.views.items c.prepare_all.new.views.items c.args.change c.index.result.now rows c.in_ok-changed.delta c.prepare_all.new.meter is same_views led.1
+    (c.in_ok-views.ensures.work (tagged_frames (states_of parts.frames.items)) c.self.invariant.parts.live led.0) in
+    staged-some parts.frames.items c.prepare_all.new.views.items parts.work _ (Rows rows) c.args.self.now (change_of c.args.frame c.args.change) c.stage.ensures
+    (rows-for parts.frames.items parts.views.items c.prepare_all.new.views.items parts.work rows c.args.self.now c.args.change (state-of c.self.view_is) after sound.legal counted
+    (rows-counts c.args.frame c.args.change _ _ (c.accepted_rows-accepted.ensures.value c.args.frame) (c.deleted_rows-deleted.ensures c.args.frame)))
