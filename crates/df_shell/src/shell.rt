@@ -14,6 +14,7 @@ use crate::words::{count_lines, read_words};
 use df_app::{Files, OpenedDocument, open_document, refused_lines};
 use df_catalogue::PARTS_OF_LEDGER;
 use df_text::write_text;
+use df_value::List;
 use std::alloc::{AllocError, Global};
 use std::io::{BufRead, Read, Write};
 use std::marker::Brand;
@@ -65,10 +66,48 @@ fn serve<Acc: Ledger, Del: Ledger, I: BufRead, W: Write>(
 {
     let frames = opened.document.frames.as_slice();
     let refused = refused_lines(alloc, frames, opened.pieces.as_slice(), RECORDS_OF_CHUNK)?;
-    let mut session = open_session::<Acc, Del>(alloc, accepted, deleted, opened)?;
+    match open_session(alloc, accepted, deleted, opened) {
+        Ok(session) => answer_session::<Acc, Del, I, W>(alloc, session, refused, input, output),
+        Err(fault) => {
+            drop(refused);
+            Err(fault)
+        }
+    }
+}
+
+// Answers the commands, and ends the session: in calls and at one place, since each drop of a store, and one at the end
+// of a block above all, costs the proof anew.
+fn answer_session<Acc: Ledger, Del: Ledger, I: BufRead, W: Write>(
+    alloc: Global,
+    session: Session<Acc, Del>,
+    refused: List<u8>,
+    input: &mut I,
+    output: &mut W,
+) -> Result<(), ShellFault> {
+    let mut session = session;
+    let answered = answer_from(alloc, &mut session, refused, input, output);
+    let Session {
+        definitions,
+        store,
+        buffers,
+    } = session;
+    drop(definitions);
+    drop(store);
+    drop(buffers);
+    answered
+}
+
+// Writes the lines of the refused chunks, and answers the commands.
+fn answer_from<Acc: Ledger, Del: Ledger, I: BufRead, W: Write>(
+    alloc: Global,
+    session: &mut Session<Acc, Del>,
+    refused: List<u8>,
+    input: &mut I,
+    output: &mut W,
+) -> Result<(), ShellFault> {
     write_answer(output, refused.as_slice())?;
     drop(refused);
-    answer_all(alloc, &mut session, input, output)
+    answer_all(alloc, session, input, output)
 }
 
 // What a shell has while it answers.
