@@ -12,18 +12,21 @@ use std::sync::Wait;
 use std::sync::ledger::{Blank, Ledger};
 use std::test::Fail;
 
-// Three rows are accepted by the one desk and two by the other, which then deletes one of the three.
+// Three rows are accepted by a desk of the second frame and two by another one, which then deletes one of the three.
+// The desks, but for that other one, which comes alone.
 fn work<Acc: Ledger, Del: Ledger, R: Wait>(
     rt: &R,
     alloc: Global,
     hall: &Hall<Acc, Del>,
-    one: &mut Desk<Acc, Del>,
-    other: &mut Desk<Acc, Del>,
-) -> Result<(), Fail> {
+    desks: Vec<Desk<Acc, Del>>,
+) -> Result<(Vec<Desk<Acc, Del>>, Desk<Acc, Del>), Fail> {
+    let mut desks = desks;
+    let one = desks.get_mut(1).ok_or("a desk of the second frame")?;
+    let mut other = one.split().ok_or("a second desk")?;
     hall.commit_chunk(rt, alloc, one, &chunk(alloc, 0, 3)?)?;
-    hall.commit_chunk(rt, alloc, other, &chunk(alloc, 3, 2)?)?;
-    hall.delete_rows(rt, alloc, other, &[0])?;
-    Ok(())
+    hall.commit_chunk(rt, alloc, &mut other, &chunk(alloc, 3, 2)?)?;
+    hall.delete_rows(rt, alloc, &mut other, &[0])?;
+    Ok((desks, other))
 }
 
 // Closes a hall without the second desk of a frame, and then with it.
@@ -40,12 +43,37 @@ fn close_twice<Acc: Ledger, Del: Ledger, R: Wait + Abort>(
     requires deleted_parts { (deleted.parts ≡ Del.parts)
         × (deleted.parts ≡ ledgers.parts_of_ledger) }
 {
-    let (hall, mut desks) = opened::<Acc, Del>(alloc, accepted, deleted)?;
-    let mut one = desks.pop().ok_or("a desk of the second frame")?;
-    let mut other = one.split().ok_or("a second desk")?;
-    work(rt, alloc, &hall, &mut one, &mut other)?;
-    assert!(rt; desks.push(one).is_ok());
-    let missing = hall.close(desks).err().ok_or("a desk is missing")?;
+    let (hall, desks) = opened::<Acc, Del>(alloc, accepted, deleted)?;
+    match work(rt, alloc, &hall, desks) {
+        Ok((desks, other)) => close_without(rt, hall, desks, other),
+        Err(fail) => {
+            // A call costs the proof less than a drop at the end of a block.
+            drop(hall);
+            Err(fail)
+        }
+    }
+}
+
+fn close_without<Acc: Ledger, Del: Ledger, R: Abort>(
+    rt: &R,
+    hall: Hall<Acc, Del>,
+    desks: Vec<Desk<Acc, Del>>,
+    other: Desk<Acc, Del>,
+) -> Result<(), Fail> {
+    match hall.close(desks) {
+        Err(missing) => close_with(rt, missing, other),
+        Ok((catalogue, _)) => {
+            drop(catalogue);
+            Err("a desk is missing".into())
+        }
+    }
+}
+
+fn close_with<Acc: Ledger, Del: Ledger, R: Abort>(
+    rt: &R,
+    missing: Missing<Acc, Del>,
+    other: Desk<Acc, Del>,
+) -> Result<(), Fail> {
     let Missing {
         frame,
         hall,
@@ -53,12 +81,20 @@ fn close_twice<Acc: Ledger, Del: Ledger, R: Wait + Abort>(
     } = missing;
     assert!(rt; frame == 1 && desks.len() == 2);
     assert!(rt; desks.push(other).is_ok());
-    let (catalogue, totals) = hall.close(desks).ok().ok_or("all desks")?;
-    assert!(rt; catalogue.live(1) == Some(4));
-    assert!(rt; matches!(totals.accepted.as_slice(), [0, 5]));
-    assert!(rt; matches!(totals.deleted.as_slice(), [0, 1]));
-    assert!(rt; matches!(totals.live.as_slice(), [0, 4]));
-    Ok(())
+    match hall.close(desks) {
+        Ok((catalogue, totals)) => {
+            assert!(rt; catalogue.live(1) == Some(4));
+            drop(catalogue);
+            assert!(rt; matches!(totals.accepted.as_slice(), [0, 5]));
+            assert!(rt; matches!(totals.deleted.as_slice(), [0, 1]));
+            assert!(rt; matches!(totals.live.as_slice(), [0, 4]));
+            Ok(())
+        }
+        Err(missing) => {
+            drop(missing);
+            Err("all desks".into())
+        }
+    }
 }
 
 #[test]

@@ -5,7 +5,7 @@ ghost use Rattle.df_catalogue.specs.Ledgers as ledgers;
 use crate::given::{opened, views};
 use crate::pairs::Pairs;
 use df_catalogue::PARTS_OF_LEDGER;
-use df_store::{Gate, load_all};
+use df_store::{Gate, Loaded, load_all};
 use std::alloc::Global;
 use std::marker::Brand;
 use std::process::Abort;
@@ -55,16 +55,34 @@ fn load_while_held<
     requires deleted_parts { (deleted.parts ≡ Del.parts)
         × (deleted.parts ≡ ledgers.parts_of_ledger) }
 {
-    let (hall, desks) = opened::<Acc, Del>(alloc, accepted, deleted)?;
     let views = views(alloc, &["t"])?;
     let sources = [Pairs::new(alloc, 3, 2)?, Pairs::new(alloc, 0, 2)?];
     let gate = HoldsFirst {
         last_passed: AtomicBool::new(false),
         opened: AtomicBool::new(false),
     };
+    let (hall, desks) = opened::<Acc, Del>(alloc, accepted, deleted)?;
     let answer = load_all(rt, alloc, hall, desks, views.as_slice(), &sources, 2, &gate);
     assert!(rt; gate.opened.load(Ordering::SeqCst));
-    let loaded = answer.map_err(|_| "a load")?;
+    match answer {
+        Ok(loaded) => {
+            let right = has_chunks(rt, alloc, &loaded);
+            // A call costs the proof less than a drop at the end of a block.
+            drop(loaded);
+            right
+        }
+        Err(fault) => {
+            drop(fault);
+            Err("a load".into())
+        }
+    }
+}
+
+fn has_chunks<Acc: Ledger, Del: Ledger, R: Abort>(
+    rt: &R,
+    alloc: Global,
+    loaded: &Loaded<Acc, Del>,
+) -> Result<(), Fail> {
     assert!(rt; loaded.catalogue.view_rows(alloc, "t")?.len() == 6);
     assert!(rt; matches!(loaded.totals.accepted.as_slice(), [6, 0]));
     Ok(())

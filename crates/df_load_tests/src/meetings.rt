@@ -5,7 +5,7 @@ ghost use Rattle.df_catalogue.specs.Ledgers as ledgers;
 use crate::given::{opened, row, views};
 use crate::pairs::Pairs;
 use df_catalogue::{Catalogue, PARTS_OF_LEDGER};
-use df_store::{Gate, load_all};
+use df_store::{Gate, Loaded, load_all};
 use std::alloc::{AllocError, Global};
 use std::marker::Brand;
 use std::process::Abort;
@@ -79,13 +79,31 @@ fn load_by_two<
     requires deleted_parts { (deleted.parts ≡ Del.parts)
         × (deleted.parts ≡ ledgers.parts_of_ledger) }
 {
-    let (hall, desks) = opened::<Acc, Del>(alloc, accepted, deleted)?;
     let views = views(alloc, &["t"])?;
     let sources = [Pairs::new(alloc, 1, 2)?, Pairs::new(alloc, 1, 2)?];
     let gate = Meeting::new();
+    let (hall, desks) = opened::<Acc, Del>(alloc, accepted, deleted)?;
     let answer = load_all(rt, alloc, hall, desks, views.as_slice(), &sources, 2, &gate);
     assert!(rt; gate.both_met());
-    let loaded = answer.map_err(|_| "a load")?;
+    match answer {
+        Ok(loaded) => {
+            let right = has_chunks(rt, alloc, &loaded);
+            // A call costs the proof less than a drop at the end of a block.
+            drop(loaded);
+            right
+        }
+        Err(fault) => {
+            drop(fault);
+            Err("a load".into())
+        }
+    }
+}
+
+fn has_chunks<Acc: Ledger, Del: Ledger, R: Abort>(
+    rt: &R,
+    alloc: Global,
+    loaded: &Loaded<Acc, Del>,
+) -> Result<(), Fail> {
     assert!(rt; has_pairs(alloc, &loaded.catalogue)?);
     assert!(rt; loaded.catalogue.view_rows(alloc, "t")?.len() == 2);
     assert!(rt; matches!(loaded.totals.accepted.as_slice(), [2, 2]));

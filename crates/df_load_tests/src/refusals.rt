@@ -2,7 +2,7 @@
 ghost use Rattle.std.specs.Prelude.{◌≡◌};
 ghost use Rattle.df_catalogue.specs.Ledgers as ledgers;
 
-use crate::given::{chunk, opened, scan, views};
+use crate::given::{Opened, chunk, opened, scan, views};
 use crate::pairs::Pairs;
 use df_catalogue::{CatalogueFault, Desk, PARTS_OF_LEDGER};
 use df_store::{Hall, LoadCause, LoadFault, OpenGate, load_all};
@@ -82,6 +82,32 @@ fn accepted_in<Acc: Ledger, Del: Ledger>(fault: &LoadFault<Acc, Del>) -> Option<
     }
 }
 
+// A hall that was prepared for the case, and a desk of each frame.
+fn prepared<Acc: Ledger, Del: Ledger, R: Wait>(
+    rt: &R,
+    alloc: Global,
+    accepted: Blank,
+    deleted: Blank,
+    before: &Before,
+) -> Result<Opened<Acc, Del>, Fail>
+    requires accepted_name { accepted.name ≡ Acc.name }
+    requires accepted_parts { (accepted.parts ≡ Acc.parts)
+        × (accepted.parts ≡ ledgers.parts_of_ledger) }
+    requires deleted_name { deleted.name ≡ Del.name }
+    requires deleted_parts { (deleted.parts ≡ Del.parts)
+        × (deleted.parts ≡ ledgers.parts_of_ledger) }
+{
+    let (hall, mut desks) = opened::<Acc, Del>(alloc, accepted, deleted)?;
+    match prepare(rt, alloc, &hall, desks.as_mut_slice(), before) {
+        Ok(()) => Ok((hall, desks)),
+        Err(fail) => {
+            // A call costs the proof less than a drop at the end of a block.
+            drop(hall);
+            Err(fail)
+        }
+    }
+}
+
 fn refuse<Acc: Ledger + Send + Sync, Del: Ledger + Send + Sync, R: Threads + Wait + Abort + Sync>(
     rt: &R,
     alloc: Global,
@@ -96,14 +122,13 @@ fn refuse<Acc: Ledger + Send + Sync, Del: Ledger + Send + Sync, R: Threads + Wai
     requires deleted_parts { (deleted.parts ≡ Del.parts)
         × (deleted.parts ≡ ledgers.parts_of_ledger) }
 {
-    let (hall, mut desks) = opened::<Acc, Del>(alloc, accepted, deleted)?;
-    prepare(rt, alloc, &hall, desks.as_mut_slice(), &case.before)?;
     let views = views(alloc, case.views)?;
     let [zeroth, first] = case.sources;
     let sources = [
         Pairs::new(alloc, zeroth.0, zeroth.1)?,
         Pairs::new(alloc, first.0, first.1)?,
     ];
+    let (hall, desks) = prepared::<Acc, Del, R>(rt, alloc, accepted, deleted, &case.before)?;
     let answer = load_all(
         rt,
         alloc,
@@ -114,15 +139,23 @@ fn refuse<Acc: Ledger + Send + Sync, Del: Ledger + Send + Sync, R: Threads + Wai
         1,
         &OpenGate,
     );
-    let fault = answer.err().ok_or(case.name)?;
-    assert!(rt; fault.cause == case.cause, "{}", case.name);
-    assert!(rt; accepted_in(&fault) == case.left, "{}", case.name);
     assert!(rt;
         [sources[0].calls(), sources[1].calls()] == case.calls,
         "{}",
         case.name
     );
-    Ok(())
+    match answer {
+        Err(fault) => {
+            assert!(rt; fault.cause == case.cause, "{}", case.name);
+            assert!(rt; accepted_in(&fault) == case.left, "{}", case.name);
+            drop(fault);
+            Ok(())
+        }
+        Ok(loaded) => {
+            drop(loaded);
+            Err(case.name.into())
+        }
+    }
 }
 
 static CASES: [Case; 9] = [

@@ -4,7 +4,7 @@ ghost use Rattle.df_catalogue.specs.Ledgers as ledgers;
 
 use crate::given::{chunk, groups, opened, row, scan};
 use df_catalogue::{Catalogue, CatalogueFault, Desk, PARTS_OF_LEDGER};
-use df_store::{Hall, HallFault};
+use df_store::{Hall, HallFault, Totals};
 use df_value::Text;
 use std::alloc::{AllocError, Global};
 use std::marker::Brand;
@@ -140,18 +140,61 @@ fn change_at_once<
         × (deleted.parts ≡ ledgers.parts_of_ledger) }
 {
     let (hall, desks) = opened::<Acc, Del>(alloc, accepted, deleted)?;
+    match changed(rt, alloc, &hall, desks) {
+        Ok(desks) => close(rt, alloc, hall, desks),
+        Err(fail) => {
+            // A call costs the proof less than a drop at the end of a block.
+            drop(hall);
+            Err(fail)
+        }
+    }
+}
+
+// The desks, once the clients have changed the frames under two views.
+fn changed<Acc: Ledger + Send + Sync, Del: Ledger + Send + Sync, R: Threads + Wait + Sync>(
+    rt: &R,
+    alloc: Global,
+    hall: &Hall<Acc, Del>,
+    desks: Vec<Desk<Acc, Del>>,
+) -> Result<Vec<Desk<Acc, Del>>, Fail> {
     hall.register(rt, alloc, Text::from_str(alloc, "t")?, scan(alloc)?)?;
     hall.register(rt, alloc, Text::from_str(alloc, "g")?, groups(alloc)?)?;
     let mut clients = clients(alloc, desks)?;
-    run_clients(rt, &hall, clients.as_mut_slice());
-    let desks = desks_of(alloc, clients)?;
-    let (catalogue, totals) = hall.close(desks).ok().ok_or("all desks")?;
+    run_clients(rt, hall, clients.as_mut_slice());
+    desks_of(alloc, clients)
+}
+
+fn close<Acc: Ledger, Del: Ledger, R: Abort>(
+    rt: &R,
+    alloc: Global,
+    hall: Hall<Acc, Del>,
+    desks: Vec<Desk<Acc, Del>>,
+) -> Result<(), Fail> {
+    match hall.close(desks) {
+        Ok((catalogue, totals)) => {
+            let right = has_all_changes(rt, alloc, &catalogue, &totals);
+            drop(catalogue);
+            right
+        }
+        Err(missing) => {
+            drop(missing);
+            Err("all desks".into())
+        }
+    }
+}
+
+fn has_all_changes<Acc: Ledger, Del: Ledger, R: Abort>(
+    rt: &R,
+    alloc: Global,
+    catalogue: &Catalogue<Acc, Del>,
+    totals: &Totals,
+) -> Result<(), Fail> {
     // Of twelve rows in each round, in one of the two frames, a third went.
     let half = u64::from(ROUNDS / 2);
     assert!(rt; totals.accepted.as_slice() == [12 * half, 12 * half].as_slice());
     assert!(rt; totals.deleted.as_slice() == [4 * half, 4 * half].as_slice());
     assert!(rt; totals.live.as_slice() == [8 * half, 8 * half].as_slice());
-    assert!(rt; is_true(alloc, &catalogue, "t")? && is_true(alloc, &catalogue, "g")?);
+    assert!(rt; is_true(alloc, catalogue, "t")? && is_true(alloc, catalogue, "g")?);
     Ok(())
 }
 
