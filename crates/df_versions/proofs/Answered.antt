@@ -1,0 +1,81 @@
+-- What changes of a catalogue that publishes its versions answer.
+use Rattle.std.proofs.Common.{◌≡◌, ◌∙◌, ℕ, ◌≤◌, List, [], ◌∷◌, ◌++◌, ap, subst, sym, append_assoc, Result, Ok, Err, Some, None, OnOk, OnErr, length, IsSomeAnd}
+use Rattle.df_catalogue.specs.declared.state.State.{State}
+use Rattle.df_catalogue.specs.declared.change.Change.{Change}
+use Rattle.df_catalogue.specs.declared.fault.CatalogueFault.{CatalogueFault}
+use Rattle.df_catalogue.specs.declared.state.CatalogueParts.{CatalogueParts}
+use Rattle.df_catalogue.specs.Answers.{RefusedBy}
+use Rattle.df_catalogue.specs.Changes.{after}
+use Rattle.df_catalogue.specs.Pictures.{next_state}
+use Rattle.df_catalogue.specs.Refusals.{refusal_of}
+use Rattle.df_catalogue.specs.StagedChanges.{IsStagedFor}
+use Rattle.df_versions.specs.Histories.{IsHistory, last_state}
+use Rattle.df_versions.specs.Answered.{IsAccepted, IsRefusedAt, IsReason, IsUnpublished, AnswersChange, AnswersNext, ChangesHistory, Reports}
+use Rattle.df_versions.specs.declared.fault.ChangeFault.{ChangeFault}
+use Rattle.df_versions.specs.declared.fault.ChangeFault.TheVariants.{Ahead, Spent, Refused, Memory}
+use Rattle.df_versions.proofs.Histories.{ends_split, last_state-more}
+use Rattle.df_versions.proofs.Staged.{staged-next}
+
+-- a history that was made longer by what the change makes of its last state
+told-accepted :
+    (log told : List State) (s t : State) (c : Change) → last_state log ≡ Some s → refusal_of s c ≡ None → t ≡ after s c →
+    IsHistory told → told ≡ log ++ t ∷ [] → IsAccepted told c
+told-accepted log told s t c ends free is lawful e =
+    let split = ends_split log s ends in
+    let whole : told ≡ split.0 ++ s ∷ after s c ∷ [] =
+    e ∙ (ap (λ x. log ++ x ∷ []) is ∙ (ap (λ l. l ++ after s c ∷ []) split.1 ∙ append_assoc split.0 (s ∷ []) (after s c ∷ []))) in
+    (lawful, (split.0, s, free, whole))
+
+refused-at : (log told : List State) (s : State) (c : Change) (f : CatalogueFault) → last_state log ≡ Some s → refusal_of s c ≡ Some f → IsHistory log → told ≡ log → IsRefusedAt told c f
+refused-at log told s c f ends refused lawful e =
+    let split = ends_split log s ends in
+    (subst IsHistory (sym e) lawful, (split.0, s, refused, e ∙ split.1))
+
+module _ {J : Type 0} where
+  unpublished-reason : (log : List State) (s : State) (c : Change) (floor : ℕ) (r : ChangeFault J) → last_state log ≡ Some s → refusal_of s c ≡ None → IsUnpublished log floor r → IsReason log floor c r
+  unpublished-reason log s c floor Ahead ends free h = h
+  unpublished-reason log s c floor Spent ends free h = (h, (s, ends, free))
+  unpublished-reason log s c floor (Refused g t) ends free h = absurd h
+  unpublished-reason log s c floor Memory ends free h = (s, ends, free)
+
+  entered-answers :
+      (log : List State) (s next : State) (c : Change) (floor : ℕ) (r : Result (List State) (ChangeFault J)) → last_state log ≡ Some s → refusal_of s c ≡ None → next ≡ after s c →
+      AnswersNext log floor next r → AnswersChange log floor c r
+  entered-answers log s next c floor (Ok t) ends free is h = record {
+    accepted = told-accepted log t s next c ends free is h.lawful h.added;
+    later = h.later;
+    refused = h.refused;
+  }
+  entered-answers log s next c floor (Err f) ends free is h = record {
+    accepted = h.lawful;
+    later = h.later;
+    refused = unpublished-reason log s c floor f ends free h.refused;
+  }
+
+  -- where the change was staged, and is entered
+  pub staged-answers :
+      (log self : List State) (old mid : CatalogueParts) (c : Change) (floor : ℕ) (r : Result (List State) (ChangeFault J)) → log ≡ self → last_state log ≡ Some old.state →
+      refusal_of old.state c ≡ None → IsSomeAnd mid.staged (IsStagedFor old c) → AnswersNext log floor (next_state mid) r → AnswersChange self floor c r
+  staged-answers log self old mid c floor r is ends free staged h =
+      subst (λ (l : List State). AnswersChange l floor c r) is (entered-answers log old.state (next_state mid) c floor r ends free (staged-next old mid c staged) h)
+
+  reported-reason : (log : List State) (s : State) (c : Change) (floor : ℕ) (f : CatalogueFault) (r : ChangeFault J) → last_state log ≡ Some s → RefusedBy s c f → Reports log floor f r → IsReason log floor c r
+  reported-reason log s c floor f Ahead ends by h = h
+  reported-reason log s c floor f Spent ends by h = absurd h
+  reported-reason log s c floor f (Refused g t) ends by h =
+      (refused-at log t s c g ends (by.exact h.1 ∙ ap Some (sym h.0)) h.3 h.2, subst (λ (l : List State). floor ≤ length l) (sym h.2) h.4)
+  reported-reason log s c floor f Memory ends by h = (s, ends, by.memory_last h)
+
+  -- where the catalogue refused the change
+  pub reported-answers : (log self : List State) (s : State) (c : Change) (floor : ℕ) (f : CatalogueFault) (r : ChangeFault J) → log ≡ self → last_state log ≡ Some s → RefusedBy s c f → Reports log floor f r → AnswersChange self floor c (Err r)
+  reported-answers log self s c floor f r is ends by h =
+      subst (λ (l : List State). AnswersChange l floor c (Err r)) is (record { accepted = tt; later = tt; refused = reported-reason log s c floor f r ends by h })
+
+  -- the history still ends with the catalogue's state where a staged change was entered
+  pub entered-ends :
+      (log log' : List State) (s mid s' next : State) (floor : ℕ) (r : Result (List State) (ChangeFault J)) → last_state log ≡ Some s → mid ≡ s →
+      AnswersNext log floor next r → ChangesHistory log r log' → OnOk r (s' ≡ next) → OnErr r (s' ≡ mid) → last_state log' ≡ Some s'
+  entered-ends log log' s mid s' next floor (Ok t) ends is h changes committed same =
+      ap last_state (changes.told ∙ h.added) ∙ (last_state-more log next ∙ ap Some (sym committed))
+  entered-ends log log' s mid s' next floor (Err f) ends is h changes committed same =
+      ap last_state changes.same ∙ (ends ∙ ap Some (sym (same ∙ is)))

@@ -1,0 +1,87 @@
+-- What of versions may go to another thread, and what threads may share.
+use denote.RattleType.{RattleType}
+use denote.Param.Send.{IsSend, IsSync, sendable}
+use Rattle.std.specs.declared.sync.ledger.Ledger.{Ghosts}
+use Rattle.std.proofs.Crossing.{crosses}
+use Rattle.logbook.proofs.word.Word.TheSendSync as word
+use Rattle.logbook.proofs.tokens.Seen.TheSendSync as seen
+use Rattle.left_right.proofs.part.Part.TheSendSync as part
+use Rattle.left_right.proofs.part.Deed.TheSendSync as deed
+use Rattle.atomic_table.proofs.send_lease.SendLease.TheSendSync as lease
+use Rattle.atomic_table.proofs.shared.Seat.TheSendSync as seat
+use Rattle.atomic_table.proofs.shared.Shared.TheSendSync as shared
+use Rattle.df_value.proofs.text.Text.TheSendSync as text
+use Rattle.df_column.proofs.table.Table.TheSendSync as table
+use Rattle.df_catalogue.specs.contracts.catalogue.Catalogue as Catalogue
+use Rattle.df_versions.specs.declared.history.Naming.{Ghosts as Names}
+use Rattle.df_versions.specs.contracts.history.History as History
+use Rattle.df_versions.specs.contracts.history.History.TheInside as HistoryInside
+use Rattle.df_versions.specs.contracts.reader.Reader as Reader
+use Rattle.df_versions.specs.contracts.reader.Reader.TheInside as ReaderInside
+use Rattle.df_versions.specs.contracts.told.Told as Told
+use Rattle.df_versions.specs.contracts.told.Told.TheInside as ToldInside
+use Rattle.df_versions.specs.contracts.version.Version as Version
+use Rattle.df_versions.specs.contracts.publisher.Publisher as Publisher
+use Rattle.df_versions.specs.contracts.publisher.Publisher.TheInside as PublisherInside
+use Rattle.df_versions.specs.contracts.version.Published as Published
+use Rattle.df_versions.specs.contracts.versioned.VersionedCatalogue as Versioned
+use Rattle.df_versions.specs.contracts.versioned.VersionedCatalogue.TheInside as VersionedInside
+
+pub version_send : IsSend Version.the_row
+version_send = search (sendable, crosses, text.the_send, table.the_send) depth 40
+
+pub version_sync : IsSync Version.the_row
+version_sync = search (sendable, crosses, text.the_sync, table.the_sync) depth 40
+
+history_inside_send : IsSend HistoryInside.the_row
+history_inside_send = search (sendable, seen.the_send) depth 20
+
+history_inside_sync : IsSync HistoryInside.the_row
+history_inside_sync = search (sendable, seen.the_sync) depth 20
+
+pub history_send : IsSend History.the_row
+history_send = let i = history_inside_send in search sendable depth 20
+
+pub history_sync : IsSync History.the_row
+history_sync = let i = history_inside_sync in search sendable depth 20
+
+published_send : IsSend Published.the_row
+published_send = let v = version_send in let w = version_sync in let h = history_send in search (sendable, crosses) depth 40
+
+published_sync : IsSync Published.the_row
+published_sync = let v = version_send in let w = version_sync in let h = history_sync in search (sendable, crosses) depth 40
+
+module _ (J : RattleType) (j : Names J.Denot) where
+  told_inside_send : IsSend (ToldInside.the_row J j)
+  told_inside_send = let h = history_send in search (sendable, crosses) depth 40
+
+  told_inside_sync : IsSync (ToldInside.the_row J j)
+  told_inside_sync = let h = history_sync in search (sendable, crosses) depth 40
+
+  pub told_send : IsSend (Told.the_row J j)
+  told_send = let i = told_inside_send in search sendable depth 20
+
+  pub told_sync : IsSync (Told.the_row J j)
+  told_sync = let i = told_inside_sync in search sendable depth 20
+
+reader_inside_send : IsSend ReaderInside.the_row
+reader_inside_send = let h = history_send in let p = published_send in let q = published_sync in
+    search (sendable, crosses, part.the_send, seat.the_send, lease.the_send, lease.the_sync, shared.the_send, shared.the_sync) depth 60
+
+pub reader_send : IsSend Reader.the_row
+reader_send = let i = reader_inside_send in search sendable depth 20
+
+-- what stands behind a lock may go to another thread where its catalogue may
+module _ (A D J : RattleType) (a : Ghosts A.Denot) (d : Ghosts D.Denot) (j : Names J.Denot) where
+  publisher_inside_send : IsSend (PublisherInside.the_row J j)
+  publisher_inside_send = let h = history_send in let p = published_send in let q = published_sync in
+      search (sendable, crosses, part.the_send, deed.the_send, word.the_send, seat.the_send, lease.the_send, lease.the_sync, shared.the_send, shared.the_sync) depth 60
+
+  publisher_send : IsSend (Publisher.the_row J j)
+  publisher_send = let i = publisher_inside_send in search sendable depth 20
+
+  versioned_inside_send : IsSend (Catalogue.the_row A D a d) → IsSend (VersionedInside.the_row A D J a d j)
+  versioned_inside_send c = let p = publisher_send in search sendable depth 20
+
+  pub versioned_send : IsSend (Catalogue.the_row A D a d) → IsSend (Versioned.the_row A D J a d j)
+  versioned_send c = let i = versioned_inside_send c in search sendable depth 20

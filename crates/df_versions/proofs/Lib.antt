@@ -1,0 +1,10 @@
+pub mod Histories
+pub mod Prefixes
+pub mod Adding
+pub mod Moves
+pub mod Newest
+pub mod ShownVersions
+pub mod Answered
+pub mod Staged
+pub mod Openings
+pub mod Crosses

@@ -1,0 +1,139 @@
+//! What changes a catalogue and publishes the version after it. These are functions over both and not methods of the
+//! value that holds them, which hides the catalogue's parts: what is staged is known of these.
+ghost use Rattle.std.specs.Prelude.{◌≡◌, Some, IsSomeAnd, OnErr, OnOk, option_map};
+ghost use Rattle.df_catalogue.specs.StagedChanges.{counted_desk, counts_staged};
+ghost use Rattle.df_catalogue.specs.Pictures.{next_state};
+ghost use Rattle.df_versions.specs.Answered.{AnswersNext, ChangesHistory, Reports, told_states};
+ghost use Rattle.df_versions.specs.Histories.{MayFollow};
+
+use crate::fault::{ChangeFault, PublishFault};
+use crate::history::Naming;
+use crate::publisher::Publisher;
+use crate::told::Told;
+use df_catalogue::{Catalogue, CatalogueFault, Desk, StagedRows, StagedViews, State};
+use logbook::Plain;
+use std::alloc::Global;
+use std::sync::Wait;
+use std::sync::ledger::Ledger;
+
+/// What is asked of a history where a change is staged: the state once it is committed.
+pub struct StagedState;
+
+impl<Acc: Ledger, Del: Ledger> Plain<Catalogue<Acc, Del>, State, u64> for StagedState {
+    ghost use Rattle.std.specs.Prelude.{None};
+    ghost use Rattle.df_catalogue.specs.Pictures.{next_state};
+
+    ghost ask = { λ c. next_state c };
+
+    ghost state = { λ c. None };
+}
+
+// Of how many states a caller was told.
+fn states_told<J: Naming>(told: Option<&Told<J>>) -> u64
+    ensures { result ≡ told_states (option_map (λ t. t.now) told.entry) }
+{
+    match told {
+        Some(told) => told.len(),
+        None => 0,
+    }
+}
+
+/// What a change answers that the catalogue refused.
+pub(crate) fn report<J: Naming>(
+    publisher: &Publisher<J>,
+    told: Option<&Told<J>>,
+    fault: CatalogueFault,
+) -> ChangeFault<J>
+    ensures { Reports publisher.now (told_states (option_map (λ t. t.now) told.entry)) fault result }
+{
+    if states_told(told) > publisher.len() {
+        return ChangeFault::Ahead;
+    }
+    match fault {
+        CatalogueFault::Memory => ChangeFault::Memory,
+        fault => ChangeFault::Refused(fault, publisher.told()),
+    }
+}
+
+// Publishes the state that is staged.
+fn publish_staged<Acc: Ledger, Del: Ledger, J: Naming, R: Wait>(
+    catalogue: &Catalogue<Acc, Del>,
+    publisher: &mut Publisher<J>,
+    rt: &R,
+    alloc: Global,
+    told: Option<&Told<J>>,
+) -> Result<Told<J>, ChangeFault<J>>
+    requires { MayFollow publisher.old (next_state catalogue.now) }
+    ensures answer { AnswersNext publisher.old (told_states (option_map (λ t. t.now) told.entry))
+        (next_state catalogue.now) result }
+    ensures history { ChangesHistory publisher.old result publisher.new }
+{
+    if states_told(told) > publisher.len() {
+        return Err(ChangeFault::Ahead);
+    }
+    let Ok(picture) = catalogue.next_picture(alloc) else {
+        return Err(ChangeFault::Memory);
+    };
+    match publisher.publish::<Catalogue<Acc, Del>, StagedState, R>(rt, alloc, catalogue, picture) {
+        Ok(told) => Ok(told),
+        Err(PublishFault::Spent) => Err(ChangeFault::Spent),
+        Err(PublishFault::Memory) => Err(ChangeFault::Memory),
+    }
+}
+
+/// Publishes the state that rows were staged for, and makes the change.
+pub(crate) fn enter_rows<Acc: Ledger, Del: Ledger, J: Naming, R: Wait>(
+    catalogue: &mut Catalogue<Acc, Del>,
+    publisher: &mut Publisher<J>,
+    rt: &R,
+    alloc: Global,
+    desk: &mut Desk<Acc, Del>,
+    staged: StagedRows<Acc, Del>,
+    told: Option<&Told<J>>,
+) -> Result<Told<J>, ChangeFault<J>>
+    requires last { staged.catalogue.value ≡ catalogue.old }
+    requires next { MayFollow publisher.old (next_state catalogue.old) }
+    requires frame { option_map (λ r. r.frame) (counts_staged catalogue.old) ≡ Some desk.old.frame }
+    ensures answer { AnswersNext publisher.old (told_states (option_map (λ t. t.now) told.entry))
+        (next_state catalogue.old) result }
+    ensures history { ChangesHistory publisher.old result publisher.new }
+    ensures committed { OnOk result (catalogue.new.state ≡ next_state catalogue.old) }
+    ensures same { OnErr result (catalogue.new.state ≡ catalogue.old.state) }
+    ensures desk { OnOk result (IsSomeAnd (counts_staged catalogue.old) (λ rows.
+        desk.new ≡ counted_desk desk.old rows)) }
+    ensures same_desk { OnErr result (desk.new ≡ desk.old) }
+{
+    match publish_staged(catalogue, publisher, rt, alloc, told) {
+        Ok(told) => {
+            catalogue.commit_rows(desk, staged);
+            Ok(told)
+        }
+        Err(fault) => Err(fault),
+    }
+}
+
+/// The same where views were staged.
+pub(crate) fn enter_views<Acc: Ledger, Del: Ledger, J: Naming, R: Wait>(
+    catalogue: &mut Catalogue<Acc, Del>,
+    publisher: &mut Publisher<J>,
+    rt: &R,
+    alloc: Global,
+    staged: StagedViews<Acc, Del>,
+    told: Option<&Told<J>>,
+) -> Result<Told<J>, ChangeFault<J>>
+    requires last { staged.catalogue.value ≡ catalogue.old }
+    requires next { MayFollow publisher.old (next_state catalogue.old) }
+    ensures answer { AnswersNext publisher.old (told_states (option_map (λ t. t.now) told.entry))
+        (next_state catalogue.old) result }
+    ensures history { ChangesHistory publisher.old result publisher.new }
+    ensures committed { OnOk result (catalogue.new.state ≡ next_state catalogue.old) }
+    ensures same { OnErr result (catalogue.new.state ≡ catalogue.old.state) }
+{
+    match publish_staged(catalogue, publisher, rt, alloc, told) {
+        Ok(told) => {
+            catalogue.commit_views(staged);
+            Ok(told)
+        }
+        Err(fault) => Err(fault),
+    }
+}

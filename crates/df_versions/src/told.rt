@@ -1,0 +1,67 @@
+//! What the caller of a change is told.
+ghost use Rattle.std.specs.Prelude.{◌≡◌, ◌+◌, ◌<◌, length};
+ghost use Rattle.std.specs.List.{AllByRecursion};
+ghost use Rattle.df_catalogue.specs.States.{IsLegal};
+ghost use Rattle.df_versions.specs.Histories.{IsHistory};
+
+use crate::history::{History, Naming};
+use std::marker::{Model, PhantomData};
+
+/// The history up to a change, or up to the state that refused it. A reader that learns it sees no version from before.
+/// Contracts see the states.
+#[derive(Drop)]
+pub struct Told<J: Naming> {
+    history: History,
+    of: PhantomData<J>,
+}
+
+impl<J: Naming> Model for Told<J> {
+    ghost use Rattle.std.specs.Prelude.{◌≡◌, ◌<◌, List, length};
+    ghost use Rattle.std.specs.Coded.{coded_list};
+    ghost use Rattle.df_catalogue.specs.declared.state.State.{State};
+    ghost use Rattle.df_catalogue.specs.contracts.state.State as state_type;
+
+    ghost Value = { List State };
+
+    ghost coded = { coded_list state_type.the_row.coded };
+
+    ghost view = { λ t. t.history.1 };
+
+    ghost invariant = { λ t. (t.history.0 ≡ J.book) × (0 < length t.history.1) };
+}
+
+impl<J: Naming> Told<J> {
+    pub(crate) fn of(history: History) -> Told<J>
+        requires book { history.0 ≡ J.book }
+        requires some { 0 < length history.1 }
+        ensures { result ≡ history.1 }
+    {
+        Told {
+            history,
+            of: PhantomData,
+        }
+    }
+
+    pub(crate) fn into_history(self) -> History
+        ensures { result ≡ (J.book, self) }
+    {
+        let Told { history, of: _ } = self;
+        history
+    }
+
+    /// How many states its history has.
+    pub fn len(&self) -> u64
+        ensures { result ≡ length self.now }
+    {
+        self.history.len()
+    }
+
+    /// The number of the version that its history ends with. All states of the history are legal.
+    pub fn number(&self) -> u64
+        ensures number { result + 1 ≡ length self.now }
+        ensures lawful { IsHistory self.now }
+        ensures legal { AllByRecursion IsLegal self.now }
+    {
+        self.history.len() - 1
+    }
+}

@@ -1,0 +1,212 @@
+//! A catalogue of which each change is published: what stands behind the lock of a hall.
+ghost use Rattle.std.specs.Prelude.{◌≡◌, Some, OnErr, OnOk, option_map};
+ghost use Rattle.df_catalogue.specs.declared.change.Change.TheVariants.{Append, Delete, DropView, Register, Replace};
+ghost use Rattle.df_catalogue.specs.Desks.{desk_after};
+ghost use Rattle.df_versions.specs.Histories.{last_state};
+
+use crate::entering::{enter_rows, enter_views, report};
+use crate::fault::ChangeFault;
+use crate::history::Naming;
+use crate::publisher::Publisher;
+use crate::told::Told;
+use df_catalogue::{Catalogue, Desk};
+use df_plan::CheckedPlan;
+use df_value::{Chunk, Row, Text};
+use std::alloc::Global;
+use std::marker::Model;
+use std::sync::Wait;
+use std::sync::ledger::Ledger;
+
+/// A catalogue, and what publishes its versions. Contracts see the history so far.
+pub struct VersionedCatalogue<Acc: Ledger, Del: Ledger, J: Naming> {
+    catalogue: Catalogue<Acc, Del>,
+    publisher: Publisher<J>,
+}
+
+impl<Acc: Ledger, Del: Ledger, J: Naming> Model for VersionedCatalogue<Acc, Del, J> {
+    ghost use Rattle.std.specs.Prelude.{◌≡◌, List, Some};
+    ghost use Rattle.std.specs.Coded.{coded_list};
+    ghost use Rattle.df_catalogue.specs.declared.state.State.{State};
+    ghost use Rattle.df_catalogue.specs.contracts.state.State as state_type;
+    ghost use Rattle.df_versions.specs.Histories.{last_state};
+
+    ghost Value = { List State };
+
+    ghost coded = { coded_list state_type.the_row.coded };
+
+    ghost view = { λ v. v.publisher };
+
+    // The history ends with the catalogue's state.
+    ghost invariant = { λ v. last_state v.publisher ≡ Some v.catalogue.state };
+}
+
+/// The calls that change the catalogue publish the version after the change, and answer the history up to it. Each takes
+/// last what the caller was told before, if anything: what it answers is longer, or says that this is newer than what is
+/// here.
+impl<Acc: Ledger, Del: Ledger, J: Naming> VersionedCatalogue<Acc, Del, J> {
+    ghost use Rattle.df_versions.specs.Answered.{AnswersChange, ChangesHistory, told_states};
+
+    /// The catalogue, of whose state the last version was published.
+    pub fn over(
+        catalogue: Catalogue<Acc, Del>,
+        publisher: Publisher<J>,
+    ) -> VersionedCatalogue<Acc, Del, J>
+        requires { last_state publisher ≡ Some catalogue.state }
+        ensures { result ≡ publisher }
+    {
+        VersionedCatalogue {
+            catalogue,
+            publisher,
+        }
+    }
+
+    /// Waits until no reader is inside a step, and gives the catalogue back. Readers get no version from then on.
+    pub fn end<R: Wait>(self, rt: &R) -> Catalogue<Acc, Del>
+        ensures { last_state self ≡ Some result.state }
+    {
+        let VersionedCatalogue {
+            catalogue,
+            publisher,
+        } = self;
+        publisher.end(rt);
+        catalogue
+    }
+
+    /// Appends the chunk to the desk's frame, as [`Catalogue::append`] does.
+    pub fn append<R: Wait>(
+        &mut self,
+        rt: &R,
+        alloc: Global,
+        desk: &mut Desk<Acc, Del>,
+        chunk: &Chunk,
+        told: Option<&Told<J>>,
+    ) -> Result<Told<J>, ChangeFault<J>>
+        ensures answer { AnswersChange self.old (told_states (option_map (λ t. t.now) told.entry))
+            (Append desk.old.frame chunk.now) result }
+        ensures history { ChangesHistory self.old result self.new }
+        ensures desk { OnOk result (desk.new ≡ desk_after desk.old (Append desk.old.frame chunk.now)) }
+        ensures same_desk { OnErr result (desk.new ≡ desk.old) }
+    {
+        match self.catalogue.stage_append(alloc, desk, chunk) {
+            Ok(staged) => enter_rows(
+                &mut self.catalogue,
+                &mut self.publisher,
+                rt,
+                alloc,
+                desk,
+                staged,
+                told,
+            ),
+            Err(fault) => Err(report(&self.publisher, told, fault)),
+        }
+    }
+
+    /// Takes the rows of these numbers out of the desk's frame, as [`Catalogue::delete`] does.
+    pub fn delete<R: Wait>(
+        &mut self,
+        rt: &R,
+        alloc: Global,
+        desk: &mut Desk<Acc, Del>,
+        numbers: &[u32],
+        told: Option<&Told<J>>,
+    ) -> Result<Told<J>, ChangeFault<J>>
+        ensures answer { AnswersChange self.old (told_states (option_map (λ t. t.now) told.entry))
+            (Delete desk.old.frame numbers.now) result }
+        ensures history { ChangesHistory self.old result self.new }
+        ensures desk { OnOk result (desk.new ≡ desk_after desk.old (Delete desk.old.frame numbers.now)) }
+        ensures same_desk { OnErr result (desk.new ≡ desk.old) }
+    {
+        match self.catalogue.stage_delete(alloc, desk, numbers) {
+            Ok(staged) => enter_rows(
+                &mut self.catalogue,
+                &mut self.publisher,
+                rt,
+                alloc,
+                desk,
+                staged,
+                told,
+            ),
+            Err(fault) => Err(report(&self.publisher, told, fault)),
+        }
+    }
+
+    /// Puts each row in the place of that of its number, as [`Catalogue::replace`] does.
+    pub fn replace<R: Wait>(
+        &mut self,
+        rt: &R,
+        alloc: Global,
+        desk: &mut Desk<Acc, Del>,
+        rows: &[(u32, Row)],
+        told: Option<&Told<J>>,
+    ) -> Result<Told<J>, ChangeFault<J>>
+        ensures answer { AnswersChange self.old (told_states (option_map (λ t. t.now) told.entry))
+            (Replace desk.old.frame rows.now) result }
+        ensures history { ChangesHistory self.old result self.new }
+        ensures desk { OnOk result (desk.new ≡ desk_after desk.old (Replace desk.old.frame rows.now)) }
+        ensures same_desk { OnErr result (desk.new ≡ desk.old) }
+    {
+        match self.catalogue.stage_replace(alloc, desk, rows) {
+            Ok(staged) => enter_rows(
+                &mut self.catalogue,
+                &mut self.publisher,
+                rt,
+                alloc,
+                desk,
+                staged,
+                told,
+            ),
+            Err(fault) => Err(report(&self.publisher, told, fault)),
+        }
+    }
+
+    /// Adds a view of this name and plan last, as [`Catalogue::register`] does.
+    pub fn register<R: Wait>(
+        &mut self,
+        rt: &R,
+        alloc: Global,
+        name: Text,
+        plan: CheckedPlan,
+        told: Option<&Told<J>>,
+    ) -> Result<Told<J>, ChangeFault<J>>
+        ensures answer { AnswersChange self.old (told_states (option_map (λ t. t.now) told.entry))
+            (Register name plan) result }
+        ensures history { ChangesHistory self.old result self.new }
+    {
+        match self.catalogue.stage_register(alloc, name, plan) {
+            Ok(staged) => enter_views(
+                &mut self.catalogue,
+                &mut self.publisher,
+                rt,
+                alloc,
+                staged,
+                told,
+            ),
+            Err(fault) => Err(report(&self.publisher, told, fault)),
+        }
+    }
+
+    /// Takes the view of this name out, as [`Catalogue::drop_view`] does. Its version takes memory.
+    pub fn drop_view<R: Wait>(
+        &mut self,
+        rt: &R,
+        alloc: Global,
+        name: &str,
+        told: Option<&Told<J>>,
+    ) -> Result<Told<J>, ChangeFault<J>>
+        ensures answer { AnswersChange self.old (told_states (option_map (λ t. t.now) told.entry))
+            (DropView name.now) result }
+        ensures history { ChangesHistory self.old result self.new }
+    {
+        match self.catalogue.stage_drop(name) {
+            Ok(staged) => enter_views(
+                &mut self.catalogue,
+                &mut self.publisher,
+                rt,
+                alloc,
+                staged,
+                told,
+            ),
+            Err(fault) => Err(report(&self.publisher, told, fault)),
+        }
+    }
+}
