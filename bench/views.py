@@ -37,8 +37,10 @@ STEPS = {
     "rolling sum": '["rolling_sum", "s", "v", 8, 1]',
     "cumulative sum": '["cum_sum", "s", "v"]',
     "dense rank": '["rank", "r", "dense", "g"]',
-    "minimum rank": '["rank", "r", "min", "g"]',
+    "minimum rank": '["rank", "r", "min", "k"]',
 }
+# Where a row is replaced or deleted, these change in each row behind it or above it: only appends are measured.
+APPENDS_ALONE = ("cumulative sum", "minimum rank")
 DOCUMENT = """[[frame]]
 name = "rows"
 columns = [["g", "Int"], ["k", "Int"], ["v", "Int"]]
@@ -96,14 +98,18 @@ def seconds(program, folder, parts):
     return used.ru_utime + used.ru_stime
 
 
-def measured(program, folder, rows, preloaded):
-    """Microseconds: of a row of the chunks, and of each kind of single change. Last, the requests of an appended row."""
+def measured(program, folder, rows, preloaded, kinds):
+    """Microseconds: of a row of the chunks, and of these kinds of single changes, or none. Last, the requests of an
+    appended row."""
     source = random.Random(20260101)
     loaded = list(chunks(source, rows, False))
     made = [loaded[0], *chunks(random.Random(20260101), rows, True)]
     load = seconds(program, folder, loaded)
     result = [(load - seconds(program, folder, made)) / rows * 1e6]
     for kind in ("append", "replace", "delete"):
+        if kind not in kinds:
+            result.append(None)
+            continue
         each = seconds(program, folder, [*loaded, *changes(kind, source, rows, False)])
         read = seconds(program, folder, [*loaded, *changes(kind, source, rows, True)])
         result.append((each - read) / singles(rows) * 1e6)
@@ -163,15 +169,17 @@ def main():
         for kind, steps in STEPS.items():
             view = VIEW.replace("STEP", steps) if steps else ""
             (folder / "rows.toml").write_text(DOCUMENT + view)
+            kinds = ("append",) if kind in APPENDS_ALONE else ("append", "replace", "delete")
             for rows in sizes:
-                report(kind, rows, measured(program, folder, rows, preloaded))
+                report(kind, rows, measured(program, folder, rows, preloaded, kinds))
     for rows in sizes:
         report("SQLite", rows, in_sqlite(rows))
 
 
 def report(kind, rows, numbers):
     requests = "".join(f"{number:23.1f}" for number in numbers[4:])
-    print(f"{kind:16}{rows:9}" + "".join(f"{number:9.1f}" for number in numbers[:4]) + requests, flush=True)
+    shown = "".join(f"{'-':>9}" if number is None else f"{number:9.1f}" for number in numbers[:4])
+    print(f"{kind:16}{rows:9}" + shown + requests, flush=True)
 
 
 if __name__ == "__main__":

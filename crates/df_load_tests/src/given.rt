@@ -19,7 +19,8 @@ pub fn schema(alloc: Global) -> Result<Schema, AllocError> {
     Schema::new(List::from_vec(columns)).map_err(|_| AllocError)
 }
 
-fn schemas(alloc: Global) -> Result<List<Schema>, AllocError> {
+/// The schemas of two frames.
+pub fn schemas(alloc: Global) -> Result<List<Schema>, AllocError> {
     let schemas = vec![in alloc; schema(alloc)?, schema(alloc)?]?;
     Ok(List::from_vec(schemas))
 }

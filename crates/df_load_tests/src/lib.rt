@@ -1,4 +1,5 @@
-//! Tests of the hall and of loads: that workers run at once, what a load refuses and leaves, and the close.
+//! Tests of the hall, of loads and of versions: that workers run at once, what a load refuses and leaves, the close, and
+//! what readers see beside the changes.
 //!
 //! They need nothing above `df_store`, so the gate proves them beside `df_app`.
 #![tactic(auto)]
@@ -19,3 +20,5 @@ mod pairs;
 mod refusals;
 #[cfg(test)]
 mod soak;
+#[cfg(test)]
+mod versions;
