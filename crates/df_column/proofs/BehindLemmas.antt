@@ -3,7 +3,6 @@ use Rattle.std.proofs.Common.{◌≡◌, ℕ, suc, ◌-◌, ◌<◌, List, [], �
 use Rattle.std.specs.Prelude.{T}
 use Rattle.std.proofs.lemmas.List.{map-append, take-append-drop}
 use Rattle.std.specs.Ordering.{is_lt}
-use Rattle.std.specs.declared.sync.Arc.{Arc}
 use Rattle.std.specs.declared.cmp.Ordering.TheVariants.{Less}
 use Rattle.std.specs.FinMap.{is_sorted}
 use Rattle.df_value.specs.declared.cell.Cell.{Cell}
@@ -59,7 +58,7 @@ rows_behind ts columns (e ∷ es) d n h rising some less =
     ∙ ap (λ r. after_changes tag_cmp r (map entry_change (e ∷ es))) (append-nil rows)
 
 -- the two parts of picks
-pub adds_parts : {S : Type 0} (dtypes : List CellType) (columns : List (List Cell)) (first : List (Tag × List Cell)) (xs ys picks : List Pick) (n : ℕ) (old mid new : List (Arc BlockParts S)) → xs ≡ take n picks → ys ≡ drop n picks
+pub adds_parts : (dtypes : List CellType) (columns : List (List Cell)) (first : List (Tag × List Cell)) (xs ys picks : List Pick) (n : ℕ) (old mid new : List BlockParts) → xs ≡ take n picks → ys ≡ drop n picks
     → AddsRows dtypes (first ++ picked_rows columns xs) old mid → AddsRows dtypes (picked_rows columns ys) mid new → AddsRows dtypes (first ++ picked_rows columns picks) old new
 adds_parts dtypes columns first xs ys picks n old mid new e f p q =
     let whole : (first ++ picked_rows columns xs) ++ picked_rows columns ys ≡ first ++ picked_rows columns picks =

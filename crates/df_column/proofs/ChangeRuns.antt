@@ -18,7 +18,7 @@ module _ {K : Type 0} {R : K → K → Ordering} (o : IsTotalOrder R) where
   flipped : (x y : K) (r : Ordering) → R x y ≡ r → R y x ≡ ordering_reverse r
   flipped x y r e = o.antisymm y x ∙ ap ordering_reverse e
 
-  below_trans : {X : Type 0} (x y : K) (es : List (K × X)) → R x y ≡ Less → T (below_all R y es) → T (below_all R x es)
+  pub below_trans : {X : Type 0} (x y : K) (es : List (K × X)) → R x y ≡ Less → T (below_all R y es) → T (below_all R x es)
   below_trans x y [] p h = tt
   below_trans x y (e ∷ es) p h = T-both _ _ (is_lt_from_less _ (o.trans x y e.0 p (less_from_is_lt _ (T-first _ _ h)))) (below_trans x y es p (T-second _ _ h))
 

@@ -2,8 +2,6 @@
 use Rattle.std.proofs.Common.{ℕ, ℤ, Bool, List, [], ◌∷◌, ◌++◌, Option, Some, None, map, subst}
 use Rattle.std.specs.Prelude.{T}
 use Rattle.std.specs.List.{list_all}
-use Rattle.std.specs.Arc.{arc_value}
-use Rattle.std.specs.declared.sync.Arc.{Arc}
 use Rattle.df_value.specs.Cells.{fits_dtype}
 use Rattle.df_value.specs.Rows.{row_fits}
 use Rattle.df_value.specs.declared.cell.Cell.{Cell}
@@ -105,8 +103,8 @@ all_append : (p : List Cell → Bool) (xs ys : List (Tag × List Cell)) → T (l
 all_append p [] ys h k = k
 all_append p (x ∷ xs) ys h k = T-both _ _ (T-first (p x.1) _ h) (all_append p xs ys (T-second (p x.1) _ h) k)
 
-pub blocks_fit : {S : Type 0} (schema : List (List ℕ × CellType)) (bs : List (Arc BlockParts S)) → AreOfDtypes (dtypes_of schema) bs → T (list_all (row_fits schema) (map (λ r. r.1) (rows_of_blocks bs)))
+pub blocks_fit : (schema : List (List ℕ × CellType)) (bs : List BlockParts) → AreOfDtypes (dtypes_of schema) bs → T (list_all (row_fits schema) (map (λ r. r.1) (rows_of_blocks bs)))
 blocks_fit schema [] h = tt
 blocks_fit schema (b ∷ bs) h =
-    let fit = subst (λ ds. AreFitColumns ds (map column_cells (arc_value b).columns)) h.0 (columns_fit (arc_value b).columns) in
-    all_append (row_fits schema) (block_rows (arc_value b)) (rows_of_blocks bs) (rows_fit_schema schema (arc_value b).tags (map column_cells (arc_value b).columns) fit) (blocks_fit schema bs h.1)
+    let fit = subst (λ ds. AreFitColumns ds (map column_cells b.columns)) h.0 (columns_fit b.columns) in
+    all_append (row_fits schema) (block_rows b) (rows_of_blocks bs) (rows_fit_schema schema b.tags (map column_cells b.columns) fit) (blocks_fit schema bs h.1)

@@ -20,6 +20,7 @@ pub mod BlockExtremes
 pub mod ZoneLemmas
 pub mod SpotLemmas
 mod SharedLemmas
+pub mod BlockListLemmas
 pub mod ReadLemmas
 pub mod Bounds
 pub mod FitLemmas

@@ -4,7 +4,6 @@ use Rattle.std.specs.Prelude.{T}
 use Rattle.std.specs.List.{list_all}
 use Rattle.std.specs.FinMap.{is_sorted}
 use Rattle.std.proofs.lemmas.List.{map-append}
-use Rattle.std.specs.declared.sync.Arc.{Arc}
 use Rattle.df_value.specs.declared.cell.Cell.{Cell}
 use Rattle.df_value.specs.declared.cell.CellType.{CellType}
 use Rattle.df_column.specs.BlockRows.{AddsRows}
@@ -42,7 +41,7 @@ module _ {X : Type 0} where
   take_parts (suc m) n (x ∷ xs) = let e : suc m + n ≡ suc (m + n) = omega arith in ap (λ k. take k (x ∷ xs)) e ∙ ap (λ r. x ∷ r) (take_parts m n xs)
 
 -- the rows of one part more
-pub adds_part : {S : Type 0} (dtypes : List CellType) (columns : List (List Cell)) (picks : List Pick) (from n m : ℕ) (old mid new : List (Arc BlockParts S)) → m ≡ n
+pub adds_part : (dtypes : List CellType) (columns : List (List Cell)) (picks : List Pick) (from n m : ℕ) (old mid new : List BlockParts) → m ≡ n
     → AddsRows dtypes (picked_rows columns (take from picks)) old mid → AddsRows dtypes (picked_rows columns (take m (drop from picks))) mid new
     → AddsRows dtypes (picked_rows columns (take (from + n) picks)) old new
 adds_part dtypes columns picks from n m old mid new e p q =

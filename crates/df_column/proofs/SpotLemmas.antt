@@ -1,12 +1,12 @@
 -- Where a row of a list of blocks stands, and the search for a tag.
 use Rattle.std.proofs.Common.{◌≡◌, ℕ, zero, suc, ◌+◌, ◌-◌, ◌<◌, ◌≤◌, true, false, List, [], ◌∷◌, ◌++◌, Some, None, length, map, get_or, nat_le, refl, sym, ap, subst, ◌∙◌, arith, length-append}
-use Rattle.std.specs.Prelude.{T}
+use Rattle.std.specs.Prelude.{T, IfOk}
+use Rattle.std.specs.declared.result.Result.{Result}
+use Rattle.std.specs.declared.result.Result.TheVariants.{Ok, Err}
 use Rattle.std.specs.List.{slice_get}
 use Rattle.std.specs.List.Sorted.{IsNonDecreasing, IsPartitionPoint, IsPartitionedBy}
 use Rattle.std.proofs.lemmas.Bool.{leb-true, leb-false, le-leb}
 use Rattle.std.proofs.lemmas.Option.{get_or_from_slice_get, slice_get-get_or}
-use Rattle.std.specs.Arc.{arc_value}
-use Rattle.std.specs.declared.sync.Arc.{Arc}
 use Rattle.std.specs.Ordering.{ordering_index}
 use Rattle.std.specs.declared.cmp.Ordering.{Ordering}
 use Rattle.std.specs.declared.cmp.Ordering.TheVariants.{Less, Equal, Greater}
@@ -24,132 +24,131 @@ use Rattle.df_column.proofs.Places.{rises_along}
 use Rattle.df_column.proofs.RowLemmas.{length_rows, row_in_rows}
 use Rattle.df_column.specs.TagOrder.{tag_total, tag_same}
 
-get_front : {X : Type 0} (xs ys : List X) (i : ℕ) (d : X) → i < length xs → get_or (xs ++ ys) i d ≡ get_or xs i d
+pub get_front : {X : Type 0} (xs ys : List X) (i : ℕ) (d : X) → i < length xs → get_or (xs ++ ys) i d ≡ get_or xs i d
 get_front [] ys i d h = absurd (omega arith)
 get_front (x ∷ xs) ys zero d h = refl
 get_front (x ∷ xs) ys (suc i) d h = get_front xs ys i d (omega arith)
 
-get_back : {X : Type 0} (xs ys : List X) (i j : ℕ) (d : X) → i ≡ length xs + j → get_or (xs ++ ys) i d ≡ get_or ys j d
+pub get_back : {X : Type 0} (xs ys : List X) (i j : ℕ) (d : X) → i ≡ length xs + j → get_or (xs ++ ys) i d ≡ get_or ys j d
 get_back [] ys i j d h = let e : i ≡ j = omega arith in ap (λ k. get_or ys k d) e
 get_back (x ∷ xs) ys zero j d h = absurd (omega arith)
 get_back (x ∷ xs) ys (suc i) j d h = get_back xs ys i j d (omega arith)
 
-module _ {S : Type 0} where
-  pub length_ends : (n : ℕ) (bs : List (Arc BlockParts S)) → length (ends_of n bs) ≡ length bs
-  length_ends n [] = refl
-  length_ends n (b ∷ bs) = ap suc (length_ends (n + length (arc_value b).tags) bs)
+pub length_ends : (n : ℕ) (bs : List BlockParts) → length (ends_of n bs) ≡ length bs
+length_ends n [] = refl
+length_ends n (b ∷ bs) = ap suc (length_ends (n + length b.tags) bs)
 
-  pub block_length : (b : Arc BlockParts S) → length (block_rows (arc_value b)) ≡ length (arc_value b).tags
-  block_length b = length_rows (arc_value b).tags (map column_cells (arc_value b).columns)
+pub block_length : (b : BlockParts) → length (block_rows b) ≡ length b.tags
+block_length b = length_rows b.tags (map column_cells b.columns)
 
-  -- a row by the count of the ends before it
-  record IsSpotFrom (n at k : ℕ) (bs : List (Arc BlockParts S)) : Type 0 where
-    in_blocks : k < length bs
-    start : start_at n (ends_of n bs) k ≤ at
-    in_block : (b : Arc BlockParts S) → at - start_at n (ends_of n bs) k < length (arc_value (get_or bs k b)).tags
-    here : (b : Arc BlockParts S) (d : Tag × List Cell) → get_or (rows_of_blocks bs) (at - n) d ≡ get_or (block_rows (arc_value (get_or bs k b))) (at - start_at n (ends_of n bs) k) d
+-- a row by the count of the ends before it
+record IsSpotFrom (n at k : ℕ) (bs : List BlockParts) : Type 0 where
+  in_blocks : k < length bs
+  start : start_at n (ends_of n bs) k ≤ at
+  in_block : (b : BlockParts) → at - start_at n (ends_of n bs) k < length (get_or bs k b).tags
+  here : (b : BlockParts) (d : Tag × List Cell) → get_or (rows_of_blocks bs) (at - n) d ≡ get_or (block_rows (get_or bs k b)) (at - start_at n (ends_of n bs) k) d
 
-  located : (n at k : ℕ) (bs : List (Arc BlockParts S)) → n ≤ at → at < n + length (rows_of_blocks bs) → IsEndCount (ends_of n bs) at k → IsSpotFrom n at k bs
-  located n at k [] le lt h = absurd (omega arith)
-  located n at zero (b ∷ bs) le lt h =
-      let end : at < n + length (arc_value b).tags = h.after 0 0 (omega arith) (omega arith) in
-      let l = block_length b in
-      record {
-        in_blocks = omega arith;
-        start = le;
-        in_block = λ c. omega (arith, end, le);
-        here = λ c d. get_front (block_rows (arc_value b)) (rows_of_blocks bs) (at - n) d (omega (arith, end, le, l));
-      }
-  located n at (suc k) (b ∷ bs) le lt h =
-      let m = n + length (arc_value b).tags in
-      let l = block_length b in
-      let a = length-append (block_rows (arc_value b)) (rows_of_blocks bs) in
-      let end : m ≤ at = h.before 0 0 (omega arith) in
-      let count : IsEndCount (ends_of m bs) at k = record {
-        in_range = omega (arith, h.in_range);
-        before = λ j d lt. h.before (suc j) d (omega arith);
-        after = λ j d le lt. h.after (suc j) d (omega arith) (omega arith);
-      } in
-      let rest = located m at k bs end (omega (arith, l, a, lt)) count in
-      record {
-        in_blocks = omega (arith, rest.in_blocks);
-        start = rest.start;
-        in_block = rest.in_block;
-        here = λ c d. get_back (block_rows (arc_value b)) (rows_of_blocks bs) (at - n) (at - m) d (omega (arith, l, end)) ∙ rest.here c d;
-      }
+located : (n at k : ℕ) (bs : List BlockParts) → n ≤ at → at < n + length (rows_of_blocks bs) → IsEndCount (ends_of n bs) at k → IsSpotFrom n at k bs
+located n at k [] le lt h = absurd (omega arith)
+located n at zero (b ∷ bs) le lt h =
+    let end : at < n + length b.tags = h.after 0 0 (omega arith) (omega arith) in
+    let l = block_length b in
+    record {
+      in_blocks = omega arith;
+      start = le;
+      in_block = λ c. omega (arith, end, le);
+      here = λ c d. get_front (block_rows b) (rows_of_blocks bs) (at - n) d (omega (arith, end, le, l));
+    }
+located n at (suc k) (b ∷ bs) le lt h =
+    let m = n + length b.tags in
+    let l = block_length b in
+    let a = length-append (block_rows b) (rows_of_blocks bs) in
+    let end : m ≤ at = h.before 0 0 (omega arith) in
+    let count : IsEndCount (ends_of m bs) at k = record {
+      in_range = omega (arith, h.in_range);
+      before = λ j d lt. h.before (suc j) d (omega arith);
+      after = λ j d le lt. h.after (suc j) d (omega arith) (omega arith);
+    } in
+    let rest = located m at k bs end (omega (arith, l, a, lt)) count in
+    record {
+      in_blocks = omega (arith, rest.in_blocks);
+      start = rest.start;
+      in_block = rest.in_block;
+      here = λ c d. get_back (block_rows b) (rows_of_blocks bs) (at - n) (at - m) d (omega (arith, l, end)) ∙ rest.here c d;
+    }
 
-  pub spot_from_ends : (bs : List (Arc BlockParts S)) (ends : List ℕ) (at k : ℕ) → ends ≡ ends_of 0 bs → at < length (rows_of_blocks bs) → IsEndCount ends at k
-      → record { start : start_at 0 ends k ≤ at; inside : k ≤ length ends; spot : IsSpot bs at k (at - start_at 0 ends k) }
-  spot_from_ends bs ends at k e lt h =
-      let found = located 0 at k bs (omega arith) (omega (arith, lt)) (subst (λ es. IsEndCount es at k) e h) in
-      let s : start_at 0 ends k ≡ start_at 0 (ends_of 0 bs) k = ap (λ es. start_at 0 es k) e in
-      let zero_off : at - 0 ≡ at = omega arith in
-      record {
-        start = subst (λ n. n ≤ at) (sym s) found.start;
-        inside = h.in_range;
-        spot = subst (λ n. IsSpot bs at k (at - n)) (sym s) (record {
-          in_blocks = found.in_blocks;
-          in_block = found.in_block;
-          here = λ b d. ap (λ i. get_or (rows_of_blocks bs) i d) (sym zero_off) ∙ found.here b d;
-        });
-      }
+pub spot_from_ends : (bs : List BlockParts) (ends : List ℕ) (at k : ℕ) → ends ≡ ends_of 0 bs → at < length (rows_of_blocks bs) → IsEndCount ends at k
+    → record { start : start_at 0 ends k ≤ at; inside : k ≤ length ends; spot : IsSpot bs at k (at - start_at 0 ends k) }
+spot_from_ends bs ends at k e lt h =
+    let found = located 0 at k bs (omega arith) (omega (arith, lt)) (subst (λ es. IsEndCount es at k) e h) in
+    let s : start_at 0 ends k ≡ start_at 0 (ends_of 0 bs) k = ap (λ es. start_at 0 es k) e in
+    let zero_off : at - 0 ≡ at = omega arith in
+    record {
+      start = subst (λ n. n ≤ at) (sym s) found.start;
+      inside = h.in_range;
+      spot = subst (λ n. IsSpot bs at k (at - n)) (sym s) (record {
+        in_blocks = found.in_blocks;
+        in_block = found.in_block;
+        here = λ b d. ap (λ i. get_or (rows_of_blocks bs) i d) (sym zero_off) ∙ found.here b d;
+      });
+    }
 
-  -- the number of all rows
-  last_end : (n : ℕ) (bs : List (Arc BlockParts S)) (d : ℕ) → 0 < length bs → get_or (ends_of n bs) (length (ends_of n bs) - 1) d ≡ n + length (rows_of_blocks bs)
-  last_end n [] d h = absurd (omega arith)
-  last_end n (b ∷ []) d h =
-      let l = block_length b in
-      let a = length-append (block_rows (arc_value b)) [] in
-      omega (arith, l, a)
-  last_end n (b ∷ (c ∷ bs)) d h =
-      let m = n + length (arc_value b).tags in
-      let rest = last_end m (c ∷ bs) d (omega arith) in
-      let l = block_length b in
-      let a = length-append (block_rows (arc_value b)) (rows_of_blocks (c ∷ bs)) in
-      let e : suc (suc (length (ends_of (m + length (arc_value c).tags) bs))) - 1 ≡ suc (suc (length (ends_of (m + length (arc_value c).tags) bs)) - 1) = omega arith in
-      ap (λ i. get_or (ends_of n (b ∷ (c ∷ bs))) i d) e ∙ rest ∙ omega (arith, l, a)
+-- the number of all rows
+pub last_end : (n : ℕ) (bs : List BlockParts) (d : ℕ) → 0 < length bs → get_or (ends_of n bs) (length (ends_of n bs) - 1) d ≡ n + length (rows_of_blocks bs)
+last_end n [] d h = absurd (omega arith)
+last_end n (b ∷ []) d h =
+    let l = block_length b in
+    let a = length-append (block_rows b) [] in
+    omega (arith, l, a)
+last_end n (b ∷ (c ∷ bs)) d h =
+    let m = n + length b.tags in
+    let rest = last_end m (c ∷ bs) d (omega arith) in
+    let l = block_length b in
+    let a = length-append (block_rows b) (rows_of_blocks (c ∷ bs)) in
+    let e : suc (suc (length (ends_of (m + length c.tags) bs))) - 1 ≡ suc (suc (length (ends_of (m + length c.tags) bs)) - 1) = omega arith in
+    ap (λ i. get_or (ends_of n (b ∷ (c ∷ bs))) i d) e ∙ rest ∙ omega (arith, l, a)
 
-  starts_low : (n : ℕ) (bs : List (Arc BlockParts S)) (j d : ℕ) → j < length bs → n ≤ get_or (ends_of n bs) j d
-  starts_low n [] j d h = absurd (omega arith)
-  starts_low n (b ∷ bs) zero d h = omega arith
-  starts_low n (b ∷ bs) (suc j) d h = let r = starts_low (n + length (arc_value b).tags) bs j d (omega arith) in omega (arith, r)
+pub starts_low : (n : ℕ) (bs : List BlockParts) (j d : ℕ) → j < length bs → n ≤ get_or (ends_of n bs) j d
+starts_low n [] j d h = absurd (omega arith)
+starts_low n (b ∷ bs) zero d h = omega arith
+starts_low n (b ∷ bs) (suc j) d h = let r = starts_low (n + length b.tags) bs j d (omega arith) in omega (arith, r)
 
-  ends_from_rise : (n : ℕ) (bs : List (Arc BlockParts S)) → IsNonDecreasing (ends_of n bs)
-  ends_from_rise n [] i j d le lt = absurd (omega arith)
-  ends_from_rise n (b ∷ bs) zero zero d le lt = omega arith
-  ends_from_rise n (b ∷ bs) zero (suc j) d le lt = let l = length_ends (n + length (arc_value b).tags) bs in starts_low (n + length (arc_value b).tags) bs j d (omega (arith, l, lt))
-  ends_from_rise n (b ∷ bs) (suc i) zero d le lt = absurd (omega arith)
-  ends_from_rise n (b ∷ bs) (suc i) (suc j) d le lt = ends_from_rise (n + length (arc_value b).tags) bs i j d (omega arith) (omega arith)
+ends_from_rise : (n : ℕ) (bs : List BlockParts) → IsNonDecreasing (ends_of n bs)
+ends_from_rise n [] i j d le lt = absurd (omega arith)
+ends_from_rise n (b ∷ bs) zero zero d le lt = omega arith
+ends_from_rise n (b ∷ bs) zero (suc j) d le lt = let l = length_ends (n + length b.tags) bs in starts_low (n + length b.tags) bs j d (omega (arith, l, lt))
+ends_from_rise n (b ∷ bs) (suc i) zero d le lt = absurd (omega arith)
+ends_from_rise n (b ∷ bs) (suc i) (suc j) d le lt = ends_from_rise (n + length b.tags) bs i j d (omega arith) (omega arith)
 
-  pub ends_rise : (bs : List (Arc BlockParts S)) (ends : List ℕ) → ends ≡ ends_of 0 bs → IsNonDecreasing ends
-  ends_rise bs ends e = subst IsNonDecreasing (sym e) (ends_from_rise 0 bs)
+pub ends_rise : (bs : List BlockParts) (ends : List ℕ) → ends ≡ ends_of 0 bs → IsNonDecreasing ends
+ends_rise bs ends e = subst IsNonDecreasing (sym e) (ends_from_rise 0 bs)
 
-  some_end : (bs : List (Arc BlockParts S)) (e : ℕ) → Some e ≡ slice_get (ends_of 0 bs) (length (ends_of 0 bs) - 1) → e ≡ length (rows_of_blocks bs)
-  some_end [] e h = absurd (cc h)
-  some_end (b ∷ bs) e h = sym (get_or_from_slice_get (ends_of 0 (b ∷ bs)) (length (ends_of 0 (b ∷ bs)) - 1) e 0 (sym h)) ∙ last_end 0 (b ∷ bs) 0 (omega arith) ∙ (let z : 0 + length (rows_of_blocks (b ∷ bs)) ≡ length (rows_of_blocks (b ∷ bs)) = omega arith in z)
+some_end : (bs : List BlockParts) (e : ℕ) → Some e ≡ slice_get (ends_of 0 bs) (length (ends_of 0 bs) - 1) → e ≡ length (rows_of_blocks bs)
+some_end [] e h = absurd (cc h)
+some_end (b ∷ bs) e h = sym (get_or_from_slice_get (ends_of 0 (b ∷ bs)) (length (ends_of 0 (b ∷ bs)) - 1) e 0 (sym h)) ∙ last_end 0 (b ∷ bs) 0 (omega arith) ∙ (let z : 0 + length (rows_of_blocks (b ∷ bs)) ≡ length (rows_of_blocks (b ∷ bs)) = omega arith in z)
 
-  no_end : (bs : List (Arc BlockParts S)) → None ≡ slice_get (ends_of 0 bs) (length (ends_of 0 bs) - 1) → 0 ≡ length (rows_of_blocks bs)
-  no_end [] h = refl
-  no_end (b ∷ bs) h =
-      let l = length_ends 0 (b ∷ bs) in
-      let there = slice_get-get_or (ends_of 0 (b ∷ bs)) (length (ends_of 0 (b ∷ bs)) - 1) 0 (omega arith) in
-      absurd (absent (h ∙ there))
-    where
-      absent : {n : ℕ} → None ≡ Some n → ⊥
-      absent e = cc
+no_end : (bs : List BlockParts) → None ≡ slice_get (ends_of 0 bs) (length (ends_of 0 bs) - 1) → 0 ≡ length (rows_of_blocks bs)
+no_end [] h = refl
+no_end (b ∷ bs) h =
+    let l = length_ends 0 (b ∷ bs) in
+    let there = slice_get-get_or (ends_of 0 (b ∷ bs)) (length (ends_of 0 (b ∷ bs)) - 1) 0 (omega arith) in
+    absurd (absent (h ∙ there))
+  where
+    absent : {n : ℕ} → None ≡ Some n → ⊥
+    absent e = cc
 
-  pub count_some : (bs : List (Arc BlockParts S)) (ends : List ℕ) (e : ℕ) → ends ≡ ends_of 0 bs → Some e ≡ slice_get ends (length ends - 1) → e ≡ length (rows_of_blocks bs)
-  count_some bs ends e is h = some_end bs e (h ∙ ap (λ es. slice_get es (length es - 1)) is)
+pub count_some : (bs : List BlockParts) (ends : List ℕ) (e : ℕ) → ends ≡ ends_of 0 bs → Some e ≡ slice_get ends (length ends - 1) → e ≡ length (rows_of_blocks bs)
+count_some bs ends e is h = some_end bs e (h ∙ ap (λ es. slice_get es (length es - 1)) is)
 
-  pub count_none : (bs : List (Arc BlockParts S)) (ends : List ℕ) → ends ≡ ends_of 0 bs → None ≡ slice_get ends (length ends - 1) → 0 ≡ length (rows_of_blocks bs)
-  count_none bs ends is h = no_end bs (h ∙ ap (λ es. slice_get es (length es - 1)) is)
+pub count_none : (bs : List BlockParts) (ends : List ℕ) → ends ≡ ends_of 0 bs → None ≡ slice_get ends (length ends - 1) → 0 ≡ length (rows_of_blocks bs)
+count_none bs ends is h = no_end bs (h ∙ ap (λ es. slice_get es (length es - 1)) is)
 
-  -- the tag and the row at a spot
-  pub at_spot : (bs : List (Arc BlockParts S)) (at block row : ℕ) (b : Arc BlockParts S) (t : Tag) → IsSpot bs at block row → b ≡ get_or bs block b
-      → (d : Tag × List Cell) → get_or (rows_of_blocks bs) at d ≡ (get_or (arc_value b).tags row t, row_at (map column_cells (arc_value b).columns) row)
-  at_spot bs at block row b t h e = λ d.
-      h.here b d ∙ ap (λ c. get_or (block_rows (arc_value c)) row d) (sym e)
-      ∙ row_in_rows (arc_value b).tags (map column_cells (arc_value b).columns) row d t (subst (λ (c : Arc BlockParts S). row < length (arc_value c).tags) (sym e) (h.in_block b))
+-- the tag and the row at a spot
+pub at_spot : (bs : List BlockParts) (at block row : ℕ) (b : BlockParts) (t : Tag) → IsSpot bs at block row → b ≡ get_or bs block b
+    → (d : Tag × List Cell) → get_or (rows_of_blocks bs) at d ≡ (get_or b.tags row t, row_at (map column_cells b.columns) row)
+at_spot bs at block row b t h e = λ d.
+    h.here b d ∙ ap (λ c. get_or (block_rows c) row d) (sym e)
+    ∙ row_in_rows b.tags (map column_cells b.columns) row d t (subst (λ (c : BlockParts). row < length c.tags) (sym e) (h.in_block b))
 
 -- how many ends a partition finds
 pub end_count : (ends : List ℕ) (at k : ℕ) → k ≤ length ends → IsPartitionPoint (λ y. nat_le y at ≡ true) (λ y. nat_le y at ≡ false) ends k → IsEndCount ends at k
@@ -205,3 +204,8 @@ module _ (rows : List (Tag × List Cell)) (tag : Tag) where
 
   pub window_place : (low high middle : ℕ) (t : Tag) → IsWindow rows tag low high → middle < high → ((d : Tag × List Cell) → t ≡ (get_or rows middle d).0) → tag_cmp t tag ≡ Equal → IsPlace tag_cmp rows tag middle
   window_place low high middle t w lt is h = record { in_range = omega (arith, w.in_range); here = λ d. ap (λ s. tag_cmp s tag) (sym (is d)) ∙ h }
+
+-- a place among few rows
+pub place_below : (rows : List (Tag × List Cell)) (tag : Tag) (r : Result ℕ ℕ) (most : ℕ) → length rows ≤ most → IfOk r (IsPlace tag_cmp rows tag) → IfOk r (λ i. i < most)
+place_below rows tag (Ok i) most le h = let p = h.in_range in omega (arith, le, p)
+place_below rows tag (Err i) most le h = tt

@@ -1,15 +1,13 @@
 -- The blocks of a table, one by one, and its rows as a map.
-use Rattle.std.proofs.Common.{◌≡◌, ℕ, ◌+◌, ◌<◌, List, [], ◌∷◌, ◌++◌, Option, Some, None, length, map, drop, get_or, sym, ap, subst, ◌∙◌, arith, length-append}
+use Rattle.std.proofs.Common.{◌≡◌, ℕ, zero, suc, ◌+◌, ◌<◌, ◌≤◌, List, [], ◌∷◌, ◌++◌, Option, Some, None, length, map, drop, take, get_or, sym, ap, subst, ◌∙◌, arith, length-append}
 use Rattle.std.specs.Prelude.{T}
-use Rattle.std.specs.Arc.{arc_value}
-use Rattle.std.specs.declared.sync.Arc.{Arc}
 use Rattle.std.specs.FinMap as finite
 use Rattle.df_value.specs.Cells.{fits_dtype}
 use Rattle.df_value.specs.Rows.{row_fits}
 use Rattle.df_value.specs.declared.cell.Cell.{Cell}
 use Rattle.df_value.specs.declared.cell.CellType.{CellType}
 use Rattle.df_column.specs.Blocks.{AreOfDtypes, BlockParts, block_rows, ends_of, rows_of_blocks}
-use Rattle.df_column.specs.Changes.{after_changes, applied}
+use Rattle.df_column.specs.Changes.{IsHead, after_changes, applied}
 use Rattle.df_column.specs.Columns.{column_cells, dtype_of_column}
 use Rattle.df_column.specs.Rows.{AreNewRows, is_row, is_row_if_any}
 use Rattle.df_column.specs.Tables.{NewRowsFit, AreRising, TableParts, after_entries, entry_change, new_row_fits, dtypes_of}
@@ -21,25 +19,47 @@ use Rattle.df_column.proofs.MergeLemmas.{drop_at}
 use Rattle.df_column.proofs.RowLemmas.{length_rows}
 use Rattle.df_column.proofs.TableChanges.{applied_cells, applied_sorted}
 
-module _ {S : Type 0} where
-  -- one block of a list
-  pub ends_step : (bs : List (Arc BlockParts S)) (i n : ℕ) (b : Arc BlockParts S) → i < length bs → b ≡ get_or bs i b
-      → ends_of n (drop i bs) ≡ (n + length (arc_value b).tags) ∷ ends_of (n + length (arc_value b).tags) (drop (i + 1) bs)
-  ends_step bs i n b h e = ap (ends_of n) (drop_at bs i b h ∙ ap (λ c. c ∷ drop (i + 1) bs) (sym e))
+-- one block of a list
+pub ends_step : (bs : List BlockParts) (i n : ℕ) (b : BlockParts) → i < length bs → b ≡ get_or bs i b
+    → ends_of n (drop i bs) ≡ (n + length b.tags) ∷ ends_of (n + length b.tags) (drop (i + 1) bs)
+ends_step bs i n b h e = ap (ends_of n) (drop_at bs i b h ∙ ap (λ c. c ∷ drop (i + 1) bs) (sym e))
 
-  pub rows_step : (bs : List (Arc BlockParts S)) (i : ℕ) (b : Arc BlockParts S) → i < length bs → b ≡ get_or bs i b → rows_of_blocks (drop i bs) ≡ block_rows (arc_value b) ++ rows_of_blocks (drop (i + 1) bs)
-  rows_step bs i b h e = ap rows_of_blocks (drop_at bs i b h ∙ ap (λ c. c ∷ drop (i + 1) bs) (sym e))
+pub rows_step : (bs : List BlockParts) (i : ℕ) (b : BlockParts) → i < length bs → b ≡ get_or bs i b → rows_of_blocks (drop i bs) ≡ block_rows b ++ rows_of_blocks (drop (i + 1) bs)
+rows_step bs i b h e = ap rows_of_blocks (drop_at bs i b h ∙ ap (λ c. c ∷ drop (i + 1) bs) (sym e))
 
-  pub types_step : (dtypes : List CellType) (bs : List (Arc BlockParts S)) (i : ℕ) (b : Arc BlockParts S) → i < length bs → b ≡ get_or bs i b → AreOfDtypes dtypes (drop i bs)
-      → (map dtype_of_column (arc_value b).columns ≡ dtypes) × AreOfDtypes dtypes (drop (i + 1) bs)
-  types_step dtypes bs i b h e all = subst (AreOfDtypes dtypes) (drop_at bs i b h ∙ ap (λ c. c ∷ drop (i + 1) bs) (sym e)) all
+pub types_step : (dtypes : List CellType) (bs : List BlockParts) (i : ℕ) (b : BlockParts) → i < length bs → b ≡ get_or bs i b → AreOfDtypes dtypes (drop i bs)
+    → (map dtype_of_column b.columns ≡ dtypes) × AreOfDtypes dtypes (drop (i + 1) bs)
+types_step dtypes bs i b h e all = subst (AreOfDtypes dtypes) (drop_at bs i b h ∙ ap (λ c. c ∷ drop (i + 1) bs) (sym e)) all
 
-  pub count_step : (bs : List (Arc BlockParts S)) (i : ℕ) (b : Arc BlockParts S) → i < length bs → b ≡ get_or bs i b → length (rows_of_blocks (drop i bs)) ≡ length (arc_value b).tags + length (rows_of_blocks (drop (i + 1) bs))
-  count_step bs i b h e =
-      let l = length_rows (arc_value b).tags (map column_cells (arc_value b).columns) in
-      let a = length-append (block_rows (arc_value b)) (rows_of_blocks (drop (i + 1) bs)) in
-      let r = ap length (rows_step bs i b h e) in
-      omega (arith, l, a, r)
+pub count_step : (bs : List BlockParts) (i : ℕ) (b : BlockParts) → i < length bs → b ≡ get_or bs i b → length (rows_of_blocks (drop i bs)) ≡ length b.tags + length (rows_of_blocks (drop (i + 1) bs))
+count_step bs i b h e =
+    let l = length_rows b.tags (map column_cells b.columns) in
+    let a = length-append (block_rows b) (rows_of_blocks (drop (i + 1) bs)) in
+    let r = ap length (rows_step bs i b h e) in
+    omega (arith, l, a, r)
+
+-- the first of the blocks from one index up to another
+pub cut_between : (bs : List BlockParts) (at end : ℕ) (b : BlockParts) → at < end → end ≤ length bs → b ≡ get_or bs at b → drop at (take end bs) ≡ b ∷ drop (at + 1) (take end bs)
+cut_between bs at zero b lt le e = absurd (omega arith)
+cut_between [] at (suc end) b lt le e = absurd (omega arith)
+cut_between (x ∷ bs) zero (suc end) b lt le e = ap (λ c. c ∷ take end bs) (sym e)
+cut_between (x ∷ bs) (suc at) (suc end) b lt le e =
+    let n : at + 1 ≡ suc at = omega arith in
+    let m : suc at + 1 ≡ suc (at + 1) = omega arith in
+    cut_between bs at end b (omega arith) (omega arith) e ∙ ap (λ k. b ∷ drop k (x ∷ take end bs)) (sym m)
+
+pub types_at : (dtypes : List CellType) (bs : List BlockParts) (i : ℕ) (b : BlockParts) → i < length bs → b ≡ get_or bs i b → AreOfDtypes dtypes bs → map dtype_of_column b.columns ≡ dtypes
+types_at dtypes [] i b lt e h = absurd (omega arith)
+types_at dtypes (x ∷ bs) zero b lt e h = ap (λ b. map dtype_of_column b.columns) e ∙ h.0
+types_at dtypes (x ∷ bs) (suc i) b lt e h = types_at dtypes bs i b (omega arith) e h.1
+
+head_first : (xs ys : List (Tag × List Cell)) (k : Tag) → IsHead xs k → IsHead (xs ++ ys) k
+head_first [] ys k h = absurd h
+head_first (x ∷ xs) ys k h = h
+
+pub head_between : (bs : List BlockParts) (at end : ℕ) (b : BlockParts) (k : Tag) → at < end → end ≤ length bs → b ≡ get_or bs at b → IsHead (block_rows b) k → IsHead (rows_of_blocks (drop at (take end bs))) k
+head_between bs at end b k lt le e h =
+    subst (λ cs. IsHead (rows_of_blocks cs) k) (sym (cut_between bs at end b lt le e)) (head_first (block_rows b) (rows_of_blocks (drop (at + 1) (take end bs))) k h)
 
 -- rows that fit a schema are rows of its types
 pub fits_types : (schema : List (List ℕ × CellType)) (row : List Cell) → T (row_fits schema row) → T (is_row (dtypes_of schema) row)

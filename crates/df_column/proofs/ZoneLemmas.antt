@@ -1,10 +1,8 @@
 -- The cells of a block in one column, and what its greatest cell says of its rows.
 use Rattle.std.proofs.Common.{◌≡◌, ℕ, zero, suc, ◌+◌, ◌<◌, ◌≤◌, Bool, true, false, cond, not, List, [], ◌∷◌, ◌++◌, length, map, take, drop, get_or, Some, None, refl, sym, ap, subst, ◌∙◌, arith, append-nil}
 use Rattle.std.specs.Prelude.{T, ◌==◌, ◌&&◌, Option, filter, unwrap_or}
-use Rattle.std.specs.Arc.{arc_value}
 use Rattle.std.specs.List.{list_all}
 use Rattle.std.specs.Ordering.{is_lt, is_gt}
-use Rattle.std.specs.declared.sync.Arc.{Arc}
 use Rattle.std.proofs.lemmas.Bool.{eqb-true}
 use Rattle.std.proofs.lemmas.List.{take_all, take_more}
 use Rattle.std.proofs.lemmas.List.Elements.{filter-append}
@@ -175,36 +173,35 @@ tags-append index value es fs =
 cells-append : (index : Option ℕ) (es fs : List (Tag × List Cell)) → cells_at index (map (λ r. r.1) (es ++ fs)) ≡ cells_at index (map (λ r. r.1) es) ++ cells_at index (map (λ r. r.1) fs)
 cells-append index es fs = ap (cells_at index) (map-append (λ r. r.1) es fs) ∙ map-append (cell_at index) (map (λ r. r.1) es) (map (λ r. r.1) fs)
 
-module _ {S : Type 0} where
-  rows_more : (bs : List (Arc BlockParts S)) (k : ℕ) (b : Arc BlockParts S) → k < length bs → b ≡ get_or bs k b → rows_of_blocks (take (k + 1) bs) ≡ rows_of_blocks (take k bs) ++ block_rows (arc_value b)
-  rows_more bs k b lt is = ap rows_of_blocks (take_more bs k b lt ∙ ap (λ c. take k bs ++ c ∷ []) (sym is)) ∙ rows_push (take k bs) b
+rows_more : (bs : List BlockParts) (k : ℕ) (b : BlockParts) → k < length bs → b ≡ get_or bs k b → rows_of_blocks (take (k + 1) bs) ≡ rows_of_blocks (take k bs) ++ block_rows b
+rows_more bs k b lt is = ap rows_of_blocks (take_more bs k b lt ∙ ap (λ c. take k bs ++ c ∷ []) (sym is)) ∙ rows_push (take k bs) b
 
-  pub extreme_block : (e : Extreme) (index : Option ℕ) (bs : List (Arc BlockParts S)) (k : ℕ) (b : Arc BlockParts S) (best next : Option Cell) → k < length bs → b ≡ get_or bs k b
-      → best ≡ extreme_of e (cells_at index (map (λ r. r.1) (rows_of_blocks (take k bs))))
-      → next ≡ further e best (extreme_of e (cells_at index (map (λ r. r.1) (block_rows (arc_value b)))))
-      → next ≡ extreme_of e (cells_at index (map (λ r. r.1) (rows_of_blocks (take (k + 1) bs))))
-  extreme_block e index bs k b best next lt is so_far made =
-      let old = rows_of_blocks (take k bs) in
-      let own = block_rows (arc_value b) in
-      made
-      ∙ ap (λ o. further e o (extreme_of e (cells_at index (map (λ r. r.1) own)))) so_far
-      ∙ sym (extreme-append e (cells_at index (map (λ r. r.1) old)) (cells_at index (map (λ r. r.1) own)))
-      ∙ ap (extreme_of e) (sym (cells-append index old own))
-      ∙ ap (λ es. extreme_of e (cells_at index (map (λ r. r.1) es))) (sym (rows_more bs k b lt is))
+pub extreme_block : (e : Extreme) (index : Option ℕ) (bs : List BlockParts) (k : ℕ) (b : BlockParts) (best next : Option Cell) → k < length bs → b ≡ get_or bs k b
+    → best ≡ extreme_of e (cells_at index (map (λ r. r.1) (rows_of_blocks (take k bs))))
+    → next ≡ further e best (extreme_of e (cells_at index (map (λ r. r.1) (block_rows b))))
+    → next ≡ extreme_of e (cells_at index (map (λ r. r.1) (rows_of_blocks (take (k + 1) bs))))
+extreme_block e index bs k b best next lt is so_far made =
+    let old = rows_of_blocks (take k bs) in
+    let own = block_rows b in
+    made
+    ∙ ap (λ o. further e o (extreme_of e (cells_at index (map (λ r. r.1) own)))) so_far
+    ∙ sym (extreme-append e (cells_at index (map (λ r. r.1) old)) (cells_at index (map (λ r. r.1) own)))
+    ∙ ap (extreme_of e) (sym (cells-append index old own))
+    ∙ ap (λ es. extreme_of e (cells_at index (map (λ r. r.1) es))) (sym (rows_more bs k b lt is))
 
-  pub tags_block : (index : Option ℕ) (value : Cell) (bs : List (Arc BlockParts S)) (k : ℕ) (b : Arc BlockParts S) (out after : List Tag) → k < length bs → b ≡ get_or bs k b
-      → out ≡ tags_above index value (rows_of_blocks (take k bs))
-      → after ≡ out ++ tags_above index value (block_rows (arc_value b))
-      → after ≡ tags_above index value (rows_of_blocks (take (k + 1) bs))
-  tags_block index value bs k b out after lt is so_far made =
-      let own = block_rows (arc_value b) in
-      made
-      ∙ ap (λ ts. ts ++ tags_above index value own) so_far
-      ∙ sym (tags-append index value (rows_of_blocks (take k bs)) own)
-      ∙ ap (tags_above index value) (sym (rows_more bs k b lt is))
+pub tags_block : (index : Option ℕ) (value : Cell) (bs : List BlockParts) (k : ℕ) (b : BlockParts) (out after : List Tag) → k < length bs → b ≡ get_or bs k b
+    → out ≡ tags_above index value (rows_of_blocks (take k bs))
+    → after ≡ out ++ tags_above index value (block_rows b)
+    → after ≡ tags_above index value (rows_of_blocks (take (k + 1) bs))
+tags_block index value bs k b out after lt is so_far made =
+    let own = block_rows b in
+    made
+    ∙ ap (λ ts. ts ++ tags_above index value own) so_far
+    ∙ sym (tags-append index value (rows_of_blocks (take k bs)) own)
+    ∙ ap (tags_above index value) (sym (rows_more bs k b lt is))
 
-  pub all_blocks : (bs : List (Arc BlockParts S)) (k : ℕ) (es : List (Tag × List Cell)) → length bs ≤ k → rows_of_blocks bs ≡ es → rows_of_blocks (take k bs) ≡ es
-  all_blocks bs k es le is = ap rows_of_blocks (take_all k bs le) ∙ is
+pub all_blocks : (bs : List BlockParts) (k : ℕ) (es : List (Tag × List Cell)) → length bs ≤ k → rows_of_blocks bs ≡ es → rows_of_blocks (take k bs) ≡ es
+all_blocks bs k es le is = ap rows_of_blocks (take_all k bs le) ∙ is
 
 -- the cells of a block's rows are those of its column
 pub column_rows : (b : BlockParts) (i : ℕ) (c : Column) → T (are_even (length b.tags) (map column_cells b.columns)) → i < length b.columns → c ≡ get_or b.columns i c → cells_at (Some i) (map (λ r. r.1) (block_rows b)) ≡ column_cells c

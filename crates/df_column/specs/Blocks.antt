@@ -1,7 +1,5 @@
 -- Blocks: some rows in columns, and the rows of blocks one behind the other.
 use Rattle.std.specs.Prelude.{◌≡◌, ℕ, ◌+◌, ◌<◌, ◌≤◌, T, List, [], ◌∷◌, ◌++◌, map, length}
-use Rattle.std.specs.Arc.{arc_value}
-use Rattle.std.specs.declared.sync.Arc.{Arc}
 use Rattle.df_value.specs.declared.cell.Cell.{Cell}
 use Rattle.df_value.specs.declared.cell.CellType.{CellType}
 use Rattle.df_column.specs.Columns.{column_cells, dtype_of_column}
@@ -25,16 +23,16 @@ abbrev pub block_rows : BlockParts → List (Tag × List Cell)
 block_rows b = tagged_rows b.tags (map column_cells b.columns)
 
 -- the rows of these blocks, in order
-abbrev pub rows_of_blocks : {S : Type 0} → List (Arc BlockParts S) → List (Tag × List Cell)
+abbrev pub rows_of_blocks : List BlockParts → List (Tag × List Cell)
 rows_of_blocks [] = []
-rows_of_blocks (b ∷ bs) = block_rows (arc_value b) ++ rows_of_blocks bs
+rows_of_blocks (b ∷ bs) = block_rows b ++ rows_of_blocks bs
 
 -- each of these blocks has columns of these types
-abbrev pub AreOfDtypes : {S : Type 0} → List CellType → List (Arc BlockParts S) → Type 0
+abbrev pub AreOfDtypes : List CellType → List BlockParts → Type 0
 AreOfDtypes dtypes [] = Unit {0}
-AreOfDtypes dtypes (b ∷ bs) = (map dtype_of_column (arc_value b).columns ≡ dtypes) × AreOfDtypes dtypes bs
+AreOfDtypes dtypes (b ∷ bs) = (map dtype_of_column b.columns ≡ dtypes) × AreOfDtypes dtypes bs
 
 -- how many rows these blocks have up to the end of each, where n rows stand before them
-abbrev pub ends_of : {S : Type 0} → ℕ → List (Arc BlockParts S) → List ℕ
+abbrev pub ends_of : ℕ → List BlockParts → List ℕ
 ends_of n [] = []
-ends_of n (b ∷ bs) = (n + length (arc_value b).tags) ∷ ends_of (n + length (arc_value b).tags) bs
+ends_of n (b ∷ bs) = (n + length b.tags) ∷ ends_of (n + length b.tags) bs

@@ -13,6 +13,7 @@ pub mod Changes
 pub mod Tables
 pub mod Blocks
 pub mod BlockRows
+pub mod BlockLists
 pub mod TableBlocks
 pub mod Extremes
 pub mod BlockExtremes

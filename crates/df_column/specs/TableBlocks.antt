@@ -1,30 +1,25 @@
--- The fields of a table.
-use Rattle.std.specs.Prelude.{◌≡◌, ℕ, ◌<◌, ◌≤◌, ◌^◌, T, List, length, slice_index_or}
-use Rattle.std.specs.Arc.{arc_value}
-use Rattle.std.specs.declared.sync.Arc.{Arc}
+-- The blocks of a table, and where its rows stand in them.
+use Rattle.std.specs.Prelude.{◌≡◌, ℕ, ◌<◌, ◌≤◌, T, List, length, slice_index_or}
 use Rattle.std.specs.FinMap.{is_sorted}
 use Rattle.std.specs.declared.cmp.Ordering.TheVariants.{Less, Greater}
 use Rattle.df_value.specs.declared.cell.Cell.{Cell}
 use Rattle.df_value.specs.declared.cell.CellType.{CellType}
-use Rattle.df_column.specs.Blocks.{AreOfDtypes, BlockParts, block_rows, ends_of, rows_of_blocks}
+use Rattle.df_column.specs.Blocks.{AreOfDtypes, BlockParts, block_rows, rows_of_blocks}
 use Rattle.df_column.specs.Tables.{dtypes_of}
 use Rattle.df_column.specs.Tags.{tag_cmp}
 use Rattle.df_column.specs.declared.tag.Tag.{Tag}
 
--- rows by rising tags, in columns of the schema's types, and where each block ends
-pub record IsTable {S : Type 0} (schema : List (List ℕ × CellType)) (blocks : List (Arc BlockParts S))
-    (ends : List ℕ) : Type 0 where
+-- rows by rising tags, in columns of the schema's types
+pub record IsTable (schema : List (List ℕ × CellType)) (blocks : List BlockParts) : Type 0 where
   pub sorted : T (is_sorted tag_cmp (rows_of_blocks blocks))
   pub types : AreOfDtypes (dtypes_of schema) blocks
-  pub ends_are : ends ≡ ends_of 0 blocks
-  pub few : length (rows_of_blocks blocks) ≤ 2 ^ 60
 
 -- the row at this index of all rows is the one at an index of one block
-pub record IsSpot {S : Type 0} (blocks : List (Arc BlockParts S)) (at block row : ℕ) : Type 0 where
+pub record IsSpot (blocks : List BlockParts) (at block row : ℕ) : Type 0 where
   pub in_blocks : block < length blocks
-  pub in_block : (b : Arc BlockParts S) → row < length (arc_value (slice_index_or blocks block b)).tags
-  pub here : (b : Arc BlockParts S) (d : Tag × List Cell) →
-      slice_index_or (rows_of_blocks blocks) at d ≡ slice_index_or (block_rows (arc_value (slice_index_or blocks block b))) row d
+  pub in_block : (b : BlockParts) → row < length (slice_index_or blocks block b).tags
+  pub here : (b : BlockParts) (d : Tag × List Cell) →
+      slice_index_or (rows_of_blocks blocks) at d ≡ slice_index_or (block_rows (slice_index_or blocks block b)) row d
 
 -- rows before the first of these indexes have lesser tags, and those from the second on greater ones
 pub record IsWindow (rows : List (Tag × List Cell)) (tag : Tag) (low high : ℕ) : Type 0 where

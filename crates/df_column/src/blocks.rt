@@ -1,5 +1,5 @@
-//! Lists of shared blocks, and their changes.
-ghost use Rattle.std.specs.Prelude.{◌≡◌, ◌<◌, ◌≤◌, ◌+◌, ◌-◌, ◌++◌, [], T, IfOk, OnOk, map, length, slice_index_or};
+//! Lists of blocks, and their changes.
+ghost use Rattle.std.specs.Prelude.{◌≡◌, ◌<◌, ◌≤◌, ◌+◌, ◌-◌, ◌++◌, [], T, IfOk, drop, map, length, slice_index_or, take};
 ghost use Rattle.std.specs.Arc.{arc_value};
 ghost use Rattle.std.specs.FinMap as finite;
 ghost use Rattle.std.specs.List.{prefix_len};
@@ -19,6 +19,7 @@ ghost use Rattle.df_column.specs.declared.entry.Entry.{Entry};
 ghost use Rattle.df_column.specs.declared.tag.Tag.{Tag};
 
 use crate::block::{Block, MOST_ROWS};
+use crate::block_list::BlockList;
 use crate::column::Column;
 use crate::entry::Entry;
 use crate::extremes::Extremes;
@@ -26,69 +27,71 @@ use crate::merge::merge;
 use crate::picks::Pick;
 use crate::tag::Tag;
 use std::alloc::{AllocError, Global};
+use std::ops::Range;
 use std::sync::Arc;
 
-/// Adds the block itself.
-fn push_shared(out: &mut Vec<Arc<Block>>, block: &Arc<Block>) -> Result<(), AllocError>
-    ensures { OnOk result (AddsRows (map dtype_of_column (arc_value block.now).columns)
-        (block_rows (arc_value block.now)) out.old.items out.new.items) }
+/// The list with the block itself behind it.
+fn with_shared(alloc: Global, out: BlockList, block: &Arc<Block>) -> Result<BlockList, AllocError>
+    ensures { IfOk result (AddsRows (map dtype_of_column (arc_value block.now).columns)
+        (block_rows (arc_value block.now)) out) }
 {
     let block = Arc::try_clone(block)?;
-    out.push(block)?;
-    Ok(())
+    let made = out.pushed(alloc, block)?;
+    Ok(made)
 }
 
-/// Adds a block of the picked rows, behind all rows of these tags and columns if `whole` says so, as [`Block::picked`]
+/// The list with a block of the picked rows behind it, behind all rows of these tags and columns if `whole` says so, as [`Block::picked`]
 /// makes it.
-pub fn push_picked(
+pub fn with_picked(
     alloc: Global,
-    out: &mut Vec<Arc<Block>>,
+    out: BlockList,
     tags: &[Tag],
     columns: &[Column],
     known: &[Extremes],
     whole: bool,
     picks: &[Pick<'_>],
-) -> Result<(), AllocError>
+) -> Result<BlockList, AllocError>
     requires even { T (are_even (length tags.now) (map column_cells columns.now)) }
     requires known { AreKnown whole (map column_cells columns.now) known.now }
     requires within { AreWithin (length tags.now) picks.now }
     requires rows { AreRows (map dtype_of_column columns.now) picks.now }
     requires some { 0 < length picks.now }
     requires few { length (all_or_none whole tags.now) + length picks.now ≤ 1024 }
-    ensures { OnOk result (AddsRows (map dtype_of_column columns.now)
+    ensures { IfOk result (AddsRows (map dtype_of_column columns.now)
         (all_or_none whole (rows.tagged_rows tags.now (map column_cells columns.now))
-        ++ rows.picked_rows (map column_cells columns.now) picks.now) out.old.items out.new.items) }
+        ++ rows.picked_rows (map column_cells columns.now) picks.now) out) }
 {
     let block = Block::picked(alloc, tags, columns, known, whole, picks)?;
     let block = Arc::new(alloc, block)?;
-    out.push(block)?;
-    Ok(())
+    let made = out.pushed(alloc, block)?;
+    Ok(made)
 }
 
-/// Adds the picked rows, in blocks of this size.
-pub fn push_parts(
+/// The list with the picked rows behind it, in blocks of this size.
+pub fn with_parts(
     alloc: Global,
-    out: &mut Vec<Arc<Block>>,
+    out: BlockList,
     tags: &[Tag],
     columns: &[Column],
     picks: &[Pick<'_>],
     size: usize,
-) -> Result<(), AllocError>
+) -> Result<BlockList, AllocError>
     requires even { T (are_even (length tags.now) (map column_cells columns.now)) }
     requires within { AreWithin (length tags.now) picks.now }
     requires rows { AreRows (map dtype_of_column columns.now) picks.now }
     requires some { 0 < size }
     requires few { size ≤ 1024 }
-    ensures { OnOk result (AddsRows (map dtype_of_column columns.now)
-        (rows.picked_rows (map column_cells columns.now) picks.now) out.old.items out.new.items) }
+    ensures { IfOk result (AddsRows (map dtype_of_column columns.now)
+        (rows.picked_rows (map column_cells columns.now) picks.now) out) }
 {
+    let mut made = out;
     let mut from = 0;
     while from < picks.len() {
         let to = from + size.min(picks.len() - from);
-        push_picked(alloc, out, tags, columns, &[], false, &picks[from..to])?;
+        made = with_picked(alloc, made, tags, columns, &[], false, &picks[from..to])?;
         from = to;
     }
-    Ok(())
+    Ok(made)
 }
 
 /// The most rows of each block that this many rows are cut into, evenly.
@@ -115,27 +118,26 @@ fn is_behind(tags: &[Tag], entries: &[Entry]) -> bool
     tags[tags.len() - 1] < first.tag
 }
 
-/// Adds the block's rows and the picked rows in one block: the block itself where there are none.
-fn push_grown(
+/// The list with the block's rows and the picked rows behind it in one block: the block itself where there are none.
+fn with_grown(
     alloc: Global,
-    out: &mut Vec<Arc<Block>>,
+    out: BlockList,
     block: &Arc<Block>,
     picks: &[Pick<'_>],
-) -> Result<(), AllocError>
+) -> Result<BlockList, AllocError>
     requires within { AreWithin 0 picks.now }
     requires rows { AreRows (map dtype_of_column (arc_value block.now).columns) picks.now }
     requires few { length (arc_value block.now).tags + length picks.now ≤ 1024 }
-    ensures { OnOk result (AddsRows (map dtype_of_column (arc_value block.now).columns)
+    ensures { IfOk result (AddsRows (map dtype_of_column (arc_value block.now).columns)
         (block_rows (arc_value block.now)
         ++ rows.picked_rows (map column_cells (arc_value block.now).columns) picks.now)
-        out.old.items out.new.items) }
+        out) }
 {
     if picks.is_empty() {
-        push_shared(out, block)?;
-        return Ok(());
+        return with_shared(alloc, out, block);
     }
     let known = block.extremes();
-    push_picked(
+    with_picked(
         alloc,
         out,
         block.tags(),
@@ -143,76 +145,73 @@ fn push_grown(
         known,
         true,
         picks,
-    )?;
-    Ok(())
+    )
 }
 
-/// Adds the block's rows and, behind them, the picked rows. The block is filled up.
-fn push_filled(
+/// The list with the block's rows and then the picked rows behind it. The block is filled up.
+fn with_filled(
     alloc: Global,
-    out: &mut Vec<Arc<Block>>,
+    out: BlockList,
     block: &Arc<Block>,
     picks: &[Pick<'_>],
-) -> Result<(), AllocError>
+) -> Result<BlockList, AllocError>
     requires within { AreWithin 0 picks.now }
     requires rows { AreRows (map dtype_of_column (arc_value block.now).columns) picks.now }
-    ensures { OnOk result (AddsRows (map dtype_of_column (arc_value block.now).columns)
+    ensures { IfOk result (AddsRows (map dtype_of_column (arc_value block.now).columns)
         (block_rows (arc_value block.now)
         ++ rows.picked_rows (map column_cells (arc_value block.now).columns) picks.now)
-        out.old.items out.new.items) }
+        out) }
 {
     let room = MOST_ROWS - block.tags().len();
     let (first, rest) = picks.split_at(room.min(picks.len()));
-    push_grown(alloc, out, block, first)?;
-    push_parts(alloc, out, block.tags(), block.columns(), rest, MOST_ROWS)?;
-    Ok(())
+    let grown = with_grown(alloc, out, block, first)?;
+    let made = with_parts(alloc, grown, block.tags(), block.columns(), rest, MOST_ROWS)?;
+    Ok(made)
 }
 
-/// Adds the block's rows and, behind them, the new rows of these entries. The block is filled up.
-fn push_behind(
+/// The list with the block's rows and then the new rows of these entries behind it. The block is filled up.
+fn with_behind(
     alloc: Global,
-    out: &mut Vec<Arc<Block>>,
+    out: BlockList,
     block: &Arc<Block>,
     entries: &[Entry],
-) -> Result<(), AllocError>
+) -> Result<BlockList, AllocError>
     requires entries { AreRising entries.now }
     requires fits { AreNewRows (map dtype_of_column (arc_value block.now).columns) entries.now }
-    ensures { OnOk result (AddsRows (map dtype_of_column (arc_value block.now).columns)
+    ensures { IfOk result (AddsRows (map dtype_of_column (arc_value block.now).columns)
         (block_rows (arc_value block.now)
-        ++ after_changes tag_cmp [] (map entry_change entries.now)) out.old.items out.new.items) }
+        ++ after_changes tag_cmp [] (map entry_change entries.now)) out) }
 {
     let picks = merge(alloc, &[], entries)?;
-    push_filled(alloc, out, block, &picks)?;
-    Ok(())
+    with_filled(alloc, out, block, &picks)
 }
 
-/// Adds the block's rows after these changes: the block itself where there is none. New rows behind the last block
-/// fill it up; else the rows are cut evenly.
-fn push_changed(
+/// The list with the block's rows after these changes behind it: the block itself where there is none. New rows behind
+/// the last block fill it up; else the rows are cut evenly.
+fn with_changed(
     alloc: Global,
-    out: &mut Vec<Arc<Block>>,
+    out: BlockList,
     block: &Arc<Block>,
     entries: &[Entry],
     is_last: bool,
-) -> Result<(), AllocError>
+) -> Result<BlockList, AllocError>
     requires rows { T (finite.is_sorted tag_cmp (block_rows (arc_value block.now))) }
     requires entries { AreRising entries.now }
     requires fits { AreNewRows (map dtype_of_column (arc_value block.now).columns) entries.now }
-    ensures { OnOk result (AddsRows (map dtype_of_column (arc_value block.now).columns)
+    ensures { IfOk result (AddsRows (map dtype_of_column (arc_value block.now).columns)
         (after_changes tag_cmp (block_rows (arc_value block.now)) (map entry_change entries.now))
-        out.old.items out.new.items) }
+        out) }
 {
     if entries.is_empty() {
-        return push_shared(out, block);
+        return with_shared(alloc, out, block);
     }
     if is_last && is_behind(block.tags(), entries) {
-        push_behind(alloc, out, block, entries)?;
-        return Ok(());
+        let made = with_behind(alloc, out, block, entries)?;
+        return Ok(made);
     }
     let picks = merge(alloc, block.tags(), entries)?;
     let size = part_size(picks.len());
-    push_parts(alloc, out, block.tags(), block.columns(), &picks, size)?;
-    Ok(())
+    with_parts(alloc, out, block.tags(), block.columns(), &picks, size)
 }
 
 /// How many of the entries stand before the tag.
@@ -234,69 +233,83 @@ fn count_before(entries: &[Entry], next: Option<Tag>) -> usize
     }
 }
 
-/// The first tag of these blocks.
-fn first_tag(blocks: &[Arc<Block>]) -> Option<Tag>
-    ensures { IsNext (rows_of_blocks blocks.now) result }
+/// The first tag of the blocks in a range.
+fn first_tag(blocks: &BlockList, range: Range<usize>) -> Option<Tag>
+    requires { range.end ≤ length blocks.now }
+    ensures { IsNext (rows_of_blocks (drop range.start (take range.end blocks.now))) result }
 {
-    match blocks.first() {
-        Some(block) => Some(block.first()),
-        None => None,
+    if range.start < range.end {
+        Some(blocks.get(range.start).first())
+    } else {
+        None
     }
 }
 
-/// Adds the first block after its changes, and gives the changes of the others. Where there are none, nothing is read.
-fn push_first<'a>(
+/// The list with a block behind it after its changes, and the changes of the later ones in a range. Where there are no
+/// changes, nothing is read.
+fn with_first<'a>(
     alloc: Global,
-    out: &mut Vec<Arc<Block>>,
+    out: BlockList,
     block: &Arc<Block>,
-    later: &[Arc<Block>],
+    blocks: &BlockList,
+    later: Range<usize>,
     entries: &'a [Entry],
-) -> Result<&'a [Entry], AllocError>
+) -> Result<(BlockList, &'a [Entry]), AllocError>
+    requires in_range { later.end ≤ length blocks.now }
     requires rows { T (finite.is_sorted tag_cmp (block_rows (arc_value block.now)
-        ++ rows_of_blocks later.now)) }
+        ++ rows_of_blocks (drop later.start (take later.end blocks.now)))) }
     requires entries { AreRising entries.now }
     requires fits { AreNewRows (map dtype_of_column (arc_value block.now).columns) entries.now }
-    ensures rising { IfOk result (λ rest. AreRising rest.now) }
-    ensures fits { IfOk result (λ rest.
-        AreNewRows (map dtype_of_column (arc_value block.now).columns) rest.now) }
-    ensures adds { IfOk result (λ rest. AddsFirst (map dtype_of_column (arc_value block.now).columns)
-        (block_rows (arc_value block.now)) (rows_of_blocks later.now) entries.now rest.now
-        out.old.items out.new.items) }
+    ensures rising { IfOk result (λ v. AreRising v.1.now) }
+    ensures fits { IfOk result (λ v.
+        AreNewRows (map dtype_of_column (arc_value block.now).columns) v.1.now) }
+    ensures adds { IfOk result (λ v. AddsFirst (map dtype_of_column (arc_value block.now).columns)
+        (block_rows (arc_value block.now)) (rows_of_blocks (drop later.start (take later.end blocks.now)))
+        entries.now v.1.now out v.0) }
 {
     if entries.is_empty() {
-        push_shared(out, block)?;
-        return Ok(entries);
+        let out = with_shared(alloc, out, block)?;
+        return Ok((out, entries));
     }
-    let (mine, others) = entries.split_at(count_before(entries, first_tag(later)));
-    push_changed(alloc, out, block, mine, later.is_empty())?;
-    Ok(others)
+    let is_last = later.start == blocks.len();
+    let (mine, others) = entries.split_at(count_before(entries, first_tag(blocks, later)));
+    let made = with_changed(alloc, out, block, mine, is_last)?;
+    Ok((made, others))
 }
 
-/// The blocks after the changes. Where there are no blocks, the new rows go into blocks of these columns, which have
-/// no cells.
-pub fn changed_blocks(
+/// The list with the blocks in a range behind it after the changes. Where there are none, the new rows go into blocks of
+/// these columns, which have no cells.
+pub fn with_changes(
     alloc: Global,
-    blocks: &[Arc<Block>],
+    out: BlockList,
+    blocks: &BlockList,
+    range: Range<usize>,
     columns: &[Column],
     entries: &[Entry],
-) -> Result<Vec<Arc<Block>>, AllocError>
-    requires rows { T (finite.is_sorted tag_cmp (rows_of_blocks blocks.now)) }
+) -> Result<BlockList, AllocError>
+    requires ordered { range.start ≤ range.end }
+    requires in_range { range.end ≤ length blocks.now }
+    requires rows { T (finite.is_sorted tag_cmp
+        (rows_of_blocks (drop range.start (take range.end blocks.now)))) }
     requires types { AreOfDtypes (map dtype_of_column columns.now) blocks.now }
     requires empty { T (are_even 0 (map column_cells columns.now)) }
     requires entries { AreRising entries.now }
     requires fits { AreNewRows (map dtype_of_column columns.now) entries.now }
-    ensures rows { IfOk result (λ v. rows_of_blocks v.items ≡
-        after_changes tag_cmp (rows_of_blocks blocks.now) (map entry_change entries.now)) }
-    ensures types { IfOk result (λ v. AreOfDtypes (map dtype_of_column columns.now) v.items) }
+    ensures { IfOk result (AddsRows (map dtype_of_column columns.now)
+        (after_changes tag_cmp (rows_of_blocks (drop range.start (take range.end blocks.now)))
+        (map entry_change entries.now)) out) }
 {
-    let mut out = Vec::with_capacity(alloc, blocks.len().saturating_add(1))?;
-    let mut left = blocks;
+    let mut made = out;
     let mut rest = entries;
-    while let Some((block, later)) = left.split_first() {
-        rest = push_first(alloc, &mut out, block, later, rest)?;
-        left = later;
+    let mut at = range.start;
+    while at < range.end {
+        let later = at + 1..range.end;
+        let (list, others) = with_first(alloc, made, blocks.get(at), blocks, later, rest)?;
+        made = list;
+        rest = others;
+        at += 1;
     }
     let picks = merge(alloc, &[], rest)?;
-    push_parts(alloc, &mut out, &[], columns, &picks, MOST_ROWS)?;
-    Ok(out)
+    let list = with_parts(alloc, made, &[], columns, &picks, MOST_ROWS)?;
+    Ok(list)
 }

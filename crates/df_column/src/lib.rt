@@ -13,6 +13,7 @@
 #![tactic(auto)]
 
 mod block;
+mod block_list;
 mod blocks;
 mod column;
 mod compare;

@@ -6,7 +6,7 @@ ghost use Rattle.std.specs.List.{list_all};
 ghost use Rattle.df_value.specs.Rows.{row_eq, row_fits, rows_fit};
 ghost use Rattle.df_value.specs.declared.cell.Cell.{Cell};
 ghost use Rattle.df_value.specs.declared.cell.CellType.{CellType};
-ghost use Rattle.df_column.specs.Blocks.{AreOfDtypes, ends_of, rows_of_blocks};
+ghost use Rattle.df_column.specs.Blocks.{AreOfDtypes, rows_of_blocks};
 ghost use Rattle.df_column.specs.Columns.{column_cells, dtype_of_column};
 ghost use Rattle.df_column.specs.Picks.{AreWithin};
 ghost use Rattle.df_column.specs.Bounds.{IsLowerBound, IsUpperBound};
@@ -16,13 +16,14 @@ ghost use Rattle.df_column.specs.Tables.{NewRowsFit, AreRising, after_entries, d
 ghost use Rattle.df_column.specs.Tags.{tag_cmp};
 ghost use Rattle.df_column.specs.declared.tag.Tag.{Tag};
 
-use crate::block::{Block, MOST_ROWS};
-use crate::blocks::push_parts;
+use crate::block::MOST_ROWS;
+use crate::block_list::BlockList;
+use crate::blocks::with_parts;
 use crate::column::Column;
 use crate::entry::{Entry, are_fitting};
 use crate::picks::{Origin, Pick};
 use crate::reads::{push_rows, push_tagged_rows};
-use crate::sharing::{block_ends, edited_blocks, shared_blocks};
+use crate::sharing::{edited_blocks, shared_blocks};
 use crate::spots;
 use crate::tag::Tag;
 use df_value::{Row, Schema};
@@ -34,8 +35,7 @@ use std::sync::Arc;
 #[derive(Drop)]
 pub struct Table {
     schema: Arc<Schema>,
-    blocks: Vec<Arc<Block>>,
-    ends: Vec<usize>,
+    blocks: BlockList,
 }
 
 impl Model for Table {
@@ -50,9 +50,9 @@ impl Model for Table {
     ghost coded = { table_code };
 
     ghost view = { λ t. record
-        { schema = arc_value t.schema; rows = finite.from_sorted (rows_of_blocks t.blocks.items) } };
+        { schema = arc_value t.schema; rows = finite.from_sorted (rows_of_blocks t.blocks) } };
 
-    ghost invariant = { λ t. IsTable (arc_value t.schema) t.blocks.items t.ends.items };
+    ghost invariant = { λ t. IsTable (arc_value t.schema) t.blocks };
 }
 
 /// A column of no cells for each column of the schema.
@@ -68,25 +68,6 @@ fn empty_columns(alloc: Global, schema: &Schema) -> Result<Vec<Column>, AllocErr
     Ok(out)
 }
 
-/// The table of these blocks.
-fn from_blocks(
-    alloc: Global,
-    schema: Arc<Schema>,
-    blocks: Vec<Arc<Block>>,
-) -> Result<Table, AllocError>
-    requires sorted { T (finite.is_sorted tag_cmp (rows_of_blocks blocks.items)) }
-    requires types { AreOfDtypes (dtypes_of (arc_value schema)) blocks.items }
-    ensures schema { IfOk result (λ t. t.schema ≡ arc_value schema) }
-    ensures rows { IfOk result (λ t. t.rows ≡ finite.from_sorted (rows_of_blocks blocks.items)) }
-{
-    let ends = block_ends(alloc, &blocks)?;
-    Ok(Table {
-        schema,
-        blocks,
-        ends,
-    })
-}
-
 impl Table {
     /// The table of this schema without rows.
     pub fn new(alloc: Global, schema: Schema) -> Result<Table, AllocError>
@@ -95,8 +76,7 @@ impl Table {
     {
         Ok(Table {
             schema: Arc::new(alloc, schema)?,
-            blocks: Vec::new(alloc),
-            ends: Vec::new(alloc),
+            blocks: BlockList::new(alloc),
         })
     }
 
@@ -117,12 +97,11 @@ impl Table {
     }
 
     /// The blocks.
-    pub(crate) fn blocks(&self) -> &[Arc<Block>]
+    pub(crate) fn blocks(&self) -> &BlockList
         ensures rows { rows_of_blocks result.now ≡ finite.entries self.now.rows }
         ensures value { finite.from_sorted (rows_of_blocks result.now) ≡ self.now.rows }
         ensures sorted { T (finite.is_sorted tag_cmp (rows_of_blocks result.now)) }
         ensures types { AreOfDtypes (dtypes_of self.now.schema) result.now }
-        ensures few { length (rows_of_blocks result.now) ≤ 2 ^ 60 }
     {
         &self.blocks
     }
@@ -131,14 +110,9 @@ impl Table {
     pub fn share(&self, alloc: Global) -> Result<Table, AllocError>
         ensures { IfOk result (λ t. t ≡ self.now) }
     {
-        let blocks = shared_blocks(alloc, &self.blocks, 0)?;
-        let ends = Vec::from_slice(alloc, &self.ends)?;
+        let blocks = shared_blocks(alloc, &self.blocks)?;
         let schema = self.shared_schema()?;
-        Ok(Table {
-            schema,
-            blocks,
-            ends,
-        })
+        Ok(Table { schema, blocks })
     }
 
     /// The table after the changes of these entries: at each tag that they name stands the new row, or nothing. Where
@@ -164,13 +138,9 @@ impl Table {
         ensures { IfOk result (λ t. t ≡ after_entries self.now entries.now) }
     {
         let columns = empty_columns(alloc, self.schema())?;
-        let (blocks, ends) = edited_blocks(alloc, &self.blocks, &self.ends, &columns, entries)?;
+        let blocks = edited_blocks(alloc, &self.blocks, &columns, entries)?;
         let schema = self.shared_schema()?;
-        Ok(Table {
-            schema,
-            blocks,
-            ends,
-        })
+        Ok(Table { schema, blocks })
     }
 
     /// The table of these rows. Their tags rise, and each fits the schema.
@@ -186,8 +156,7 @@ impl Table {
     {
         let blocks = blocks_of(alloc, &schema, rows)?;
         let schema = Arc::new(alloc, schema)?;
-        let table = from_blocks(alloc, schema, blocks)?;
-        Ok(table)
+        Ok(Table { schema, blocks })
     }
 
     /// The number of rows.
@@ -195,7 +164,7 @@ impl Table {
         ensures value { result ≡ finite.len self.now.rows }
         ensures few { result ≤ 2 ^ 60 }
     {
-        spots::count(&self.blocks, &self.ends)
+        self.blocks.rows()
     }
 
     /// Whether there are no rows.
@@ -211,7 +180,7 @@ impl Table {
         ensures { (d : Tag × List Cell) → result ≡
             (slice_index_or (finite.entries self.now.rows) at d).0 }
     {
-        spots::tag_at(&self.blocks, &self.ends, at)
+        spots::tag_at(&self.blocks, at)
     }
 
     /// A copy of the row at this index.
@@ -220,7 +189,7 @@ impl Table {
         ensures { IfOk result (λ r. (d : Tag × List Cell) → r ≡
             (slice_index_or (finite.entries self.now.rows) at d).1) }
     {
-        let row = spots::row_at(alloc, &self.blocks, &self.ends, at)?;
+        let row = spots::row_at(alloc, &self.blocks, at)?;
         Ok(row)
     }
 
@@ -230,7 +199,7 @@ impl Table {
         ensures { (d : Tag × List Cell) → result ≡
             row_eq (slice_index_or (finite.entries self.now.rows) at d).1 row.now }
     {
-        spots::is_row_at(&self.blocks, &self.ends, at, row)
+        spots::is_row_at(&self.blocks, at, row)
     }
 
     /// The index of the row at this tag, if there is one. The number of steps goes by the logarithm of the number of
@@ -242,7 +211,7 @@ impl Table {
             Some (slice_index_or (finite.entries self.now.rows) i d).1) }
         ensures absent { IfNone result (finite.get self.now.rows tag ≡ None) }
     {
-        match spots::find(&self.blocks, &self.ends, tag) {
+        match spots::find(&self.blocks, tag) {
             Ok(at) => Some(at),
             Err(_) => None,
         }
@@ -262,7 +231,7 @@ impl Table {
     pub fn lower_bound(&self, tag: Tag) -> usize
         ensures { IsLowerBound tag (finite.entries self.now.rows) result }
     {
-        match spots::find(&self.blocks, &self.ends, tag) {
+        match spots::find(&self.blocks, tag) {
             Ok(at) => at,
             Err(at) => at,
         }
@@ -272,7 +241,7 @@ impl Table {
     pub fn upper_bound(&self, tag: Tag) -> usize
         ensures { IsUpperBound tag (finite.entries self.now.rows) result }
     {
-        match spots::find(&self.blocks, &self.ends, tag) {
+        match spots::find(&self.blocks, tag) {
             Ok(at) => at + 1,
             Err(at) => at,
         }
@@ -303,8 +272,8 @@ impl Table {
     {
         let blocks = self.blocks();
         let mut out = Vec::with_capacity(alloc, self.len())?;
-        for block in blocks {
-            push_rows(alloc, &mut out, block)?;
+        for at in 0..blocks.len() {
+            push_rows(alloc, &mut out, blocks.get(at))?;
         }
         Ok(out)
     }
@@ -315,28 +284,23 @@ impl Table {
     {
         let blocks = self.blocks();
         let mut out = Vec::with_capacity(alloc, self.len())?;
-        for block in blocks {
-            push_tagged_rows(alloc, &mut out, block)?;
+        for at in 0..blocks.len() {
+            push_tagged_rows(alloc, &mut out, blocks.get(at))?;
         }
         Ok(out)
     }
 }
 
 /// Blocks of these rows.
-fn blocks_of(
-    alloc: Global,
-    schema: &Schema,
-    rows: &[(Tag, Row)],
-) -> Result<Vec<Arc<Block>>, AllocError>
+fn blocks_of(alloc: Global, schema: &Schema, rows: &[(Tag, Row)]) -> Result<BlockList, AllocError>
     requires { T (list_all (λ r. row_fits schema.now r.1) rows.now) }
-    ensures rows { IfOk result (λ v. rows_of_blocks v.items ≡ rows.now) }
-    ensures types { IfOk result (λ v. AreOfDtypes (dtypes_of schema.now) v.items) }
+    ensures rows { IfOk result (λ l. rows_of_blocks l ≡ rows.now) }
+    ensures types { IfOk result (λ l. AreOfDtypes (dtypes_of schema.now) l) }
 {
     let columns = empty_columns(alloc, schema)?;
     let picks = new_picks(alloc, rows)?;
-    let mut out = Vec::new(alloc);
-    push_parts(alloc, &mut out, &[], &columns, &picks, MOST_ROWS)?;
-    Ok(out)
+    let out = BlockList::new(alloc);
+    with_parts(alloc, out, &[], &columns, &picks, MOST_ROWS)
 }
 
 /// The rows as new rows of a block.

@@ -167,8 +167,8 @@ impl Table {
             return Ok(None);
         };
         let mut best = None;
-        for block in blocks {
-            best = furthest_in_block(alloc, extreme, best, block, index)?;
+        for at in 0..blocks.len() {
+            best = furthest_in_block(alloc, extreme, best, blocks.get(at), index)?;
         }
         Ok(best)
     }
@@ -188,8 +188,8 @@ impl Table {
         let Some(index) = index else {
             return Ok(tags);
         };
-        for block in blocks {
-            push_tags_in_block(&mut tags, block, index, value)?;
+        for at in 0..blocks.len() {
+            push_tags_in_block(&mut tags, blocks.get(at), index, value)?;
         }
         Ok(tags)
     }

@@ -7,12 +7,9 @@ pub search-requires : goal.search-requires
 search-requires t c = (
   omega (arith, c.decreases, c.if-low-high.false),
   (
-    c.requires.ends,
-    (
-      c.requires.sorted,
-      window_above (rows_of_blocks c.args.blocks.now) c.args.tag c.args.low c.args.high _ c.tag_at-found.result c.requires.sorted c.requires.window
-          (omega (arith, c.if-low-high.false)) (omega (arith, c.if-low-high.false)) c.tag_at-found.ensures (sym c.in-Less.ensures),
-    ),
+    c.requires.sorted,
+    window_above (rows_of_blocks c.args.blocks.now) c.args.tag c.args.low c.args.high _ c.tag_at-found.result c.requires.sorted c.requires.window
+        (omega (arith, c.if-low-high.false)) (omega (arith, c.if-low-high.false)) c.tag_at-found.ensures (sym c.in-Less.ensures),
   ),
 )
 
@@ -20,11 +17,8 @@ pub search-requires-in-Greater : goal.search-requires-in-Greater
 search-requires-in-Greater t c = (
   omega (arith, c.decreases, c.if-low-high.false),
   (
-    c.requires.ends,
-    (
-      c.requires.sorted,
-      window_below (rows_of_blocks c.args.blocks.now) c.args.tag c.args.low c.args.high _ c.tag_at-found.result c.requires.sorted c.requires.window
-          (omega (arith, c.if-low-high.false)) (omega (arith, c.if-low-high.false)) c.tag_at-found.ensures (sym c.in-Greater.ensures),
-    ),
+    c.requires.sorted,
+    window_below (rows_of_blocks c.args.blocks.now) c.args.tag c.args.low c.args.high _ c.tag_at-found.result c.requires.sorted c.requires.window
+        (omega (arith, c.if-low-high.false)) (omega (arith, c.if-low-high.false)) c.tag_at-found.ensures (sym c.in-Greater.ensures),
   ),
 )

@@ -3,7 +3,7 @@ use Rattle.df_column.proofs.Bounds.{lower_at_gap, lower_at_place}
 use Rattle.df_column.proofs.spots.rows_below.Goals as goal
 
 pub returns-in-Ok : goal.returns-in-Ok
-returns-in-Ok c = lower_at_place (rows_of_blocks c.args.blocks.now) c.args.tag c.in-Ok.at c.requires.sorted c.in-Ok.ensures.found
+returns-in-Ok c = lower_at_place (rows_of_blocks c.args.blocks.now) c.args.tag c.in-Ok.at c.requires c.in-Ok.ensures.found
 
 pub returns-in-Err : goal.returns-in-Err
 returns-in-Err c = lower_at_gap (rows_of_blocks c.args.blocks.now) c.args.tag c.in-Err.at c.in-Err.ensures.absent

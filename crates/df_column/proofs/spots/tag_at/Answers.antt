@@ -1,8 +1,23 @@
-use Rattle.std.proofs.Common.{sym, ap}
+use Rattle.std.proofs.Common.{sym, ap, ◌<◌, ◌≤◌, ◌∙◌, arith, length, subst}
+use Rattle.std.specs.Arc.{arc_value}
 use Rattle.df_column.proofs.SpotLemmas.{at_spot}
 use Rattle.df_column.proofs.spots.tag_at.Goals as goal
+
+pub bounds-tags-spot : goal.bounds-tags-spot
+bounds-tags-spot c =
+    let b = arc_value c.get.result.now in
+    let here = subst (λ p. c.locate-spot.result.row < length p.tags) (sym (c.get.ensures b)) (c.locate-spot.ensures.in_block b) in
+    let t = ap length c.tags.ensures.tags ∙ ap (λ p. length p.tags) c.deref.ensures in
+    omega (arith, here, t)
+
+pub offset_bounds-tags-spot : goal.offset_bounds-tags-spot
+offset_bounds-tags-spot c =
+    let b = arc_value c.get.result.now in
+    let here = subst (λ p. c.locate-spot.result.row < length p.tags) (sym (c.get.ensures b)) (c.locate-spot.ensures.in_block b) in
+    let few = subst (λ p. length p.tags ≤ 1024) c.deref.ensures c.tags.ensures.few in
+    omega (arith, here, few)
 
 pub returns : goal.returns
 returns c = λ d.
     rw (c.tags.ensures.tags, c.deref.ensures)
-    (ap (λ r. r.0) (sym (at_spot c.args.blocks.now c.args.at c.locate-spot.result.block c.locate-spot.result.row c.index-blocks-spot.result _ c.locate-spot.ensures c.index-blocks-spot.is d)))
+    (ap (λ r. r.0) (sym (at_spot c.args.blocks.now c.args.at c.locate-spot.result.block c.locate-spot.result.row (arc_value c.get.result.now) _ c.locate-spot.ensures (c.get.ensures (arc_value c.get.result.now)) d)))

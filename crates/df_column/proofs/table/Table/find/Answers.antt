@@ -1,5 +1,4 @@
-use Rattle.std.proofs.Common.{ap, subst}
-use Rattle.df_column.specs.Blocks.{rows_of_blocks}
+use Rattle.std.proofs.Common.{ap, subst, refl}
 use Rattle.df_column.specs.Places.{IsGap, IsPlace}
 use Rattle.df_column.specs.Tags.{tag_cmp}
 use Rattle.df_column.proofs.ReadLemmas.{entries_are, row_found, row_absent}
@@ -7,11 +6,11 @@ use Rattle.df_column.proofs.table.Table.find.Goals as goal
 
 pub returns-in-Ok-clause-found : goal.returns-in-Ok-clause-found
 returns-in-Ok-clause-found c =
-    subst (λ es. IsPlace tag_cmp es c.args.tag c.in-Ok.at) (entries_are _ _ _ (ap rows_of_blocks c.deref.ensures.value) c.self.invariant.sorted (ap (λ t. t.rows) c.self.view_is)) c.in-Ok.ensures.found
+    subst (λ es. IsPlace tag_cmp es c.args.tag c.in-Ok.at) (entries_are _ _ _ refl c.self.invariant.sorted (ap (λ t. t.rows) c.self.view_is)) c.in-Ok.ensures.found
 
 pub returns-in-Ok-clause-row : goal.returns-in-Ok-clause-row
 returns-in-Ok-clause-row c = row_found c.args.self.now.rows c.args.tag c.in-Ok.at (returns-in-Ok-clause-found c)
 
 pub returns-in-Err-clause-absent : goal.returns-in-Err-clause-absent
 returns-in-Err-clause-absent c = row_absent c.args.self.now.rows c.args.tag c.in-Err.field-0
-    (subst (λ es. IsGap tag_cmp es c.args.tag c.in-Err.field-0) (entries_are _ _ _ (ap rows_of_blocks c.deref.ensures.value) c.self.invariant.sorted (ap (λ t. t.rows) c.self.view_is)) c.in-Err.ensures.absent)
+    (subst (λ es. IsGap tag_cmp es c.args.tag c.in-Err.field-0) (entries_are _ _ _ refl c.self.invariant.sorted (ap (λ t. t.rows) c.self.view_is)) c.in-Err.ensures.absent)

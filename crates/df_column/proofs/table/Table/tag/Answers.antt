@@ -1,14 +1,13 @@
-use Rattle.std.proofs.Common.{ap, sym, ◌∙◌, length, arith, get_or}
+use Rattle.std.proofs.Common.{ap, sym, ◌∙◌, length, arith, get_or, refl}
 use Rattle.std.specs.FinMap as finite
-use Rattle.df_column.specs.Blocks.{rows_of_blocks}
 use Rattle.df_column.proofs.ReadLemmas.{entries_are}
 use Rattle.df_column.proofs.table.Table.tag.Goals as goal
 
-pub tag_at-requires-clause-at : goal.tag_at-requires-clause-at
-tag_at-requires-clause-at c =
-    let l = ap length (entries_are _ _ _ (ap rows_of_blocks c.deref.ensures.value) c.self.invariant.sorted (ap (λ t. t.rows) c.self.view_is)) ∙ sym (finite.len-entries c.args.self.now.rows) in
+pub tag_at-requires : goal.tag_at-requires
+tag_at-requires c =
+    let l = ap length (entries_are _ _ _ refl c.self.invariant.sorted (ap (λ t. t.rows) c.self.view_is)) ∙ sym (finite.len-entries c.args.self.now.rows) in
     omega (arith, l, c.requires)
 
 pub returns : goal.returns
 returns c = λ d.
-    c.tag_at.ensures d ∙ ap (λ es. (get_or es c.args.at d).0) (entries_are _ _ _ (ap rows_of_blocks c.deref.ensures.value) c.self.invariant.sorted (ap (λ t. t.rows) c.self.view_is))
+    c.tag_at.ensures d ∙ ap (λ es. (get_or es c.args.at d).0) (entries_are _ _ _ refl c.self.invariant.sorted (ap (λ t. t.rows) c.self.view_is))

@@ -1,0 +1,36 @@
+use Rattle.std.proofs.Common.{◌≡◌, ◌∙◌, ◌++◌, ◌∷◌, ◌+◌, [], ap, arith, length, subst, sym, IfOk}
+use Rattle.std.specs.Arc.{arc_value}
+use Rattle.df_column.specs.BlockLists.{blocks_in, last_of}
+use Rattle.df_column.specs.Blocks.{ends_of, rows_of_blocks}
+use Rattle.df_column.proofs.BlockListLemmas.{count_push, ends_push, rows_there, tail_more}
+use Rattle.df_column.proofs.block_list.BlockList.pushed.Goals as goal
+
+pub end_behind-requires : goal.end_behind-requires
+end_behind-requires c =
+    let n = c.last_end.ensures ∙ ap last_of c.deref.ensures.value ∙ rows_there _ _ c.self.invariant.ends_are in
+    omega (arith, n, c.self.invariant.few)
+
+pub from_parts-requires-clause-ends : goal.from_parts-requires-clause-ends
+from_parts-requires-clause-ends c =
+    let bs = blocks_in c.self.inside.leaves.items c.self.inside.tail.items in
+    let b = arc_value c.args.block in
+    let n = c.last_end.ensures ∙ ap last_of c.deref.ensures.value ∙ rows_there _ _ c.self.invariant.ends_are in
+    let t = ap length c.tags.ensures.tags ∙ ap (λ b. length b.tags) c.deref-2.ensures in
+    let v : c.in_ok-end.end ≡ length (rows_of_blocks bs) + length b.tags = omega (arith, n, t, c.in_ok-end.ensures.value) in
+    c.in_ok-push.ensures.items ∙ ap (λ es. es ++ c.in_ok-end.end ∷ []) c.self.invariant.ends_are ∙ ap (λ k. ends_of 0 bs ++ k ∷ []) v
+    ∙ sym (ends_push bs b) ∙ ap (ends_of 0) (sym (tail_more c.self.inside.leaves.items c.self.inside.tail.items c.push-2.new.self.items c.args.block c.in_ok-push-2.ensures.items))
+
+pub from_parts-requires-clause-few : goal.from_parts-requires-clause-few
+from_parts-requires-clause-few c =
+    let bs = blocks_in c.self.inside.leaves.items c.self.inside.tail.items in
+    let b = arc_value c.args.block in
+    let n = c.last_end.ensures ∙ ap last_of c.deref.ensures.value ∙ rows_there _ _ c.self.invariant.ends_are in
+    let t = ap length c.tags.ensures.tags ∙ ap (λ b. length b.tags) c.deref-2.ensures in
+    let k = ap (λ bs. length (rows_of_blocks bs)) (tail_more c.self.inside.leaves.items c.self.inside.tail.items c.push-2.new.self.items c.args.block c.in_ok-push-2.ensures.items) ∙ count_push bs b in
+    omega (arith, n, t, k, c.in_ok-end.ensures.value, c.in_ok-end.ensures.few)
+
+pub returns : goal.returns
+returns c =
+    subst (λ bs. IfOk c.from_parts.result (λ l. l ≡ bs))
+    (tail_more c.self.inside.leaves.items c.self.inside.tail.items c.push-2.new.self.items c.args.block c.in_ok-push-2.ensures.items ∙ ap (λ bs. bs ++ arc_value c.args.block ∷ []) c.self.view_is)
+    c.from_parts.ensures

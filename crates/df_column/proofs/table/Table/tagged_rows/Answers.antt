@@ -1,0 +1,13 @@
+use Rattle.std.proofs.Common.{◌∙◌, ◌++◌, ◌+◌, ap, append_assoc, arith, drop, sym}
+use Rattle.std.specs.Arc.{arc_value}
+use Rattle.df_column.specs.Blocks.{block_rows, rows_of_blocks}
+use Rattle.df_column.proofs.TableLemmas.{rows_step}
+use Rattle.df_column.proofs.table.Table.tagged_rows.Goals as goal
+
+pub loop-at-preserved : goal.loop-at-preserved
+loop-at-preserved c =
+    let b = arc_value c.get.result.now in
+    let later = rows_of_blocks (drop (c.loop-at.at + 1) c.blocks-blocks.result.now) in
+    let step = rows_step c.blocks-blocks.result.now c.loop-at.at b (omega (arith, c.len-at-end.ensures, c.loop-at-test.true)) (c.get.ensures b) in
+    ap (λ out. out ++ later) (c.in_ok-push_tagged_rows.ensures ∙ ap (λ p. c.loop-at.out.items ++ block_rows p) c.deref.ensures)
+    ∙ append_assoc c.loop-at.out.items (block_rows b) later ∙ ap (λ rs. c.loop-at.out.items ++ rs) (sym step) ∙ c.loop-at.invariant
