@@ -246,8 +246,12 @@ pub ends_length : (old : List ℕ) (n : ℕ) (bs : List BlockParts) → old ≡ 
 ends_length old n bs e = ap length e ∙ length_ends n bs
 
 -- a list with one leaf more, which has the blocks of another one
+pub record HasLeafMore (ls grown : List Leaf) (shared : Leaf) (tail : List (Arc BlockParts Global)) (more : List ℕ) : Type 0 where
+  pub same : blocks_in grown tail ≡ blocks_in ls tail ++ leaf_blocks shared
+  pub list : IsBlockList grown tail more
+
 pub leaf_added : (ls grown : List Leaf) (l shared : Leaf) (tail : List (Arc BlockParts Global)) (ends more : List ℕ) → IsBlockList ls tail ends → tail ≡ [] → length (leaf_blocks shared) ≡ 32 → leaf_blocks l ≡ leaf_blocks shared → grown ≡ ls ++ l ∷ []
-    → more ≡ ends ++ ends_of (last_of ends) (leaf_blocks shared) → last_of ends + length (rows_of_blocks (leaf_blocks shared)) ≤ 2 ^ 60 → record { same : blocks_in grown tail ≡ blocks_in ls tail ++ leaf_blocks shared; list : IsBlockList grown tail more }
+    → more ≡ ends ++ ends_of (last_of ends) (leaf_blocks shared) → last_of ends + length (rows_of_blocks (leaf_blocks shared)) ≤ 2 ^ 60 → HasLeafMore ls grown shared tail more
 leaf_added ls grown l shared tail ends more h none full own e f few =
     let bs = blocks_in ls tail in
     let front : blocks_of_leaves ls ≡ bs = sym (ap (λ t. blocks_of_leaves ls ++ map arc_value t) none ∙ append-nil (blocks_of_leaves ls)) in

@@ -40,8 +40,8 @@ fn with_shared(alloc: Global, out: BlockList, block: &Arc<Block>) -> Result<Bloc
     Ok(made)
 }
 
-/// The list with a block of the picked rows behind it, behind all rows of these tags and columns if `whole` says so, as [`Block::picked`]
-/// makes it.
+/// The list with one block behind it: of the picked rows, after all rows of these tags and columns if `whole` says so, as
+/// [`Block::picked`] makes it.
 pub fn with_picked(
     alloc: Global,
     out: BlockList,
