@@ -18,9 +18,9 @@ use Rattle.df_column.specs.declared.tag.Tag.{Tag}
 use Rattle.df_delta.specs.Deltas.{RowsFit}
 use Rattle.df_delta.specs.Differences.{IsDiff}
 use Rattle.df_catalogue.specs.FrameParts.{frame_state}
-use Rattle.df_catalogue.specs.FrameTables.{IsTabled, at_tag, coming_row, numbered_row, numbered_rows, row_tag, set_rows, tagged_rows_of}
+use Rattle.df_catalogue.specs.FrameTables.{IsNumberedTable, IsTabled, at_tag, coming_row, numbered_row, numbered_rows, row_tag, set_rows, tagged_rows_of}
 use Rattle.df_catalogue.specs.Frames.{has_row, is_numbered_row, is_row_at, numbers_of, rows_of, with_chunk, with_replaced_rows, without_rows, IsNumbered}
-use Rattle.df_catalogue.specs.Numbers.{has_number, is_rising}
+use Rattle.df_catalogue.specs.Numbers.{are_below, has_number, is_rising}
 use Rattle.df_catalogue.specs.Refusals.{first_not_live, first_taken}
 use Rattle.df_catalogue.specs.States.{empty_frame}
 use Rattle.df_catalogue.specs.declared.state.FrameState.{FrameState}
@@ -32,7 +32,7 @@ use Rattle.df_catalogue.proofs.Rising.{all-filter, rising-block, rising-filter}
 use Rattle.df_catalogue.proofs.RowLookups.{first_of, found, found-put, found-replaced, found-without, none-new, none-old}
 use Rattle.df_catalogue.proofs.TagFacts.{is_tag, same-tag, tag-itself, tags-rise}
 
-abbrev Rows : Type 0
+abbrev pub Rows : Type 0
 Rows = List (ℕ × List Cell)
 
 -- ---- the rows of a table behind their numbers
@@ -125,25 +125,32 @@ tag-at-place t e place d within =
 
 -- so what is read of a place says its number
 pub tag-read :
-    (t : TaggedRows) → map at_tag (numbered_rows t) ≡ finite.entries t → (f : FrameState) → numbered_rows t ≡ f.rows → (place : ℕ) → place < length f.rows →
-    (q : Tag) → ((d : Tag × List Cell) → q ≡ (get_or (finite.entries t) place d).0) → q.first ≡ get_or (numbers_of f) place 0 + 1
-tag-read t e f is place within q read =
+    (t : TaggedRows) → IsNumberedTable t → (place : ℕ) → place < length (numbered_rows t) →
+    (q : Tag) → ((d : Tag × List Cell) → q ≡ (get_or (finite.entries t) place d).0) → q.first ≡ get_or (map (λ r. r.0) (numbered_rows t)) place 0 + 1
+tag-read t h place within q read =
     let none : Tag × List Cell = (row_tag 0, []) in
-    ap (λ (x : Tag). x.first) (read none ∙ tag-at-place t e place none (subst (λ (rows : Rows). place < length rows) (sym is) within))
-    ∙ ap (λ (rows : Rows). get_or (map (λ r. r.0) rows) place 0 + 1) is
+    ap (λ (x : Tag). x.first) (read none ∙ tag-at-place t h.tags place none within)
 
 all-at : (p : ℕ → Bool) (ns : List ℕ) (i : ℕ) → i < length ns → list_all p ns ≡ true → p (get_or ns i 0) ≡ true
 all-at p [] i within h = absurd (omega (arith, within))
 all-at p (n ∷ ns) zero within h = (and_parts (p n) (list_all p ns) h).0
 all-at p (n ∷ ns) (suc i) within h = all-at p ns i (omega (arith, within)) (and_parts (p n) (list_all p ns) h).1
 
--- the numbers of a sound frame's rows are below 2^32
-pub number-below : (f : FrameState) → IsNumbered f → (place : ℕ) → place < length f.rows → get_or (numbers_of f) place 0 < limits.row_numbers
-number-below f h place within =
-    let long : length (numbers_of f) ≡ length f.rows = length-map f.rows (λ r. r.0) in
-    let below : list_all (λ n. nat_lt n limits.row_numbers) (numbers_of f) ≡ true =
-    ap (list_all (λ n. nat_lt n limits.row_numbers)) h.left ∙ all-filter (λ n. nat_lt n limits.row_numbers) (λ n. not (has_number f.deleted n)) f.accepted h.below in
-    ltb-true (get_or (numbers_of f) place 0) limits.row_numbers (all-at (λ n. nat_lt n limits.row_numbers) (numbers_of f) place (omega (arith, long, within)) below)
+-- and this number is below 2^32
+pub number-below : (t : TaggedRows) → IsNumberedTable t → (place : ℕ) → place < length (numbered_rows t) → get_or (map (λ r. r.0) (numbered_rows t)) place 0 < limits.row_numbers
+number-below t h place within =
+    let numbers : List ℕ = map (λ r. r.0) (numbered_rows t) in
+    let long : length numbers ≡ length (numbered_rows t) = length-map (numbered_rows t) (λ r. r.0) in
+    ltb-true (get_or numbers place 0) limits.row_numbers (all-at (λ n. nat_lt n limits.row_numbers) numbers place (omega (arith, long, within)) h.below)
+
+-- the table of a sound frame has numbers
+pub frame-numbered : (f : FrameState) → IsNumbered f → (t : TaggedRows) → map at_tag (numbered_rows t) ≡ finite.entries t → numbered_rows t ≡ f.rows → IsNumberedTable t
+frame-numbered f h t tags is = record {
+  tags = tags;
+  below =
+      ap (λ (rows : Rows). are_below limits.row_numbers (map (λ r. r.0) rows)) is
+      ∙ (ap (are_below limits.row_numbers) h.left ∙ all-filter (λ n. nat_lt n limits.row_numbers) (λ n. not (has_number f.deleted n)) f.accepted h.below);
+}
 
 -- ---- the table of a frame that has accepted nothing
 

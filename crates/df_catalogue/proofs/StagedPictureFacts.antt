@@ -16,11 +16,11 @@ use Rattle.df_catalogue.specs.FrameParts.{FrameParts, schemas_of, states_of}
 use Rattle.df_catalogue.specs.FrameTables.{table_parts}
 use Rattle.df_catalogue.specs.Frames.{rows_of}
 use Rattle.df_catalogue.specs.LiveViews.{tagged_frames, view_state, AreStaged}
-use Rattle.df_catalogue.specs.Pictures.{PictureParts, named_rows, named_rows_in, picture_of, planned_rows, rows_in}
+use Rattle.df_catalogue.specs.Pictures.{AreNumberedTables, PictureParts, named_rows, named_rows_in, numbered_rows_in, picture_of, planned_rows, rows_in}
 use Rattle.df_catalogue.specs.Staging.{frames_with, state_with_rows, IsStagedFrame}
 use Rattle.df_catalogue.proofs.LiveFacts.{frames-rows}
 use Rattle.df_catalogue.proofs.Loops.{mapped-more}
-use Rattle.df_catalogue.proofs.PictureFacts.{frames-seen}
+use Rattle.df_catalogue.proofs.PictureFacts.{frames-seen, tables-numbered}
 
 -- one view more, with what was staged for it
 pub staged-more :
@@ -45,16 +45,23 @@ planned-views frames (v ∷ vs) same = λ i. (v.name, (table_of v.live.plan.plan
 -- the tables with the changed one, and the views with what was staged for them, have the picture of the state with the rows
 pub rows-pictured :
     (frames : List FrameParts) (views : List View) (r : StagedFrame) (tables : List TableParts) (p : PictureParts) → IsStagedFrame frames views r →
-    tables ≡ slice_set (map table_parts frames) r.frame (table_parts r.changed) → p.frames ≡ map rows_in tables →
+    tables ≡ slice_set (map table_parts frames) r.frame (table_parts r.changed) → p.frames ≡ map numbered_rows_in tables →
     p.views ≡ map (planned_rows (tagged_frames (states_of (frames_with frames r)))) views →
     p ≡ picture_of (state_with_rows frames views r)
 rows-pictured frames views r tables p sound set of_frames of_views =
     let new : List FrameParts = frames_with frames r in
-    let here : p.frames ≡ map rows_of (states_of new) =
-    of_frames ∙ (ap (map rows_in) (set ∙ sym (map-set table_parts frames r.frame r.changed)) ∙ frames-seen new sound.legal.frames) in
+    let here : p.frames ≡ map (λ f. f.rows) (states_of new) =
+    of_frames ∙ (ap (map numbered_rows_in) (set ∙ sym (map-set table_parts frames r.frame r.changed)) ∙ frames-seen new sound.legal.frames) in
     let there : p.views ≡ map named_rows (refreshed_views (states_of new) (map view_state views)) =
     of_views ∙ planned-views (states_of new) views (frames-rows (schemas_of new) (states_of new) sound.legal.frames) in
     λ i. record { frames = here i; views = there i }
+
+-- the changed table and the others have numbers
+pub rows-numbered :
+    (frames : List FrameParts) (views : List View) (r : StagedFrame) (tables : List TableParts) → IsStagedFrame frames views r →
+    tables ≡ slice_set (map table_parts frames) r.frame (table_parts r.changed) → AreNumberedTables tables
+rows-numbered frames views r tables sound set =
+    tables-numbered (frames_with frames r) tables sound.legal.frames (set ∙ sym (map-set table_parts frames r.frame r.changed))
 
 -- one view more, and one less
 pub pictured-last :

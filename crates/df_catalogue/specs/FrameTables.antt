@@ -1,8 +1,9 @@
 -- How the rows of a frame stand in a table: the row of number n at the tag (n + 1, 0, 0).
-use Rattle.std.specs.Prelude.{◌≡◌, ℕ, ◌+◌, ◌-◌, List, [], ◌∷◌, length, map, Option}
+use Rattle.std.specs.Prelude.{◌≡◌, ℕ, ◌+◌, ◌-◌, List, [], ◌∷◌, length, map, Option, IsTrue}
 use Rattle.std.specs.FinMap as finite
 use Rattle.std.specs.BTreeMap.{BTreeMap, IsOrdered, get}
 use Rattle.df_value.specs.declared.cell.Cell.{Cell}
+use Rattle.df_value.specs.Limits as limits
 use Rattle.df_column.specs.Changes.{Change, set_at}
 use Rattle.df_column.specs.Tables.{TableParts, TaggedRows}
 use Rattle.df_column.specs.Tags.{tag_cmp}
@@ -10,6 +11,7 @@ use Rattle.df_column.specs.declared.tag.Tag.{Tag}
 use Rattle.df_delta.specs.Deltas.{coming}
 use Rattle.df_catalogue.specs.declared.state.FrameState.{FrameState}
 use Rattle.df_catalogue.specs.FrameParts.{FrameParts, deleted_numbers}
+use Rattle.df_catalogue.specs.Numbers.{are_below}
 
 -- the tag of a row number
 abbrev pub row_tag : ℕ → Tag
@@ -34,6 +36,11 @@ numbered_row e = (e.0.first - 1, e.1)
 -- the rows of a table behind the numbers of their tags
 abbrev pub numbered_rows : TaggedRows → List (ℕ × List Cell)
 numbered_rows t = map numbered_row (finite.entries t)
+
+-- the tag of each row of a table is that of a number below 2^32
+pub record IsNumberedTable (t : TaggedRows) : Type 0 where
+  pub tags : map at_tag (numbered_rows t) ≡ finite.entries t
+  pub below : IsTrue (are_below limits.row_numbers (map (λ r. r.0) (numbered_rows t)))
 
 -- a frame's table and books are sound: each tag is that of its row's number, and the books are the sizes of the two
 -- sets of numbers

@@ -1,5 +1,5 @@
--- What readers see of a state: the rows of its frames, and its views by name with their rows.
-use Rattle.std.specs.Prelude.{◌≡◌, ℕ, List, map, option_map, unwrap_or, ok_or, find, slice_get, bytes_eq, Result}
+-- What readers see of a state: the rows of its frames behind their numbers, and its views by name with their rows.
+use Rattle.std.specs.Prelude.{◌≡◌, ℕ, List, length, map, Option, option_map, unwrap_or, ok_or, find, slice_get, bytes_eq, Result}
 use Rattle.df_value.specs.declared.cell.Cell.{Cell}
 use Rattle.df_catalogue.specs.declared.fault.CatalogueFault.{CatalogueFault}
 use Rattle.df_catalogue.specs.declared.fault.CatalogueFault.TheVariants as fault
@@ -10,14 +10,17 @@ use Rattle.df_catalogue.specs.declared.state.ViewState.{ViewState}
 use Rattle.df_catalogue.specs.declared.views.View.{View}
 use Rattle.df_column.specs.Tables.{TableParts, TaggedRows}
 use Rattle.df_live.specs.Frames.{rows_of_frames}
+use Rattle.df_plan.specs.CheckedParts.{CheckedParts}
 use Rattle.df_plan.specs.Meaning.{table_of}
 use Rattle.std.specs.FinMap as finite
-use Rattle.df_catalogue.specs.Frames.{rows_of}
+use Rattle.std.specs.List.{AllByRecursion}
+use Rattle.df_catalogue.specs.FrameTables.{IsNumberedTable, numbered_rows}
 use Rattle.df_catalogue.specs.States.{IsLegal}
 
--- the rows of each frame by rising number, and each view's name with its rows, in order of registration
+-- the rows of each frame behind their numbers, by rising number, and each view's name with its rows, in order of
+-- registration
 pub record PictureParts : Type 0 where
-  pub frames : List (List (List Cell))
+  pub frames : List (List (ℕ × List Cell))
   pub views : List (List ℕ × List (List Cell))
 
 -- a view's name with its rows
@@ -26,7 +29,7 @@ named_rows v = (v.name, v.table)
 
 -- the picture of a state
 abbrev pub picture_of : State → PictureParts
-picture_of s = record { frames = map rows_of s.frames; views = map named_rows s.views }
+picture_of s = record { frames = map (λ f. f.rows) s.frames; views = map named_rows s.views }
 
 -- the state once what is staged is committed; the state now where nothing is
 abbrev pub next_state : CatalogueParts → State
@@ -37,19 +40,37 @@ abbrev pub planned_rows : List TaggedRows → View → List ℕ × List (List Ce
 planned_rows frames v = (v.name, (table_of v.live.plan.plan v.live.plan.frames (rows_of_frames frames)).rows)
 
 -- what contracts see of a picture's tables
+abbrev pub numbered_rows_in : TableParts → List (ℕ × List Cell)
+numbered_rows_in t = numbered_rows t.rows
+
 abbrev pub rows_in : TableParts → List (List Cell)
 rows_in t = finite.values t.rows
 
 abbrev pub named_rows_in : PicturedView → List ℕ × List (List Cell)
 named_rows_in v = (v.name, rows_in v.table)
 
+-- the tag of each row of each table is that of a number below 2^32
+abbrev pub AreNumberedTables : List TableParts → Type 0
+AreNumberedTables tables = AllByRecursion (λ t. IsNumberedTable t.rows) tables
+
 -- it is the picture of a legal state
 abbrev pub IsPictureOfLegal : PictureParts → Type 0
 IsPictureOfLegal p = (s : State) × IsLegal s × (p ≡ picture_of s)
 
--- what is read of a picture: the rows of a frame, and those of the view of a name
+-- what is read of a picture: the rows of a frame, their numbers, and how many they are
 abbrev pub frame_rows_in : PictureParts → ℕ → Result (List (List Cell)) CatalogueFault
-frame_rows_in p f = ok_or (slice_get p.frames f) fault.NoFrame
+frame_rows_in p f = ok_or (option_map (map (λ r. r.1)) (slice_get p.frames f)) fault.NoFrame
 
+abbrev pub frame_numbers_in : PictureParts → ℕ → Result (List ℕ) CatalogueFault
+frame_numbers_in p f = ok_or (option_map (map (λ r. r.0)) (slice_get p.frames f)) fault.NoFrame
+
+abbrev pub frame_len_in : PictureParts → ℕ → Option ℕ
+frame_len_in p f = option_map length (slice_get p.frames f)
+
+-- the rows of the view of a name
 abbrev pub view_rows_in : PictureParts → List ℕ → Result (List (List Cell)) CatalogueFault
 view_rows_in p name = ok_or (option_map (λ v. v.1) (find (λ v. bytes_eq v.0 name) p.views)) fault.NoView
+
+-- the value of a plan over the frames
+abbrev pub value_in : PictureParts → CheckedParts → List (List Cell)
+value_in p plan = (table_of plan.plan plan.frames (map (map (λ r. r.1)) p.frames)).rows

@@ -14,6 +14,7 @@ use crate::deltas::{delta_at, delta_of_rows, row_tag};
 use crate::frame_change::FrameChange;
 use crate::numbered::HasNumber;
 use crate::ranges::Ranges;
+use crate::row_numbers::{number_at, row_numbers};
 use df_column::Table;
 use df_delta::{Delta, apply};
 use df_value::{Chunk, Duplicate, List, MOST_ROWS_OF_FRAME, Row, Schema};
@@ -106,11 +107,7 @@ impl Frame {
         requires { IsNumbered self.now.state }
         ensures { IfOk result (λ numbers. numbers ≡ numbers_of self.now.state) }
     {
-        let mut numbers = Vec::with_capacity(alloc, self.table.len())?;
-        for place in 0..self.table.len() {
-            numbers.push(self.number_at(place))?;
-        }
-        Ok(List::from_vec(numbers))
+        row_numbers(alloc, &self.table)
     }
 
     // The number of the row at this place.
@@ -119,7 +116,7 @@ impl Frame {
         requires within { place < length self.now.state.rows }
         ensures { result ≡ slice_index (numbers_of self.now.state) place }
     {
-        (self.table.tag(place).first - 1) as u32
+        number_at(&self.table, place)
     }
 
     /// Whether the row at this place has this number and these cells.

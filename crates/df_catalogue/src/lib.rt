@@ -22,6 +22,7 @@ mod picture;
 mod ranges;
 mod reading;
 mod replay;
+mod row_numbers;
 mod schemas;
 mod staged;
 mod staged_pictures;

@@ -2,12 +2,15 @@
 ghost use Rattle.std.specs.Prelude.{◌≡◌, ◌<◌, IfOk, IfSome, bytes_eq, find, length, map, option_map, position, slice_get};
 ghost use Rattle.std.specs.Option.{option_copied};
 ghost use Rattle.df_catalogue.specs.Answers.{AnswersMemoryLast};
+ghost use Rattle.df_catalogue.specs.FrameTables.{IsNumberedTable};
 ghost use Rattle.df_catalogue.specs.LiveViews.{view_state};
 ghost use Rattle.df_catalogue.specs.Pictures as pictures;
 
 use crate::fault::CatalogueFault;
+use crate::row_numbers::row_numbers;
 use crate::views::View;
 use df_column::Table;
+use df_plan::{CheckedPlan, evaluate};
 use df_value::{Duplicate, List, Row, Text};
 use std::alloc::{AllocError, Global};
 use std::marker::Model;
@@ -20,7 +23,8 @@ pub(crate) struct PicturedView {
 }
 
 /// The tables of a catalogue's frames and views, which no later change touches. They share the blocks of
-/// the catalogue's own tables, so that a picture takes little memory. Contracts see the rows.
+/// the catalogue's own tables, so that a picture takes little memory. Contracts see the rows, a frame's behind their
+/// numbers.
 #[derive(Drop)]
 pub struct Picture {
     frames: Vec<Table>,
@@ -29,20 +33,23 @@ pub struct Picture {
 
 impl Model for Picture {
     ghost use Rattle.std.specs.Prelude.{map};
-    ghost use Rattle.df_catalogue.specs.Pictures.{PictureParts, named_rows_in, rows_in};
+    ghost use Rattle.df_catalogue.specs.Pictures.{AreNumberedTables, PictureParts, named_rows_in, numbered_rows_in};
 
     ghost Value = { PictureParts };
 
     ghost view = { λ p. record {
-      frames = map rows_in p.frames.items;
+      frames = map numbered_rows_in p.frames.items;
       views = map named_rows_in p.views.items;
     } };
+
+    ghost invariant = { λ p. AreNumberedTables p.frames.items };
 }
 
 impl Picture {
     /// The picture of these tables.
     pub(crate) fn of(frames: Vec<Table>, views: Vec<PicturedView>) -> Picture
-        ensures frames { result.frames ≡ map pictures.rows_in frames.items }
+        requires { pictures.AreNumberedTables frames.items }
+        ensures frames { result.frames ≡ map pictures.numbered_rows_in frames.items }
         ensures views { result.views ≡ map pictures.named_rows_in views.items }
     {
         Picture { frames, views }
@@ -56,6 +63,25 @@ impl Picture {
             Some(table) => Ok(List::from_vec(table.rows(alloc)?)),
             None => Err(CatalogueFault::NoFrame),
         }
+    }
+
+    /// The numbers of the rows of a frame, rising, in step with
+    /// [`frame_rows`](Picture::frame_rows), or that there is no such frame (C11).
+    pub fn frame_numbers(&self, alloc: Global, frame: usize) -> Result<List<u32>, CatalogueFault>
+        ensures { AnswersMemoryLast (pictures.frame_numbers_in self.now frame) result }
+    {
+        match self.frame_table(frame) {
+            Some(table) => Ok(row_numbers(alloc, table)?),
+            None => Err(CatalogueFault::NoFrame),
+        }
+    }
+
+    /// How many rows a frame has. It takes no memory.
+    pub fn frame_len(&self, frame: usize) -> Option<u64>
+        ensures { result ≡ pictures.frame_len_in self.now frame }
+    {
+        let table = self.frame_table(frame)?;
+        Some(table.len() as u64)
     }
 
     /// The table of a view, or that no view has the name (C8).
@@ -75,10 +101,20 @@ impl Picture {
         names_in(alloc, self.views.as_slice())
     }
 
+    /// The table of a plan over the frames of the picture, by the plain evaluator, whose time may grow with the square
+    /// of the rows: a check of the live views compares it with [`view_rows`](Picture::view_rows).
+    pub fn computed_rows(&self, alloc: Global, plan: &CheckedPlan) -> Result<List<Row>, AllocError>
+        ensures { IfOk result (λ rows. rows ≡ pictures.value_in self.now plan.now) }
+    {
+        let frames = rows_of_tables(alloc, self.frames.as_slice())?;
+        evaluate(alloc, plan, frames.as_slice())
+    }
+
     // The table of the frame of this index.
     fn frame_table(&self, frame: usize) -> Option<&Table>
-        ensures { option_map pictures.rows_in (option_copied result)
+        ensures rows { option_map pictures.numbered_rows_in (option_copied result)
             ≡ slice_get self.now.frames frame }
+        ensures numbered { IfSome (option_copied result) (λ t. IsNumberedTable t.rows) }
     {
         self.frames.get(frame)
     }
@@ -90,6 +126,17 @@ impl Picture {
     {
         table_named(self.views.as_slice(), name)
     }
+}
+
+// The rows of the tables.
+fn rows_of_tables(alloc: Global, tables: &[Table]) -> Result<Vec<List<Row>>, AllocError>
+    ensures { IfOk result (λ rows. rows.items ≡ map pictures.rows_in tables.now) }
+{
+    let mut rows = Vec::with_capacity(alloc, tables.len())?;
+    for table in tables {
+        rows.push(List::from_vec(table.rows(alloc)?))?;
+    }
+    Ok(rows)
 }
 
 // The names of the views.

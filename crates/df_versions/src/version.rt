@@ -5,6 +5,7 @@ ghost use Rattle.df_catalogue.specs.Answers.{AnswersMemoryLast};
 ghost use Rattle.df_catalogue.specs.Pictures as pictures;
 ghost use Rattle.df_catalogue.specs.Pictures.{IsPictureOfLegal, picture_of};
 ghost use Rattle.df_catalogue.specs.Reads as reads;
+ghost use Rattle.df_catalogue.specs.States.{value_over};
 ghost use Rattle.df_catalogue.specs.declared.state.State.{State};
 ghost use Rattle.df_versions.specs.Histories.{last_state};
 
@@ -12,6 +13,7 @@ use crate::history::History;
 use atomic_table::{Join, Split};
 use crossbeam_utils::rule::{Outcome, Protocol};
 use df_catalogue::{CatalogueFault, Picture};
+use df_plan::CheckedPlan;
 use df_value::{List, Row, Text};
 use left_right::Absorb;
 use left_right::writer::Writer;
@@ -63,6 +65,26 @@ impl Version {
         self.picture.frame_rows(alloc, frame)
     }
 
+    /// The numbers of the rows of a frame, rising, in step with
+    /// [`frame_rows`](Version::frame_rows), or that there is no such frame (C11).
+    pub fn frame_numbers(&self, alloc: Global, frame: usize) -> Result<List<u32>, CatalogueFault>
+        ensures answer { AnswersMemoryLast (pictures.frame_numbers_in self.now.1 frame) result }
+        ensures state { (s : State) → self.now.1 ≡ picture_of s
+            → AnswersMemoryLast (reads.frame_numbers_of s frame) result }
+        ensures legal { IsPictureOfLegal self.now.1 }
+    {
+        self.picture.frame_numbers(alloc, frame)
+    }
+
+    /// How many rows a frame has. It takes no memory.
+    pub fn frame_len(&self, frame: usize) -> Option<u64>
+        ensures answer { result ≡ pictures.frame_len_in self.now.1 frame }
+        ensures state { (s : State) → self.now.1 ≡ picture_of s → result ≡ reads.live_of s frame }
+        ensures legal { IsPictureOfLegal self.now.1 }
+    {
+        self.picture.frame_len(frame)
+    }
+
     /// The table of a view, or that no view has the name (C8).
     pub fn view_rows(&self, alloc: Global, name: &str) -> Result<List<Row>, CatalogueFault>
         ensures answer { AnswersMemoryLast (pictures.view_rows_in self.now.1 name.now) result }
@@ -79,6 +101,17 @@ impl Version {
         ensures legal { IsPictureOfLegal self.now.1 }
     {
         self.picture.view_names(alloc)
+    }
+
+    /// The table of a plan over the frames of this version, by the plain evaluator, whose time may grow with the square
+    /// of the rows: a check of a view, whose plan it is, compares it with [`view_rows`](Version::view_rows).
+    pub fn computed_rows(&self, alloc: Global, plan: &CheckedPlan) -> Result<List<Row>, AllocError>
+        ensures answer { IfOk result (λ rows. rows ≡ pictures.value_in self.now.1 plan.now) }
+        ensures state { (s : State) → self.now.1 ≡ picture_of s
+            → IfOk result (λ rows. rows ≡ value_over s.frames plan.now) }
+        ensures legal { IsPictureOfLegal self.now.1 }
+    {
+        self.picture.computed_rows(alloc, plan)
     }
 }
 

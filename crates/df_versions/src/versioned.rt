@@ -1,8 +1,8 @@
 //! A catalogue of which each change is published: what stands behind the lock of a hall.
-ghost use Rattle.std.specs.Prelude.{◌≡◌, Some, OnErr, OnOk, option_map};
+ghost use Rattle.std.specs.Prelude.{◌≡◌, Some, OnErr, OnOk, length, option_map};
 ghost use Rattle.df_catalogue.specs.declared.change.Change.TheVariants.{Append, Delete, DropView, Register, Replace};
 ghost use Rattle.df_catalogue.specs.Desks.{desk_after};
-ghost use Rattle.df_versions.specs.Histories.{last_state};
+ghost use Rattle.df_versions.specs.Histories.{IsHistory, last_state};
 
 use crate::entering::{enter_rows, enter_views, report};
 use crate::fault::ChangeFault;
@@ -58,6 +58,26 @@ impl<Acc: Ledger, Del: Ledger, J: Naming> VersionedCatalogue<Acc, Del, J> {
             catalogue,
             publisher,
         }
+    }
+
+    /// What [`VersionedCatalogue::over`] was given.
+    pub fn into_parts(self) -> (Catalogue<Acc, Del>, Publisher<J>)
+        ensures publisher { result.1 ≡ self }
+        ensures state { last_state result.1 ≡ Some result.0.state }
+    {
+        let VersionedCatalogue {
+            catalogue,
+            publisher,
+        } = self;
+        (catalogue, publisher)
+    }
+
+    /// How many states its history has.
+    pub fn len(&self) -> u64
+        ensures length { result ≡ length self.now }
+        ensures lawful { IsHistory self.now }
+    {
+        self.publisher.len()
     }
 
     /// Waits until no reader is inside a step, and gives the catalogue back. Readers get no version from then on.

@@ -3,8 +3,12 @@ use Rattle.std.specs.Prelude.{slice_set}
 use Rattle.df_catalogue.specs.FrameParts.{states_of}
 use Rattle.df_catalogue.specs.LiveViews.{tagged_frames, AreStaged}
 use Rattle.df_catalogue.specs.Staging.{frames_with}
-use Rattle.df_catalogue.proofs.StagedPictureFacts.{rows-pictured}
+use Rattle.df_catalogue.proofs.StagedPictureFacts.{rows-numbered, rows-pictured}
 use Rattle.df_catalogue.proofs.staged_pictures.picture_with_rows.Goals as goal
+
+pub of-requires : goal.of-requires
+of-requires c =
+    rows-numbered c.args.frames.now c.args.views.now c.args.rows.now _ c.requires (λ i. slice_set (c.in_ok-tables.ensures i) c.args.rows.now.frame (c.in_ok-tables-2.ensures i))
 
 pub returns : goal.returns
 returns c =

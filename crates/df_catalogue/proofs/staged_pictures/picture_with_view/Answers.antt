@@ -1,7 +1,10 @@
 use Rattle.std.proofs.Common.{◌∙◌, ◌++◌, ◌∷◌, [], refl}
-use Rattle.df_catalogue.proofs.PictureFacts.{state-seen}
+use Rattle.df_catalogue.proofs.PictureFacts.{state-seen, tables-numbered}
 use Rattle.df_catalogue.proofs.StagedPictureFacts.{pictured-last}
 use Rattle.df_catalogue.proofs.staged_pictures.picture_with_view.Goals as goal
+
+pub of-requires : goal.of-requires
+of-requires c = tables-numbered c.args.frames.now c.in_ok-tables.tables.items c.requires c.in_ok-tables.ensures
 
 pub returns : goal.returns
 returns c =

@@ -1,8 +1,11 @@
 use Rattle.std.proofs.Common.{◌∙◌, refl}
 use Rattle.std.specs.Prelude.{remove}
-use Rattle.df_catalogue.proofs.PictureFacts.{state-seen}
+use Rattle.df_catalogue.proofs.PictureFacts.{state-seen, tables-numbered}
 use Rattle.df_catalogue.proofs.StagedPictureFacts.{pictured-less}
 use Rattle.df_catalogue.proofs.staged_pictures.picture_without_view.Goals as goal
+
+pub of-requires : goal.of-requires
+of-requires c = tables-numbered c.args.frames.now c.in_ok-tables.tables.items c.requires.sound c.in_ok-tables.ensures
 
 pub returns : goal.returns
 returns c =

@@ -1,8 +1,14 @@
-use Rattle.std.proofs.Common.{◌∙◌, ap}
+use Rattle.std.proofs.Common.{◌∙◌, ap, map}
+use Rattle.df_catalogue.specs.FrameTables.{table_parts}
 use Rattle.df_catalogue.specs.Pictures.{picture_of}
-use Rattle.df_catalogue.proofs.PictureFacts.{state-seen}
+use Rattle.df_catalogue.proofs.PictureFacts.{state-seen, tables-numbered}
 use Rattle.df_catalogue.proofs.StateFacts.{state-of}
 use Rattle.df_catalogue.proofs.catalogue.Catalogue.picture.Goals as goal
+
+pub of-requires : goal.of-requires
+of-requires g c =
+    tables-numbered c.self.inside.frames.items c.in_ok-frames.frames.items c.self.invariant.parts.legal.frames
+    (c.in_ok-frames.ensures ∙ ap (map table_parts) c.as_slice.ensures.value)
 
 pub returns-clause-picture : goal.returns-clause-picture
 returns-clause-picture g c =

@@ -1,33 +1,13 @@
-use Rattle.std.proofs.Common.{◌≡◌, ◌<◌, ◌≤◌, ◌∙◌, ◌++◌, ◌∷◌, [], get_or, length, ap, sym, arith}
-use Rattle.std.proofs.lemmas.List.{length-map, take_all, take_more}
+use Rattle.std.proofs.Common.{◌∙◌, ap}
+use Rattle.std.proofs.lemmas.Result.{IfOk-weaker}
 use Rattle.df_catalogue.specs.FrameParts.{FrameParts}
 use Rattle.df_catalogue.specs.Frames.{numbers_of}
-use Rattle.df_catalogue.proofs.FrameTableFacts.{table-length}
+use Rattle.df_catalogue.proofs.FrameTableFacts.{frame-numbered}
 use Rattle.df_catalogue.proofs.frame.Frame.numbers.Goals as goal
 
-pub number_at-requires-clause-within : goal.number_at-requires-clause-within
-number_at-requires-clause-within c =
-    let long : c.len-place-end.result ≡ length c.args.self.now.state.rows =
-    c.len-place-end.ensures.value ∙ (table-length c.self.inside.table.rows ∙ ap (λ (f : FrameParts). length f.state.rows) c.self.view_is) in
-    omega (arith, long, c.loop-place-test.true)
-
-pub loop-place-preserved : goal.loop-place-preserved
-loop-place-preserved c =
-    let numbers = numbers_of c.args.self.now.state in
-    let place = c.loop-place.place in
-    let long : c.len-place-end.result ≡ length c.args.self.now.state.rows =
-    c.len-place-end.ensures.value ∙ (table-length c.self.inside.table.rows ∙ ap (λ (f : FrameParts). length f.state.rows) c.self.view_is) in
-    let as-long = length-map c.args.self.now.state.rows (λ r. r.0) in
-    let within : place < length numbers = omega (arith, long, as-long, c.loop-place-test.true) in
-    c.in_ok-push.ensures.items
-    ∙ (ap (λ n. c.loop-place.numbers.items ++ n ∷ []) c.number_at.ensures
-    ∙ (ap (λ ns. ns ++ get_or numbers place 0 ∷ []) c.loop-place.invariant ∙ sym (take_more numbers place 0 within)))
+pub row_numbers-requires : goal.row_numbers-requires
+row_numbers-requires c =
+    frame-numbered c.args.self.now.state c.requires c.self.inside.table.rows c.self.invariant.tags (ap (λ (f : FrameParts). f.state.rows) c.self.view_is)
 
 pub returns : goal.returns
-returns c =
-    let numbers = numbers_of c.args.self.now.state in
-    let long : c.len-place-end.result ≡ length c.args.self.now.state.rows =
-    c.len-place-end.ensures.value ∙ (table-length c.self.inside.table.rows ∙ ap (λ (f : FrameParts). length f.state.rows) c.self.view_is) in
-    let as-long = length-map c.args.self.now.state.rows (λ r. r.0) in
-    let past : length numbers ≤ c.loop-place.place = omega (arith, long, as-long, c.loop-place-test.false) in
-    c.from_vec.ensures ∙ (c.loop-place.invariant ∙ take_all c.loop-place.place numbers past)
+returns c = IfOk-weaker c.row_numbers.result _ _ (λ made is. is ∙ ap (λ (f : FrameParts). numbers_of f.state) c.self.view_is) c.row_numbers.ensures
