@@ -1,9 +1,12 @@
 #!/usr/bin/env python3
-"""Runs sessions of the shell: sessions.py PROGRAM [--refuse] SESSION..
+"""Runs sessions of the shell: sessions.py PROGRAM [--hall] [--refuse] SESSION..
 
 NAME.session is a transcript over the document NAME.toml. A line `> COMMAND` is what is typed, `| LINE` a line of CSV
 behind an append, and `N| LINE` the same line N times; the lines below are the answer, and those above the first
 command are what the shell writes at its start. A command is sent only when the answer to the one before it is there.
+
+With --hall the program runs each with that word. A transcript has the answers of both: of `work` those without the word,
+and of `version` those with it. The other way round each of the two is refused.
 
 With --refuse each session runs again with each of its allocations refused in turn. A refusal at the start ends in
 `dfshell: memory` and status 2. One later is answered `memory`; the answers behind it are then those of the session
@@ -22,18 +25,23 @@ import threading
 HERE = os.path.dirname(os.path.abspath(__file__))
 SECONDS = 120
 MEMORY = b"memory\n"
+# What is refused with --hall, and what is without it.
+WITH_HALL = {b"work\n": b"? not with --hall\n"}
+WITHOUT_HALL = {b"version\n": b"? only with --hall\n"}
 
 
 class Session:
     """What is typed and what is answered, in turn. The first answer is the shell's start."""
 
-    def __init__(self, path):
+    def __init__(self, path, hall=False):
         self.path = path
         self.typed = [b""]
         self.answers = [b""]
         with open(path, "rb") as file:
             for line in file:
                 self.read(line)
+        refused = WITH_HALL if hall else WITHOUT_HALL
+        self.answers = [refused.get(typed, answer) for typed, answer in zip(self.typed, self.answers)]
 
     def read(self, line):
         command = re.match(rb"> ?(.*\n)", line)
@@ -53,8 +61,9 @@ class Session:
 class Runner:
     """Runs one session, and keeps what differs."""
 
-    def __init__(self, program, session):
-        self.command = [os.path.abspath(program), os.path.basename(session.path)[: -len("session")] + "toml"]
+    def __init__(self, program, words, session):
+        document = os.path.basename(session.path)[: -len("session")] + "toml"
+        self.command = [os.path.abspath(program), *words, document]
         self.folder = os.path.dirname(os.path.abspath(session.path))
         self.session = session
         self.wrong = []
@@ -164,9 +173,9 @@ def failing_library(folder):
     return library
 
 
-def run(program, path, library, folder):
-    session = Session(path)
-    runner = Runner(program, session)
+def run(program, words, path, library, folder):
+    session = Session(path, "--hall" in words)
+    runner = Runner(program, words, session)
     runner.converse()
     refused = 0
     if library and not runner.wrong:
@@ -177,10 +186,11 @@ def run(program, path, library, folder):
 
 def main(words):
     refuse = "--refuse" in words
-    program, *paths = [word for word in words if word != "--refuse"]
+    hall = [word for word in words if word == "--hall"]
+    program, *paths = [word for word in words if word not in ("--hall", "--refuse")]
     with tempfile.TemporaryDirectory() as folder, concurrent.futures.ThreadPoolExecutor(4) as pool:
         library = failing_library(folder) if refuse else None
-        results = list(pool.map(lambda path: run(program, path, library, folder), paths))
+        results = list(pool.map(lambda path: run(program, hall, path, library, folder), paths))
     wrong = [report for reports, _ in results for report in reports]
     for report in wrong[:20]:
         print(report)

@@ -26,6 +26,9 @@ use Rattle.df_text.specs.declared.document.FrameSpec.{FrameSpec}
 use Rattle.df_catalogue.specs.New.{new_fault}
 use Rattle.df_catalogue.specs.declared.fault.NewFault.{NewFault}
 use Rattle.df_catalogue.specs.declared.fault.NewFault.TheVariants as new_fault_as
+use Rattle.df_versions.specs.Openings.{fault_after, open_fault}
+use Rattle.df_versions.specs.declared.fault.OpenFault.{OpenFault}
+use Rattle.df_versions.specs.declared.fault.OpenFault.TheVariants as open_fault_as
 use Rattle.df_store.specs.declared.refused.Refused.{Refused}
 use Rattle.df_store.specs.Jobs.{numbered}
 use Rattle.df_store.specs.Refused.{refusal}
@@ -256,12 +259,12 @@ not-refused schemas frames e few base =
 
 -- a fault other than memory that is answered to them is no fault
 pub no-other-fault :
-    (schemas : List Columns) (frames : List FrameSpec) (f : NewFault) → schemas ≡ schemas_of frames → length frames ≤ 8 → All (λ (f : FrameSpec). is_base f.schema ≡ true) frames →
-    (f ≢ new_fault_as.Memory → new_fault schemas ≡ Some f) → f ≢ new_fault_as.Memory → ⊥
+    (schemas : List Columns) (frames : List FrameSpec) (f : OpenFault) → schemas ≡ schemas_of frames → length frames ≤ 8 → All (λ (f : FrameSpec). is_base f.schema ≡ true) frames →
+    (f ≢ open_fault_as.Memory → open_fault schemas 0 ≡ Some f) → f ≢ open_fault_as.Memory → ⊥
 no-other-fault schemas frames f e few base answered other =
-    let none = not-refused schemas frames e few base in
+    let none : open_fault schemas 0 ≡ None = ap (λ (n : Option NewFault). fault_after n 0) (not-refused schemas frames e few base) in
     let some = answered other in
     absurd (cc)
 
-pub derived-is-not-memory : (f : NewFault) (frame : ℕ) → f ≡ new_fault_as.DerivedType frame → f ≢ new_fault_as.Memory
+pub derived-is-not-memory : (f : OpenFault) (frame : ℕ) → f ≡ open_fault_as.DerivedType frame → f ≢ open_fault_as.Memory
 derived-is-not-memory f frame is = λ memory. absurd (cc)

@@ -76,6 +76,8 @@ csv_text csv.Memory = codes "memory"
 abbrev pub load_text : LoadCause → List ℕ
 load_text (load.Refused f) = codes "L7"
 load_text load.Memory = codes "memory"
+load_text load.Spent = codes "L6"
+load_text load.Ahead = codes "L8"
 load_text (load.MissingDesk frame) = codes "L5 " ++ decimal frame
 load_text (load.Lost job) = codes "L2 " ++ decimal job
 load_text (load.Unlike frame) = codes "L3 " ++ decimal frame

@@ -144,6 +144,8 @@ fn load_text(alloc: Global, cause: LoadCause) -> Result<String, AllocError>
     match cause {
         LoadCause::Refused(_) => String::from_str(alloc, "L7"),
         LoadCause::Memory => String::from_str(alloc, "memory"),
+        LoadCause::Spent => String::from_str(alloc, "L6"),
+        LoadCause::Ahead => String::from_str(alloc, "L8"),
         LoadCause::MissingDesk(frame) => format!(in alloc; "L5 {frame}"),
         LoadCause::Lost(job) => format!(in alloc; "L2 {job}"),
         LoadCause::Unlike(frame) => format!(in alloc; "L3 {frame}"),

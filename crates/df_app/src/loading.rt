@@ -12,12 +12,13 @@ use crate::fault::RunFault;
 use crate::opening::{SourcedDocument, copy_schemas};
 use crate::outcome::Output;
 use crate::output::output;
-use df_catalogue::{Desk, NewFault};
 use df_plan::CheckedPlan;
-use df_store::{Gate, Hall, LoadCause, load_all};
+use df_store::{Gate, LoadCause, OpenedHall, load_all};
 use df_text::{FrameSpec, ViewSpec};
 use df_value::{Duplicate, List, Text};
+use df_versions::{Naming, OpenFault};
 use std::alloc::{AllocError, Global};
+use std::marker::Brand;
 use std::sync::Wait;
 use std::sync::ledger::{Blank, Ledger};
 use std::thread::Threads;
@@ -53,13 +54,46 @@ pub(crate) fn load_output<
     ensures output { IfOk result (IsOutputOfLoad sourced.now) }
     ensures fault { IfErr result IsFaultOfLoad }
 {
-    let frames = sourced.document.frames.as_slice();
-    let (hall, desks) = open_hall::<Acc, Del>(alloc, accepted, deleted, frames)?;
+    // The headings come first: a hall that is there cannot just be dropped.
     let views = headings(
         alloc,
         sourced.document.views.as_slice(),
         sourced.plans.as_slice(),
     )?;
+    let frames = sourced.document.frames.as_slice();
+    let opened = open_hall::<Acc, Del, R>(rt, alloc, accepted, deleted, frames)?;
+    load_opened::<Acc, Del, Brand, G, R>(rt, alloc, opened, sourced, &views, workers, chunk, gate)
+}
+
+// The same in a hall that was opened, of a history with this name.
+fn load_opened<
+    Acc: Ledger + Send + Sync,
+    Del: Ledger + Send + Sync,
+    J: Naming + Send + Sync,
+    G: Gate + Sync,
+    R: Threads + Wait + Sync,
+>(
+    rt: &R,
+    alloc: Global,
+    opened: OpenedHall<Acc, Del>,
+    sourced: &SourcedDocument,
+    views: &Vec<(Text, CheckedPlan)>,
+    workers: usize,
+    chunk: usize,
+    gate: &G,
+) -> Result<Output, RunFault>
+    requires name { opened.0 ≡ J.book }
+    requires sound { IsDocument sourced.now.document }
+    requires sources { length sourced.now.sources ≡ length sourced.now.document.frames }
+    requires some { 1 ≤ chunk }
+    requires each { All (IsSourceOf chunk) sourced.now.sources }
+    requires views { views.now.items ≡ headings_in sourced.now.document.views sourced.now.plans }
+    ensures output { IfOk result (IsOutputOfLoad sourced.now) }
+    ensures fault { IfErr result IsFaultOfLoad }
+{
+    let _ = chunk;
+    let (hall, desks, _readers) = opened.named::<J>();
+    let frames = sourced.document.frames.as_slice();
     let sources = sourced.sources.as_slice();
     match load_all(
         rt,
@@ -76,14 +110,15 @@ pub(crate) fn load_output<
     }
 }
 
-// A hall over empty frames, with the first desk of each. To so few frames of base types nothing but
+// A hall over empty frames, with the first desk of each and no readers. To so few frames of base types nothing but
 // memory is refused.
-fn open_hall<Acc: Ledger, Del: Ledger>(
+fn open_hall<Acc: Ledger, Del: Ledger, R: Wait>(
+    rt: &R,
     alloc: Global,
     accepted: Blank,
     deleted: Blank,
     frames: &[FrameSpec],
-) -> Result<(Hall<Acc, Del>, Vec<Desk<Acc, Del>>), AllocError>
+) -> Result<OpenedHall<Acc, Del>, AllocError>
     requires accepted_name { accepted.name ≡ Acc.name }
     requires accepted_parts { (accepted.parts ≡ Acc.parts)
         × (accepted.parts ≡ ledgers.parts_of_ledger) }
@@ -92,15 +127,15 @@ fn open_hall<Acc: Ledger, Del: Ledger>(
         × (deleted.parts ≡ ledgers.parts_of_ledger) }
     requires few { length frames.now ≤ limits.most_frames }
     requires base { All (λ f. is_base f.schema ≡ true) frames.now }
-    ensures desks { IfOk result (λ made.
-        made.1.items ≡ desks_spec.first_desks (length frames.now)) }
+    ensures desks { IfOk result (λ o. o.1.1 ≡ desks_spec.first_desks (length frames.now)) }
 {
     let schemas = List::from_vec(copy_schemas(alloc, frames)?);
-    match Hall::new(alloc, accepted, deleted, schemas) {
-        Ok(made) => Ok(made),
-        Err(NewFault::Memory) => Err(AllocError),
-        Err(NewFault::TooManyFrames) => unreachable!(),
-        Err(NewFault::DerivedType(_)) => unreachable!(),
+    match OpenedHall::open(rt, alloc, accepted, deleted, schemas, 0) {
+        Ok(opened) => Ok(opened),
+        Err(OpenFault::Memory) => Err(AllocError),
+        Err(OpenFault::TooManyFrames) => unreachable!(),
+        Err(OpenFault::DerivedType(_)) => unreachable!(),
+        Err(OpenFault::TooManyReaders) => unreachable!(),
     }
 }
 

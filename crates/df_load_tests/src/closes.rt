@@ -1,66 +1,62 @@
 //! The close of a hall.
-ghost use Rattle.std.specs.Prelude.{◌≡◌};
-ghost use Rattle.df_catalogue.specs.Ledgers as ledgers;
-
-use crate::given::{chunk, opened};
-use df_catalogue::{Desk, PARTS_OF_LEDGER};
+use crate::given::{accepted, chunk};
+use crate::hall_test::HallTest;
+use df_catalogue::Desk;
 use df_store::{Hall, Missing};
+use df_versions::{Naming, Told};
 use std::alloc::Global;
-use std::marker::Brand;
 use std::process::Abort;
 use std::sync::Wait;
-use std::sync::ledger::{Blank, Ledger};
+use std::sync::ledger::Ledger;
 use std::test::Fail;
 
 // Three rows are accepted by a desk of the second frame and two by another one, which then deletes one of the three.
 // The desks, but for that other one, which comes alone.
-fn work<Acc: Ledger, Del: Ledger, R: Wait>(
+fn work<Acc: Ledger, Del: Ledger, J: Naming, R: Wait>(
     rt: &R,
     alloc: Global,
-    hall: &Hall<Acc, Del>,
+    hall: &Hall<Acc, Del, J>,
     desks: Vec<Desk<Acc, Del>>,
 ) -> Result<(Vec<Desk<Acc, Del>>, Desk<Acc, Del>), Fail> {
     let mut desks = desks;
     let one = desks.get_mut(1).ok_or("a desk of the second frame")?;
     let mut other = one.split().ok_or("a second desk")?;
-    hall.commit_chunk(rt, alloc, one, &chunk(alloc, 0, 3)?)?;
-    hall.commit_chunk(rt, alloc, &mut other, &chunk(alloc, 3, 2)?)?;
-    hall.delete_rows(rt, alloc, &mut other, &[0])?;
+    let nothing: Option<Told<J>> = None;
+    accepted(hall.commit_chunk(rt, alloc, one, &chunk(alloc, 0, 3)?, nothing.as_ref()))?;
+    accepted(hall.commit_chunk(
+        rt,
+        alloc,
+        &mut other,
+        &chunk(alloc, 3, 2)?,
+        nothing.as_ref(),
+    ))?;
+    accepted(hall.delete_rows(rt, alloc, &mut other, &[0], nothing.as_ref()))?;
     Ok((desks, other))
 }
 
 // Closes a hall without the second desk of a frame, and then with it.
-fn close_twice<Acc: Ledger, Del: Ledger, R: Wait + Abort>(
+pub fn close_twice<Acc: Ledger, Del: Ledger, J: Naming, R: Wait + Abort>(
     rt: &R,
     alloc: Global,
-    accepted: Blank,
-    deleted: Blank,
-) -> Result<(), Fail>
-    requires accepted_name { accepted.name ≡ Acc.name }
-    requires accepted_parts { (accepted.parts ≡ Acc.parts)
-        × (accepted.parts ≡ ledgers.parts_of_ledger) }
-    requires deleted_name { deleted.name ≡ Del.name }
-    requires deleted_parts { (deleted.parts ≡ Del.parts)
-        × (deleted.parts ≡ ledgers.parts_of_ledger) }
-{
-    let (hall, desks) = opened::<Acc, Del>(alloc, accepted, deleted)?;
+    hall: Hall<Acc, Del, J>,
+    desks: Vec<Desk<Acc, Del>>,
+) -> Result<(), Fail> {
     match work(rt, alloc, &hall, desks) {
         Ok((desks, other)) => close_without(rt, hall, desks, other),
         Err(fail) => {
-            // A call costs the proof less than a drop at the end of a block.
-            drop(hall);
+            hall.end(rt);
             Err(fail)
         }
     }
 }
 
-fn close_without<Acc: Ledger, Del: Ledger, R: Abort>(
+fn close_without<Acc: Ledger, Del: Ledger, J: Naming, R: Wait + Abort>(
     rt: &R,
-    hall: Hall<Acc, Del>,
+    hall: Hall<Acc, Del, J>,
     desks: Vec<Desk<Acc, Del>>,
     other: Desk<Acc, Del>,
 ) -> Result<(), Fail> {
-    match hall.close(desks) {
+    match hall.close(rt, desks) {
         Err(missing) => close_with(rt, missing, other),
         Ok((catalogue, _)) => {
             drop(catalogue);
@@ -69,9 +65,9 @@ fn close_without<Acc: Ledger, Del: Ledger, R: Abort>(
     }
 }
 
-fn close_with<Acc: Ledger, Del: Ledger, R: Abort>(
+fn close_with<Acc: Ledger, Del: Ledger, J: Naming, R: Wait + Abort>(
     rt: &R,
-    missing: Missing<Acc, Del>,
+    missing: Missing<Acc, Del, J>,
     other: Desk<Acc, Del>,
 ) -> Result<(), Fail> {
     let Missing {
@@ -81,7 +77,7 @@ fn close_with<Acc: Ledger, Del: Ledger, R: Abort>(
     } = missing;
     assert!(rt; frame == 1 && desks.len() == 2);
     assert!(rt; desks.push(other).is_ok());
-    match hall.close(desks) {
+    match hall.close(rt, desks) {
         Ok((catalogue, totals)) => {
             assert!(rt; catalogue.live(1) == Some(4));
             drop(catalogue);
@@ -91,7 +87,12 @@ fn close_with<Acc: Ledger, Del: Ledger, R: Abort>(
             Ok(())
         }
         Err(missing) => {
-            drop(missing);
+            let Missing {
+                frame: _,
+                hall,
+                desks: _,
+            } = missing;
+            hall.end(rt);
             Err("all desks".into())
         }
     }
@@ -99,10 +100,5 @@ fn close_with<Acc: Ledger, Del: Ledger, R: Abort>(
 
 #[test]
 fn a_hall_closes_with_all_desks(rt: HostRuntime) -> Result<(), Fail> {
-    close_twice::<Brand, Brand, _>(
-        &rt,
-        rt.alloc(),
-        Blank::new(PARTS_OF_LEDGER),
-        Blank::new(PARTS_OF_LEDGER),
-    )
+    HallTest::Closes.run(&rt, rt.alloc())
 }

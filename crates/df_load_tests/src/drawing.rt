@@ -1,17 +1,14 @@
 //! A worker that is free draws the next job, while another one is held.
-ghost use Rattle.std.specs.Prelude.{◌≡◌};
-ghost use Rattle.df_catalogue.specs.Ledgers as ledgers;
-
-use crate::given::{opened, views};
-use crate::pairs::Pairs;
-use df_catalogue::PARTS_OF_LEDGER;
-use df_store::{Gate, Loaded, load_all};
+use crate::hall_test::HallTest;
+use crate::pairs_load::PairsLoad;
+use df_catalogue::Desk;
+use df_store::{Gate, Hall, Loaded};
+use df_versions::Naming;
 use std::alloc::Global;
-use std::marker::Brand;
 use std::process::Abort;
 use std::sync::Wait;
 use std::sync::atomic::{AtomicBool, Ordering};
-use std::sync::ledger::{Blank, Ledger};
+use std::sync::ledger::Ledger;
 use std::test::Fail;
 use std::thread;
 use std::thread::Threads;
@@ -43,26 +40,38 @@ impl Gate for HoldsFirst {
 
 // Two workers load three chunks of a frame. Were the jobs shared out beforehand, the worker of job 0 would have job 2
 // too, and the gate would never open.
-fn load_while_held<
+pub fn load_while_held<
     Acc: Ledger + Send + Sync,
     Del: Ledger + Send + Sync,
+    J: Naming + Send + Sync,
     R: Threads + Wait + Abort + Sync,
->(rt: &R, alloc: Global, accepted: Blank, deleted: Blank) -> Result<(), Fail>
-    requires accepted_name { accepted.name ≡ Acc.name }
-    requires accepted_parts { (accepted.parts ≡ Acc.parts)
-        × (accepted.parts ≡ ledgers.parts_of_ledger) }
-    requires deleted_name { deleted.name ≡ Del.name }
-    requires deleted_parts { (deleted.parts ≡ Del.parts)
-        × (deleted.parts ≡ ledgers.parts_of_ledger) }
-{
-    let views = views(alloc, &["t"])?;
-    let sources = [Pairs::new(alloc, 3, 2)?, Pairs::new(alloc, 0, 2)?];
+>(rt: &R, alloc: Global, hall: Hall<Acc, Del, J>, desks: Vec<Desk<Acc, Del>>) -> Result<(), Fail> {
+    match PairsLoad::new(alloc, &["t"], [(3, 2), (0, 2)]) {
+        Ok(load) => run_held(rt, alloc, hall, desks, &load),
+        Err(_) => {
+            hall.end(rt);
+            Err("memory".into())
+        }
+    }
+}
+
+fn run_held<
+    Acc: Ledger + Send + Sync,
+    Del: Ledger + Send + Sync,
+    J: Naming + Send + Sync,
+    R: Threads + Wait + Abort + Sync,
+>(
+    rt: &R,
+    alloc: Global,
+    hall: Hall<Acc, Del, J>,
+    desks: Vec<Desk<Acc, Del>>,
+    load: &PairsLoad,
+) -> Result<(), Fail> {
     let gate = HoldsFirst {
         last_passed: AtomicBool::new(false),
         opened: AtomicBool::new(false),
     };
-    let (hall, desks) = opened::<Acc, Del>(alloc, accepted, deleted)?;
-    let answer = load_all(rt, alloc, hall, desks, views.as_slice(), &sources, 2, &gate);
+    let answer = load.run(rt, alloc, hall, desks, 2, &gate);
     assert!(rt; gate.opened.load(Ordering::SeqCst));
     match answer {
         Ok(loaded) => {
@@ -90,10 +99,5 @@ fn has_chunks<Acc: Ledger, Del: Ledger, R: Abort>(
 
 #[test]
 fn a_free_worker_draws_the_next_job(rt: HostRuntime) -> Result<(), Fail> {
-    load_while_held::<Brand, Brand, _>(
-        &rt,
-        rt.alloc(),
-        Blank::new(PARTS_OF_LEDGER),
-        Blank::new(PARTS_OF_LEDGER),
-    )
+    HallTest::LoadsWhileHeld.run(&rt, rt.alloc())
 }

@@ -1,18 +1,13 @@
-//! What the tests are given: rows of one column `x`, views of the first frame, and a hall over two frames.
+//! What the tests are given: rows of one column `x`, and views of the first of two frames.
 ghost use Rattle.std.specs.Prelude.{◌≡◌, IfOk};
-ghost use Rattle.df_catalogue.specs.Ledgers as ledgers;
 ghost use Rattle.df_load_tests.specs.Pairs.{row_of};
 
-use df_catalogue::{Desk, NewFault};
 use df_ops::Agg;
 use df_plan::{CheckedPlan, Plan};
-use df_store::Hall;
 use df_value::{Boxed, Cell, CellType, Chunk, List, Row, Schema, Text};
+use df_versions::{ChangeFault, Naming, Told};
 use std::alloc::{AllocError, Global};
-use std::sync::ledger::{Blank, Ledger};
-
-/// A hall, and a desk of each frame.
-pub type Opened<Acc, Del> = (Hall<Acc, Del>, Vec<Desk<Acc, Del>>);
+use std::test::Fail;
 
 pub fn schema(alloc: Global) -> Result<Schema, AllocError> {
     let columns = vec![in alloc; (Text::from_str(alloc, "x")?, CellType::Int)]?;
@@ -63,18 +58,10 @@ pub fn views(alloc: Global, names: &[&str]) -> Result<Vec<(Text, CheckedPlan)>, 
     Ok(views)
 }
 
-/// A hall over two empty frames.
-pub fn opened<Acc: Ledger, Del: Ledger>(
-    alloc: Global,
-    accepted: Blank,
-    deleted: Blank,
-) -> Result<Opened<Acc, Del>, NewFault>
-    requires accepted_name { accepted.name ≡ Acc.name }
-    requires accepted_parts { (accepted.parts ≡ Acc.parts)
-        × (accepted.parts ≡ ledgers.parts_of_ledger) }
-    requires deleted_name { deleted.name ≡ Del.name }
-    requires deleted_parts { (deleted.parts ≡ Del.parts)
-        × (deleted.parts ≡ ledgers.parts_of_ledger) }
-{
-    Hall::new(alloc, accepted, deleted, schemas(alloc)?)
+/// What the caller of an accepted change is told.
+pub fn accepted<J: Naming>(answer: Result<Told<J>, ChangeFault<J>>) -> Result<Told<J>, Fail> {
+    match answer {
+        Ok(told) => Ok(told),
+        Err(_) => Err("a change is accepted".into()),
+    }
 }

@@ -13,12 +13,18 @@ mod drawing;
 #[cfg(test)]
 mod given;
 #[cfg(test)]
+mod hall_test;
+#[cfg(test)]
 mod meetings;
 #[cfg(test)]
 mod pairs;
+#[cfg(test)]
+mod pairs_load;
 #[cfg(test)]
 mod refusals;
 #[cfg(test)]
 mod soak;
 #[cfg(test)]
 mod versions;
+#[cfg(test)]
+mod watching;

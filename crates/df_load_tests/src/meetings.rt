@@ -1,17 +1,15 @@
 //! Two workers run at once.
-ghost use Rattle.std.specs.Prelude.{◌≡◌};
-ghost use Rattle.df_catalogue.specs.Ledgers as ledgers;
-
-use crate::given::{opened, row, views};
-use crate::pairs::Pairs;
-use df_catalogue::{Catalogue, PARTS_OF_LEDGER};
-use df_store::{Gate, Loaded, load_all};
+use crate::given::row;
+use crate::hall_test::HallTest;
+use crate::pairs_load::PairsLoad;
+use df_catalogue::{Catalogue, Desk};
+use df_store::{Gate, Hall, Loaded};
+use df_versions::Naming;
 use std::alloc::{AllocError, Global};
-use std::marker::Brand;
 use std::process::Abort;
 use std::sync::Wait;
 use std::sync::atomic::{AtomicBool, Ordering};
-use std::sync::ledger::{Blank, Ledger};
+use std::sync::ledger::Ledger;
 use std::test::Fail;
 use std::thread;
 use std::thread::Threads;
@@ -67,23 +65,35 @@ fn has_pairs<Acc: Ledger, Del: Ledger>(
 }
 
 // Two workers load a chunk of each frame.
-fn load_by_two<
+pub fn load_by_two<
     Acc: Ledger + Send + Sync,
     Del: Ledger + Send + Sync,
+    J: Naming + Send + Sync,
     R: Threads + Wait + Abort + Sync,
->(rt: &R, alloc: Global, accepted: Blank, deleted: Blank) -> Result<(), Fail>
-    requires accepted_name { accepted.name ≡ Acc.name }
-    requires accepted_parts { (accepted.parts ≡ Acc.parts)
-        × (accepted.parts ≡ ledgers.parts_of_ledger) }
-    requires deleted_name { deleted.name ≡ Del.name }
-    requires deleted_parts { (deleted.parts ≡ Del.parts)
-        × (deleted.parts ≡ ledgers.parts_of_ledger) }
-{
-    let views = views(alloc, &["t"])?;
-    let sources = [Pairs::new(alloc, 1, 2)?, Pairs::new(alloc, 1, 2)?];
-    let gate = Meeting::new();
-    let (hall, desks) = opened::<Acc, Del>(alloc, accepted, deleted)?;
-    let answer = load_all(rt, alloc, hall, desks, views.as_slice(), &sources, 2, &gate);
+>(rt: &R, alloc: Global, hall: Hall<Acc, Del, J>, desks: Vec<Desk<Acc, Del>>) -> Result<(), Fail> {
+    match PairsLoad::new(alloc, &["t"], [(1, 2), (1, 2)]) {
+        Ok(load) => run_by_two(rt, alloc, hall, desks, &load, &Meeting::new()),
+        Err(_) => {
+            hall.end(rt);
+            Err("memory".into())
+        }
+    }
+}
+
+fn run_by_two<
+    Acc: Ledger + Send + Sync,
+    Del: Ledger + Send + Sync,
+    J: Naming + Send + Sync,
+    R: Threads + Wait + Abort + Sync,
+>(
+    rt: &R,
+    alloc: Global,
+    hall: Hall<Acc, Del, J>,
+    desks: Vec<Desk<Acc, Del>>,
+    load: &PairsLoad,
+    gate: &Meeting,
+) -> Result<(), Fail> {
+    let answer = load.run(rt, alloc, hall, desks, 2, gate);
     assert!(rt; gate.both_met());
     match answer {
         Ok(loaded) => {
@@ -113,10 +123,5 @@ fn has_chunks<Acc: Ledger, Del: Ledger, R: Abort>(
 
 #[test]
 fn two_workers_run_at_once(rt: HostRuntime) -> Result<(), Fail> {
-    load_by_two::<Brand, Brand, _>(
-        &rt,
-        rt.alloc(),
-        Blank::new(PARTS_OF_LEDGER),
-        Blank::new(PARTS_OF_LEDGER),
-    )
+    HallTest::LoadsByTwo.run(&rt, rt.alloc())
 }

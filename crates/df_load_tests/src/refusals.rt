@@ -1,17 +1,15 @@
 //! Loads that are refused: why, and what they leave.
-ghost use Rattle.std.specs.Prelude.{◌≡◌};
-ghost use Rattle.df_catalogue.specs.Ledgers as ledgers;
-
-use crate::given::{Opened, chunk, opened, scan, views};
-use crate::pairs::Pairs;
-use df_catalogue::{CatalogueFault, Desk, PARTS_OF_LEDGER};
-use df_store::{Hall, LoadCause, LoadFault, OpenGate, load_all};
+use crate::given::{accepted, chunk, scan};
+use crate::hall_test::HallTest;
+use crate::pairs_load::PairsLoad;
+use df_catalogue::{CatalogueFault, Desk};
+use df_store::{Hall, LoadCause, LoadFault, OpenGate};
 use df_value::Text;
+use df_versions::{Naming, Told};
 use std::alloc::Global;
-use std::marker::Brand;
 use std::process::Abort;
 use std::sync::Wait;
-use std::sync::ledger::{Blank, Ledger};
+use std::sync::ledger::Ledger;
 use std::test::Fail;
 use std::thread::Threads;
 
@@ -29,7 +27,7 @@ enum Before {
 
 // A load and what it answers.
 #[derive(Clone, Copy)]
-struct Case {
+pub struct RefusedLoad {
     name: &'static str,
     before: Before,
     views: &'static [&'static str],
@@ -42,28 +40,47 @@ struct Case {
     calls: [u64; 2],
 }
 
-fn prepare<Acc: Ledger, Del: Ledger, R: Wait>(
+fn prepare<Acc: Ledger, Del: Ledger, J: Naming, R: Wait>(
     rt: &R,
     alloc: Global,
-    hall: &Hall<Acc, Del>,
+    hall: &Hall<Acc, Del, J>,
     desks: &mut [Desk<Acc, Del>],
     before: &Before,
 ) -> Result<(), Fail> {
+    let nothing: Option<Told<J>> = None;
     match before {
         Before::Nothing => Ok(()),
         Before::Row(frame, number) => {
             let desk = desks.get_mut(*frame).ok_or("a desk")?;
-            hall.commit_chunk(rt, alloc, desk, &chunk(alloc, *number, 1)?)?;
+            accepted(hall.commit_chunk(
+                rt,
+                alloc,
+                desk,
+                &chunk(alloc, *number, 1)?,
+                nothing.as_ref(),
+            ))?;
             Ok(())
         }
         Before::RowOfAbsentDesk(frame, number) => {
             let desk = desks.get_mut(*frame).ok_or("a desk")?;
             let mut absent = desk.split().ok_or("a second desk")?;
-            hall.commit_chunk(rt, alloc, &mut absent, &chunk(alloc, *number, 1)?)?;
+            accepted(hall.commit_chunk(
+                rt,
+                alloc,
+                &mut absent,
+                &chunk(alloc, *number, 1)?,
+                nothing.as_ref(),
+            ))?;
             Ok(())
         }
         Before::View(name) => {
-            hall.register(rt, alloc, Text::from_str(alloc, *name)?, scan(alloc)?)?;
+            accepted(hall.register(
+                rt,
+                alloc,
+                Text::from_str(alloc, *name)?,
+                scan(alloc)?,
+                nothing.as_ref(),
+            ))?;
             Ok(())
         }
     }
@@ -82,65 +99,57 @@ fn accepted_in<Acc: Ledger, Del: Ledger>(fault: &LoadFault<Acc, Del>) -> Option<
     }
 }
 
-// A hall that was prepared for the case, and a desk of each frame.
-fn prepared<Acc: Ledger, Del: Ledger, R: Wait>(
+// Prepares the hall, and loads it.
+pub fn refuse<
+    Acc: Ledger + Send + Sync,
+    Del: Ledger + Send + Sync,
+    J: Naming + Send + Sync,
+    R: Threads + Wait + Abort + Sync,
+>(
     rt: &R,
     alloc: Global,
-    accepted: Blank,
-    deleted: Blank,
-    before: &Before,
-) -> Result<Opened<Acc, Del>, Fail>
-    requires accepted_name { accepted.name ≡ Acc.name }
-    requires accepted_parts { (accepted.parts ≡ Acc.parts)
-        × (accepted.parts ≡ ledgers.parts_of_ledger) }
-    requires deleted_name { deleted.name ≡ Del.name }
-    requires deleted_parts { (deleted.parts ≡ Del.parts)
-        × (deleted.parts ≡ ledgers.parts_of_ledger) }
-{
-    let (hall, mut desks) = opened::<Acc, Del>(alloc, accepted, deleted)?;
-    match prepare(rt, alloc, &hall, desks.as_mut_slice(), before) {
-        Ok(()) => Ok((hall, desks)),
+    hall: Hall<Acc, Del, J>,
+    desks: Vec<Desk<Acc, Del>>,
+    case: &RefusedLoad,
+) -> Result<(), Fail> {
+    let mut desks = desks;
+    match prepared(rt, alloc, &hall, desks.as_mut_slice(), case) {
+        Ok(load) => run_refused(rt, alloc, hall, desks, case, &load),
         Err(fail) => {
-            // A call costs the proof less than a drop at the end of a block.
-            drop(hall);
+            hall.end(rt);
             Err(fail)
         }
     }
 }
 
-fn refuse<Acc: Ledger + Send + Sync, Del: Ledger + Send + Sync, R: Threads + Wait + Abort + Sync>(
+// The load, once the hall is prepared for it.
+fn prepared<Acc: Ledger, Del: Ledger, J: Naming, R: Wait>(
     rt: &R,
     alloc: Global,
-    accepted: Blank,
-    deleted: Blank,
-    case: &Case,
-) -> Result<(), Fail>
-    requires accepted_name { accepted.name ≡ Acc.name }
-    requires accepted_parts { (accepted.parts ≡ Acc.parts)
-        × (accepted.parts ≡ ledgers.parts_of_ledger) }
-    requires deleted_name { deleted.name ≡ Del.name }
-    requires deleted_parts { (deleted.parts ≡ Del.parts)
-        × (deleted.parts ≡ ledgers.parts_of_ledger) }
-{
-    let views = views(alloc, case.views)?;
-    let [zeroth, first] = case.sources;
-    let sources = [
-        Pairs::new(alloc, zeroth.0, zeroth.1)?,
-        Pairs::new(alloc, first.0, first.1)?,
-    ];
-    let (hall, desks) = prepared::<Acc, Del, R>(rt, alloc, accepted, deleted, &case.before)?;
-    let answer = load_all(
-        rt,
-        alloc,
-        hall,
-        desks,
-        views.as_slice(),
-        &sources,
-        1,
-        &OpenGate,
-    );
+    hall: &Hall<Acc, Del, J>,
+    desks: &mut [Desk<Acc, Del>],
+    case: &RefusedLoad,
+) -> Result<PairsLoad, Fail> {
+    prepare(rt, alloc, hall, desks, &case.before)?;
+    Ok(PairsLoad::new(alloc, case.views, case.sources)?)
+}
+
+fn run_refused<
+    Acc: Ledger + Send + Sync,
+    Del: Ledger + Send + Sync,
+    J: Naming + Send + Sync,
+    R: Threads + Wait + Abort + Sync,
+>(
+    rt: &R,
+    alloc: Global,
+    hall: Hall<Acc, Del, J>,
+    desks: Vec<Desk<Acc, Del>>,
+    case: &RefusedLoad,
+    load: &PairsLoad,
+) -> Result<(), Fail> {
+    let answer = load.run(rt, alloc, hall, desks, 1, &OpenGate);
     assert!(rt;
-        [sources[0].calls(), sources[1].calls()] == case.calls,
+        [load.sources[0].calls(), load.sources[1].calls()] == case.calls,
         "{}",
         case.name
     );
@@ -158,8 +167,8 @@ fn refuse<Acc: Ledger + Send + Sync, Del: Ledger + Send + Sync, R: Threads + Wai
     }
 }
 
-static CASES: [Case; 9] = [
-    Case {
+static CASES: [RefusedLoad; 9] = [
+    RefusedLoad {
         name: "the second of two chunks that share a number",
         before: Before::Nothing,
         views: &["t"],
@@ -168,7 +177,7 @@ static CASES: [Case; 9] = [
         left: Some([2, 0]),
         calls: [2, 0],
     },
-    Case {
+    RefusedLoad {
         name: "the same of the second frame",
         before: Before::Nothing,
         views: &["t"],
@@ -177,7 +186,7 @@ static CASES: [Case; 9] = [
         left: Some([4, 2]),
         calls: [2, 2],
     },
-    Case {
+    RefusedLoad {
         name: "two views of one name",
         before: Before::Nothing,
         views: &["t", "u", "t"],
@@ -186,7 +195,7 @@ static CASES: [Case; 9] = [
         left: Some([0, 0]),
         calls: [0, 0],
     },
-    Case {
+    RefusedLoad {
         name: "a row in the first frame before the load",
         before: Before::Row(0, 100),
         views: &["t"],
@@ -195,7 +204,7 @@ static CASES: [Case; 9] = [
         left: Some([3, 2]),
         calls: [1, 1],
     },
-    Case {
+    RefusedLoad {
         name: "a row in the second frame before the load",
         before: Before::Row(1, 100),
         views: &["t"],
@@ -204,7 +213,7 @@ static CASES: [Case; 9] = [
         left: Some([2, 3]),
         calls: [1, 1],
     },
-    Case {
+    RefusedLoad {
         name: "a chunk with the number of a row before the load",
         before: Before::Row(0, 1),
         views: &["t"],
@@ -213,7 +222,7 @@ static CASES: [Case; 9] = [
         left: Some([1, 2]),
         calls: [1, 1],
     },
-    Case {
+    RefusedLoad {
         name: "a view before the load",
         before: Before::View("u"),
         views: &["t"],
@@ -222,7 +231,7 @@ static CASES: [Case; 9] = [
         left: Some([2, 2]),
         calls: [1, 1],
     },
-    Case {
+    RefusedLoad {
         name: "a desk that the load is not given",
         before: Before::RowOfAbsentDesk(1, 100),
         views: &["t"],
@@ -231,7 +240,7 @@ static CASES: [Case; 9] = [
         left: None,
         calls: [1, 1],
     },
-    Case {
+    RefusedLoad {
         name: "such a desk, and a chunk with the number of its row",
         before: Before::RowOfAbsentDesk(1, 1),
         views: &["t"],
@@ -245,13 +254,7 @@ static CASES: [Case; 9] = [
 #[test]
 fn loads_are_refused(rt: HostRuntime) -> Result<(), Fail> {
     for case in &CASES {
-        refuse::<Brand, Brand, _>(
-            &rt,
-            rt.alloc(),
-            Blank::new(PARTS_OF_LEDGER),
-            Blank::new(PARTS_OF_LEDGER),
-            case,
-        )?;
+        HallTest::Refuses(case).run(&rt, rt.alloc())?;
     }
     Ok(())
 }

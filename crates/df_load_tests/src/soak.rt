@@ -1,16 +1,15 @@
-//! Many changes of one hall by several threads at once.
-ghost use Rattle.std.specs.Prelude.{◌≡◌};
-ghost use Rattle.df_catalogue.specs.Ledgers as ledgers;
-
-use crate::given::{chunk, groups, opened, row, scan};
-use df_catalogue::{Catalogue, CatalogueFault, Desk, PARTS_OF_LEDGER};
-use df_store::{Hall, HallFault, Totals};
+//! Many changes of one hall by several threads at once, beside others that read its versions.
+use crate::given::{accepted, chunk, groups, row, scan};
+use crate::hall_test::HallTest;
+use crate::watching::Watcher;
+use df_catalogue::{Catalogue, CatalogueFault, Desk};
+use df_store::{Hall, Missing, Totals};
 use df_value::Text;
-use std::alloc::{AllocError, Global};
-use std::marker::Brand;
+use df_versions::{ChangeFault, Naming, Reader, Told};
+use std::alloc::Global;
 use std::process::Abort;
 use std::sync::Wait;
-use std::sync::ledger::{Blank, Ledger};
+use std::sync::ledger::Ledger;
 use std::test::Fail;
 use std::thread;
 use std::thread::Threads;
@@ -20,6 +19,9 @@ const CLIENTS: u32 = 4;
 // How many rounds of four changes each client makes, an even number. For a long run by hand put 6,250 here: those are
 // 100,000 changes.
 const ROUNDS: u32 = 26;
+
+// The number of the last version: two views come, and of the four changes of a round three are accepted.
+const LAST: u64 = 2 + 3 * (CLIENTS * ROUNDS) as u64;
 
 // What one thread changes the hall with: a desk of each frame.
 #[derive(Drop)]
@@ -34,35 +36,60 @@ struct Client<Acc: Ledger, Del: Ledger> {
 
 impl<Acc: Ledger, Del: Ledger> Client<Acc, Del> {
     // Makes all rounds.
-    fn run<R: Wait>(&mut self, rt: &R, hall: &Hall<Acc, Del>) {
+    fn run<J: Naming, R: Wait>(&mut self, rt: &R, hall: &Hall<Acc, Del, J>) {
         for round in 0..ROUNDS {
             // Three numbers for each client and round.
             let turn = round.wrapping_mul(CLIENTS).wrapping_add(self.number);
             let served = self.change(rt, hall, turn.wrapping_mul(3), (round % 2) as usize);
-            self.served = self.served && matches!(served, Ok(true));
+            self.served = self.served && served == Some(true);
         }
     }
 
-    // Three rows come, one of them goes and another is replaced; the same chunk is refused from then on.
-    fn change<R: Wait>(
+    // Three rows come, one of them goes and another is replaced; the same chunk is refused from then on. Each call is told
+    // of the one before.
+    fn change<J: Naming, R: Wait>(
         &mut self,
         rt: &R,
-        hall: &Hall<Acc, Del>,
+        hall: &Hall<Acc, Del, J>,
         first: u32,
         frame: usize,
-    ) -> Result<bool, HallFault> {
+    ) -> Option<bool> {
         let alloc = self.alloc;
-        let Some(desk) = self.desks.get_mut(frame) else {
-            return Ok(false);
-        };
-        let rows = chunk(alloc, first, 3).map_err(|_| HallFault::Memory)?;
-        hall.commit_chunk(rt, alloc, desk, &rows)?;
-        hall.delete_rows(rt, alloc, desk, &[first])?;
-        let row = row(alloc, 7).map_err(|_| HallFault::Memory)?;
-        let replaced = [(first.wrapping_add(2), row)];
-        hall.replace_rows(rt, alloc, desk, &replaced)?;
-        let again = hall.commit_chunk(rt, alloc, desk, &rows);
-        Ok(again == Err(HallFault::Refused(CatalogueFault::Taken(first))))
+        let desk = self.desks.get_mut(frame)?;
+        let rows = chunk(alloc, first, 3).ok()?;
+        let nothing: Option<Told<J>> = None;
+        let told = hall
+            .commit_chunk(rt, alloc, desk, &rows, nothing.as_ref())
+            .ok()?;
+        let told = hall
+            .delete_rows(rt, alloc, desk, &[first], Some(&told))
+            .ok()?;
+        let replaced = [(first.wrapping_add(2), row(alloc, 7).ok()?)];
+        let told = hall
+            .replace_rows(rt, alloc, desk, &replaced, Some(&told))
+            .ok()?;
+        match hall.commit_chunk(rt, alloc, desk, &rows, Some(&told)) {
+            Err(ChangeFault::Refused(CatalogueFault::Taken(number), again)) => {
+                Some(number == first && again.number() >= told.number())
+            }
+            _ => Some(false),
+        }
+    }
+}
+
+// The part of one thread.
+#[derive(Drop)]
+enum Actor<Acc: Ledger, Del: Ledger> {
+    Changes(Client<Acc, Del>),
+    Watches(Watcher),
+}
+
+impl<Acc: Ledger, Del: Ledger> Actor<Acc, Del> {
+    fn run<J: Naming, R: Wait>(&mut self, rt: &R, hall: &Hall<Acc, Del, J>) {
+        match self {
+            Actor::Changes(client) => client.run(rt, hall),
+            Actor::Watches(watcher) => watcher.run(LAST),
+        }
     }
 }
 
@@ -70,25 +97,40 @@ impl<Acc: Ledger, Del: Ledger> Client<Acc, Del> {
 fn clients<Acc: Ledger, Del: Ledger>(
     alloc: Global,
     desks: Vec<Desk<Acc, Del>>,
-) -> Result<Vec<Client<Acc, Del>>, Fail> {
+) -> Result<Vec<Actor<Acc, Del>>, Fail> {
     let mut desks = desks;
-    let mut clients = Vec::new(alloc);
+    let mut actors = Vec::new(alloc);
     for number in 1..CLIENTS {
         let split = split_each(alloc, desks.as_mut_slice())?;
-        clients.push(Client {
-            alloc,
-            number,
-            desks: split,
-            served: true,
-        })?;
+        actors.push(changing(alloc, number, split))?;
     }
-    clients.push(Client {
+    actors.push(changing(alloc, 0, desks))?;
+    Ok(actors)
+}
+
+fn changing<Acc: Ledger, Del: Ledger>(
+    alloc: Global,
+    number: u32,
+    desks: Vec<Desk<Acc, Del>>,
+) -> Actor<Acc, Del> {
+    Actor::Changes(Client {
         alloc,
-        number: 0,
+        number,
         desks,
         served: true,
-    })?;
-    Ok(clients)
+    })
+}
+
+// A watcher for each reader, behind the others.
+fn add_watchers<Acc: Ledger, Del: Ledger>(
+    alloc: Global,
+    actors: &mut Vec<Actor<Acc, Del>>,
+    readers: Vec<Reader>,
+) -> Result<(), Fail> {
+    for reader in readers {
+        actors.push(Actor::Watches(Watcher::new(alloc, reader, groups(alloc)?)))?;
+    }
+    Ok(())
 }
 
 fn split_each<Acc: Ledger, Del: Ledger>(
@@ -102,20 +144,36 @@ fn split_each<Acc: Ledger, Del: Ledger>(
     Ok(split)
 }
 
-// All desks again, if each client was served.
+// All desks again, if each client was served and each watcher saw what is right.
 fn desks_of<Acc: Ledger, Del: Ledger>(
     alloc: Global,
-    clients: Vec<Client<Acc, Del>>,
+    actors: Vec<Actor<Acc, Del>>,
 ) -> Result<Vec<Desk<Acc, Del>>, Fail> {
     let mut all = Vec::new(alloc);
-    for client in clients {
-        let mut client = client;
-        if !client.served {
-            return Err("each change is answered as it should be".into());
-        }
-        all.append(&mut client.desks)?;
+    for actor in actors {
+        take_desks(actor, &mut all)?;
     }
     Ok(all)
+}
+
+fn take_desks<Acc: Ledger, Del: Ledger>(
+    actor: Actor<Acc, Del>,
+    all: &mut Vec<Desk<Acc, Del>>,
+) -> Result<(), Fail> {
+    match actor {
+        Actor::Changes(client) => {
+            let mut client = client;
+            if !client.served {
+                return Err("each change is answered as it should be".into());
+            }
+            all.append(&mut client.desks)?;
+            Ok(())
+        }
+        Actor::Watches(watcher) if watcher.is_right() => Ok(()),
+        Actor::Watches(_) => Err(
+            "each version has the rows of its plan, and no number falls".into(),
+        ),
+    }
 }
 
 // Whether the view has the rows that its plan gives over the frames.
@@ -127,57 +185,80 @@ fn is_true<Acc: Ledger, Del: Ledger>(
     Ok(catalogue.view_rows(alloc, name)? == catalogue.computed_rows(alloc, name)?)
 }
 
-fn change_at_once<
+pub fn change_at_once<
     Acc: Ledger + Send + Sync,
     Del: Ledger + Send + Sync,
+    J: Naming + Send + Sync,
     R: Threads + Wait + Abort + Sync,
->(rt: &R, alloc: Global, accepted: Blank, deleted: Blank) -> Result<(), Fail>
-    requires accepted_name { accepted.name ≡ Acc.name }
-    requires accepted_parts { (accepted.parts ≡ Acc.parts)
-        × (accepted.parts ≡ ledgers.parts_of_ledger) }
-    requires deleted_name { deleted.name ≡ Del.name }
-    requires deleted_parts { (deleted.parts ≡ Del.parts)
-        × (deleted.parts ≡ ledgers.parts_of_ledger) }
-{
-    let (hall, desks) = opened::<Acc, Del>(alloc, accepted, deleted)?;
-    match changed(rt, alloc, &hall, desks) {
+>(
+    rt: &R,
+    alloc: Global,
+    hall: Hall<Acc, Del, J>,
+    desks: Vec<Desk<Acc, Del>>,
+    readers: Vec<Reader>,
+) -> Result<(), Fail> {
+    match changed(rt, alloc, &hall, desks, readers) {
         Ok(desks) => close(rt, alloc, hall, desks),
         Err(fail) => {
-            // A call costs the proof less than a drop at the end of a block.
-            drop(hall);
+            hall.end(rt);
             Err(fail)
         }
     }
 }
 
 // The desks, once the clients have changed the frames under two views.
-fn changed<Acc: Ledger + Send + Sync, Del: Ledger + Send + Sync, R: Threads + Wait + Sync>(
+fn changed<
+    Acc: Ledger + Send + Sync,
+    Del: Ledger + Send + Sync,
+    J: Naming + Send + Sync,
+    R: Threads + Wait + Sync,
+>(
     rt: &R,
     alloc: Global,
-    hall: &Hall<Acc, Del>,
+    hall: &Hall<Acc, Del, J>,
     desks: Vec<Desk<Acc, Del>>,
+    readers: Vec<Reader>,
 ) -> Result<Vec<Desk<Acc, Del>>, Fail> {
-    hall.register(rt, alloc, Text::from_str(alloc, "t")?, scan(alloc)?)?;
-    hall.register(rt, alloc, Text::from_str(alloc, "g")?, groups(alloc)?)?;
-    let mut clients = clients(alloc, desks)?;
-    run_clients(rt, hall, clients.as_mut_slice());
-    desks_of(alloc, clients)
+    let nothing: Option<Told<J>> = None;
+    accepted(hall.register(
+        rt,
+        alloc,
+        Text::from_str(alloc, "t")?,
+        scan(alloc)?,
+        nothing.as_ref(),
+    ))?;
+    accepted(hall.register(
+        rt,
+        alloc,
+        Text::from_str(alloc, "g")?,
+        groups(alloc)?,
+        nothing.as_ref(),
+    ))?;
+    let mut actors = clients(alloc, desks)?;
+    add_watchers(alloc, &mut actors, readers)?;
+    run_actors(rt, hall, actors.as_mut_slice());
+    desks_of(alloc, actors)
 }
 
-fn close<Acc: Ledger, Del: Ledger, R: Abort>(
+fn close<Acc: Ledger, Del: Ledger, J: Naming, R: Wait + Abort>(
     rt: &R,
     alloc: Global,
-    hall: Hall<Acc, Del>,
+    hall: Hall<Acc, Del, J>,
     desks: Vec<Desk<Acc, Del>>,
 ) -> Result<(), Fail> {
-    match hall.close(desks) {
+    match hall.close(rt, desks) {
         Ok((catalogue, totals)) => {
             let right = has_all_changes(rt, alloc, &catalogue, &totals);
             drop(catalogue);
             right
         }
         Err(missing) => {
-            drop(missing);
+            let Missing {
+                frame: _,
+                hall,
+                desks: _,
+            } = missing;
+            hall.end(rt);
             Err("all desks".into())
         }
     }
@@ -198,26 +279,26 @@ fn has_all_changes<Acc: Ledger, Del: Ledger, R: Abort>(
     Ok(())
 }
 
-// Runs the clients, each in a thread of its own.
-fn run_clients<Acc: Ledger + Send + Sync, Del: Ledger + Send + Sync, R: Threads + Wait + Sync>(
-    rt: &R,
-    hall: &Hall<Acc, Del>,
-    clients: &mut [Client<Acc, Del>],
-) {
+// Runs the actors, each in a thread of its own.
+fn run_actors<
+    Acc: Ledger + Send + Sync,
+    Del: Ledger + Send + Sync,
+    J: Naming + Send + Sync,
+    R: Threads + Wait + Sync,
+>(rt: &R, hall: &Hall<Acc, Del, J>, actors: &mut [Actor<Acc, Del>]) {
+    if actors.is_empty() {
+        return;
+    }
+    let threads = actors.len();
     thread::for_each_mut(
         rt,
-        clients,
-        CLIENTS as usize,
-        &|_index, client| { client.run(rt, hall) },
+        actors,
+        threads,
+        &|_index, actor| { actor.run(rt, hall) },
     );
 }
 
 #[test]
 fn threads_change_a_hall_at_once(rt: HostRuntime) -> Result<(), Fail> {
-    change_at_once::<Brand, Brand, _>(
-        &rt,
-        rt.alloc(),
-        Blank::new(PARTS_OF_LEDGER),
-        Blank::new(PARTS_OF_LEDGER),
-    )
+    HallTest::Soaks.run(&rt, rt.alloc())
 }

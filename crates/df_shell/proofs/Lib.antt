@@ -1,3 +1,7 @@
+pub mod FindFacts
+pub mod DesksFacts
+pub mod HallFacts
+pub mod AskedFacts
 pub mod CheckFacts
 pub mod WordFacts
 pub mod AreMadeFacts

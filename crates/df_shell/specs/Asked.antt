@@ -1,5 +1,5 @@
--- Changes that are asked for: which change of the catalogue each is, and why it is refused.
-use Rattle.std.specs.Prelude.{◌≡◌, ⊤, ℕ, List, Option, Some, None, Result, Ok, Err, map, option_map, slice_get, IsOk, IsTrue}
+-- Changes that are asked for: which change of the frames and views each is, and why it is refused.
+use Rattle.std.specs.Prelude.{◌≡◌, ◌⊎◌, ⊤, ℕ, List, Option, Some, None, Result, Ok, Err, map, option_map, slice_get, IsOk, IsTrue}
 use Rattle.df_value.specs.Names.{index_of_name}
 use Rattle.df_value.specs.declared.cell.Cell.{Cell}
 use Rattle.df_value.specs.declared.cell.CellType.{CellType}
@@ -8,10 +8,7 @@ use Rattle.df_value.specs.Rows.{rows_fit}
 use Rattle.df_catalogue.specs.declared.change.Change.{Change}
 use Rattle.df_catalogue.specs.declared.change.Change.TheVariants.{Append, Delete, Replace, Register, DropView}
 use Rattle.df_catalogue.specs.declared.fault.CatalogueFault.TheVariants as fault
-use Rattle.df_catalogue.specs.declared.state.CatalogueParts.{CatalogueParts}
-use Rattle.df_catalogue.specs.declared.state.State.{State}
 use Rattle.df_plan.specs.CheckedParts.{CheckedParts}
-use Rattle.df_shell.specs.Changes.{IsMade, IsRefusal}
 use Rattle.df_shell.specs.declared.command.AskedChange.{AskedChange}
 use Rattle.df_shell.specs.declared.command.AskedChange.TheVariants as asked
 use Rattle.df_shell.specs.declared.refusal.Mistake.TheVariants as mistake
@@ -34,21 +31,6 @@ plan_at d (Some at) = slice_get d.plans at
 abbrev pub plan_named : Definitions → List ℕ → Option CheckedParts
 plan_named d name = plan_at d (index_of_name (λ (v : ViewSpec). v.name) name d.document.views)
 
--- A refusal of a command that makes this change: the catalogue's, or that memory was refused.
-abbrev pub IsRefusalOfChange : State → Change → Refusal → Type 0
-IsRefusalOfChange s change (refusal.Store f) = IsRefusal s change f
-IsRefusalOfChange s change r = r ≡ refusal.Memory
-
--- A refusal of a command that makes this change of the frame at this place: `C11` where there is none.
-abbrev pub IsRefusalAtFrame : State → (ℕ → Change) → Option ℕ → Refusal → Type 0
-IsRefusalAtFrame s change (Some at) r = IsRefusalOfChange s (change at) r
-IsRefusalAtFrame s change None r = r ≡ refusal.Store fault.NoFrame
-
--- A refusal of a command that registers a view of this name and plan: that the document has none, where it has none.
-abbrev pub IsRefusalOfRegister : State → List ℕ → Option CheckedParts → Refusal → Type 0
-IsRefusalOfRegister s name (Some plan) r = IsRefusalOfChange s (Register name plan) r
-IsRefusalOfRegister s name None r = r ≡ refusal.Mistake mistake.NoView
-
 -- a chunk of the schema of the document's frame at this place, whose first number is this
 abbrev pub IsChunkOf : Definitions → ℕ → ℕ → ChunkParts → Type 0
 IsChunkOf d at first chunk =
@@ -64,43 +46,6 @@ AreRowsOf d at numbers rows =
     × (map (λ r. r.0) rows ≡ numbers)
     × IsTrue (rows_fit schema (map (λ r. r.1) rows))
 
--- What may be wrong with lines that were read, when they are to be a chunk.
-abbrev pub IsLineFault : Refusal → Type 0
-IsLineFault (refusal.Mistake m) = ⊥
-IsLineFault (refusal.Store f) = ⊥
-IsLineFault r = ⊤
-
--- A refusal of lines that were read, at the frame at this place: they are no chunk, or the catalogue refuses the chunk that they are.
-abbrev pub IsRefusalOfLines : Definitions → State → ℕ → ℕ → Refusal → Type 0
-IsRefusalOfLines d s at first (refusal.Store f) = (chunk : ChunkParts) × IsChunkOf d at first chunk × IsRefusal s (Append at chunk) f
-IsRefusalOfLines d s at first r = IsLineFault r
-
--- A refusal of an append to the frame at this place, its first number and its lines, or why they were not read: `C11` where
--- there is no frame; else that of the lines.
-abbrev pub IsRefusalOfAppend : {T : Type 0} → Definitions → State → Option ℕ → ℕ → Result T Refusal → Refusal → Type 0
-IsRefusalOfAppend d s None first lines r = r ≡ refusal.Store fault.NoFrame
-IsRefusalOfAppend d s (Some at) first (Err f) r = r ≡ f
-IsRefusalOfAppend d s (Some at) first (Ok lines) r = IsRefusalOfLines d s at first r
-
--- What may be wrong with lines that were read, when they are to be rows behind numbers: what may be wrong with a chunk of
--- them, or that there are not as many.
-abbrev pub IsRowsFault : Refusal → Type 0
-IsRowsFault (refusal.Mistake m) = m ≡ mistake.OtherRowCount
-IsRowsFault r = IsLineFault r
-
--- A refusal of lines that were read, at the frame at this place: they are no rows behind the numbers, or the catalogue refuses
--- to put the rows that they are there.
-abbrev pub IsRefusalOfRows : Definitions → State → ℕ → List ℕ → Refusal → Type 0
-IsRefusalOfRows d s at numbers (refusal.Store f) = (rows : List (ℕ × List Cell)) × AreRowsOf d at numbers rows × IsRefusal s (Replace at rows) f
-IsRefusalOfRows d s at numbers r = IsRowsFault r
-
--- A refusal to put rows at numbers of the frame at this place, with their lines, or why they were not read: `C11` where there
--- is no frame; else that of the lines.
-abbrev pub IsRefusalOfReplace : {T : Type 0} → Definitions → State → Option ℕ → List ℕ → Result T Refusal → Refusal → Type 0
-IsRefusalOfReplace d s None numbers lines r = r ≡ refusal.Store fault.NoFrame
-IsRefusalOfReplace d s (Some at) numbers (Err f) r = r ≡ f
-IsRefusalOfReplace d s (Some at) numbers (Ok lines) r = IsRefusalOfRows d s at numbers r
-
 -- The change that is asked for, with the lines that were read for it, or why they were not: one that takes rows is one only
 -- with lines.
 abbrev pub IsAsked : {T : Type 0} → Definitions → AskedChange → Result T Refusal → Change → Type 0
@@ -113,14 +58,69 @@ IsAsked d (asked.Register view) lines (Register name plan) = (name ≡ view.now)
 IsAsked d (asked.DropView view) lines (DropView name) = name ≡ view.now
 IsAsked d change lines _ = ⊥
 
--- the change that is asked for was made
-abbrev pub IsMadeAsAsked : {T : Type 0} → Definitions → AskedChange → Result T Refusal → CatalogueParts → CatalogueParts → Type 0
-IsMadeAsAsked d asked lines old new = (change : Change) × IsAsked d asked lines change × IsMade old new change
+-- What may be wrong with lines that were read, when they are to be a chunk.
+abbrev pub IsLineFault : Refusal → Type 0
+IsLineFault (refusal.Mistake m) = ⊥
+IsLineFault (refusal.Store f) = ⊥
+IsLineFault (refusal.Version f) = ⊥
+IsLineFault r = ⊤
 
--- A refusal of the change that is asked for, with the lines that were read for it, or why they were not.
-abbrev pub IsRefusalOfAsked : {T : Type 0} → Definitions → State → AskedChange → Result T Refusal → Refusal → Type 0
-IsRefusalOfAsked d s (asked.Append frame first) lines r = IsRefusalOfAppend d s (frame_index_of d frame.now) first lines r
-IsRefusalOfAsked d s (asked.Delete frame numbers) lines r = IsRefusalAtFrame s (λ at. Delete at numbers) (frame_index_of d frame.now) r
-IsRefusalOfAsked d s (asked.Replace frame numbers) lines r = IsRefusalOfReplace d s (frame_index_of d frame.now) numbers lines r
-IsRefusalOfAsked d s (asked.Register view) lines r = IsRefusalOfRegister s view.now (plan_named d view.now) r
-IsRefusalOfAsked d s (asked.DropView view) lines r = IsRefusalOfChange s (DropView view.now) r
+-- What may be wrong with lines that were read, when they are to be rows behind numbers: what may be wrong with a chunk of
+-- them, or that there are not as many.
+abbrev pub IsRowsFault : Refusal → Type 0
+IsRowsFault (refusal.Mistake m) = m ≡ mistake.OtherRowCount
+IsRowsFault r = IsLineFault r
+
+-- the change that is asked for is one that was made
+module _ (Makes : Change → Type 0) where
+  abbrev pub IsMadeAsAsked : {T : Type 0} → Definitions → AskedChange → Result T Refusal → Type 0
+  IsMadeAsAsked d asked lines = (change : Change) × IsAsked d asked lines change × Makes change
+
+-- by what a store refuses each change with
+module _ (Refuses : Change → Refusal → Type 0) where
+  -- A refusal of a command that makes this change: the store's, or that memory was refused.
+  abbrev pub IsRefusalOfChange : Change → Refusal → Type 0
+  IsRefusalOfChange change r = (r ≡ refusal.Memory) ⊎ Refuses change r
+
+  -- A refusal of a command that makes this change of the frame at this place: `C11` where there is none.
+  abbrev pub IsRefusalAtFrame : (ℕ → Change) → Option ℕ → Refusal → Type 0
+  IsRefusalAtFrame change (Some at) r = IsRefusalOfChange (change at) r
+  IsRefusalAtFrame change None r = r ≡ refusal.Store fault.NoFrame
+
+  -- A refusal of a command that registers a view of this name and plan: that the document has none, where it has none.
+  abbrev pub IsRefusalOfRegister : List ℕ → Option CheckedParts → Refusal → Type 0
+  IsRefusalOfRegister name (Some plan) r = IsRefusalOfChange (Register name plan) r
+  IsRefusalOfRegister name None r = r ≡ refusal.Mistake mistake.NoView
+
+  -- A refusal of lines that were read, at the frame at this place: they are no chunk, or the store refuses the chunk that they
+  -- are.
+  abbrev pub IsRefusalOfLines : Definitions → ℕ → ℕ → Refusal → Type 0
+  IsRefusalOfLines d at first r = IsLineFault r ⊎ ((chunk : ChunkParts) × IsChunkOf d at first chunk × Refuses (Append at chunk) r)
+
+  -- A refusal of an append to the frame at this place, its first number and its lines, or why they were not read: `C11` where
+  -- there is no frame; else that of the lines.
+  abbrev pub IsRefusalOfAppend : {T : Type 0} → Definitions → Option ℕ → ℕ → Result T Refusal → Refusal → Type 0
+  IsRefusalOfAppend d None first lines r = r ≡ refusal.Store fault.NoFrame
+  IsRefusalOfAppend d (Some at) first (Err f) r = r ≡ f
+  IsRefusalOfAppend d (Some at) first (Ok lines) r = IsRefusalOfLines d at first r
+
+  -- A refusal of lines that were read, at the frame at this place: they are no rows behind the numbers, or the store refuses to
+  -- put the rows that they are there.
+  abbrev pub IsRefusalOfRows : Definitions → ℕ → List ℕ → Refusal → Type 0
+  IsRefusalOfRows d at numbers r =
+      IsRowsFault r ⊎ ((rows : List (ℕ × List Cell)) × AreRowsOf d at numbers rows × Refuses (Replace at rows) r)
+
+  -- A refusal to put rows at numbers of the frame at this place, with their lines, or why they were not read: `C11` where there
+  -- is no frame; else that of the lines.
+  abbrev pub IsRefusalOfReplace : {T : Type 0} → Definitions → Option ℕ → List ℕ → Result T Refusal → Refusal → Type 0
+  IsRefusalOfReplace d None numbers lines r = r ≡ refusal.Store fault.NoFrame
+  IsRefusalOfReplace d (Some at) numbers (Err f) r = r ≡ f
+  IsRefusalOfReplace d (Some at) numbers (Ok lines) r = IsRefusalOfRows d at numbers r
+
+  -- A refusal of the change that is asked for, with the lines that were read for it, or why they were not.
+  abbrev pub IsRefusalOfAsked : {T : Type 0} → Definitions → AskedChange → Result T Refusal → Refusal → Type 0
+  IsRefusalOfAsked d (asked.Append frame first) lines r = IsRefusalOfAppend d (frame_index_of d frame.now) first lines r
+  IsRefusalOfAsked d (asked.Delete frame numbers) lines r = IsRefusalAtFrame (λ at. Delete at numbers) (frame_index_of d frame.now) r
+  IsRefusalOfAsked d (asked.Replace frame numbers) lines r = IsRefusalOfReplace d (frame_index_of d frame.now) numbers lines r
+  IsRefusalOfAsked d (asked.Register view) lines r = IsRefusalOfRegister view.now (plan_named d view.now) r
+  IsRefusalOfAsked d (asked.DropView view) lines r = IsRefusalOfChange (DropView view.now) r

@@ -8,6 +8,8 @@ use Rattle.df_catalogue.specs.declared.state.State.{State}
 use Rattle.df_catalogue.specs.Changes.{after}
 use Rattle.df_catalogue.specs.Refusals.{refusal_of}
 use Rattle.df_catalogue.specs.Work.{IsCounted, allowed_after}
+use Rattle.df_shell.specs.declared.refusal.Refusal.{Refusal}
+use Rattle.df_shell.specs.declared.refusal.Refusal.TheVariants as refusal
 
 -- nothing refuses the change, it was made and its work counted, and nothing is staged
 abbrev pub IsMade : CatalogueParts → CatalogueParts → Change → Type 0
@@ -20,3 +22,8 @@ IsMade old new c =
 -- the catalogue refuses the change so, or memory was refused
 abbrev pub IsRefusal : State → Change → CatalogueFault → Type 0
 IsRefusal s c f = f ≢ fault.Memory → refusal_of s c ≡ Some f
+
+-- the refusal of a command whose change the catalogue refuses
+abbrev pub IsRefusedAs : State → Change → Refusal → Type 0
+IsRefusedAs s c (refusal.Store f) = IsRefusal s c f
+IsRefusedAs s c r = ⊥

@@ -42,6 +42,7 @@ IsQuestionOf words (question.Books frame) = words ≡ codes "books" ∷ frame.no
 IsQuestionOf words question.Views = words ≡ codes "views" ∷ []
 IsQuestionOf words question.Check = words ≡ codes "check" ∷ []
 IsQuestionOf words question.Work = words ≡ codes "work" ∷ []
+IsQuestionOf words question.Version = words ≡ codes "version" ∷ []
 
 -- the words of a command
 abbrev pub IsCommandOf : List (List ℕ) → Command → Type 0

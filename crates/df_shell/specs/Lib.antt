@@ -5,5 +5,8 @@ pub mod Asked
 pub mod Checks
 pub mod Questions
 pub mod Answers
+pub mod Versions
+pub mod Halls
+pub mod Changing
 pub mod Opening
 pub mod Words

@@ -9,7 +9,6 @@ use Rattle.df_catalogue.specs.declared.change.Change.TheVariants.{Append, Regist
 use Rattle.df_catalogue.specs.declared.state.CatalogueParts.{CatalogueParts}
 use Rattle.df_catalogue.specs.States.{opening_of}
 use Rattle.df_delta.specs.Work.{no_work}
-use Rattle.df_shell.specs.Changes.{IsMade}
 use Rattle.df_shell.specs.declared.definitions.Definitions.{Definitions}
 use Rattle.df_text.specs.declared.document.FrameSpec.{FrameSpec}
 use Rattle.df_text.specs.declared.document.ViewSpec.{ViewSpec}
@@ -41,7 +40,8 @@ empty_catalogue d = record {
   staged = None;
 }
 
--- nothing refuses any of the changes in its turn, and all were made
-abbrev pub AreMade : CatalogueParts → CatalogueParts → List Change → Type 0
-AreMade old new [] = new ≡ old
-AreMade old new (c ∷ cs) = (next : CatalogueParts) × IsMade old next c × AreMade next new cs
+-- the changes were made in turn, where this is what makes each of them
+module _ {S : Type 0} (Makes : S → S → Change → Type 0) where
+  abbrev pub AreMade : S → S → List Change → Type 0
+  AreMade old new [] = new ≡ old
+  AreMade old new (c ∷ cs) = (next : S) × Makes old next c × AreMade next new cs

@@ -3,7 +3,6 @@ use Rattle.std.specs.Prelude.{◌≡◌, ◌++◌, ℕ, List, Option, Some, None
 use Rattle.std.specs.Global.{Vec}
 use Rattle.df_catalogue.specs.Frames.{numbers_of, rows_of}
 use Rattle.df_catalogue.specs.Reads.{view_named, view_names_of}
-use Rattle.df_catalogue.specs.declared.fault.CatalogueFault.{CatalogueFault}
 use Rattle.df_catalogue.specs.declared.fault.CatalogueFault.TheVariants as fault
 use Rattle.df_catalogue.specs.declared.state.FrameState.{FrameState}
 use Rattle.df_catalogue.specs.declared.state.CatalogueParts.{CatalogueParts}
@@ -16,6 +15,7 @@ use Rattle.df_shell.specs.Asked.{frame_index_of}
 use Rattle.df_shell.specs.declared.command.Question.{Question}
 use Rattle.df_shell.specs.declared.command.Question.TheVariants as question
 use Rattle.df_shell.specs.declared.definitions.Definitions.{Definitions}
+use Rattle.df_shell.specs.declared.refusal.Mistake.TheVariants as mistake
 use Rattle.df_shell.specs.declared.refusal.Refusal.{Refusal}
 use Rattle.df_shell.specs.declared.refusal.Refusal.TheVariants as refusal
 use Rattle.df_text.specs.declared.document.FrameSpec.{FrameSpec}
@@ -69,22 +69,24 @@ text_of_question d c (question.Books frame) = frame_text (λ spec. books_text) d
 text_of_question d c question.Views = Some (names_text (view_names_of c.state))
 text_of_question d c question.Check = Some (check_text (first_differing c.state))
 text_of_question d c question.Work = Some (work_text c.work)
+text_of_question d c question.Version = None
 
 -- what a question is refused with where it cannot be answered
-abbrev pub fault_of_question : Question → CatalogueFault
-fault_of_question (question.Show view) = fault.NoView
-fault_of_question _ = fault.NoFrame
+abbrev pub refusal_of_question : Question → Refusal
+refusal_of_question (question.Show view) = refusal.Store fault.NoView
+refusal_of_question question.Version = refusal.Mistake mistake.OnlyWithHall
+refusal_of_question _ = refusal.Store fault.NoFrame
 
 -- that memory was refused
 abbrev pub IsMemory : Refusal → Type 0
 IsMemory (refusal.Store f) = f ≡ fault.Memory
 IsMemory r = r ≡ refusal.Memory
 
--- A refusal where this text is wanted: this fault where there is no text, else that memory was refused.
-abbrev pub IsRefusalOfWanted : Option (List ℕ) → CatalogueFault → Refusal → Type 0
-IsRefusalOfWanted None f r = r ≡ refusal.Store f
+-- A refusal where this text is wanted: this one where there is no text, else that memory was refused.
+abbrev pub IsRefusalOfWanted : Option (List ℕ) → Refusal → Refusal → Type 0
+IsRefusalOfWanted None f r = r ≡ f
 IsRefusalOfWanted (Some text) f r = IsMemory r
 
 -- The answer is the text that is wanted, or it is refused.
-abbrev pub IsTold : Option (List ℕ) → CatalogueFault → Result (Vec ℕ) Refusal → Type 0
+abbrev pub IsTold : Option (List ℕ) → Refusal → Result (Vec ℕ) Refusal → Type 0
 IsTold want f result = MatchResult result (λ text. want ≡ Some text.items) (IsRefusalOfWanted want f)

@@ -12,6 +12,8 @@ use Rattle.df_shell.specs.declared.refusal.Refusal.{Refusal}
 use Rattle.df_shell.specs.declared.refusal.Refusal.TheVariants as refusal
 use Rattle.df_shell.specs.declared.refusal.Mistake.{Mistake}
 use Rattle.df_shell.specs.declared.refusal.Mistake.TheVariants as mistake
+use Rattle.df_shell.specs.declared.refusal.VersionFault.{VersionFault}
+use Rattle.df_shell.specs.declared.refusal.VersionFault.TheVariants as version
 
 -- what is wrong with a line
 abbrev pub mistake_text : Mistake → List ℕ
@@ -25,6 +27,8 @@ mistake_text mistake.LongLine = codes "a line has more than 1048576 bytes"
 mistake_text mistake.MissingLines = codes "the input ends before the lines of the command"
 mistake_text mistake.OtherRowCount = codes "not as many rows as numbers"
 mistake_text mistake.NoView = codes "the document has no such view"
+mistake_text mistake.OnlyWithHall = codes "only with --hall"
+mistake_text mistake.NotWithHall = codes "not with --hall"
 
 -- the code of a catalogue's fault, and the number that it is about
 abbrev pub catalogue_text : CatalogueFault → List ℕ
@@ -51,6 +55,12 @@ chunk_text chunk.NumberTooLarge = codes "S6"
 chunk_text (chunk.RowUnlike row) = codes "S4"
 chunk_text chunk.Memory = codes "memory"
 
+-- the code of what a hall's versions refuse
+abbrev pub version_text : VersionFault → List ℕ
+version_text version.Spent = codes "H1"
+version_text version.Ahead = codes "H2"
+version_text version.Missing = codes "H3"
+
 -- a bad cell, by its record's number and its column's name
 abbrev pub text_of_cell : ℕ → List ℕ → List ℕ
 text_of_cell number column = codes "record " ++ (decimal number ++ (codes ", column " ++ escaped_text column))
@@ -68,13 +78,15 @@ help_text =
     ++ (codes "books FRAME                how many rows were accepted and deleted, and how many there are\n"
     ++ (codes "views                      the names of the views\n"
     ++ (codes "check                      whether each view has the rows that its plan gives: same, or differs and a view\n"
-    ++ (codes "work                       what the views counted at the last change of rows\n"
-    ++ codes "help                       this list\n"))))))))))
+    ++ (codes "work                       what the views counted at the last change of rows; not with --hall\n"
+    ++ (codes "version                    the number of the newest version; only with --hall\n"
+    ++ codes "help                       this list\n")))))))))))
 
 -- the text of a refusal
 abbrev pub text_of : Refusal → List ℕ
 text_of (refusal.Mistake m) = codes "? " ++ mistake_text m
 text_of (refusal.Store f) = catalogue_text f
+text_of (refusal.Version f) = version_text f
 text_of (refusal.Csv f) = csv_text f
 text_of (refusal.Cell number column) = text_of_cell number column
 text_of (refusal.Chunk f) = chunk_text f

@@ -3,19 +3,14 @@ ghost use Rattle.std.specs.Prelude.{◌≡◌, IfErr, IfOk, OnErr, OnOk, map};
 ghost use Rattle.csv.specs.Records.{fields_of};
 ghost use Rattle.df_shell.specs.Answers.{IsAnswer, IsAnswerToLine, answer_text};
 ghost use Rattle.df_shell.specs.Asked.{IsMadeAsAsked, IsRefusalOfAsked};
-ghost use Rattle.df_shell.specs.Questions.{IsTold, fault_of_question, text_of_question};
 
 use crate::changing::{append, delete, drop_view, register, replace};
-use crate::checking::check;
-use crate::command::{AskedChange, Command, Question, read_command};
+use crate::command::{AskedChange, Command, read_command};
 use crate::definitions::Definitions;
-use crate::reading::{books, rows, show, views, work};
 use crate::refusal::Refusal;
-use crate::store::Store;
+use crate::view_store::ViewStore;
 use csv::StringRecord;
-use df_catalogue::Catalogue;
 use std::alloc::{AllocError, Global};
-use std::sync::ledger::Ledger;
 
 /// What a command is answered, where it is not refused.
 #[derive(Debug, Drop)]
@@ -39,7 +34,8 @@ rows FRAME                 the table of a frame, and the numbers of its rows
 books FRAME                how many rows were accepted and deleted, and how many there are
 views                      the names of the views
 check                      whether each view has the rows that its plan gives: same, or differs and a view
-work                       what the views counted at the last change of rows
+work                       what the views counted at the last change of rows; not with --hall
+version                    the number of the newest version; only with --hall
 help                       this list
 ";
 
@@ -57,14 +53,16 @@ impl Answer {
 }
 
 /// Does what the words of a line say. `words` and `lines` are what was read, or why it was not.
-pub fn answer_line<Acc: Ledger, Del: Ledger>(
+pub fn answer_line<S: ViewStore>(
     alloc: Global,
     definitions: &Definitions,
-    store: &mut Store<Acc, Del>,
+    store: &mut S,
     words: Result<StringRecord, Refusal>,
     lines: Result<Vec<u8>, Refusal>,
 ) -> Result<Answer, Refusal>
-    ensures { IsAnswerToLine definitions.now words lines store.old.catalogue store.new.catalogue result }
+    ensures { IsAnswerToLine (S.Makes store.old store.new) (S.Refuses store.old store.new)
+        (S.Keeps store.old store.new) (S.Answers store.old store.new definitions.now)
+        definitions.now words lines result }
 {
     let record = words?;
     let words = words_of(alloc, &record)?;
@@ -78,14 +76,16 @@ fn words_of(alloc: Global, fields: &StringRecord) -> Result<Vec<&str>, AllocErro
     fields.iter().collect(alloc)
 }
 
-fn answer_command<Acc: Ledger, Del: Ledger>(
+fn answer_command<S: ViewStore>(
     alloc: Global,
     definitions: &Definitions,
-    store: &mut Store<Acc, Del>,
+    store: &mut S,
     command: Command<'_>,
     lines: Result<Vec<u8>, Refusal>,
 ) -> Result<Answer, Refusal>
-    ensures { IsAnswer definitions.now command.entry lines store.old.catalogue store.new.catalogue result }
+    ensures { IsAnswer (S.Makes store.old store.new) (S.Refuses store.old store.new)
+        (S.Keeps store.old store.new) (S.Answers store.old store.new definitions.now)
+        definitions.now command.entry lines result }
 {
     match command {
         Command::Change(change) => {
@@ -93,24 +93,24 @@ fn answer_command<Acc: Ledger, Del: Ledger>(
             Ok(Answer::Accepted)
         }
         Command::Question(question) => {
-            Ok(Answer::Told(answer_question(alloc, definitions, &store.catalogue, question)?))
+            Ok(Answer::Told(store.answer(alloc, definitions, question)?))
         }
         Command::Help => Ok(Answer::Help),
     }
 }
 
-fn answer_change<Acc: Ledger, Del: Ledger>(
+fn answer_change<S: ViewStore>(
     alloc: Global,
     definitions: &Definitions,
-    store: &mut Store<Acc, Del>,
+    store: &mut S,
     asked: AskedChange<'_>,
     lines: Result<Vec<u8>, Refusal>,
 ) -> Result<(), Refusal>
     ensures made { OnOk result
-        (IsMadeAsAsked definitions.now asked.entry lines store.old.catalogue store.new.catalogue) }
+        (IsMadeAsAsked (S.Makes store.old store.new) definitions.now asked.entry lines) }
     ensures refused { IfErr result
-        (IsRefusalOfAsked definitions.now store.old.catalogue.state asked.entry lines) }
-    ensures same { OnErr result (store.new.catalogue ≡ store.old.catalogue) }
+        (IsRefusalOfAsked (S.Refuses store.old store.new) definitions.now asked.entry lines) }
+    ensures same { OnErr result (S.Keeps store.old store.new) }
 {
     match asked {
         AskedChange::Append(frame, first) => {
@@ -122,24 +122,5 @@ fn answer_change<Acc: Ledger, Del: Ledger>(
         }
         AskedChange::Register(view) => register(alloc, definitions, store, view),
         AskedChange::DropView(view) => drop_view(alloc, store, view),
-    }
-}
-
-fn answer_question<Acc: Ledger, Del: Ledger>(
-    alloc: Global,
-    definitions: &Definitions,
-    catalogue: &Catalogue<Acc, Del>,
-    question: Question<'_>,
-) -> Result<Vec<u8>, Refusal>
-    ensures { IsTold (text_of_question definitions.now catalogue.now question.entry)
-        (fault_of_question question.entry) result }
-{
-    match question {
-        Question::Show(view) => show(alloc, catalogue, view),
-        Question::Rows(frame) => rows(alloc, definitions, catalogue, frame),
-        Question::Books(frame) => books(alloc, definitions, catalogue, frame),
-        Question::Views => views(alloc, catalogue),
-        Question::Check => check(alloc, catalogue),
-        Question::Work => work(alloc, catalogue),
     }
 }

@@ -69,7 +69,7 @@ fn is_same<Acc: Ledger, Del: Ledger>(
 }
 
 // What the check says.
-fn verdict(alloc: Global, found: Option<&Text>) -> Result<Vec<u8>, AllocError>
+pub fn verdict(alloc: Global, found: Option<&Text>) -> Result<Vec<u8>, AllocError>
     ensures { IfOk result (λ text. text.items ≡ check_text (option_copied found.entry)) }
 {
     let mut text = Vec::new(alloc);

@@ -32,7 +32,7 @@ pub enum AskedChange<'a> {
     DropView(&'a str),
 }
 
-/// What is asked about the catalogue.
+/// What is asked about the frames and views.
 #[derive(Clone, Copy, Debug)]
 pub enum Question<'a> {
     /// The table of a view.
@@ -47,6 +47,8 @@ pub enum Question<'a> {
     Check,
     /// What the views counted at the last change of rows.
     Work,
+    /// The number of the newest version.
+    Version,
 }
 
 /// The command that words say.
@@ -76,6 +78,7 @@ fn command_of<'a>(alloc: Global, name: &str, arguments: &[&'a str]) -> Result<Co
         "views" => bare(Command::Question(Question::Views), arguments),
         "check" => bare(Command::Question(Question::Check), arguments),
         "work" => bare(Command::Question(Question::Work), arguments),
+        "version" => bare(Command::Question(Question::Version), arguments),
         "help" => bare(Command::Help, arguments),
         _ => Err(Refusal::Mistake(Mistake::NoCommand)),
     }

@@ -2,9 +2,10 @@
 ghost use Rattle.std.specs.Prelude.{◌≡◌};
 ghost use Rattle.df_shell.specs.declared.fault.ShellFault.TheVariants as fault;
 
-use crate::refusal_texts::{catalogue_text, new_text};
+use crate::refusal::Refusal;
+use crate::refusal_texts::{new_text, refusal_text};
 use df_app::{RunFault, fault_text};
-use df_catalogue::{CatalogueFault, NewFault};
+use df_catalogue::NewFault;
 use std::alloc::{AllocError, AllocFailed, Global};
 use thiserror::Error;
 
@@ -19,13 +20,16 @@ pub enum ShellFault {
     Frames(NewFault),
     /// The first rows or the views are refused. Those of a document that opens are not.
     #[error("{0}")]
-    Store(CatalogueFault),
+    Store(Refusal),
     /// A read of the commands failed.
     #[error("the commands cannot be read")]
     Read,
     /// A write failed, or took no byte.
     #[error("an answer cannot be written")]
     Write,
+    /// The rows of this frame, or what was accepted and deleted of it, are not what its desk counted.
+    #[error("the books of frame {0}")]
+    Missing(usize),
     /// Memory was refused before the first command.
     #[error("out of memory")]
     Memory,
@@ -36,9 +40,10 @@ pub fn shell_fault_text(alloc: Global, fault: &ShellFault) -> Result<String, All
     match fault {
         ShellFault::Document(fault) => fault_text(alloc, fault),
         ShellFault::Frames(fault) => new_text(alloc, *fault),
-        ShellFault::Store(fault) => catalogue_text(alloc, *fault),
+        ShellFault::Store(refusal) => refusal_text(alloc, refusal),
         ShellFault::Read => String::from_str(alloc, "read"),
         ShellFault::Write => String::from_str(alloc, "write"),
+        ShellFault::Missing(frame) => format!(in alloc; "H4 {frame}"),
         ShellFault::Memory => String::from_str(alloc, "memory"),
     }
 }
@@ -59,11 +64,11 @@ impl From<NewFault> for ShellFault {
     }
 }
 
-impl From<CatalogueFault> for ShellFault {
-    ghost from_gives = { λ f e. e ≡ fault.Store f };
+impl From<Refusal> for ShellFault {
+    ghost from_gives = { λ r e. e ≡ fault.Store r };
 
-    fn from(fault: CatalogueFault) -> ShellFault {
-        ShellFault::Store(fault)
+    fn from(refusal: Refusal) -> ShellFault {
+        ShellFault::Store(refusal)
     }
 }
 

@@ -1,8 +1,8 @@
 //! The shell of the store: commands in, a line each, and the answer to each out, before the next one is read.
 //!
 //! [`run_shell`] opens a view document and answers commands to the end of input. [`read_command`] reads a
-//! [`Command`] from the words of a line, and [`answer_line`] answers it from a [`Store`], or with a
-//! [`Refusal`]. docs/ARCHITECTURE.md says where to add a command.
+//! [`Command`] from the words of a line, and [`answer_line`] answers it from a [`ViewStore`], as a
+//! [`Store`] is, or with a [`Refusal`]. docs/ARCHITECTURE.md says where to add a command.
 #![tactic(auto)]
 
 mod answering;
@@ -11,22 +11,31 @@ mod checking;
 mod command;
 mod definitions;
 mod fault;
+mod hall_shell;
+mod hall_store;
 mod lines;
 mod opening;
+mod prepared;
 mod reading;
 mod refusal;
 mod refusal_texts;
 mod rows;
+mod session;
 mod shell;
 mod store;
+mod version_reading;
+mod view_store;
 mod words;
 
 pub use answering::{Answer, answer_line};
 pub use command::{AskedChange, Command, Question, read_command};
 pub use definitions::Definitions;
 pub use fault::{ShellFault, shell_fault_text};
+pub use hall_shell::run_hall_shell;
+pub use hall_store::HallStore;
 pub use lines::MOST_BYTES_OF_LINE;
-pub use refusal::{Mistake, Refusal};
+pub use refusal::{Mistake, Refusal, VersionFault};
 pub use refusal_texts::refusal_text;
 pub use shell::run_shell;
 pub use store::Store;
+pub use view_store::ViewStore;

@@ -2,12 +2,14 @@
 //! views.
 ghost use Rattle.std.specs.Prelude.{◌≡◌, IfOk, OnOk, flat_map, map};
 ghost use Rattle.std.specs.List.{enumerate_from, zip};
+ghost use Rattle.df_shell.specs.Changes.{IsMade};
 ghost use Rattle.df_shell.specs.Opening.{AreMade, empty_catalogue, frame_appends, opening_changes, piece_appends, registration};
 ghost use Rattle.df_catalogue.specs.Ledgers as ledgers;
 
 use crate::definitions::Definitions;
 use crate::fault::ShellFault;
 use crate::store::Store;
+use crate::view_store::ViewStore;
 use df_catalogue::{Catalogue, Change};
 use df_text::FrameSpec;
 use df_value::{Duplicate, List, Piece, Schema};
@@ -29,7 +31,7 @@ pub fn open_store<Acc: Ledger, Del: Ledger>(
     requires deleted_parts { (deleted.parts ≡ Del.parts)
         × (deleted.parts ≡ ledgers.parts_of_ledger) }
     ensures { IfOk result
-        (λ store. AreMade (empty_catalogue definitions.now) store.catalogue
+        (λ store. AreMade IsMade (empty_catalogue definitions.now) store.catalogue
         (opening_changes definitions.now pieces)) }
 {
     let schemas = copy_schemas(alloc, definitions.document.frames.as_slice())?;
@@ -45,21 +47,22 @@ pub fn open_store<Acc: Ledger, Del: Ledger>(
     }
 }
 
-// The rows of the pieces, and then all views.
-fn fill<Acc: Ledger, Del: Ledger>(
+/// Enters the rows of the pieces, and then registers all views.
+pub fn fill<S: ViewStore>(
     alloc: Global,
-    store: &mut Store<Acc, Del>,
+    store: &mut S,
     definitions: &Definitions,
     pieces: List<List<Piece>>,
 ) -> Result<(), ShellFault>
-    ensures { OnOk result (AreMade store.old.catalogue store.new.catalogue
+    ensures { OnOk result (AreMade S.Makes store.old store.new
         (opening_changes definitions.now pieces)) }
 {
     enter_frames(alloc, store, pieces)?;
     register_views(alloc, store, definitions)
 }
 
-fn copy_schemas(alloc: Global, frames: &[FrameSpec]) -> Result<List<Schema>, AllocError>
+/// The schemas of frames.
+pub fn copy_schemas(alloc: Global, frames: &[FrameSpec]) -> Result<List<Schema>, AllocError>
     ensures { IfOk result (λ schemas. schemas ≡ map (λ f. f.schema) frames.now) }
 {
     let mut schemas = Vec::with_capacity(alloc, frames.len())?;
@@ -69,13 +72,13 @@ fn copy_schemas(alloc: Global, frames: &[FrameSpec]) -> Result<List<Schema>, All
     Ok(List::from_vec(schemas))
 }
 
-fn enter_frames<Acc: Ledger, Del: Ledger>(
+fn enter_frames<S: ViewStore>(
     alloc: Global,
-    store: &mut Store<Acc, Del>,
+    store: &mut S,
     pieces: List<List<Piece>>,
 ) -> Result<(), ShellFault>
     ensures { OnOk result
-        (AreMade store.old.catalogue store.new.catalogue
+        (AreMade S.Makes store.old store.new
         (flat_map frame_appends (enumerate_from 0 pieces))) }
 {
     for (frame, of_frame) in pieces.into_vec().into_iter().enumerate() {
@@ -85,14 +88,14 @@ fn enter_frames<Acc: Ledger, Del: Ledger>(
 }
 
 // The rows of a frame's good pieces.
-fn enter_pieces<Acc: Ledger, Del: Ledger>(
+fn enter_pieces<S: ViewStore>(
     alloc: Global,
-    store: &mut Store<Acc, Del>,
+    store: &mut S,
     frame: usize,
     pieces: List<Piece>,
 ) -> Result<(), ShellFault>
     ensures { OnOk result
-        (AreMade store.old.catalogue store.new.catalogue (flat_map (piece_appends frame) pieces)) }
+        (AreMade S.Makes store.old store.new (flat_map (piece_appends frame) pieces)) }
 {
     for made in pieces.into_vec() {
         enter(alloc, store, frame, made)?;
@@ -100,14 +103,14 @@ fn enter_pieces<Acc: Ledger, Del: Ledger>(
     Ok(())
 }
 
-fn enter<Acc: Ledger, Del: Ledger>(
+fn enter<S: ViewStore>(
     alloc: Global,
-    store: &mut Store<Acc, Del>,
+    store: &mut S,
     frame: usize,
     made: Piece,
 ) -> Result<(), ShellFault>
     ensures { OnOk result
-        (AreMade store.old.catalogue store.new.catalogue (piece_appends frame made)) }
+        (AreMade S.Makes store.old store.new (piece_appends frame made)) }
 {
     match made {
         Piece::Good(chunk) => Ok(store.make(alloc, Change::Append(frame, chunk))?),
@@ -115,12 +118,12 @@ fn enter<Acc: Ledger, Del: Ledger>(
     }
 }
 
-fn register_views<Acc: Ledger, Del: Ledger>(
+fn register_views<S: ViewStore>(
     alloc: Global,
-    store: &mut Store<Acc, Del>,
+    store: &mut S,
     definitions: &Definitions,
 ) -> Result<(), ShellFault>
-    ensures { OnOk result (AreMade store.old.catalogue store.new.catalogue
+    ensures { OnOk result (AreMade S.Makes store.old store.new
         (map registration (zip definitions.now.document.views definitions.now.plans))) }
 {
     let views = definitions.document.views.as_slice();

@@ -20,7 +20,7 @@ pub fn show<Acc: Ledger, Del: Ledger>(
     view: &str,
 ) -> Result<Vec<u8>, Refusal>
     ensures { IsTold (option_map (view_text view.now)
-        (view_named view.now catalogue.now.state.views)) CatalogueFault.NoView result }
+        (view_named view.now catalogue.now.state.views)) (Refusal.Store CatalogueFault.NoView) result }
 {
     let Some(schema) = catalogue.view_schema(view) else {
         return Err(Refusal::Store(CatalogueFault::NoView));
@@ -38,7 +38,7 @@ pub fn rows<Acc: Ledger, Del: Ledger>(
     frame: &str,
 ) -> Result<Vec<u8>, Refusal>
     ensures { IsTold (frame_text rows_text definitions.now catalogue.now.state
-        (frame_index_of definitions.now frame.now)) CatalogueFault.NoFrame result }
+        (frame_index_of definitions.now frame.now)) (Refusal.Store CatalogueFault.NoFrame) result }
 {
     let Some(at) = definitions.frame_index(frame) else {
         return Err(Refusal::Store(CatalogueFault::NoFrame));
@@ -51,7 +51,7 @@ pub fn rows<Acc: Ledger, Del: Ledger>(
     Ok(text)
 }
 
-fn push_numbers(alloc: Global, text: &mut Vec<u8>, numbers: &[u32]) -> Result<(), AllocError>
+pub fn push_numbers(alloc: Global, text: &mut Vec<u8>, numbers: &[u32]) -> Result<(), AllocError>
     ensures { OnOk result (text.new.items ≡ text.old.items ++ numbers_line numbers.now) }
 {
     text.extend_from_slice(b"numbers")?;
@@ -71,7 +71,7 @@ pub fn books<Acc: Ledger, Del: Ledger>(
     frame: &str,
 ) -> Result<Vec<u8>, Refusal>
     ensures { IsTold (frame_text (λ spec. books_text) definitions.now catalogue.now.state
-        (frame_index_of definitions.now frame.now)) CatalogueFault.NoFrame result }
+        (frame_index_of definitions.now frame.now)) (Refusal.Store CatalogueFault.NoFrame) result }
 {
     let Some(at) = definitions.frame_index(frame) else {
         return Err(Refusal::Store(CatalogueFault::NoFrame));
@@ -88,7 +88,7 @@ pub fn books<Acc: Ledger, Del: Ledger>(
     Ok(text.into_bytes())
 }
 
-fn books_of(alloc: Global, accepted: u64, deleted: u64, live: u64) -> Result<String, AllocError>
+pub fn books_of(alloc: Global, accepted: u64, deleted: u64, live: u64) -> Result<String, AllocError>
     ensures { IfOk result (λ text. string_bytes text ≡ books_line accepted deleted live) }
 {
     format!(in alloc; "accepted {accepted}, deleted {deleted}, live {live}\n")
@@ -127,8 +127,15 @@ pub fn views<Acc: Ledger, Del: Ledger>(
     ensures refused { IfErr result (λ r. r ≡ Refusal.Memory) }
 {
     let names = catalogue.view_names(alloc)?;
+    Ok(names_lines(alloc, names.as_slice())?)
+}
+
+/// Names, a line each.
+pub fn names_lines(alloc: Global, names: &[Text]) -> Result<Vec<u8>, AllocError>
+    ensures { IfOk result (λ text. text.items ≡ names_text names.now) }
+{
     let mut text = Vec::new(alloc);
-    for name in names.as_slice() {
+    for name in names {
         let line = escape(alloc, name.as_str())?;
         text.extend_from_slice(line.as_bytes())?;
         text.push(b'\n')?;

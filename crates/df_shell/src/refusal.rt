@@ -8,7 +8,7 @@ use df_value::{ChunkFault, Text};
 use std::alloc::{AllocError, AllocFailed};
 use thiserror::Error;
 
-/// Why a command is refused. The catalogue is then as it was.
+/// Why a command is refused. The frames and views are then as they were.
 #[derive(Debug, PartialEq, Eq, Drop, Error)]
 pub enum Refusal {
     /// The line is no command of this shell.
@@ -27,6 +27,9 @@ pub enum Refusal {
     /// The rows of a command are no chunk.
     #[error("{0}")]
     Chunk(ChunkFault),
+    /// A hall has no version for it.
+    #[error("{0}")]
+    Version(VersionFault),
     /// Memory was refused.
     #[error("out of memory")]
     Memory,
@@ -60,6 +63,26 @@ pub enum Mistake {
     /// The document has no view of this name.
     #[error("no such view")]
     NoView,
+    /// A question about versions, which a catalogue has not.
+    #[error("only with --hall")]
+    OnlyWithHall,
+    /// A question about the work of a change, of which a hall tells nothing.
+    #[error("not with --hall")]
+    NotWithHall,
+}
+
+/// Why a hall has no version for a command.
+#[derive(Clone, Copy, Debug, PartialEq, Eq, Drop, Error)]
+pub enum VersionFault {
+    /// 2^64 - 1 versions were published.
+    #[error("the versions are spent")]
+    Spent,
+    /// The hall knows fewer changes than the session was told of.
+    #[error("the hall is behind")]
+    Ahead,
+    /// No version can be taken.
+    #[error("no version")]
+    Missing,
 }
 
 impl From<Mistake> for Refusal {

@@ -3,7 +3,7 @@ ghost use Rattle.std.specs.Prelude.{◌≡◌, ◌++◌, IfOk, codes, string_byt
 ghost use Rattle.df_shell.specs.Texts as texts;
 ghost use Rattle.df_shell.specs.Texts.{text_of, text_of_cell};
 
-use crate::refusal::{Mistake, Refusal};
+use crate::refusal::{Mistake, Refusal, VersionFault};
 use df_app::csv_text;
 use df_catalogue::{CatalogueFault, NewFault};
 use df_text::escape;
@@ -24,6 +24,7 @@ pub fn refusal_text(alloc: Global, refusal: &Refusal) -> Result<String, AllocErr
         Refusal::Csv(fault) => csv_text(alloc, fault),
         Refusal::Cell(number, column) => cell_text(alloc, *number, column),
         Refusal::Chunk(fault) => String::from_str(alloc, chunk_text(fault)),
+        Refusal::Version(fault) => String::from_str(alloc, version_text(*fault)),
         Refusal::Memory => String::from_str(alloc, "memory"),
     }
 }
@@ -42,6 +43,8 @@ fn mistake_text(mistake: Mistake) -> &'static str
         Mistake::MissingLines => "the input ends before the lines of the command",
         Mistake::OtherRowCount => "not as many rows as numbers",
         Mistake::NoView => "the document has no such view",
+        Mistake::OnlyWithHall => "only with --hall",
+        Mistake::NotWithHall => "not with --hall",
     }
 }
 
@@ -92,5 +95,15 @@ fn chunk_text(fault: &ChunkFault) -> &'static str
         ChunkFault::NumberTooLarge => "S6",
         ChunkFault::RowUnlike(_) => "S4",
         ChunkFault::Memory => "memory",
+    }
+}
+
+fn version_text(fault: VersionFault) -> &'static str
+    ensures { result.now ≡ texts.version_text fault }
+{
+    match fault {
+        VersionFault::Spent => "H1",
+        VersionFault::Ahead => "H2",
+        VersionFault::Missing => "H3",
     }
 }

@@ -1,10 +1,15 @@
 //! The catalogue behind a shell.
-ghost use Rattle.std.specs.Prelude.{◌≡◌, true, is_none, IfErr, OnErr, OnOk};
+ghost use Rattle.std.specs.Prelude.{◌≡◌, true, is_none};
 ghost use Rattle.df_catalogue.specs.Desks.{AreInOrder};
 ghost use Rattle.df_catalogue.specs.States.{IsLegal};
-ghost use Rattle.df_shell.specs.Changes.{IsMade, IsRefusal};
 
-use df_catalogue::{Catalogue, CatalogueFault, Change, Desk};
+use crate::checking::check;
+use crate::command::Question;
+use crate::definitions::Definitions;
+use crate::reading::{books, rows, show, views, work};
+use crate::refusal::{Mistake, Refusal};
+use crate::view_store::ViewStore;
+use df_catalogue::{Catalogue, Change, Desk};
 use std::alloc::Global;
 use std::sync::ledger::Ledger;
 
@@ -25,14 +30,45 @@ impl<Acc: Ledger, Del: Ledger> Store<Acc, Del> {
     {
         let _book = self.catalogue.accepted_book();
     }
+}
 
-    /// Makes a change. Where it is refused nothing was done.
-    pub fn make(&mut self, alloc: Global, change: Change) -> Result<(), CatalogueFault>
-        ensures made { OnOk result (IsMade self.old.catalogue self.new.catalogue change) }
-        ensures refused { IfErr result (IsRefusal self.old.catalogue.state change) }
-        ensures same { OnErr result (self.new.catalogue ≡ self.old.catalogue) }
-    {
+impl<Acc: Ledger, Del: Ledger> ViewStore for Store<Acc, Del> {
+    ghost use Rattle.std.specs.Prelude.{refl};
+    ghost use Rattle.df_shell.specs.Changes.{IsMade, IsRefusedAs};
+    ghost use Rattle.df_shell.specs.Questions.{IsTold, refusal_of_question, text_of_question};
+
+    ghost Makes = { λ old new c. IsMade old.catalogue new.catalogue c };
+
+    ghost Refuses = { λ old new c r. IsRefusedAs old.catalogue.state c r };
+
+    ghost Keeps = { λ old new. new.catalogue ≡ old.catalogue };
+
+    ghost Answers = { λ old new d q answer.
+        IsTold (text_of_question d old.catalogue q) (refusal_of_question q) answer
+        × (new.catalogue ≡ old.catalogue) };
+
+    fn make(&mut self, alloc: Global, change: Change) -> Result<(), Refusal> {
         let desks = self.desks.as_mut_slice();
-        self.catalogue.apply(alloc, desks, change)
+        Ok(self.catalogue.apply(alloc, desks, change)?)
     }
+
+    fn answer(
+        &mut self,
+        alloc: Global,
+        definitions: &Definitions,
+        question: Question<'_>,
+    ) -> Result<Vec<u8>, Refusal> {
+        let catalogue = &self.catalogue;
+        match question {
+            Question::Show(view) => show(alloc, catalogue, view),
+            Question::Rows(frame) => rows(alloc, definitions, catalogue, frame),
+            Question::Books(frame) => books(alloc, definitions, catalogue, frame),
+            Question::Views => views(alloc, catalogue),
+            Question::Check => check(alloc, catalogue),
+            Question::Work => work(alloc, catalogue),
+            Question::Version => Err(Refusal::Mistake(Mistake::OnlyWithHall)),
+        }
+    }
+
+    ghost stays = { λ s. refl };
 }

@@ -1,4 +1,5 @@
--- Threads may share a hall: its catalogue may go to another thread, and a lock is shared where its contents may go.
+-- Threads may share a hall: its catalogue and what publishes its versions may go to another thread, and a lock is shared
+-- where its contents may go.
 use denote.RattleType.{RattleType}
 use denote.Param.Send.{IsSend, IsSync, sendable}
 use Rattle.std.specs.declared.sync.ledger.Ledger.{Ghosts}
@@ -11,6 +12,8 @@ use Rattle.df_catalogue.specs.contracts.staging.Staging as Staging
 use Rattle.df_catalogue.specs.contracts.views.View as View
 use Rattle.df_catalogue.specs.contracts.catalogue.Catalogue as Catalogue
 use Rattle.df_catalogue.proofs.frame.Frame.TheSendSync as frame
+use Rattle.df_versions.specs.declared.history.Naming.{Ghosts as Names}
+use Rattle.df_versions.proofs.Crosses.{versioned_send}
 use Rattle.df_store.specs.contracts.hall.Hall as Hall
 use Rattle.df_store.proofs.CrossingViews.{live_send, staged_send}
 
@@ -28,5 +31,6 @@ module _ (A D : RattleType) (a : Ghosts A.Denot) (d : Ghosts D.Denot) where
   pub catalogue_send : IsSend (Catalogue.the_row A D a d)
   catalogue_send = let v = view_send in let s = staging_send in search (sendable, crosses, frame.the_send, book.the_send, share.the_send) depth 40
 
-  pub hall_sync : IsSync (Hall.the_row A D a d)
-  hall_sync = let c = catalogue_send in search (sendable, crosses) depth 20
+module _ (A D J : RattleType) (a : Ghosts A.Denot) (d : Ghosts D.Denot) (j : Names J.Denot) where
+  pub hall_sync : IsSync (Hall.the_row A D J j a d)
+  hall_sync = let v = versioned_send A D J a d j (catalogue_send A D a d) in search (sendable, crosses) depth 20

@@ -1,6 +1,6 @@
 -- Lists of workers, and the desks of all of them.
-use Rattle.std.proofs.Common.{◌≡◌, ℕ, zero, suc, ◌+◌, ◌*◌, ◌<◌, ◌≤◌, ◌∙◌, List, [], ◌∷◌, ◌++◌, false, length, map, take, drop, get_or, set, refl, ap, sym, subst, arith}
-use Rattle.std.specs.Prelude.{All, flat_map}
+use Rattle.std.proofs.Common.{◌≡◌, ℕ, zero, suc, ◌+◌, ◌*◌, ◌<◌, ◌≤◌, ◌∙◌, List, [], ◌∷◌, ◌++◌, length, map, take, drop, get_or, set, refl, ap, sym, subst, arith}
+use Rattle.std.specs.Prelude.{All, None, flat_map}
 use Rattle.std.proofs.lemmas.List.{append-nil, drop-set-lt, flat_map_more, map-append}
 use Rattle.std.proofs.lemmas.List.Concat.{length-flat_map}
 use Rattle.std.proofs.lemmas.List.Elements.{All-append, All-cons, All-drop, All-nil}
@@ -108,13 +108,13 @@ all-outcomes claims most chunks (w ∷ ws) are =
 
 -- workers of whom the same are stopped as of those of whom none is
 pub all-running :
-    {A D : Type 0} (was now : List (Worker A D)) → map (λ w. w.stopped) now ≡ map (λ w. w.stopped) was → All (λ w. w.stopped ≡ false) now → All (λ w. w.stopped ≡ false) was
-all-running {A = A} {D = D} [] now same running = All-nil (λ (w : Worker A D). w.stopped ≡ false)
+    {A D : Type 0} (was now : List (Worker A D)) → map (λ w. w.stopped) now ≡ map (λ w. w.stopped) was → All (λ w. w.stopped ≡ None) now → All (λ w. w.stopped ≡ None) was
+all-running {A = A} {D = D} [] now same running = All-nil (λ (w : Worker A D). w.stopped ≡ None)
 all-running (v ∷ was) [] same running = absurd (cc)
 all-running {A = A} {D = D} (v ∷ was) (w ∷ now) same running =
-    let first : v.stopped ≡ false = let here = running 0 w (omega arith) in cc in
+    let first : v.stopped ≡ None = let here = running 0 w (omega arith) in cc in
     let rest : map (λ (x : Worker A D). x.stopped) now ≡ map (λ (x : Worker A D). x.stopped) was = cc in
-    All-cons (λ (x : Worker A D). x.stopped ≡ false) v was first (all-running was now rest (λ k d h. running (suc k) d (omega (arith, h))))
+    All-cons (λ (x : Worker A D). x.stopped ≡ None) v was first (all-running was now rest (λ k d h. running (suc k) d (omega (arith, h))))
 
 drop-next : {X : Type 0} (xs : List X) (i : ℕ) → drop (suc i) xs ≡ drop 1 (drop i xs)
 drop-next xs zero = refl

@@ -1,6 +1,11 @@
--- The shares of a desk after a change that the hall accepted.
-use Rattle.std.specs.Prelude.{ℕ, ◌+◌}
+-- What a hall answers to a change, and the shares of a desk after one that it accepted.
+use Rattle.std.specs.Prelude.{ℕ, ◌+◌, List, Result}
 use Rattle.df_catalogue.specs.Desks.{DeskParts}
+use Rattle.df_catalogue.specs.declared.change.Change.{Change}
+use Rattle.df_catalogue.specs.declared.state.State.{State}
+use Rattle.df_versions.specs.Answered.{AnswersChange}
+use Rattle.df_versions.specs.Histories.{IsHistory}
+use Rattle.df_versions.specs.declared.fault.ChangeFault.{ChangeFault}
 
 -- so many more rows were accepted through the desk
 abbrev pub having_accepted : ℕ → DeskParts → DeskParts
@@ -9,3 +14,10 @@ having_accepted rows d = record d { accepted = d.accepted + rows }
 -- so many more were deleted
 abbrev pub having_deleted : ℕ → DeskParts → DeskParts
 having_deleted rows d = record d { deleted = d.deleted + rows }
+
+-- a change is answered so after some lawful history, for a caller who was told of so many states. What a lock holds has
+-- no name in a clause, so nothing here ties that history to a hall; what is told does
+pub record AnswersOverHistory {J : Type 0} (floor : ℕ) (c : Change) (result : Result (List State) (ChangeFault J)) : Type 0 where
+  pub history : List State
+  pub lawful : IsHistory history
+  pub answer : AnswersChange history floor c result

@@ -5,7 +5,7 @@ use Rattle.df_plan.specs.CheckedParts.{CheckedParts}
 use Rattle.df_catalogue.specs.declared.fault.CatalogueFault.TheVariants as catalogue_fault
 use Rattle.df_catalogue.specs.declared.state.State.{State}
 use Rattle.df_store.specs.declared.fault.LoadCause.{LoadCause}
-use Rattle.df_store.specs.declared.fault.LoadCause.TheVariants.{Refused, Memory, MissingDesk, Lost, Unlike, ViewsUnlike}
+use Rattle.df_store.specs.declared.fault.LoadCause.TheVariants.{Refused, Memory, Spent, Ahead, MissingDesk, Lost, Unlike, ViewsUnlike}
 use Rattle.df_store.specs.declared.jobs.Outcome.{Outcome}
 use Rattle.df_store.specs.Jobs.{jobs_of}
 use Rattle.df_store.specs.Lost.{IsLost}
@@ -19,6 +19,8 @@ headings_of s = map (λ v. (v.name, v.plan)) s.views
 abbrev pub IsDifference : ℕ → List Outcome → List (List ℕ × CheckedParts) → State → LoadCause → Type 0
 IsDifference jobs outcomes views s (Refused f) = ⊥
 IsDifference jobs outcomes views s Memory = ⊤
+IsDifference jobs outcomes views s Spent = ⊥
+IsDifference jobs outcomes views s Ahead = ⊥
 IsDifference jobs outcomes views s (MissingDesk frame) = ⊥
 IsDifference jobs outcomes views s (Lost job) = IsLost jobs outcomes job
 IsDifference jobs outcomes views s (Unlike frame) = frame < length s.frames
@@ -29,6 +31,8 @@ IsDifference jobs outcomes views s ViewsUnlike = headings_of s ≢ views
 abbrev pub IsCauseOf : List (List (ℕ × Piece)) → List (List ℕ × CheckedParts) → Option State → LoadCause → Type 0
 IsCauseOf chunks views left (Refused f) = f ≢ catalogue_fault.Memory
 IsCauseOf chunks views left Memory = ⊤
+IsCauseOf chunks views left Spent = ⊤
+IsCauseOf chunks views left Ahead = ⊤
 IsCauseOf chunks views left (MissingDesk frame) = MatchOption left ⊤ (λ s. ⊥)
 IsCauseOf chunks views left (Lost job) = MatchOption left ⊥ (λ s. job < length (jobs_of chunks))
 IsCauseOf chunks views left (Unlike frame) = MatchOption left ⊥ (λ s. frame < length s.frames)
@@ -38,6 +42,8 @@ IsCauseOf chunks views left ViewsUnlike = MatchOption left ⊥ (λ s. headings_o
 abbrev pub IsCauseUnsettled : LoadCause → Type 0
 IsCauseUnsettled (Refused f) = ⊥
 IsCauseUnsettled Memory = ⊤
+IsCauseUnsettled Spent = ⊤
+IsCauseUnsettled Ahead = ⊤
 IsCauseUnsettled (MissingDesk frame) = ⊤
 IsCauseUnsettled (Lost job) = ⊥
 IsCauseUnsettled (Unlike frame) = ⊥

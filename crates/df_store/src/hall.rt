@@ -1,32 +1,32 @@
-//! The hall: a lock round the catalogue.
-ghost use Rattle.std.specs.Prelude.{◌≡◌, ◌≢◌, [], None, IfErr, IfOk, OnErr, OnOk, Some, length};
-ghost use Rattle.df_catalogue.specs.Desks as desks_spec;
-ghost use Rattle.df_catalogue.specs.Ledgers as ledgers;
-ghost use Rattle.df_catalogue.specs.New as new_spec;
+//! The hall: a lock round a catalogue that publishes its versions.
+ghost use Rattle.std.specs.Prelude.{◌≡◌, [], None, IfErr, IfOk, OnErr, OnOk, Some, length, option_map};
+ghost use Rattle.df_catalogue.specs.declared.change.Change.TheVariants.{Append, Delete, DropView, Register, Replace};
 ghost use Rattle.df_store.specs.Closing as closing;
-ghost use Rattle.df_store.specs.Faults.{IsHallFault};
-ghost use Rattle.df_store.specs.Halls.{having_accepted, having_deleted};
+ghost use Rattle.df_store.specs.Halls.{AnswersOverHistory, having_accepted, having_deleted};
 ghost use Rattle.df_store.specs.Rooms.{HasRoomFor, Holds};
 ghost use Rattle.df_value.specs.Limits as limits;
+ghost use Rattle.df_versions.specs.Answered.{told_states};
+ghost use Rattle.df_versions.specs.Histories.{last_state};
 
 use crate::closing::{Unsettled, settle};
-use crate::fault::HallFault;
 use crate::totals::{Totals, TotalsRoom};
-use df_catalogue::{Catalogue, Desk, NewFault};
+use df_catalogue::{Catalogue, Desk};
 use df_plan::CheckedPlan;
-use df_value::{Chunk, List, Row, Schema, Text};
+use df_value::{Chunk, Row, Text};
+use df_versions::{ChangeFault, Naming, Publisher, Told, VersionedCatalogue};
 use std::alloc::Global;
-use std::sync::ledger::{Blank, Ledger};
+use std::sync::ledger::Ledger;
 use std::sync::{Mutex, MutexGuard, Wait};
 
-/// A catalogue behind a lock. What is under the lock is a [`Catalogue`], so its state is legal and its
-/// books are those of the state: the lock needs no fact of its own.
+/// A catalogue behind a lock, of which each change publishes a version. What is under the lock is a
+/// [`VersionedCatalogue`], so its state is legal, its books are those of the state, and its history ends with the state:
+/// the lock needs no fact of its own. An [`OpenedHall`](crate::OpenedHall) makes it.
 ///
 /// Threads share a hall by reference. Each call holds the lock from its first step to its last, so
-/// that calls come one after another, and nobody sees half of a change.
-#[derive(Drop)]
-pub struct Hall<Acc: Ledger, Del: Ledger> {
-    catalogue: Mutex<Catalogue<Acc, Del>>,
+/// that calls come one after another, and nobody sees half of a change. A hall ends by [`Hall::close`] or
+/// [`Hall::end`], which wait until no reader is inside a step.
+pub struct Hall<Acc: Ledger, Del: Ledger, J: Naming> {
+    catalogue: Mutex<VersionedCatalogue<Acc, Del, J>>,
     // For the totals of a close, which takes no memory.
     room: TotalsRoom,
     ghost room_for_all: { HasRoomFor limits.most_frames room },
@@ -34,49 +34,23 @@ pub struct Hall<Acc: Ledger, Del: Ledger> {
 }
 
 /// A hall that was not closed: the shares of the desks are not the books of a frame.
-#[derive(Drop)]
-pub struct Missing<Acc: Ledger, Del: Ledger> {
+pub struct Missing<Acc: Ledger, Del: Ledger, J: Naming> {
     /// The least frame of which the gathered shares are not the books.
     pub frame: usize,
     /// The hall, as it was.
-    pub hall: Hall<Acc, Del>,
+    pub hall: Hall<Acc, Del, J>,
     /// Everything that the given desks had, in one desk for each frame of which any was given.
     pub desks: Vec<Desk<Acc, Del>>,
 }
 
-impl<Acc: Ledger, Del: Ledger> Hall<Acc, Del> {
-    /// A hall over a catalogue of empty frames with these schemas, and the first desk of each frame,
-    /// in order.
-    ///
-    /// Refused are, in this order: more than 8 frames; a frame with a column of another type than
-    /// Int, Text and Bool (the least such index is named); the refusal of memory.
-    pub fn new(
-        alloc: Global,
-        accepted: Blank,
-        deleted: Blank,
-        schemas: List<Schema>,
-    ) -> Result<(Hall<Acc, Del>, Vec<Desk<Acc, Del>>), NewFault>
-        requires accepted_name { accepted.name ≡ Acc.name }
-        requires accepted_parts { (accepted.parts ≡ Acc.parts)
-            × (accepted.parts ≡ ledgers.parts_of_ledger) }
-        requires deleted_name { deleted.name ≡ Del.name }
-        requires deleted_parts { (deleted.parts ≡ Del.parts)
-            × (deleted.parts ≡ ledgers.parts_of_ledger) }
-        ensures sound { OnOk result (new_spec.new_fault schemas ≡ None) }
-        ensures desks { IfOk result (λ made.
-            made.1.items ≡ desks_spec.first_desks (length schemas)) }
-        ensures refused { IfErr result (λ fault. fault ≢ NewFault.Memory →
-            new_spec.new_fault schemas ≡ Some fault) }
-        ensures memory_last { IfErr result (λ fault.
-            fault ≡ NewFault.Memory → new_spec.new_fault schemas ≡ None) }
-    {
-        let (catalogue, desks) = Catalogue::new(alloc, accepted, deleted, schemas)?;
-        let room = TotalsRoom::new(alloc)?;
-        Ok((Hall::over(catalogue, room), desks))
-    }
-
+/// The calls that change the catalogue take last what the caller was told before, if anything, and answer the history up
+/// to their own change or refusal: longer than that, or [`ChangeFault::Ahead`].
+impl<Acc: Ledger, Del: Ledger, J: Naming> Hall<Acc, Del, J> {
     // A hall over this catalogue.
-    fn over(catalogue: Catalogue<Acc, Del>, room: TotalsRoom) -> Hall<Acc, Del>
+    pub(crate) fn over(
+        catalogue: VersionedCatalogue<Acc, Del, J>,
+        room: TotalsRoom,
+    ) -> Hall<Acc, Del, J>
         requires room { HasRoomFor limits.most_frames room }
         requires empty { Holds room [] }
     {
@@ -94,16 +68,20 @@ impl<Acc: Ledger, Del: Ledger> Hall<Acc, Del> {
         alloc: Global,
         desk: &mut Desk<Acc, Del>,
         chunk: &Chunk,
-    ) -> Result<(), HallFault>
+        told: Option<&Told<J>>,
+    ) -> Result<Told<J>, ChangeFault<J>>
+        ensures answer { AnswersOverHistory (told_states (option_map (λ t. t.now) told.entry))
+            (Append desk.old.frame chunk.now) result }
         ensures share { OnOk result
             (desk.new ≡ having_accepted (length chunk.now.rows) desk.old) }
         ensures same_share { OnErr result (desk.new ≡ desk.old) }
-        ensures fault { IfErr result (λ fault. IsHallFault fault) }
     {
         let mut catalogue = self.catalogue.lock(rt);
-        let answer = catalogue.append(alloc, desk, chunk);
+        // Asked for what it tells: that the history is lawful.
+        let _states = catalogue.len();
+        let answer = catalogue.append(rt, alloc, desk, chunk, told);
         MutexGuard::unlock(catalogue);
-        Ok(answer?)
+        answer
     }
 
     /// Takes the rows of these numbers out of the desk's frame, and every view follows. The desk's
@@ -114,16 +92,19 @@ impl<Acc: Ledger, Del: Ledger> Hall<Acc, Del> {
         alloc: Global,
         desk: &mut Desk<Acc, Del>,
         numbers: &[u32],
-    ) -> Result<(), HallFault>
+        told: Option<&Told<J>>,
+    ) -> Result<Told<J>, ChangeFault<J>>
+        ensures answer { AnswersOverHistory (told_states (option_map (λ t. t.now) told.entry))
+            (Delete desk.old.frame numbers.now) result }
         ensures share { OnOk result
             (desk.new ≡ having_deleted (length numbers.now) desk.old) }
         ensures same_share { OnErr result (desk.new ≡ desk.old) }
-        ensures fault { IfErr result (λ fault. IsHallFault fault) }
     {
         let mut catalogue = self.catalogue.lock(rt);
-        let answer = catalogue.delete(alloc, desk, numbers);
+        let _states = catalogue.len();
+        let answer = catalogue.delete(rt, alloc, desk, numbers, told);
         MutexGuard::unlock(catalogue);
-        Ok(answer?)
+        answer
     }
 
     /// Puts each row in the place of the row of its number in the desk's frame, and every view
@@ -134,14 +115,17 @@ impl<Acc: Ledger, Del: Ledger> Hall<Acc, Del> {
         alloc: Global,
         desk: &mut Desk<Acc, Del>,
         rows: &[(u32, Row)],
-    ) -> Result<(), HallFault>
+        told: Option<&Told<J>>,
+    ) -> Result<Told<J>, ChangeFault<J>>
+        ensures answer { AnswersOverHistory (told_states (option_map (λ t. t.now) told.entry))
+            (Replace desk.old.frame rows.now) result }
         ensures same_share { desk.new ≡ desk.old }
-        ensures fault { IfErr result (λ fault. IsHallFault fault) }
     {
         let mut catalogue = self.catalogue.lock(rt);
-        let answer = catalogue.replace(alloc, desk, rows);
+        let _states = catalogue.len();
+        let answer = catalogue.replace(rt, alloc, desk, rows, told);
         MutexGuard::unlock(catalogue);
-        Ok(answer?)
+        answer
     }
 
     /// Adds a view of this name and plan last.
@@ -151,36 +135,44 @@ impl<Acc: Ledger, Del: Ledger> Hall<Acc, Del> {
         alloc: Global,
         name: Text,
         plan: CheckedPlan,
-    ) -> Result<(), HallFault>
-        ensures { IfErr result (λ fault. IsHallFault fault) }
+        told: Option<&Told<J>>,
+    ) -> Result<Told<J>, ChangeFault<J>>
+        ensures { AnswersOverHistory (told_states (option_map (λ t. t.now) told.entry))
+            (Register name plan) result }
     {
         let mut catalogue = self.catalogue.lock(rt);
-        let answer = catalogue.register(alloc, name, plan);
+        let _states = catalogue.len();
+        let answer = catalogue.register(rt, alloc, name, plan, told);
         MutexGuard::unlock(catalogue);
-        Ok(answer?)
+        answer
     }
 
-    /// Takes the view of this name out. It takes no memory.
-    pub fn drop_view<R: Wait>(&self, rt: &R, name: &str) -> Result<(), HallFault>
-        ensures fault { IfErr result (λ fault. IsHallFault fault) }
-        ensures memory_not_taken { IfErr result (λ fault. fault ≢ HallFault.Memory) }
+    /// Takes the view of this name out. The version without it takes memory.
+    pub fn drop_view<R: Wait>(
+        &self,
+        rt: &R,
+        alloc: Global,
+        name: &str,
+        told: Option<&Told<J>>,
+    ) -> Result<Told<J>, ChangeFault<J>>
+        ensures { AnswersOverHistory (told_states (option_map (λ t. t.now) told.entry))
+            (DropView name.now) result }
     {
         let mut catalogue = self.catalogue.lock(rt);
-        let answer = catalogue.drop_view(name);
+        let _states = catalogue.len();
+        let answer = catalogue.drop_view(rt, alloc, name, told);
         MutexGuard::unlock(catalogue);
-        match answer {
-            Ok(()) => Ok(()),
-            Err(fault) => Err(HallFault::Refused(fault)),
-        }
+        answer
     }
 
     /// The catalogue and its totals by frame, exactly where the gathered shares of these desks are the
-    /// books of every frame. Else the least frame where they are not, with the hall and the desks, of
-    /// which those of one frame are now one. It takes no memory, so it can be tried again.
-    pub fn close(
+    /// books of every frame; readers get no version from then on. Else the least frame where they are not, with the
+    /// hall and the desks, of which those of one frame are now one. It takes no memory, so it can be tried again.
+    pub fn close<R: Wait>(
         self,
+        rt: &R,
         desks: Vec<Desk<Acc, Del>>,
-    ) -> Result<(Catalogue<Acc, Del>, Totals), Missing<Acc, Del>>
+    ) -> Result<(Catalogue<Acc, Del>, Totals), Missing<Acc, Del, J>>
         ensures settled { IfOk result (λ closed.
             closing.missing_frame desks.items closed.0.state ≡ None) }
         ensures totals { IfOk result (λ closed. closed.1 ≡ closing.totals_of closed.0.state) }
@@ -189,15 +181,34 @@ impl<Acc: Ledger, Del: Ledger> Hall<Acc, Del> {
         ensures joined { IfErr result (λ missing.
             closing.AreJoined desks.items missing.desks.items) }
     {
-        let (catalogue, room) = self.into_parts();
+        let (versioned, room) = self.into_parts();
+        let (catalogue, publisher) = versioned.into_parts();
         match settle(catalogue, desks, room) {
-            Ok(closed) => Ok(closed),
-            Err(unsettled) => Err(reopened(unsettled)),
+            Ok(closed) => {
+                publisher.end(rt);
+                Ok(closed)
+            }
+            Err(unsettled) => Err(reopened(unsettled, publisher)),
         }
     }
 
-    /// The catalogue, and the room for its totals.
-    pub(crate) fn into_parts(self) -> (Catalogue<Acc, Del>, TotalsRoom)
+    /// Gives the hall up. Readers get no version from then on.
+    pub fn end<R: Wait>(self, rt: &R) {
+        let (catalogue, room) = self.into_catalogue(rt);
+        drop(catalogue);
+        drop(room);
+    }
+
+    /// The catalogue, and the room for its totals. Readers get no version from then on.
+    pub(crate) fn into_catalogue<R: Wait>(self, rt: &R) -> (Catalogue<Acc, Del>, TotalsRoom)
+        ensures room { HasRoomFor limits.most_frames result.1 }
+        ensures empty { Holds result.1 [] }
+    {
+        let (versioned, room) = self.into_parts();
+        (versioned.end(rt), room)
+    }
+
+    fn into_parts(self) -> (VersionedCatalogue<Acc, Del, J>, TotalsRoom)
         ensures room { HasRoomFor limits.most_frames result.1 }
         ensures empty { Holds result.1 [] }
     {
@@ -207,7 +218,11 @@ impl<Acc: Ledger, Del: Ledger> Hall<Acc, Del> {
 }
 
 // The hall again, as it was before the close.
-fn reopened<Acc: Ledger, Del: Ledger>(unsettled: Unsettled<Acc, Del>) -> Missing<Acc, Del>
+fn reopened<Acc: Ledger, Del: Ledger, J: Naming>(
+    unsettled: Unsettled<Acc, Del>,
+    publisher: Publisher<J>,
+) -> Missing<Acc, Del, J>
+    requires history { last_state publisher ≡ Some unsettled.catalogue.state }
     requires room { HasRoomFor limits.most_frames unsettled.room }
     requires empty { Holds unsettled.room [] }
     ensures frame { result.frame ≡ unsettled.frame }
@@ -221,7 +236,7 @@ fn reopened<Acc: Ledger, Del: Ledger>(unsettled: Unsettled<Acc, Del>) -> Missing
     } = unsettled;
     Missing {
         frame,
-        hall: Hall::over(catalogue, room),
+        hall: Hall::over(VersionedCatalogue::over(catalogue, publisher), room),
         desks,
     }
 }

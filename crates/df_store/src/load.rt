@@ -10,7 +10,7 @@ ghost use Rattle.df_store.specs.Loads as loads;
 ghost use Rattle.df_store.specs.Refused.{refusal};
 
 use crate::closing::{Unsettled, settle};
-use crate::fault::LoadCause;
+use crate::fault::{LoadCause, Stop};
 use crate::findings::compare;
 use crate::gate::Gate;
 use crate::hall::Hall;
@@ -23,7 +23,8 @@ use df_catalogue::{Catalogue, Desk};
 use df_claims::Claims;
 use df_plan::CheckedPlan;
 use df_value::{Duplicate, List, Source, Text};
-use std::alloc::{AllocError, Global};
+use df_versions::{Naming, Told};
+use std::alloc::Global;
 use std::sync::Wait;
 use std::sync::ledger::Ledger;
 use std::thread::Threads;
@@ -57,21 +58,22 @@ pub struct LoadFault<Acc: Ledger, Del: Ledger> {
 /// Each worker draws one job after another, until none is left. It passes the gate, makes the job's
 /// chunk, and commits it, if it is good, through its own desk of the frame; only the commit holds the
 /// hall's lock. After all workers have ended, what came of the jobs is compared with the sources and
-/// the views, once.
+/// the views, once. Readers of the hall get no version from then on.
 ///
-/// The causes of a fault are looked for in the order of [`LoadCause`]. A worker that is refused memory
-/// stops, and the others go on: what has entered is then in [`LoadFault::left`]. A desk of few parts
+/// The causes of a fault are looked for in the order of [`LoadCause`]. A worker that is refused memory, or a further
+/// version, stops, and the others go on: what has entered is then in [`LoadFault::left`]. A desk of few parts
 /// cannot be split for all workers, and the chunk of a worker without a desk of its frame is lost.
 pub fn load_all<
     Acc: Ledger + Send + Sync,
     Del: Ledger + Send + Sync,
+    J: Naming + Send + Sync,
     S: Source + Sync,
     G: Gate + Sync,
     R: Threads + Wait + Sync,
 >(
     rt: &R,
     alloc: Global,
-    hall: Hall<Acc, Del>,
+    hall: Hall<Acc, Del, J>,
     desks: Vec<Desk<Acc, Del>>,
     views: &[(Text, CheckedPlan)],
     sources: &[S],
@@ -96,11 +98,11 @@ pub fn load_all<
         fault.cause) }
 {
     if let Err(cause) = register_all(rt, alloc, &hall, views) {
-        return Err(given_up(hall, desks, cause));
+        return Err(given_up(rt, hall, desks, cause));
     }
     let jobs = job_count(sources);
     let Ok((claims, seats)) = Claims::new(alloc, jobs, workers.clamp(1, MOST_WORKERS)) else {
-        return Err(given_up(hall, desks, LoadCause::Memory));
+        return Err(given_up(rt, hall, desks, LoadCause::Memory));
     };
     let work = Work {
         alloc,
@@ -111,14 +113,14 @@ pub fn load_all<
         desks: desks.len(),
     };
     let (desks, outcomes) = do_jobs(rt, &hall, &work, seats, desks);
-    finish(hall, desks, &work, views, outcomes)
+    finish(rt, hall, desks, &work, views, outcomes)
 }
 
 // Registers copies of the views, in their order.
-fn register_all<Acc: Ledger, Del: Ledger, R: Wait>(
+fn register_all<Acc: Ledger, Del: Ledger, J: Naming, R: Wait>(
     rt: &R,
     alloc: Global,
-    hall: &Hall<Acc, Del>,
+    hall: &Hall<Acc, Del, J>,
     views: &[(Text, CheckedPlan)],
 ) -> Result<(), LoadCause>
     ensures { IfErr result (λ cause. IsCauseOfRegister cause) }
@@ -126,33 +128,56 @@ fn register_all<Acc: Ledger, Del: Ledger, R: Wait>(
     for (name, plan) in views {
         let name = name.copy(alloc)?;
         let plan = plan.copy(alloc)?;
-        hall.register(rt, alloc, name, plan)?;
+        register_one(rt, alloc, hall, name, plan)?;
     }
     Ok(())
 }
 
+// Registers a view. No reader learns of it, so that nothing needs to be told.
+fn register_one<Acc: Ledger, Del: Ledger, J: Naming, R: Wait>(
+    rt: &R,
+    alloc: Global,
+    hall: &Hall<Acc, Del, J>,
+    name: Text,
+    plan: CheckedPlan,
+) -> Result<(), LoadCause>
+    ensures { IfErr result (λ cause. IsCauseOfRegister cause) }
+{
+    let nothing: Option<Told<J>> = None;
+    match hall.register(rt, alloc, name, plan, nothing.as_ref()) {
+        Ok(told) => {
+            drop(told);
+            Ok(())
+        }
+        Err(fault) => Err(LoadCause::of_register(fault)),
+    }
+}
+
 // The fault of a load of which no chunk has entered.
-fn given_up<Acc: Ledger, Del: Ledger>(
-    hall: Hall<Acc, Del>,
+fn given_up<Acc: Ledger, Del: Ledger, J: Naming, R: Wait>(
+    rt: &R,
+    hall: Hall<Acc, Del, J>,
     desks: Vec<Desk<Acc, Del>>,
     cause: LoadCause,
 ) -> LoadFault<Acc, Del>
     ensures cause { result.cause ≡ cause }
     ensures left { IfSome result.left (λ left. left.1 ≡ closing.totals_of left.0.state) }
 {
+    let (catalogue, room) = hall.into_catalogue(rt);
     LoadFault {
         cause,
-        left: hall.close(desks).ok(),
+        left: settle(catalogue, desks, room).ok(),
     }
 }
 
 // Compares what the load left, and closes the hall.
-fn finish<Acc: Ledger, Del: Ledger, S: Source, G: Gate>(
-    hall: Hall<Acc, Del>,
+fn finish<Acc: Ledger, Del: Ledger, J: Naming, S: Source, G: Gate, R: Wait>(
+    rt: &R,
+    hall: Hall<Acc, Del, J>,
     desks: Vec<Desk<Acc, Del>>,
     work: &Work<S, G>,
     views: &[(Text, CheckedPlan)],
-    entered: Result<Vec<Outcome>, AllocError>,
+    entered: Result<Vec<Outcome>, Stop>,
 ) -> Result<Loaded<Acc, Del>, LoadFault<Acc, Del>>
     requires jobs { work.now.jobs
         ≡ length (jobs_of (chunks_of S.made S.start_of work.now.sources.now)) }
@@ -174,7 +199,7 @@ fn finish<Acc: Ledger, Del: Ledger, S: Source, G: Gate>(
         (option_map (λ left. left.0.state) fault.left)
         fault.cause) }
 {
-    let (catalogue, room) = hall.into_parts();
+    let (catalogue, room) = hall.into_catalogue(rt);
     let findings = match entered {
         Ok(outcomes) => compare(
             work.alloc,
@@ -184,7 +209,7 @@ fn finish<Acc: Ledger, Del: Ledger, S: Source, G: Gate>(
             work.jobs,
             outcomes,
         ),
-        Err(_) => Err(LoadCause::Memory),
+        Err(stop) => Err(LoadCause::from(stop)),
     };
     conclude(settle(catalogue, desks, room), findings)
 }
@@ -215,7 +240,7 @@ fn conclude<Acc: Ledger, Del: Ledger>(
         },
         Err(unsettled) => {
             let cause = match findings {
-                Err(LoadCause::Memory) => LoadCause::Memory,
+                Err(cause @ (LoadCause::Memory | LoadCause::Spent | LoadCause::Ahead)) => cause,
                 _ => LoadCause::MissingDesk(unsettled.frame),
             };
             drop(unsettled);

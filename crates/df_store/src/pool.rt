@@ -1,11 +1,13 @@
 //! The workers of a load: they share out desks, run, and give the desks back.
-ghost use Rattle.std.specs.Prelude.{◌≡◌, ℕ, ◌+◌, ◌<◌, ◌≤◌, ◌*◌, ◌++◌, [], All, IfErr, IfOk, false, length, map, vec_capacity};
+ghost use Rattle.std.specs.Prelude.{◌≡◌, ℕ, ◌+◌, ◌<◌, ◌≤◌, ◌*◌, ◌++◌, [], All, IfErr, IfOk, None, length, map, vec_capacity};
 ghost use Rattle.df_catalogue.specs.Desks as desks_spec;
 ghost use Rattle.df_claims.specs.Seats.{IsSeatOf};
 ghost use Rattle.df_store.specs.Closing.{HaveSameSums, accepted_at};
 ghost use Rattle.df_store.specs.Jobs.{AreOutcomes, chunks_of};
 ghost use Rattle.df_store.specs.Workers.{AreCounted, IsIdle, IsPool, IsWorker, all_without_accepted, desks_of, entered_at, outcomes_in};
+ghost use Rattle.df_store.specs.Faults.{earlier_of, first_stop};
 
+use crate::fault::Stop;
 use crate::gate::Gate;
 use crate::hall::Hall;
 use crate::jobs::Outcome;
@@ -14,6 +16,7 @@ use crate::worker::{Work, Worker};
 use df_catalogue::Desk;
 use df_claims::ClaimSeat;
 use df_value::Source;
+use df_versions::Naming;
 use std::alloc::{AllocError, Global};
 use std::sync::Wait;
 use std::sync::ledger::Ledger;
@@ -84,18 +87,18 @@ impl<Acc: Ledger, Del: Ledger> WorkerPool<Acc, Del> {
     }
 
     // Ends the workers, and gives back their desks. Beside them is all that the workers have done, or
-    // that memory was refused, to a worker or here.
+    // why one of them stopped, or that memory was refused here.
     fn end<S: Source, G>(
         self,
         work: &Work<S, G>,
-    ) -> (Vec<Desk<Acc, Del>>, Result<Vec<Outcome>, AllocError>)
+    ) -> (Vec<Desk<Acc, Del>>, Result<Vec<Outcome>, Stop>)
         requires { IsPool work.now.claims.now work.now.desks
             (chunks_of S.made S.start_of work.now.sources.now) self }
         ensures desks { result.0.items ≡ desks_of self.workers.items }
         ensures outcomes { IfOk result.1 (λ os. os.items ≡ outcomes_in self.workers.items) }
         ensures sound { IfOk result.1 (λ os.
             AreOutcomes (chunks_of S.made S.start_of work.now.sources.now) os.items) }
-        ensures running { IfOk result.1 (λ _. All (λ w. w.stopped ≡ false) self.workers.items) }
+        ensures running { IfOk result.1 (λ _. All (λ w. w.stopped ≡ None) self.workers.items) }
     {
         let WorkerPool { workers, gathered } = self;
         let mut workers = workers;
@@ -106,21 +109,22 @@ impl<Acc: Ledger, Del: Ledger> WorkerPool<Acc, Del> {
 }
 
 /// Has workers do all jobs, one worker for each seat. What comes back are the desks, with every part and
-/// every row that was accepted through them, and all that the workers did, or that memory was refused
-/// to one of them or to the pool.
+/// every row that was accepted through them, and all that the workers did, or why one of them stopped, or
+/// that memory was refused to the pool.
 pub(crate) fn do_jobs<
     Acc: Ledger + Send + Sync,
     Del: Ledger + Send + Sync,
+    J: Naming + Send + Sync,
     S: Source + Sync,
     G: Gate + Sync,
     R: Threads + Wait + Sync,
 >(
     rt: &R,
-    hall: &Hall<Acc, Del>,
+    hall: &Hall<Acc, Del, J>,
     work: &Work<S, G>,
     seats: Vec<ClaimSeat>,
     desks: Vec<Desk<Acc, Del>>,
-) -> (Vec<Desk<Acc, Del>>, Result<Vec<Outcome>, AllocError>)
+) -> (Vec<Desk<Acc, Del>>, Result<Vec<Outcome>, Stop>)
     requires some { 0 < length seats.items }
     requires seats { All (IsSeatOf work.now.claims.now) seats.items }
     requires desks { length desks.items ≤ work.now.desks }
@@ -132,7 +136,7 @@ pub(crate) fn do_jobs<
 {
     let mut pool = match WorkerPool::new(work, seats, desks) {
         Ok(pool) => pool,
-        Err(desks) => return (desks, Err(AllocError)),
+        Err(desks) => return (desks, Err(Stop::Memory)),
     };
     run_pool(rt, hall, work, &mut pool);
     pool.end(work)
@@ -142,10 +146,11 @@ pub(crate) fn do_jobs<
 fn run_pool<
     Acc: Ledger + Send + Sync,
     Del: Ledger + Send + Sync,
+    J: Naming + Send + Sync,
     S: Source + Sync,
     G: Gate + Sync,
     R: Threads + Wait + Sync,
->(rt: &R, hall: &Hall<Acc, Del>, work: &Work<S, G>, pool: &mut WorkerPool<Acc, Del>)
+>(rt: &R, hall: &Hall<Acc, Del, J>, work: &Work<S, G>, pool: &mut WorkerPool<Acc, Del>)
     requires { IsPool work.now.claims.now work.now.desks
         (chunks_of S.made S.start_of work.now.sources.now) pool.old }
     ensures pool { IsPool work.now.claims.now work.now.desks
@@ -163,10 +168,11 @@ fn run_pool<
 fn run_workers<
     Acc: Ledger + Send + Sync,
     Del: Ledger + Send + Sync,
+    J: Naming + Send + Sync,
     S: Source + Sync,
     G: Gate + Sync,
     R: Threads + Wait + Sync,
->(rt: &R, hall: &Hall<Acc, Del>, work: &Work<S, G>, workers: &mut [Worker<Acc, Del>])
+>(rt: &R, hall: &Hall<Acc, Del, J>, work: &Work<S, G>, workers: &mut [Worker<Acc, Del>])
     requires { All (λ w.
         IsWorker work.now.claims.now work.now.desks
         (chunks_of S.made S.start_of work.now.sources.now) w) workers.old }
@@ -224,18 +230,42 @@ fn take_desks<Acc: Ledger, Del: Ledger>(
     }
 }
 
-// All that the workers have done, if none of them was refused memory.
+// All that the workers have done, if none of them stopped.
 fn outcomes_of<Acc: Ledger, Del: Ledger>(
     alloc: Global,
     workers: Vec<Worker<Acc, Del>>,
-) -> Result<Vec<Outcome>, AllocError>
+) -> Result<Vec<Outcome>, Stop>
     ensures outcomes { IfOk result (λ os. os.items ≡ outcomes_in workers.items) }
-    ensures running { IfOk result (λ _. All (λ w. w.stopped ≡ false) workers.items) }
+    ensures running { IfOk result (λ _. All (λ w. w.stopped ≡ None) workers.items) }
 {
+    if let Some(stop) = stop_of(workers.as_slice()) {
+        return Err(stop);
+    }
     let mut all = Vec::new(alloc);
     for worker in workers {
         let mut worker = worker;
         worker.give_outcomes(&mut all)?;
     }
     Ok(all)
+}
+
+// Why workers stopped, if any did: of several reasons the one that a load answers.
+fn stop_of<Acc: Ledger, Del: Ledger>(workers: &[Worker<Acc, Del>]) -> Option<Stop>
+    ensures { result ≡ first_stop (map (λ w. w.stopped) workers.now) }
+{
+    let mut first = None;
+    for worker in workers {
+        first = earlier(first, worker.stopped);
+    }
+    first
+}
+
+fn earlier(first: Option<Stop>, next: Option<Stop>) -> Option<Stop>
+    ensures { result ≡ earlier_of first next }
+{
+    match (first, next) {
+        (Some(first), Some(next)) => Some(first.earlier(next)),
+        (Some(first), None) => Some(first),
+        (None, next) => next,
+    }
 }

@@ -1,17 +1,18 @@
 //! Workers: threads that make the chunks of jobs, and commit those that are good.
-ghost use Rattle.std.specs.Prelude.{◌≡◌, ◌<◌, ◌++◌, ◌∷◌, [], IfOk, IfSome, OnErr, OnOk, false, if◌then◌else◌, length, slice_index_or};
+ghost use Rattle.std.specs.Prelude.{◌≡◌, ◌<◌, ◌++◌, ◌∷◌, [], IfOk, IfSome, None, OnErr, OnOk, if◌then◌else◌, length, slice_index_or};
 ghost use Rattle.df_catalogue.specs.Desks.{DeskParts};
 ghost use Rattle.df_claims.specs.Seats.{IsSeatOf};
 ghost use Rattle.df_store.specs.Jobs.{chunks_of};
 ghost use Rattle.df_store.specs.Workers.{AreCounted, IsIdle, IsWorker, all_without_accepted};
 
-use crate::fault::HallFault;
+use crate::fault::Stop;
 use crate::gate::Gate;
 use crate::hall::Hall;
 use crate::jobs::{Outcome, make};
 use df_catalogue::Desk;
 use df_claims::{ClaimSeat, Claims};
 use df_value::{Piece, Source};
+use df_versions::{ChangeFault, Naming, Told};
 use std::alloc::{AllocError, Global};
 use std::sync::Wait;
 use std::sync::ledger::Ledger;
@@ -22,8 +23,8 @@ pub(crate) struct Worker<Acc: Ledger, Del: Ledger> {
     pub(crate) desks: Vec<Desk<Acc, Del>>,
     seat: ClaimSeat,
     done: Vec<Outcome>,
-    // Whether it stopped since it was refused memory.
-    stopped: bool,
+    // Why it stopped before no job was left, if it did.
+    pub(crate) stopped: Option<Stop>,
 }
 
 /// What the workers of a load share beside the hall.
@@ -55,15 +56,15 @@ impl<Acc: Ledger, Del: Ledger> Worker<Acc, Del> {
             desks: Vec::with_capacity(work.alloc, work.desks)?,
             seat,
             done: Vec::new(work.alloc),
-            stopped: false,
+            stopped: None,
         })
     }
 
-    /// Does the jobs that it draws, until none is left or memory is refused.
-    pub(crate) fn run<S: Source, G: Gate, R: Wait>(
+    /// Does the jobs that it draws, until none is left or it has to stop. Each commit is told of the one before.
+    pub(crate) fn run<J: Naming, S: Source, G: Gate, R: Wait>(
         &mut self,
         rt: &R,
-        hall: &Hall<Acc, Del>,
+        hall: &Hall<Acc, Del, J>,
         work: &Work<S, G>,
     )
         requires { IsWorker work.now.claims.now work.now.desks
@@ -77,25 +78,27 @@ impl<Acc: Ledger, Del: Ledger> Worker<Acc, Del> {
         ensures counted { AreCounted self.old.desks.items self.old.done.items
             self.new.desks.items self.new.done.items }
     {
+        let mut told: Option<Told<J>> = None;
         for _ in 0..work.jobs {
             let Some(job) = work.claims.next(&mut self.seat) else {
                 return;
             };
-            if self.do_job(rt, hall, work, job).is_err() {
-                self.stopped = true;
+            if let Err(stop) = self.do_job(rt, hall, work, job, &mut told) {
+                self.stopped = Some(stop);
                 return;
             }
         }
     }
 
     // Passes the gate, makes the job's chunk, commits it if it is good, and keeps the outcome.
-    fn do_job<S: Source, G: Gate, R: Wait>(
+    fn do_job<J: Naming, S: Source, G: Gate, R: Wait>(
         &mut self,
         rt: &R,
-        hall: &Hall<Acc, Del>,
+        hall: &Hall<Acc, Del, J>,
         work: &Work<S, G>,
         job: u64,
-    ) -> Result<(), AllocError>
+        told: &mut Option<Told<J>>,
+    ) -> Result<(), Stop>
         requires { IsWorker work.now.claims.now work.now.desks
             (chunks_of S.made S.start_of work.now.sources.now)
             self.old }
@@ -113,19 +116,19 @@ impl<Acc: Ledger, Del: Ledger> Worker<Acc, Del> {
         let Some(outcome) = make(work.alloc, work.sources, job)? else {
             return Ok(());
         };
-        if enter(rt, work.alloc, hall, &mut self.desks, &outcome)? {
+        if enter(rt, work.alloc, hall, &mut self.desks, &outcome, told)? {
             self.done.push_reserved(outcome);
         }
         Ok(())
     }
 
     /// Adds what it has done to the others' outcomes, unless it was stopped.
-    pub(crate) fn give_outcomes(&mut self, all: &mut Vec<Outcome>) -> Result<(), AllocError>
+    pub(crate) fn give_outcomes(&mut self, all: &mut Vec<Outcome>) -> Result<(), Stop>
         ensures given { OnOk result (all.new.items ≡ all.old.items ++ self.old.done.items) }
-        ensures running { OnOk result (self.old.stopped ≡ false) }
+        ensures running { OnOk result (self.old.stopped ≡ None) }
     {
-        if self.stopped {
-            return Err(AllocError);
+        if let Some(stop) = self.stopped {
+            return Err(stop);
         }
         all.append(&mut self.done)?;
         Ok(())
@@ -135,13 +138,14 @@ impl<Acc: Ledger, Del: Ledger> Worker<Acc, Del> {
 // Commits a good chunk through a desk of its frame, and tells whether the outcome stands: that of a
 // bad chunk does, which changes nothing. It does not where the catalogue refuses the chunk, or no desk
 // here is of its frame.
-fn enter<Acc: Ledger, Del: Ledger, R: Wait>(
+fn enter<Acc: Ledger, Del: Ledger, J: Naming, R: Wait>(
     rt: &R,
     alloc: Global,
-    hall: &Hall<Acc, Del>,
+    hall: &Hall<Acc, Del, J>,
     desks: &mut Vec<Desk<Acc, Del>>,
     outcome: &Outcome,
-) -> Result<bool, AllocError>
+    told: &mut Option<Told<J>>,
+) -> Result<bool, Stop>
     ensures desks { all_without_accepted desks.new.items ≡ all_without_accepted desks.old.items }
     ensures counted { IfOk result (λ stands. AreCounted desks.old.items [] desks.new.items
         (if stands then outcome.now ∷ [] else [])) }
@@ -153,10 +157,15 @@ fn enter<Acc: Ledger, Del: Ledger, R: Wait>(
     let Some(at) = desk_of(desks.as_slice(), outcome.frame) else {
         return Ok(false);
     };
-    match hall.commit_chunk(rt, alloc, &mut desks[at], chunk) {
-        Ok(()) => Ok(true),
-        Err(HallFault::Refused(_)) => Ok(false),
-        Err(HallFault::Memory) => Err(AllocError),
+    match hall.commit_chunk(rt, alloc, &mut desks[at], chunk, told.as_ref()) {
+        Ok(next) => {
+            *told = Some(next);
+            Ok(true)
+        }
+        Err(ChangeFault::Refused(_, _)) => Ok(false),
+        Err(ChangeFault::Memory) => Err(Stop::Memory),
+        Err(ChangeFault::Spent) => Err(Stop::Spent),
+        Err(ChangeFault::Ahead) => Err(Stop::Ahead),
     }
 }
 

@@ -42,6 +42,16 @@ impl<J: Naming> Told<J> {
         }
     }
 
+    /// The same once more: a caller who keeps it for a later change can let a reader learn it, too. It takes no memory.
+    pub fn again(&self) -> Told<J>
+        ensures { result ≡ self.now }
+    {
+        Told {
+            history: self.history.again(),
+            of: PhantomData,
+        }
+    }
+
     pub(crate) fn into_history(self) -> History
         ensures { result ≡ (J.book, self) }
     {

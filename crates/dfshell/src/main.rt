@@ -5,38 +5,44 @@
 mod system_files;
 
 use df_app::RunFault;
-use df_shell::{ShellFault, run_shell, shell_fault_text};
+use df_shell::{ShellFault, run_hall_shell, run_shell, shell_fault_text};
 use std::io::BufReader;
 use std::process::ExitCode;
+use std::sync::Wait;
 use std::{env, io};
 use system_files::{SystemFiles, open};
 
-const USAGE: &str = "usage: dfshell VIEWS < COMMANDS";
+const USAGE: &str = "usage: dfshell [--hall] VIEWS < COMMANDS";
 
 fn main(rt: HostRuntime) -> ExitCode {
     match env::args(&rt) {
-        Ok(arguments) => run_arguments(&rt, arguments),
+        Ok(arguments) => run_arguments(&rt, &rt, arguments),
         Err(error) => refuse_arguments(&rt, &error),
     }
 }
 
-// The first argument is the program's name, the second one the document's path, and there is no
-// third.
-fn run_arguments(rt: &HostRuntime, arguments: env::Args) -> ExitCode {
+// The first argument is the program's name. The last one is the document's path, before which `--hall` may stand.
+fn run_arguments<R: Wait>(rt: &HostRuntime, waiting: &R, arguments: env::Args) -> ExitCode {
     let mut words = arguments.skip(1);
-    let Some(word) = words.next() else {
+    let Some(first) = words.next() else {
         return refuse_words(rt);
     };
+    let second = words.next();
     if words.next().is_some() {
         return refuse_words(rt);
     }
-    if word.as_str() == "--help" {
+    match second {
+        None => run_word(rt, waiting, first.as_str()),
+        Some(views) if first.as_str() == "--hall" => run_views(rt, waiting, views.as_str(), true),
+        Some(_) => refuse_words(rt),
+    }
+}
+
+fn run_word<R: Wait>(rt: &HostRuntime, waiting: &R, word: &str) -> ExitCode {
+    if word == "--help" {
         return print_usage(rt);
     }
-    match run_views(rt, word.as_str()) {
-        Ok(()) => ExitCode::from(0),
-        Err(fault) => report(rt, &fault),
-    }
+    run_views(rt, waiting, word, false)
 }
 
 fn refuse_words(rt: &HostRuntime) -> ExitCode {
@@ -51,23 +57,41 @@ fn print_usage(rt: &HostRuntime) -> ExitCode {
     }
 }
 
-// A view document that cannot be opened is one that cannot be read.
-fn run_views(rt: &HostRuntime, views: &str) -> Result<(), ShellFault> {
+fn run_views<R: Wait>(rt: &HostRuntime, waiting: &R, views: &str, hall: bool) -> ExitCode {
+    match answer_commands(rt, waiting, views, hall) {
+        Ok(()) => ExitCode::from(0),
+        Err(fault) => report(rt, &fault),
+    }
+}
+
+// A view document that cannot be opened is one that cannot be read. `waiting` is the runtime once more, which `main`
+// alone can hand on as what may wait: a hall does, for its lock.
+fn answer_commands<R: Wait>(
+    rt: &HostRuntime,
+    waiting: &R,
+    views: &str,
+    hall: bool,
+) -> Result<(), ShellFault> {
+    let alloc = rt.alloc();
     let Some(mut document) = open(rt, views) else {
         return Err(ShellFault::Document(RunFault::ReadFault));
     };
     let mut files = SystemFiles { rt };
-    let Ok(mut input) = BufReader::new(rt.alloc(), rt.stdin()) else {
+    let Ok(mut input) = BufReader::new(alloc, rt.stdin()) else {
         return Err(ShellFault::Memory);
     };
     let mut output = rt.stdout();
-    run_shell(
-        rt.alloc(),
-        &mut document,
-        &mut files,
-        &mut input,
-        &mut output,
-    )
+    if hall {
+        return run_hall_shell(
+            waiting,
+            alloc,
+            &mut document,
+            &mut files,
+            &mut input,
+            &mut output,
+        );
+    }
+    run_shell(alloc, &mut document, &mut files, &mut input, &mut output)
 }
 
 // Arguments that are no text, or for which there was no memory.

@@ -7,7 +7,7 @@ use Rattle.df_shell.proofs.opening.enter_frames.Goals as goal
 
 pub loop-frame-preserved : goal.loop-frame-preserved
 loop-frame-preserved g c =
-    all-flat frame_appends c.args.store.now.catalogue c.loop-frame.store.catalogue c.enter_pieces.new.store.catalogue c.loop-frame.yielded (c.in-Some.frame, c.in-Some.of_frame) c.loop-frame.invariant c.in_ok-enter_pieces.ensures
+    all-flat g.S.ViewStore.Makes frame_appends c.args.store.now c.loop-frame.store c.enter_pieces.new.store c.loop-frame.yielded (c.in-Some.frame, c.in-Some.of_frame) c.loop-frame.invariant c.in_ok-enter_pieces.ensures
 
 pub returns : goal.returns
 returns g c =
@@ -21,4 +21,4 @@ returns g c =
     let count : c.into_iter-frame-iterator.result.iter.rest.len ≡ length c.args.pieces = omega (arith, ap length items, c.into_iter-frame-iterator.result.iter.rest.ok.0) in
     let each = YieldsList-from_enumerate {s = c.into_iter-frame-iterator.result} (YieldsList-from_vec {s = c.into_iter-frame-iterator.result.iter} c.args.pieces items count) none in
     let all = YieldsList-end each c.loop-frame.yielded c.loop-frame.frame-iterator c.loop-frame.yielded_by c.next.result c.next.new.self c.in-None.is c.next.ensures.steps in
-    subst (λ fs. AreMade c.args.store.now.catalogue c.loop-frame.store.catalogue (flat_map frame_appends fs)) (sym (map-id c.loop-frame.yielded) ∙ all.0) c.loop-frame.invariant
+    subst (λ fs. AreMade g.S.ViewStore.Makes c.args.store.now c.loop-frame.store (flat_map frame_appends fs)) (sym (map-id c.loop-frame.yielded) ∙ all.0) c.loop-frame.invariant

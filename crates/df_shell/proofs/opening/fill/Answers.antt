@@ -9,6 +9,6 @@ pub returns : goal.returns
 returns g c =
     let d = c.args.definitions.now in
     on_ok_weaker c.register_views.result
-    (all-both c.args.store.now.catalogue c.enter_frames.new.store.catalogue c.register_views.new.store.catalogue
+    (all-both g.S.ViewStore.Makes c.args.store.now c.enter_frames.new.store c.register_views.new.store
     (flat_map frame_appends (enumerate_from 0 c.args.pieces)) (map registration (zip d.document.views d.plans)) c.in_ok-enter_frames.ensures)
     c.register_views.ensures

@@ -1,6 +1,8 @@
 use Rattle.std.proofs.Common.{◌≡◌, ◌∙◌, ap, map, subst}
 use Rattle.df_catalogue.specs.States.{opening_of}
 use Rattle.df_text.specs.declared.document.FrameSpec.{FrameSpec}
+use Rattle.df_shell.proofs.AreMadeFacts.{all-within}
+use Rattle.df_shell.specs.Changes.{IsMade}
 use Rattle.df_shell.specs.Opening.{AreMade, empty_catalogue, opening_changes}
 use Rattle.df_shell.proofs.opening.open_store.Goals as goal
 
@@ -14,4 +16,5 @@ returns-in-Ok g c =
       work = c.in_ok-catalogue.ensures.work i;
       staged = c.in_ok-catalogue.ensures.staged i;
     } in
-    subst (λ s. AreMade s n (opening_changes d c.args.pieces)) start c.in-Ok.ensures
+    subst (λ s. AreMade IsMade s n (opening_changes d c.args.pieces)) start
+    (all-within IsMade (λ s. s.catalogue) _ c.fill.new.store (opening_changes d c.args.pieces) c.in-Ok.ensures)

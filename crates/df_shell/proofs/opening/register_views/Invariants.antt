@@ -4,4 +4,4 @@ use Rattle.df_shell.proofs.opening.register_views.Given as goal
 
 abbrev pub invariant-loop-view : goal.invariant-loop-view
 invariant-loop-view g l =
-    AreMade l.fn.store.catalogue l.store.catalogue (map (λ p. registration (p.0.now, p.1.now)) l.yielded)
+    AreMade g.S.ViewStore.Makes l.fn.store l.store (map (λ p. registration (p.0.now, p.1.now)) l.yielded)

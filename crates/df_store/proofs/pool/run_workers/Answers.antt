@@ -9,7 +9,7 @@ use Rattle.df_store.proofs.pool.run_workers.Goals as goal
 
 pub for_each_mut-requires-sync-F : goal.for_each_mut-requires-sync-F
 for_each_mut-requires-sync-F g c κs within =
-    let hall = hall_sync (param 0 g.row.Acc) (param 1 g.row.Del) g.Acc.Ledger g.Del.Ledger in
+    let hall = hall_sync (param 0 g.row.Acc) (param 1 g.row.Del) (param 2 g.row.J) g.Acc.Ledger g.Del.Ledger g.J.Naming in
     let b = c.type_bounds in
     search (sendable, shared.the_sync) depth 20
 

@@ -1,5 +1,7 @@
-use Rattle.std.proofs.Common.{◌∙◌, Bool, List, ap, length, map, subst, sym, arith}
+use Rattle.std.proofs.Common.{◌∙◌, List, ap, length, map, subst, sym, arith}
 use Rattle.std.proofs.lemmas.Result.{IfOk-weaker}
+use Rattle.std.specs.Prelude.{Option}
+use Rattle.df_store.specs.declared.fault.Stop.{Stop}
 use Rattle.df_store.specs.declared.worker.Worker.{Worker}
 use Rattle.df_store.specs.Jobs.{AreOutcomes, chunks_of}
 use Rattle.df_store.specs.Workers.{desks_of, outcomes_in}
@@ -31,6 +33,6 @@ returns-clause-running g c =
     let n = c.as_mut_slice.ensures.len in
     let same = c.take_desks.ensures.count in
     let back = put-back c.args.self.workers.len c.take_desks.new.workers c.args.self.workers.items (omega (arith, same, n)) (omega (arith, lent, n)) in
-    let marks : List (Worker g.row.Acc.Denot g.row.Del.Denot) → List Bool = λ ws. map (λ w. w.stopped) ws in
+    let marks : List (Worker g.row.Acc.Denot g.row.Del.Denot) → List (Option Stop) = λ ws. map (λ w. w.stopped) ws in
     let all = ap marks back ∙ (c.take_desks.ensures.stopped ∙ ap marks c.as_mut_slice.ensures.value) in
     IfOk-weaker c.outcomes_of.result _ _ (λ os running. all-running c.args.self.workers.items _ all running) c.outcomes_of.ensures.running

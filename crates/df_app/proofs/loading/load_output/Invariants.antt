@@ -1,0 +1,5 @@
+use Rattle.df_app.proofs.loading.load_output.Given as goal
+
+-- the history is the one that was opened
+abbrev pub ghosts-load_opened : goal.ghosts-load_opened
+ghosts-load_opened g a = record { book = a.opened.0 }

@@ -1,0 +1,5 @@
+use Rattle.df_load_tests.proofs.hall_test.open.Given as goal
+
+-- the history is the one that was opened
+abbrev pub ghosts-run_named : goal.ghosts-run_named
+ghosts-run_named g a = record { book = a.opened.0 }

@@ -1,0 +1,21 @@
+use denote.Param.{param}
+use denote.Param.Send.{sendable}
+use Rattle.std.proofs.Crossing.{crosses}
+use Rattle.std.proofs.sync.ledger.Share.TheSendSync as share
+use Rattle.df_versions.proofs.Crosses.{reader_send}
+use Rattle.df_store.proofs.CrossingPlans.{checked_send}
+use Rattle.df_store.proofs.Crosses.{hall_sync}
+use Rattle.df_load_tests.proofs.soak.run_actors.Goals as goal
+
+pub for_each_mut-requires-send-T : goal.for_each_mut-requires-send-T
+for_each_mut-requires-send-T g c κs within =
+    let reader = reader_send in
+    let plan = checked_send in
+    let b = c.type_bounds in
+    search (sendable, crosses, share.the_send) depth 40
+
+pub for_each_mut-requires-sync-F : goal.for_each_mut-requires-sync-F
+for_each_mut-requires-sync-F g c κs within =
+    let hall = hall_sync (param 0 g.row.Acc) (param 1 g.row.Del) (param 2 g.row.J) g.Acc.Ledger g.Del.Ledger g.J.Naming in
+    let b = c.type_bounds in
+    search sendable depth 20

@@ -1,0 +1,97 @@
+-- The desks of a hall, of which a change counts in one.
+use Rattle.std.proofs.Common.{◌≡◌, ◌∙◌, ◌+◌, ◌<◌, ℕ, zero, suc, List, [], ◌∷◌, ap, arith, length, map, refl, subst, sym}
+use Rattle.std.specs.Prelude.{Result, Ok, Err, OnErr, OnOk, Some, slice_get, slice_index_or, slice_set}
+use Rattle.std.specs.List.{range_with_len}
+use Rattle.std.proofs.lemmas.List.{length-map, set-get_or}
+use Rattle.std.proofs.lemmas.List.FromFn.{length-range_with_len}
+use Rattle.std.proofs.lemmas.Option.{slice_get-get_or}
+use Rattle.df_value.specs.declared.cell.Cell.{Cell}
+use Rattle.df_value.specs.Chunks.{ChunkParts}
+use Rattle.df_catalogue.specs.Changes.{change_at}
+use Rattle.df_catalogue.specs.Desks.{DeskParts, desk_after, desks_after, first_desk, first_desks}
+use Rattle.df_catalogue.specs.declared.change.Change.{Change}
+use Rattle.df_catalogue.specs.declared.change.Change.TheVariants.{Append, Delete, Replace}
+use Rattle.df_catalogue.proofs.DeskFacts.{first-in-order, frames-after}
+use Rattle.df_catalogue.proofs.FrameChangeFacts.{replace-desk}
+use Rattle.df_catalogue.proofs.StateFacts.{change-set}
+use Rattle.df_store.specs.Halls.{having_accepted, having_deleted}
+
+-- each desk is at the index of its frame
+abbrev pub InOrder : List DeskParts → Type 0
+InOrder desks = map (λ d. d.frame) desks ≡ range_with_len 0 (length desks)
+
+frame-from :
+    (from n i : ℕ) (desks : List DeskParts) (d : DeskParts) → map (λ d. d.frame) desks ≡ range_with_len from n → slice_get desks i ≡ Some d →
+    d.frame ≡ from + i
+frame-from from n i [] d h at = cc
+frame-from from zero i (e ∷ desks) d h at = cc
+frame-from from (suc n) zero (e ∷ desks) d h at =
+    let same : e ≡ d = cc in
+    let first : e.frame ≡ from = cc in
+    let sum : from ≡ from + 0 = omega arith in
+    ap (λ x. x.frame) (sym same) ∙ (first ∙ sum)
+frame-from from (suc n) (suc i) (e ∷ desks) d h at =
+    let rest : map (λ d. d.frame) desks ≡ range_with_len (from + 1) n = cc in
+    let k = frame-from (from + 1) n i desks d rest at in
+    omega (arith, k)
+
+pub frame-there : (desks : List DeskParts) (i : ℕ) (d : DeskParts) → InOrder desks → i < length desks → (slice_index_or desks i d).frame ≡ i
+frame-there desks i d h lt =
+    let k = frame-from 0 (length desks) i desks (slice_index_or desks i d) h (slice_get-get_or desks i d lt) in omega (arith, k)
+
+-- the desks after the answer to a change
+abbrev pub AreAfter : {X E : Type 0} → List DeskParts → Change → Result X E → List DeskParts → Type 0
+AreAfter desks c (Ok x) new = new ≡ desks_after desks c
+AreAfter desks c (Err e) new = new ≡ desks
+
+pub counted :
+    {X E : Type 0} (desks : List DeskParts) (f : ℕ) (none : DeskParts) (c : Change) (r : Result X E) (new : DeskParts) → f < length desks →
+    desks_after desks c ≡ change_at f (λ d. desk_after d c) desks → OnOk r (new ≡ desk_after (slice_index_or desks f none) c) →
+    OnErr r (new ≡ slice_index_or desks f none) → AreAfter desks c r (slice_set desks f new)
+counted desks f none c (Ok x) new lt one share same =
+    ap (slice_set desks f) share
+    ∙ (sym (change-set (λ d. desk_after d c) desks f (slice_index_or desks f none) (slice_get-get_or desks f none lt)) ∙ sym one)
+counted desks f none c (Err e) new lt one share same = ap (slice_set desks f) same ∙ set-get_or desks f none
+
+same-frames : (desks new : List DeskParts) → map (λ d. d.frame) new ≡ map (λ d. d.frame) desks → InOrder desks → InOrder new
+same-frames desks new e h =
+    let long : length new ≡ length desks = sym (length-map new (λ d. d.frame)) ∙ (ap length e ∙ length-map desks (λ d. d.frame)) in
+    e ∙ (h ∙ ap (range_with_len 0) (sym long))
+
+pub ordered : {X E : Type 0} (desks new : List DeskParts) (c : Change) (r : Result X E) → AreAfter desks c r new → InOrder desks → InOrder new
+ordered desks new c (Ok x) h o = same-frames desks new (ap (map (λ d. d.frame)) h ∙ frames-after desks c) o
+ordered desks new c (Err e) h o = subst InOrder (sym h) o
+
+-- a desk counts what a change of its frame adds and takes out
+pub accepted-desk : (d : DeskParts) (f : ℕ) (chunk : ChunkParts) → having_accepted (length chunk.rows) d ≡ desk_after d (Append f chunk)
+accepted-desk d f chunk =
+    let none : d.deleted ≡ d.deleted + 0 = omega arith in
+    λ i. record d { accepted = d.accepted + length chunk.rows; deleted = none i }
+
+pub deleted-desk : (d : DeskParts) (f : ℕ) (numbers : List ℕ) → having_deleted (length numbers) d ≡ desk_after d (Delete f numbers)
+deleted-desk d f numbers =
+    let none : d.accepted ≡ d.accepted + 0 = omega arith in
+    λ i. record d { accepted = none i; deleted = d.deleted + length numbers }
+
+pub replaced-desks :
+    (desks : List DeskParts) (i f : ℕ) (rows : List (ℕ × List Cell)) → desks ≡ change_at i (λ d. desk_after d (Replace f rows)) desks
+replaced-desks [] i f rows = refl
+replaced-desks (d ∷ ds) zero f rows = ap (λ e. e ∷ ds) (sym (replace-desk d f rows))
+replaced-desks (d ∷ ds) (suc i) f rows = ap (λ es. d ∷ es) (replaced-desks ds i f rows)
+
+pub ok-any : {X E P : Type 0} (r : Result X E) → P → OnOk r P
+ok-any (Ok x) p = p
+ok-any (Err e) p = tt
+
+pub err-any : {X E P : Type 0} (r : Result X E) → P → OnErr r P
+err-any (Ok x) p = tt
+err-any (Err e) p = p
+
+pub are-same : {X E : Type 0} (desks : List DeskParts) (c : Change) (r : Result X E) → desks_after desks c ≡ desks → AreAfter desks c r desks
+are-same desks c (Ok x) e = sym e
+are-same desks c (Err f) e = refl
+
+-- first desks stand in order
+pub first-ordered : (n : ℕ) → InOrder (first_desks n)
+first-ordered n =
+    first-in-order 0 n ∙ ap (range_with_len 0) (sym (length-map (range_with_len 0 n) first_desk ∙ length-range_with_len 0 n))

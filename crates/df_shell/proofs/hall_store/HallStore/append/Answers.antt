@@ -1,0 +1,48 @@
+use Rattle.std.proofs.Common.{◌∙◌, ◌<◌, List, ap, arith, length, refl, subst, sym}
+use Rattle.std.proofs.lemmas.List.{length-set, with_items_is}
+use Rattle.std.proofs.lemmas.Result.{on_ok_weaker}
+use Rattle.std.specs.Vec.{with_items}
+use Rattle.std.specs.Prelude.{Some, slice_index_or, slice_set}
+use Rattle.df_catalogue.specs.Desks.{DeskParts}
+use Rattle.df_catalogue.specs.declared.change.Change.TheVariants.{Append}
+use Rattle.df_shell.proofs.DesksFacts.{InOrder, accepted-desk}
+use Rattle.df_shell.proofs.HallFacts.{desk-answered}
+use Rattle.df_shell.specs.Changing.{IsAnswered}
+use Rattle.df_shell.specs.Halls.{HallParts}
+use Rattle.df_versions.specs.Answered.{told_states}
+use Rattle.df_shell.proofs.hall_store.HallStore.append.Goals as goal
+use Rattle.df_shell.proofs.hall_store.HallStore.append.Given.{Over}
+
+abbrev before : (g : Over) (c : goal.After-self-1 g) → HallParts
+before g c = record { told = c.self.inside.reader.1.1; seen = c.self.inside.reader.1.0; desks = c.self.inside.desks.items }
+
+abbrev held : (g : Over) (c : goal.After-self-1 g) → List DeskParts
+held g c = slice_set c.as_mut_slice.result.now c.args.frame c.commit_chunk.new.desk
+
+-- the answer through the desk, and the order of the desks
+through :
+    (g : Over) (c : goal.After-self-1 g) →
+    IsAnswered (before g c) (Append c.args.frame c.args.chunk.now) (Some c.commit_chunk.result) (record (before g c) { desks = held g c }) × InOrder (held g c)
+through g c =
+    let s = c.self.inside in
+    let desks = c.as_mut_slice.result.now in
+    let none = c.index-as_mut_slice-frame.result in
+    let within : c.args.frame < length s.desks.items = omega (arith, c.if-frame-len.false, c.len.ensures, s.desks.ok.0) in
+    desk-answered s.told _ (before g c) desks (held g c) c.args.frame none c.commit_chunk.new.desk
+    (λ f. Append f c.args.chunk.now) c.commit_chunk.result c.self.invariant.1 (ap told_states c.as_ref-told.ensures.value) c.as_mut_slice.ensures.value
+    c.self.invariant.2 within refl (refl) c.commit_chunk.ensures.answer
+    (on_ok_weaker c.commit_chunk.result (λ e. e ∙ accepted-desk (slice_index_or desks c.args.frame none) c.args.frame c.args.chunk.now) c.commit_chunk.ensures.share)
+    c.commit_chunk.ensures.same_share
+
+pub invariant_of-self : goal.invariant_of-self
+invariant_of-self g c =
+    let long = length-set c.as_mut_slice.result.now c.args.frame c.commit_chunk.new.desk ∙ c.as_mut_slice.ensures.len in
+    (c.self.invariant.0, c.self.invariant.1, subst InOrder (sym (with_items_is c.self.inside.desks (held g c) long)) (through g c).1)
+
+pub returns : goal.returns
+returns g c =
+    let change = Append c.args.frame c.args.chunk.now in
+    let long = length-set c.as_mut_slice.result.now c.args.frame c.commit_chunk.new.desk ∙ c.as_mut_slice.ensures.len in
+    let new : List DeskParts → HallParts = λ ds. record (before g c) { desks = ds } in
+    subst (λ old. IsAnswered old change (Some c.commit_chunk.result) (new (with_items c.self.inside.desks (held g c)).items)) c.self.view_is
+    (subst (λ ds. IsAnswered (before g c) change (Some c.commit_chunk.result) (new ds)) (sym (with_items_is c.self.inside.desks (held g c) long)) (through g c).0)

@@ -1,0 +1,85 @@
+-- What a session over a hall sees: the history that it was told of, the newest that it saw, and its desks. Each change and
+-- each answer goes on from these.
+use Rattle.std.specs.Prelude.{◌≡◌, ◌<◌, ◌⊎◌, ⊤, ℕ, List, None, Result, Err, length, slice_get}
+use Rattle.std.specs.Global.{Vec}
+use mathlib.Core.List.{IsPrefix}
+use Rattle.df_catalogue.specs.Desks.{DeskParts, desks_after}
+use Rattle.df_catalogue.specs.Pictures.{PictureParts}
+use Rattle.df_catalogue.specs.declared.change.Change.{Change}
+use Rattle.df_catalogue.specs.declared.change.Change.TheVariants.{Append, Delete, DropView, Register, Replace}
+use Rattle.df_catalogue.specs.declared.fault.CatalogueFault.TheVariants as fault
+use Rattle.df_catalogue.specs.declared.state.State.{State}
+use Rattle.df_shell.specs.Questions.{IsTold}
+use Rattle.df_shell.specs.Versions.{refusal_with_hall, text_of_version}
+use Rattle.df_shell.specs.declared.command.Question.{Question}
+use Rattle.df_shell.specs.declared.definitions.Definitions.{Definitions}
+use Rattle.df_shell.specs.declared.refusal.Refusal.{Refusal}
+use Rattle.df_shell.specs.declared.refusal.Refusal.TheVariants as refusal
+use Rattle.df_shell.specs.declared.fault.ShellFault.{ShellFault}
+use Rattle.df_shell.specs.declared.fault.ShellFault.TheVariants as shell
+use Rattle.df_shell.specs.declared.refusal.VersionFault.TheVariants as version
+use Rattle.df_store.specs.Closing.{AreBooks, IsMissing, missing_frame}
+use Rattle.df_versions.specs.Answered.{IsAccepted, IsRefusedAt}
+use Rattle.df_versions.specs.Shown.{Shows}
+
+pub record HallParts : Type 0 where
+  pub told : List State
+  pub seen : List State
+  pub desks : List DeskParts
+
+-- a later time, at which the history that was told of goes on
+pub record Follows (old new : HallParts) : Type 0 where
+  pub told : IsPrefix old.told new.told
+  pub seen : new.seen ≡ old.seen
+
+-- The change was made: what is told now ends with it, and goes on from what was told before. The desks count it.
+pub record IsMadeInHall (old new : HallParts) (c : Change) : Type 0 where
+  pub follows : Follows old new
+  pub longer : length old.told < length new.told
+  pub accepted : IsAccepted new.told c
+  pub desks : new.desks ≡ desks_after old.desks c
+
+-- No change was made.
+pub record IsKeptInHall (old new : HallParts) : Type 0 where
+  pub follows : Follows old new
+  pub desks : new.desks ≡ old.desks
+
+-- there is no desk for the change
+abbrev pub HasNoDesk : List DeskParts → Change → Type 0
+HasNoDesk desks (Append at chunk) = slice_get desks at ≡ None
+HasNoDesk desks (Delete at numbers) = slice_get desks at ≡ None
+HasNoDesk desks (Replace at rows) = slice_get desks at ≡ None
+HasNoDesk desks (Register name plan) = ⊥
+HasNoDesk desks (DropView name) = ⊥
+
+-- The refusal of a change: that of the last state of what is told now; `C11` where there is no desk; or that the hall has no
+-- version for it, or no memory.
+abbrev pub IsRefusedInHall : HallParts → HallParts → Change → Refusal → Type 0
+IsRefusedInHall old new c (refusal.Store f) = IsRefusedAt new.told c f ⊎ ((f ≡ fault.NoFrame) × HasNoDesk old.desks c)
+IsRefusedInHall old new c (refusal.Version f) = ⊤
+IsRefusedInHall old new c refusal.Memory = ⊤
+IsRefusedInHall old new c r = ⊥
+
+-- The newest version was taken: its history begins with all that was told and seen before. What was told, and the desks, stay.
+pub record IsTaken (old new : HallParts) (v : ℕ × PictureParts) : Type 0 where
+  pub shows : Shows new.seen v
+  pub told : IsPrefix old.told new.seen
+  pub seen : IsPrefix old.seen new.seen
+  pub same_told : new.told ≡ old.told
+  pub desks : new.desks ≡ old.desks
+
+-- The question was answered from the newest version; or there is none, and nothing changed.
+abbrev pub IsAnswerOfHall : HallParts → HallParts → Definitions → Question → Result (Vec ℕ) Refusal → Type 0
+IsAnswerOfHall old new d q result =
+    ((v : ℕ × PictureParts) × IsTaken old new v × IsTold (text_of_version d new.desks v q) (refusal_with_hall q) result)
+    ⊎ ((result ≡ Err (refusal.Version version.Missing)) × (new ≡ old))
+
+-- Desks with which a hall was closed: their shares are the books of every frame of its last state, which the desks of all
+-- frames together agree with.
+abbrev pub Closes : List DeskParts → Type 0
+Closes desks = (s : State) × (missing_frame desks s ≡ None) × AreBooks desks s
+
+-- the fault where it was not: the least frame of which they are not
+abbrev pub IsLeftOpen : List DeskParts → ShellFault → Type 0
+IsLeftOpen desks (shell.Missing frame) = IsMissing desks frame
+IsLeftOpen desks f = ⊥

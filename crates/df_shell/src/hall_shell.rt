@@ -1,0 +1,158 @@
+//! The shell over a hall.
+ghost use Rattle.std.specs.Prelude.{◌≡◌, ◌≢◌, ◌≤◌, length, map};
+ghost use Rattle.std.specs.List.{range_with_len};
+ghost use Rattle.df_catalogue.specs.Ledgers as ledgers;
+
+use crate::fault::ShellFault;
+use crate::hall_store::HallStore;
+use crate::opening::{copy_schemas, fill};
+use crate::prepared::{Prepared, prepare};
+use crate::refusal::{Refusal, VersionFault};
+use crate::session::{Session, answer_from};
+use df_app::Files;
+use df_catalogue::{Desk, NewFault, PARTS_OF_LEDGER};
+use df_store::{Hall, OpenedHall};
+use df_value::{List, Piece};
+use df_versions::{Naming, OpenFault, Reader};
+use std::alloc::Global;
+use std::io::{BufRead, Read, Write};
+use std::marker::Brand;
+use std::sync::Wait;
+use std::sync::ledger::{Blank, Ledger};
+
+/// Does what [`run_shell`](crate::run_shell) does, through a hall with one reader: each change publishes a version, and
+/// questions are answered from the newest one, which has at least all changes that were answered before. At the end the
+/// hall is closed.
+pub fn run_hall_shell<R: Wait, V: Read, F: Files, I: BufRead, W: Write>(
+    rt: &R,
+    alloc: Global,
+    document: &mut V,
+    files: &mut F,
+    input: &mut I,
+    output: &mut W,
+) -> Result<(), ShellFault> {
+    let prepared = prepare(alloc, document, files)?;
+    open::<Brand, Brand, R, I, W>(
+        rt,
+        alloc,
+        Blank::new(PARTS_OF_LEDGER),
+        Blank::new(PARTS_OF_LEDGER),
+        prepared,
+        input,
+        output,
+    )
+}
+
+// Opens the hall, and answers the commands.
+fn open<Acc: Ledger, Del: Ledger, R: Wait, I: BufRead, W: Write>(
+    rt: &R,
+    alloc: Global,
+    accepted: Blank,
+    deleted: Blank,
+    prepared: Prepared,
+    input: &mut I,
+    output: &mut W,
+) -> Result<(), ShellFault>
+    requires accepted_name { accepted.name ≡ Acc.name }
+    requires accepted_parts { (accepted.parts ≡ Acc.parts)
+        × (accepted.parts ≡ ledgers.parts_of_ledger) }
+    requires deleted_name { deleted.name ≡ Del.name }
+    requires deleted_parts { (deleted.parts ≡ Del.parts)
+        × (deleted.parts ≡ ledgers.parts_of_ledger) }
+{
+    let schemas = copy_schemas(alloc, prepared.definitions.document.frames.as_slice())?;
+    match OpenedHall::<Acc, Del>::open(rt, alloc, accepted, deleted, schemas, 1) {
+        Ok(opened) => serve::<Acc, Del, Brand, R, I, W>(rt, alloc, opened, prepared, input, output),
+        Err(fault) => {
+            drop(prepared);
+            Err(ShellFault::Frames(frames_fault(fault)))
+        }
+    }
+}
+
+// The fault of a hall that is not opened, as of a catalogue: one reader is not too many.
+fn frames_fault(fault: OpenFault) -> NewFault
+    requires { fault ≢ OpenFault.TooManyReaders }
+{
+    match fault {
+        OpenFault::TooManyFrames => NewFault::TooManyFrames,
+        OpenFault::DerivedType(frame) => NewFault::DerivedType(frame),
+        OpenFault::TooManyReaders => unreachable!(),
+        OpenFault::Memory => NewFault::Memory,
+    }
+}
+
+// Answers the commands in a hall, of a history with this name.
+fn serve<Acc: Ledger, Del: Ledger, J: Naming, R: Wait, I: BufRead, W: Write>(
+    rt: &R,
+    alloc: Global,
+    opened: OpenedHall<Acc, Del>,
+    prepared: Prepared,
+    input: &mut I,
+    output: &mut W,
+) -> Result<(), ShellFault>
+    requires name { opened.0 ≡ J.book }
+    requires opening { length opened.1.0 ≤ 1 }
+    requires desks { map (λ d. d.frame) opened.1.1 ≡ range_with_len 0 (length opened.1.1) }
+{
+    let (hall, desks, mut readers) = opened.named::<J>();
+    let reader = readers.pop();
+    drop(readers);
+    match reader {
+        Some(reader) => {
+            let store = HallStore::new(rt, hall, desks, reader);
+            answer_and_close(alloc, store, prepared, input, output)
+        }
+        None => {
+            drop(prepared);
+            drop(desks);
+            hall.end(rt);
+            Err(ShellFault::Store(Refusal::Version(VersionFault::Missing)))
+        }
+    }
+}
+
+// Answers the commands, and closes the hall.
+fn answer_and_close<'r, R: Wait, Acc: Ledger, Del: Ledger, J: Naming, I: BufRead, W: Write>(
+    alloc: Global,
+    store: HallStore<'r, R, Acc, Del, J>,
+    prepared: Prepared,
+    input: &mut I,
+    output: &mut W,
+) -> Result<(), ShellFault> {
+    let Prepared {
+        definitions,
+        pieces,
+        refused,
+        buffers,
+    } = prepared;
+    let mut session = Session {
+        definitions,
+        store,
+        buffers,
+    };
+    let answered = fill_and_answer(alloc, &mut session, pieces, refused, input, output);
+    let Session {
+        definitions,
+        store,
+        buffers,
+    } = session;
+    drop(definitions);
+    drop(buffers);
+    let closed = store.close();
+    answered?;
+    closed
+}
+
+// The first rows and the views, and then the commands.
+fn fill_and_answer<'r, R: Wait, Acc: Ledger, Del: Ledger, J: Naming, I: BufRead, W: Write>(
+    alloc: Global,
+    session: &mut Session<HallStore<'r, R, Acc, Del, J>>,
+    pieces: List<List<Piece>>,
+    refused: List<u8>,
+    input: &mut I,
+    output: &mut W,
+) -> Result<(), ShellFault> {
+    fill(alloc, &mut session.store, &session.definitions, pieces)?;
+    answer_from(alloc, session, refused, input, output)
+}

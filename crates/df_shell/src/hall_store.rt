@@ -1,0 +1,232 @@
+//! The hall behind a shell.
+ghost use Rattle.std.specs.Prelude.{◌≡◌, ◌≤◌, IfErr, OnOk, length, map};
+ghost use Rattle.std.specs.List.{range_with_len};
+ghost use Rattle.df_catalogue.specs.declared.change.Change.TheVariants.{Append, Delete, Replace};
+ghost use Rattle.df_shell.specs.Changing.{IsAnswered, IsLearnt, IsLongEnough};
+ghost use Rattle.df_shell.specs.Halls.{Closes, Follows, IsLeftOpen};
+
+use crate::command::Question;
+use crate::definitions::Definitions;
+use crate::fault::ShellFault;
+use crate::refusal::{Refusal, VersionFault};
+use crate::version_reading::answer_from_version;
+use crate::view_store::ViewStore;
+use df_catalogue::{CatalogueFault, Change, Desk};
+use df_store::{Hall, Missing};
+use df_value::{Chunk, Row};
+use df_versions::{ChangeFault, Naming, Reader, Told};
+use std::alloc::Global;
+use std::marker::Model;
+use std::sync::Wait;
+use std::sync::ledger::Ledger;
+
+/// A hall, the desks of its frames, in their order, and a reader. Contracts see what the session was told of the hall's
+/// history, what it saw of it, and the desks.
+pub struct HallStore<'r, R: Wait, Acc: Ledger, Del: Ledger, J: Naming> {
+    rt: &'r R,
+    hall: Hall<Acc, Del, J>,
+    desks: Vec<Desk<Acc, Del>>,
+    reader: Reader,
+    // What the reader learnt last, for the next change.
+    told: Option<Told<J>>,
+}
+
+impl<'r, R: Wait, Acc: Ledger, Del: Ledger, J: Naming> Model for HallStore<'r, R, Acc, Del, J> {
+    ghost use Rattle.std.specs.Prelude.{◌≡◌, length, map};
+    ghost use Rattle.std.specs.Coded.{codes};
+    ghost use Rattle.std.specs.List.{range_with_len};
+    ghost use Rattle.df_catalogue.specs.contracts.state.State as state_type;
+    ghost use Rattle.df_shell.specs.Changing.{IsKnown};
+    ghost use Rattle.df_shell.specs.Halls.{HallParts};
+
+    ghost Value = { HallParts };
+
+    ghost coded = { Prim.hlevel (codes, state_type.the_row.coded) };
+
+    ghost view = { λ s. record { told = s.reader.1.1; seen = s.reader.1.0; desks = s.desks.items } };
+
+    ghost invariant = { λ s.
+        (s.reader.0 ≡ J.book) × IsKnown s.told s.reader.1.1
+        × (map (λ d. d.frame) s.desks.items ≡ range_with_len 0 (length s.desks.items)) };
+}
+
+/// What a hall answers to a change.
+type Answer<J> = Result<Told<J>, ChangeFault<J>>;
+
+impl<'r, R: Wait, Acc: Ledger, Del: Ledger, J: Naming> HallStore<'r, R, Acc, Del, J> {
+    /// A hall with its first desks, and a reader of its opening state.
+    pub fn new(
+        rt: &'r R,
+        hall: Hall<Acc, Del, J>,
+        desks: Vec<Desk<Acc, Del>>,
+        reader: Reader,
+    ) -> HallStore<'r, R, Acc, Del, J>
+        requires book { reader.0 ≡ J.book }
+        requires opening { length reader.1.1 ≤ 1 }
+        requires desks { map (λ d. d.frame) desks.items ≡ range_with_len 0 (length desks.items) }
+        ensures told { result.told ≡ reader.1.1 }
+        ensures seen { result.seen ≡ reader.1.0 }
+        ensures desks { result.desks ≡ desks.items }
+    {
+        HallStore {
+            rt,
+            hall,
+            desks,
+            reader,
+            told: None,
+        }
+    }
+
+    /// Closes the hall. The shares of its desks are the books of every frame, or the least frame of which they are not is
+    /// the fault.
+    pub fn close(self) -> Result<(), ShellFault>
+        ensures closed { OnOk result (Closes self.entry.desks) }
+        ensures missing { IfErr result (λ fault. IsLeftOpen self.entry.desks fault) }
+    {
+        let HallStore {
+            rt,
+            hall,
+            desks,
+            reader,
+            told,
+        } = self;
+        drop(told);
+        drop(reader);
+        match hall.close(rt, desks) {
+            Ok((catalogue, totals)) => {
+                drop(totals);
+                drop(catalogue);
+                Ok(())
+            }
+            Err(Missing { frame, hall, desks }) => {
+                drop(desks);
+                hall.end(rt);
+                Err(ShellFault::Missing(frame))
+            }
+        }
+    }
+
+    // What the hall answers to a change. None: there is no desk for it.
+    fn change(&mut self, alloc: Global, change: Change) -> Option<Answer<J>>
+        ensures { IsAnswered self.old change result self.new }
+    {
+        match change {
+            Change::Append(frame, chunk) => self.append(alloc, frame, &chunk),
+            Change::Delete(frame, numbers) => self.delete(alloc, frame, numbers.as_slice()),
+            Change::Replace(frame, rows) => self.replace(alloc, frame, rows.as_slice()),
+            Change::Register(name, plan) => {
+                let told = self.told.as_ref();
+                Some(self.hall.register(self.rt, alloc, name, plan, told))
+            }
+            Change::DropView(name) => {
+                let told = self.told.as_ref();
+                Some(self.hall.drop_view(self.rt, alloc, name.as_str(), told))
+            }
+        }
+    }
+
+    fn append(&mut self, alloc: Global, frame: usize, chunk: &Chunk) -> Option<Answer<J>>
+        ensures { IsAnswered self.old (Append frame chunk.now) result self.new }
+    {
+        if frame >= self.desks.len() {
+            return None;
+        }
+        let told = self.told.as_ref();
+        let desk = &mut self.desks.as_mut_slice()[frame];
+        Some(self.hall.commit_chunk(self.rt, alloc, desk, chunk, told))
+    }
+
+    fn delete(&mut self, alloc: Global, frame: usize, numbers: &[u32]) -> Option<Answer<J>>
+        ensures { IsAnswered self.old (Delete frame numbers.now) result self.new }
+    {
+        if frame >= self.desks.len() {
+            return None;
+        }
+        let told = self.told.as_ref();
+        let desk = &mut self.desks.as_mut_slice()[frame];
+        Some(self.hall.delete_rows(self.rt, alloc, desk, numbers, told))
+    }
+
+    fn replace(&mut self, alloc: Global, frame: usize, rows: &[(u32, Row)]) -> Option<Answer<J>>
+        ensures { IsAnswered self.old (Replace frame rows.now) result self.new }
+    {
+        if frame >= self.desks.len() {
+            return None;
+        }
+        let told = self.told.as_ref();
+        let desk = &mut self.desks.as_mut_slice()[frame];
+        Some(self.hall.replace_rows(self.rt, alloc, desk, rows, told))
+    }
+
+    // Learns what was told with the answer.
+    fn learn(&mut self, answer: Answer<J>) -> Result<(), Refusal>
+        requires { IsLongEnough self.old.told answer }
+        ensures { IsLearnt self.old answer result self.new }
+    {
+        match answer {
+            Ok(told) => {
+                self.hear(told);
+                Ok(())
+            }
+            Err(ChangeFault::Refused(fault, told)) => {
+                self.hear(told);
+                Err(Refusal::Store(fault))
+            }
+            Err(ChangeFault::Spent) => Err(Refusal::Version(VersionFault::Spent)),
+            Err(ChangeFault::Ahead) => Err(Refusal::Version(VersionFault::Ahead)),
+            Err(ChangeFault::Memory) => Err(Refusal::Memory),
+        }
+    }
+
+    // Learns what is told, which is at least what was told before.
+    fn hear(&mut self, told: Told<J>)
+        requires { length self.old.told ≤ length told }
+        ensures told { self.new.told ≡ told }
+        ensures follows { Follows self.old self.new }
+        ensures desks { self.new.desks ≡ self.old.desks }
+    {
+        self.reader.learn(told.again());
+        self.told = Some(told);
+    }
+}
+
+impl<'r, R: Wait, Acc: Ledger, Del: Ledger, J: Naming> ViewStore for HallStore<'r, R, Acc, Del, J> {
+    ghost use Rattle.std.specs.Prelude.{[], refl};
+    ghost use Rattle.std.proofs.lemmas.List.{append-nil};
+    ghost use Rattle.df_shell.specs.Halls.{IsAnswerOfHall, IsKeptInHall, IsMadeInHall, IsRefusedInHall};
+
+    ghost Makes = { λ old new c. IsMadeInHall old new c };
+
+    ghost Refuses = { λ old new c r. IsRefusedInHall old new c r };
+
+    ghost Keeps = { λ old new. IsKeptInHall old new };
+
+    ghost Answers = { λ old new d q answer. IsAnswerOfHall old new d q answer };
+
+    fn make(&mut self, alloc: Global, change: Change) -> Result<(), Refusal> {
+        match self.change(alloc, change) {
+            Some(answer) => self.learn(answer),
+            None => Err(Refusal::Store(CatalogueFault::NoFrame)),
+        }
+    }
+
+    fn answer(
+        &mut self,
+        alloc: Global,
+        definitions: &Definitions,
+        question: Question<'_>,
+    ) -> Result<Vec<u8>, Refusal> {
+        match self.reader.snapshot() {
+            Some(version) => {
+                let desks = self.desks.as_slice();
+                answer_from_version(alloc, definitions, version.as_ref(), desks, question)
+            }
+            None => Err(Refusal::Version(VersionFault::Missing)),
+        }
+    }
+
+    ghost stays = { λ s. record {
+      follows = record { told = ([], append-nil s.told); seen = refl };
+      desks = refl;
+    } };
+}

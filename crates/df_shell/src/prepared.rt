@@ -1,0 +1,45 @@
+//! What a shell reads before its session begins.
+use crate::definitions::Definitions;
+use crate::fault::ShellFault;
+use crate::session::Buffers;
+use df_app::{Files, OpenedDocument, open_document, refused_lines};
+use df_value::{List, Piece};
+use std::alloc::Global;
+use std::io::Read;
+
+/// The records of a chunk of the first rows.
+const RECORDS_OF_CHUNK: usize = 1000;
+
+/// A document that was opened, and all that a session over it needs besides its store.
+#[derive(Drop)]
+pub struct Prepared {
+    pub definitions: Definitions,
+    /// The first rows of the frames.
+    pub pieces: List<List<Piece>>,
+    /// The lines of the chunks among them that are refused.
+    pub refused: List<u8>,
+    pub buffers: Buffers,
+}
+
+/// Opens a document, with the first rows of its frames in chunks of 1,000 records.
+pub fn prepare<V: Read, F: Files>(
+    alloc: Global,
+    document: &mut V,
+    files: &mut F,
+) -> Result<Prepared, ShellFault> {
+    let buffers = Buffers::new(alloc)?;
+    let opened = open_document(alloc, document, files, RECORDS_OF_CHUNK)?;
+    let frames = opened.document.frames.as_slice();
+    let refused = refused_lines(alloc, frames, opened.pieces.as_slice(), RECORDS_OF_CHUNK)?;
+    let OpenedDocument {
+        document,
+        plans,
+        pieces,
+    } = opened;
+    Ok(Prepared {
+        definitions: Definitions { document, plans },
+        pieces,
+        refused,
+        buffers,
+    })
+}

@@ -1,0 +1,120 @@
+//! A session: the commands of an input and their answers, one after another.
+use crate::answering::answer_line;
+use crate::definitions::Definitions;
+use crate::fault::ShellFault;
+use crate::lines::{Line, line_buffer, read_line, read_lines, without_end};
+use crate::refusal::{Mistake, Refusal};
+use crate::refusal_texts::refusal_text;
+use crate::view_store::ViewStore;
+use crate::words::{count_lines, read_words};
+use df_text::write_text;
+use df_value::List;
+use std::alloc::{AllocError, Global};
+use std::io::{BufRead, Read, Write};
+
+/// What a shell has while it answers.
+pub struct Session<S> {
+    pub definitions: Definitions,
+    pub store: S,
+    pub buffers: Buffers,
+}
+
+/// Room for the line of a command, and for a line of CSV behind it.
+#[derive(Drop)]
+pub struct Buffers {
+    command: Vec<u8>,
+    record: Vec<u8>,
+}
+
+impl Buffers {
+    pub fn new(alloc: Global) -> Result<Buffers, AllocError> {
+        let command = line_buffer(alloc)?;
+        let record = line_buffer(alloc)?;
+        Ok(Buffers { command, record })
+    }
+}
+
+/// Writes the lines of the refused chunks, and answers the commands.
+pub fn answer_from<S: ViewStore, I: BufRead, W: Write>(
+    alloc: Global,
+    session: &mut Session<S>,
+    refused: List<u8>,
+    input: &mut I,
+    output: &mut W,
+) -> Result<(), ShellFault> {
+    write_answer(output, refused.as_slice())?;
+    drop(refused);
+    answer_all(alloc, session, input, output)
+}
+
+fn answer_all<S: ViewStore, I: BufRead, W: Write>(
+    alloc: Global,
+    session: &mut Session<S>,
+    input: &mut I,
+    output: &mut W,
+) -> Result<(), ShellFault> {
+    for _ in 0..u64::MAX {
+        match read_line(input, &mut session.buffers.command) {
+            Ok(Line::Whole) => take_turn(alloc, session, input, output)?,
+            Ok(Line::TooLong) => {
+                write_refusal(alloc, output, &Refusal::Mistake(Mistake::LongLine))?;
+            }
+            Ok(Line::End) => return Ok(()),
+            Err(_) => return Err(ShellFault::Read),
+        }
+    }
+    Ok(())
+}
+
+// Reads what belongs to a command, does what it says and writes the answer.
+fn take_turn<S: ViewStore, I: BufRead, W: Write>(
+    alloc: Global,
+    session: &mut Session<S>,
+    input: &mut I,
+    output: &mut W,
+) -> Result<(), ShellFault> {
+    let line = without_end(session.buffers.command.as_slice());
+    if line.is_empty() || line.starts_with(b"#") {
+        return Ok(());
+    }
+    let words = read_words(alloc, line);
+    let count = count_lines(alloc, &words, line);
+    let Ok(lines) = read_lines(alloc, input, &mut session.buffers.record, count) else {
+        return Err(ShellFault::Read);
+    };
+    let definitions = &session.definitions;
+    match answer_line(alloc, definitions, &mut session.store, words, lines) {
+        Ok(answer) => write_answer(output, answer.bytes()),
+        Err(refusal) => write_refusal(alloc, output, &refusal),
+    }
+}
+
+fn write_refusal<W: Write>(
+    alloc: Global,
+    output: &mut W,
+    refusal: &Refusal,
+) -> Result<(), ShellFault> {
+    match refusal_text(alloc, refusal) {
+        Ok(text) => {
+            write_all(output, text.as_bytes())?;
+            write_answer(output, b"\n")
+        }
+        Err(_) => write_answer(output, b"memory\n"),
+    }
+}
+
+// Writes the last part of an answer, so that whoever waits for it has it.
+fn write_answer<W: Write>(output: &mut W, text: &[u8]) -> Result<(), ShellFault> {
+    write_all(output, text)?;
+    match output.flush() {
+        Ok(()) => Ok(()),
+        Err(_) => Err(ShellFault::Write),
+    }
+}
+
+fn write_all<W: Write>(output: &mut W, text: &[u8]) -> Result<(), ShellFault> {
+    match write_text(output, text) {
+        Ok(()) => Ok(()),
+        Err(_) => Err(ShellFault::Write),
+    }
+}

@@ -1,0 +1,173 @@
+//! The questions that a version answers.
+ghost use Rattle.std.specs.Prelude.{◌≡◌, IfErr, IfOk, find, map, slice_get, string_bytes};
+ghost use Rattle.std.specs.Option.{option_copied};
+ghost use Rattle.df_catalogue.specs.Pictures.{view_rows_in};
+ghost use Rattle.df_shell.specs.Asked.{frame_index_of, plan_named};
+ghost use Rattle.df_shell.specs.Checks.{check_text};
+ghost use Rattle.df_shell.specs.Questions.{IsMemory, IsTold, names_text};
+ghost use Rattle.df_shell.specs.Versions.{counted_text, differs_from, first_differing_in, numbered_text, refusal_with_hall, shown_text, text_of_index, text_of_version, version_line};
+
+use crate::checking::verdict;
+use crate::command::Question;
+use crate::definitions::Definitions;
+use crate::reading::{books_of, names_lines, push_numbers};
+use crate::refusal::{Mistake, Refusal};
+use df_catalogue::{CatalogueFault, Desk};
+use df_text::print_table;
+use df_value::Text;
+use df_versions::Version;
+use std::alloc::{AllocError, Global};
+use std::sync::ledger::Ledger;
+
+/// Answers a question from a version, and from the desks where it is one of books. The plans and schemas are those of the
+/// document, of which a version has none.
+pub fn answer_from_version<Acc: Ledger, Del: Ledger>(
+    alloc: Global,
+    definitions: &Definitions,
+    version: &Version,
+    desks: &[Desk<Acc, Del>],
+    question: Question<'_>,
+) -> Result<Vec<u8>, Refusal>
+    ensures { IsTold (text_of_version definitions.now desks.now version.now question.entry)
+        (refusal_with_hall question.entry) result }
+{
+    match question {
+        Question::Show(view) => show(alloc, definitions, version, view),
+        Question::Rows(frame) => rows(alloc, definitions, version, frame),
+        Question::Books(frame) => books(alloc, definitions, version, desks, frame),
+        Question::Views => views(alloc, version),
+        Question::Check => check(alloc, definitions, version),
+        Question::Work => Err(Refusal::Mistake(Mistake::NotWithHall)),
+        Question::Version => Ok(number(alloc, version)?.into_bytes()),
+    }
+}
+
+// The table of a view, as it is printed.
+fn show(
+    alloc: Global,
+    definitions: &Definitions,
+    version: &Version,
+    view: &str,
+) -> Result<Vec<u8>, Refusal>
+    ensures { IsTold (shown_text view.now (plan_named definitions.now view.now)
+        (view_rows_in version.now.1 view.now)) (Refusal.Store CatalogueFault.NoView) result }
+{
+    let Some(plan) = definitions.plan(view) else {
+        return Err(Refusal::Store(CatalogueFault::NoView));
+    };
+    let rows = version.view_rows(alloc, view)?;
+    let name = Text::from_str(alloc, view)?;
+    Ok(print_table(alloc, &name, plan.schema(), rows.as_slice())?)
+}
+
+// The table of a frame, as it is printed, and the numbers of its rows.
+fn rows(
+    alloc: Global,
+    definitions: &Definitions,
+    version: &Version,
+    frame: &str,
+) -> Result<Vec<u8>, Refusal>
+    ensures { IsTold (text_of_index (λ at. numbered_text
+        (slice_get definitions.now.document.frames at) (slice_get version.now.1.frames at))
+        (frame_index_of definitions.now frame.now)) (Refusal.Store CatalogueFault.NoFrame) result }
+{
+    let Some(at) = definitions.frame_index(frame) else {
+        return Err(Refusal::Store(CatalogueFault::NoFrame));
+    };
+    let spec = &definitions.document.frames.as_slice()[at];
+    let rows = version.frame_rows(alloc, at)?;
+    let numbers = version.frame_numbers(alloc, at)?;
+    let mut text = print_table(alloc, &spec.name, &spec.schema, rows.as_slice())?;
+    push_numbers(alloc, &mut text, numbers.as_slice())?;
+    Ok(text)
+}
+
+// How many rows were accepted and deleted through the desk of a frame, and how many the frame has.
+fn books<Acc: Ledger, Del: Ledger>(
+    alloc: Global,
+    definitions: &Definitions,
+    version: &Version,
+    desks: &[Desk<Acc, Del>],
+    frame: &str,
+) -> Result<Vec<u8>, Refusal>
+    ensures { IsTold (text_of_index (λ at. counted_text
+        (slice_get desks.now at) (slice_get version.now.1.frames at))
+        (frame_index_of definitions.now frame.now)) (Refusal.Store CatalogueFault.NoFrame) result }
+{
+    let Some(at) = definitions.frame_index(frame) else {
+        return Err(Refusal::Store(CatalogueFault::NoFrame));
+    };
+    let (Some(desk), Some(live)) = (desks.get(at), version.frame_len(at)) else {
+        return Err(Refusal::Store(CatalogueFault::NoFrame));
+    };
+    Ok(books_of(alloc, desk.accepted(), desk.deleted(), live)?.into_bytes())
+}
+
+// The names of the views, a line each.
+fn views(alloc: Global, version: &Version) -> Result<Vec<u8>, Refusal>
+    ensures told { IfOk result (λ text.
+        text.items ≡ names_text (map (λ v. v.0) version.now.1.views)) }
+    ensures refused { IfErr result (λ r. r ≡ Refusal.Memory) }
+{
+    let names = version.view_names(alloc)?;
+    Ok(names_lines(alloc, names.as_slice())?)
+}
+
+fn number(alloc: Global, version: &Version) -> Result<String, AllocError>
+    ensures { IfOk result (λ text. string_bytes text ≡ version_line version.now.0) }
+{
+    let number = version.number();
+    format!(in alloc; "version {number}\n")
+}
+
+// Computes each view anew from the frames, and compares.
+fn check(alloc: Global, definitions: &Definitions, version: &Version) -> Result<Vec<u8>, Refusal>
+    ensures told { IfOk result (λ text.
+        text.items ≡ check_text (first_differing_in definitions.now version.now.1)) }
+    ensures refused { IfErr result IsMemory }
+{
+    let names = version.view_names(alloc)?;
+    let found = first_differing(alloc, definitions, version, names.as_slice())?;
+    Ok(verdict(alloc, found)?)
+}
+
+// The name of the first view that differs.
+fn first_differing<'a>(
+    alloc: Global,
+    definitions: &Definitions,
+    version: &Version,
+    names: &'a [Text],
+) -> Result<Option<&'a Text>, Refusal>
+    ensures found { IfOk result (λ name. option_copied name
+        ≡ find (λ n. differs_from version.now.1 (plan_named definitions.now n)
+        (view_rows_in version.now.1 n)) names.now) }
+    ensures refused { IfErr result IsMemory }
+{
+    for name in names {
+        if differs(alloc, definitions, version, name.as_str())? {
+            return Ok(Some(name));
+        }
+    }
+    Ok(None)
+}
+
+// Whether the view has other rows than the plain evaluator gives of the document's plan of its name.
+fn differs(
+    alloc: Global,
+    definitions: &Definitions,
+    version: &Version,
+    name: &str,
+) -> Result<bool, Refusal>
+    ensures differs { IfOk result (λ d. d ≡ differs_from version.now.1
+        (plan_named definitions.now name.now) (view_rows_in version.now.1 name.now)) }
+    ensures refused { IfErr result IsMemory }
+{
+    let Some(plan) = definitions.plan(name) else {
+        return Ok(true);
+    };
+    match version.view_rows(alloc, name) {
+        Ok(rows) => Ok(rows != version.computed_rows(alloc, plan)?),
+        Err(CatalogueFault::NoView) => Ok(true),
+        Err(fault) => Err(Refusal::Store(fault)),
+    }
+}
