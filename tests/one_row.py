@@ -50,7 +50,7 @@ def tried(program, folder, library, name):
     made = pathlib.Path(folder, name.replace(" ", "_"))
     made.with_suffix(".toml").write_text(DOCUMENT.replace("STEP", STEPS[name]))
     made.with_suffix(".session").write_text(transcript(True))
-    runner = sessions.Runner(program, sessions.Session(str(made.with_suffix(".session"))))
+    runner = sessions.Runner(program, [], sessions.Session(str(made.with_suffix(".session"))))
     whole, short = (b"".join(part) for part in (runner.session.typed, runner.session.typed[:-1]))
     counts = str(made.with_suffix(".counts"))
     before = allocations(runner, short, library, counts)
