@@ -144,7 +144,7 @@ fn split_each<Acc: Ledger, Del: Ledger>(
     Ok(split)
 }
 
-// All desks again, if each client was served and each watcher saw what is right.
+// All desks again, if each client was served, and each watcher saw what is right and then the last version.
 fn desks_of<Acc: Ledger, Del: Ledger>(
     alloc: Global,
     actors: Vec<Actor<Acc, Del>>,
@@ -169,10 +169,13 @@ fn take_desks<Acc: Ledger, Del: Ledger>(
             all.append(&mut client.desks)?;
             Ok(())
         }
-        Actor::Watches(watcher) if watcher.is_right() => Ok(()),
-        Actor::Watches(_) => Err(
-            "each version has the rows of its plan, and no number falls".into(),
-        ),
+        Actor::Watches(watcher) => {
+            let mut watcher = watcher;
+            if watcher.ends_with(LAST) {
+                return Ok(());
+            }
+            Err("each version has the rows of its plan, and the last one comes".into())
+        }
     }
 }
 

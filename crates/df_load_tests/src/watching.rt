@@ -14,6 +14,8 @@ pub struct Watcher {
     reader: Reader,
     // The plan of the view `g`.
     plan: CheckedPlan,
+    // The number of the last version that it took.
+    number: u64,
     // Whether the view had the rows of its plan in each version, and no number fell.
     right: bool,
 }
@@ -24,38 +26,43 @@ impl Watcher {
             alloc,
             reader,
             plan,
+            number: 0,
             right: true,
         }
     }
 
-    /// Whether all that it read was right.
-    pub fn is_right(&self) -> bool {
-        self.right
-    }
-
-    /// Checks versions, until it has seen the last one.
+    /// Checks versions, until it has seen the last one or has asked a million times.
     pub fn run(&mut self, last: u64) {
-        let mut number = 0;
         for _turn in 0..TURNS {
-            match self.next(number) {
-                Some(next) => number = next,
-                None => self.right = false,
-            }
-            if !self.right || number >= last {
+            if !self.is_next_right() || self.number >= last {
                 return;
             }
             thread::yield_now();
         }
     }
 
-    // The number of the newest version, if that is right behind one of this number.
-    fn next(&mut self, before: u64) -> Option<u64> {
+    /// Whether all that it read was right, and the version that it takes now is the last one.
+    pub fn ends_with(&mut self, last: u64) -> bool {
+        self.is_next_right() && self.number == last
+    }
+
+    // Takes the newest version. Whether that and all before it were right.
+    fn is_next_right(&mut self) -> bool {
+        match self.next() {
+            Some(number) => self.number = number,
+            None => self.right = false,
+        }
+        self.right
+    }
+
+    // The number of the newest version, if that is right behind the one before.
+    fn next(&mut self) -> Option<u64> {
         let version = self.reader.snapshot()?;
         let number = version.number();
-        if number == before {
+        if number == self.number {
             return Some(number);
         }
-        if number > before && self.is_true(&version) {
+        if number > self.number && self.is_true(&version) {
             Some(number)
         } else {
             None
