@@ -20,7 +20,7 @@ use Rattle.df_column.proofs.ExtremeLemmas.{better_is}
 use Rattle.df_column.proofs.Furthest.{extreme-append}
 use Rattle.df_column.proofs.Places.{mapped_at, mapped_length}
 
-there : (cells : List Cell) (n : ℕ) (at : Option ℕ) → IfSome at (λ i. i < n) → cell_there (take n cells) at ≡ cell_there cells at
+pub there : (cells : List Cell) (n : ℕ) (at : Option ℕ) → IfSome at (λ i. i < n) → cell_there (take n cells) at ≡ cell_there cells at
 there cells n None h = refl
 there cells n (Some i) h = ap Some (get_or-take n cells i cell.Null h)
 

@@ -10,6 +10,7 @@ use Rattle.df_column.specs.Blocks.{IsBlock}
 use Rattle.df_column.specs.Columns.{column_cells, dtype_of_column}
 use Rattle.df_column.specs.Picks.{AreFit, is_fit, origin_cell, picked_cells, all_or_none}
 use Rattle.df_column.specs.Rows.{AreRows, are_even, is_new_row, is_row, picked_columns, tagged_rows, picked_rows}
+use Rattle.df_column.specs.Sizes.{most_rows}
 use Rattle.df_column.specs.declared.column.Column.{Column}
 use Rattle.df_column.specs.declared.picks.Origin.{Origin}
 use Rattle.df_column.specs.declared.picks.Origin.TheVariants.{Old, New}
@@ -94,7 +95,7 @@ picked_even whole n at (c ∷ cs) picks ts e h =
     let all : length (all_or_none whole c ++ picked_cells c at picks) ≡ length (all_or_none whole ts ++ map (λ p. p.tag) picks) = omega (arith, starts, a, b, k, m) in
     T-both _ _ (subst T (sym (eq-eqb _ _ all)) tt) (picked_even whole n (at + 1) cs picks ts e (T-second (length c == n) _ h))
 
-pub block_made : (whole : Bool) (ts made_tags : List Tag) (columns made : List Column) (picks : List Pick) → T (are_even (length ts) (map column_cells columns)) → AreRows (map dtype_of_column columns) picks → 0 < length picks → length (all_or_none whole ts) + length picks ≤ 1024
+pub block_made : (whole : Bool) (ts made_tags : List Tag) (columns made : List Column) (picks : List Pick) → T (are_even (length ts) (map column_cells columns)) → AreRows (map dtype_of_column columns) picks → 0 < length picks → length (all_or_none whole ts) + length picks ≤ most_rows
     → made_tags ≡ all_or_none whole ts ++ map (λ p. p.tag) picks → map column_cells made ≡ picked_columns whole 0 (map column_cells columns) picks
     → record { sound : IsBlock made_tags made; rows : tagged_rows made_tags (map column_cells made) ≡ all_or_none whole (tagged_rows ts (map column_cells columns)) ++ picked_rows (map column_cells columns) picks }
 block_made whole ts made_tags columns made picks even rows some few tags cells =

@@ -1,6 +1,6 @@
 -- The least and the greatest cell of a list that is made of two: for each strict order, the lesser one of both.
 use Rattle.std.proofs.Common.{◌≡◌, ℕ, zero, suc, Bool, true, false, cond, List, [], ◌∷◌, ◌++◌, refl, sym, ap, subst, ◌∙◌, append-nil}
-use Rattle.std.specs.Prelude.{Some, None, not, ◌&&◌, find, slice_get}
+use Rattle.std.specs.Prelude.{Option, Some, None, not, ◌&&◌, find, slice_get}
 use Rattle.std.specs.List.{list_all}
 use Rattle.std.specs.Ordering.{is_lt, is_gt, ordering_reverse}
 use Rattle.std.specs.declared.cmp.Ordering.{Ordering}
@@ -230,3 +230,10 @@ module _ (e : Extreme) where
   -- what does not lie beyond a cell does not lie beyond one that this does not reach
   pub not_beyond : (d g v : Cell) → is_beyond e d g ≡ false → is_beyond e g v ≡ false → is_beyond e d v ≡ false
   not_beyond d g v h k = no (is_beyond e d v) (λ t. above_both (is_beyond e) (strict e) v g d (is_beyond e v g) refl k h t)
+
+  -- the furthest of three
+  pub further_of_three : (a x y : Option Cell) → further e (further e a x) y ≡ further e a (further e x y)
+  further_of_three None x y = refl
+  further_of_three (Some l) None y = refl
+  further_of_three (Some l) (Some m) None = refl
+  further_of_three (Some l) (Some m) (Some n) = ap Some (lesser_of_three (is_beyond e) (strict e) l m n (is_beyond e m l) (is_beyond e n m) refl refl)

@@ -17,10 +17,18 @@ pub mod CellTests
 pub mod Furthest
 pub mod ExtremeLemmas
 pub mod BlockExtremes
+mod BestValues
+mod OldRuns
 pub mod ZoneLemmas
 pub mod SpotLemmas
 mod SharedLemmas
+mod TagRuns
+pub mod ListParts
 pub mod BlockListLemmas
+pub mod LeafEnds
+pub mod LeafTreeLemmas
+pub mod Crossing
+pub mod LeafExtremes
 pub mod ReadLemmas
 pub mod Bounds
 pub mod FitLemmas

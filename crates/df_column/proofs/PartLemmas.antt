@@ -31,7 +31,7 @@ module _ {X : Type 0} where
   pub all_part : (p : X → Bool) (m n : ℕ) (xs : List X) → T (list_all p xs) → T (list_all p (take m (drop n xs)))
   all_part p m n xs h = all_take p m (drop n xs) (all_drop p n xs h)
 
-  take_parts : (m n : ℕ) (xs : List X) → take (m + n) xs ≡ take m xs ++ take n (drop m xs)
+  pub take_parts : (m n : ℕ) (xs : List X) → take (m + n) xs ≡ take m xs ++ take n (drop m xs)
   take_parts zero n xs = let e : 0 + n ≡ n = omega arith in ap (λ k. take k xs) e
   take_parts (suc m) n [] = let e : suc m + n ≡ suc (m + n) = omega arith in ap (λ k. take {A = X} k []) e ∙ sym (take_none n)
     where

@@ -154,6 +154,17 @@ above_ends bs ends at count n k e h up le =
     above_list k (rows_of_blocks (drop n bs)) (above_later k (suc count) n bs le
     (above_blocks 0 at count k bs (λ d lt. let q = subst (λ es. at < get_or es count d) e (h.after count d (omega arith) (omega (arith, long, lt))) in omega (arith, q)) up.after))
 
+pub above_last : (bs : List BlockParts) (ends : List ℕ) (at count n : ℕ) (k : Tag) → ends ≡ ends_of 0 bs → 0 < at → IsEndCount ends (at - 1) count → IsUpperBound k (rows_of_blocks bs) at → suc count ≤ n
+    → T (below_all tag_cmp k (rows_of_blocks (drop n bs)))
+above_last bs ends at count n k e some h up le =
+    let long = ap length e ∙ length_ends 0 bs in
+    above_list k (rows_of_blocks (drop n bs)) (above_later k (suc count) n bs le
+    (above_blocks 0 at count k bs (λ d lt. let q = subst (λ es. at - 1 < get_or es count d) e (h.after count d (omega arith) (omega (arith, long, lt))) in omega (arith, q, some)) up.after))
+
+pub above_all : (bs : List BlockParts) (at n : ℕ) (k : Tag) → at ≡ 0 → IsUpperBound k (rows_of_blocks bs) at → T (below_all tag_cmp k (rows_of_blocks (drop n bs)))
+above_all bs at n k e up =
+    above_list k (rows_of_blocks (drop n bs)) (above_later k 0 n bs (omega arith) (subst (λ i. T (list_all (λ r. is_below k r.0) (drop i (rows_of_blocks bs)))) e up.after))
+
 -- no change at all, or all of them behind these rows
 apart_none : (rows : List (Tag × List Cell)) → T (apart tag_cmp rows (map entry_change []))
 apart_none [] = tt

@@ -1,10 +1,10 @@
 -- The cells of a block in one column, and what its greatest cell says of its rows.
-use Rattle.std.proofs.Common.{◌≡◌, ℕ, zero, suc, ◌+◌, ◌<◌, ◌≤◌, Bool, true, false, cond, not, List, [], ◌∷◌, ◌++◌, length, map, take, drop, get_or, Some, None, refl, sym, ap, subst, ◌∙◌, arith, append-nil}
+use Rattle.std.proofs.Common.{◌≡◌, ℕ, zero, suc, ◌+◌, ◌<◌, ◌≤◌, Bool, true, false, cond, not, List, [], ◌∷◌, ◌++◌, length, map, take, drop, get_or, Some, None, refl, sym, ap, subst, ◌∙◌, arith, append_assoc, append-nil}
 use Rattle.std.specs.Prelude.{T, ◌==◌, ◌&&◌, Option, filter, unwrap_or}
 use Rattle.std.specs.List.{list_all}
 use Rattle.std.specs.Ordering.{is_lt, is_gt}
 use Rattle.std.proofs.lemmas.Bool.{eqb-true}
-use Rattle.std.proofs.lemmas.List.{take_all, take_more}
+use Rattle.std.proofs.lemmas.List.{take_more}
 use Rattle.std.proofs.lemmas.List.Elements.{filter-append}
 use Rattle.std.proofs.lemmas.Option.{slice_get_past, unwrap_or-slice_get}
 use Rattle.df_value.specs.CellOrder.{cell_cmp}
@@ -24,7 +24,7 @@ use Rattle.df_column.proofs.BlockRowLemmas.{rows_push}
 use Rattle.df_column.proofs.Bools.{T-both, T-first, T-second, true_from_T}
 use Rattle.df_column.proofs.CellTests.{above_below}
 use Rattle.df_column.proofs.ExtremeLemmas.{above_step, further_none}
-use Rattle.df_column.proofs.Furthest.{extreme-append, lowest_found, none_found, not_beyond}
+use Rattle.df_column.proofs.Furthest.{lowest_found, none_found, not_beyond}
 use Rattle.df_column.proofs.Places.{mapped_at, mapped_length}
 use Rattle.df_column.proofs.RowLemmas.{even_laters, length_rows, row_in_rows}
 
@@ -170,38 +170,31 @@ tags-append index value es fs =
     ap (map (λ r. r.0)) (filter-append (λ r. is_above value (cell_at index r.1)) es fs)
     ∙ map-append (λ r. r.0) (filter (λ r. is_above value (cell_at index r.1)) es) (filter (λ r. is_above value (cell_at index r.1)) fs)
 
-cells-append : (index : Option ℕ) (es fs : List (Tag × List Cell)) → cells_at index (map (λ r. r.1) (es ++ fs)) ≡ cells_at index (map (λ r. r.1) es) ++ cells_at index (map (λ r. r.1) fs)
+pub cells-append : (index : Option ℕ) (es fs : List (Tag × List Cell)) → cells_at index (map (λ r. r.1) (es ++ fs)) ≡ cells_at index (map (λ r. r.1) es) ++ cells_at index (map (λ r. r.1) fs)
 cells-append index es fs = ap (cells_at index) (map-append (λ r. r.1) es fs) ∙ map-append (cell_at index) (map (λ r. r.1) es) (map (λ r. r.1) fs)
 
-rows_more : (bs : List BlockParts) (k : ℕ) (b : BlockParts) → k < length bs → b ≡ get_or bs k b → rows_of_blocks (take (k + 1) bs) ≡ rows_of_blocks (take k bs) ++ block_rows b
+pub rows_more : (bs : List BlockParts) (k : ℕ) (b : BlockParts) → k < length bs → b ≡ get_or bs k b → rows_of_blocks (take (k + 1) bs) ≡ rows_of_blocks (take k bs) ++ block_rows b
 rows_more bs k b lt is = ap rows_of_blocks (take_more bs k b lt ∙ ap (λ c. take k bs ++ c ∷ []) (sym is)) ∙ rows_push (take k bs) b
 
-pub extreme_block : (e : Extreme) (index : Option ℕ) (bs : List BlockParts) (k : ℕ) (b : BlockParts) (best next : Option Cell) → k < length bs → b ≡ get_or bs k b
-    → best ≡ extreme_of e (cells_at index (map (λ r. r.1) (rows_of_blocks (take k bs))))
-    → next ≡ further e best (extreme_of e (cells_at index (map (λ r. r.1) (block_rows b))))
-    → next ≡ extreme_of e (cells_at index (map (λ r. r.1) (rows_of_blocks (take (k + 1) bs))))
-extreme_block e index bs k b best next lt is so_far made =
-    let old = rows_of_blocks (take k bs) in
-    let own = block_rows b in
-    made
-    ∙ ap (λ o. further e o (extreme_of e (cells_at index (map (λ r. r.1) own)))) so_far
-    ∙ sym (extreme-append e (cells_at index (map (λ r. r.1) old)) (cells_at index (map (λ r. r.1) own)))
-    ∙ ap (extreme_of e) (sym (cells-append index old own))
-    ∙ ap (λ es. extreme_of e (cells_at index (map (λ r. r.1) es))) (sym (rows_more bs k b lt is))
+-- the tags of more rows
+pub tags_more : (index : Option ℕ) (value : Cell) (rows more all : List (Tag × List Cell)) (old out after : List Tag) → all ≡ rows ++ more → out ≡ old ++ tags_above index value rows → after ≡ out ++ tags_above index value more → after ≡ old ++ tags_above index value all
+tags_more index value rows more all old out after e so_far made =
+    made ∙ ap (λ ts. ts ++ tags_above index value more) so_far ∙ append_assoc old (tags_above index value rows) (tags_above index value more)
+    ∙ ap (λ ts. old ++ ts) (sym (tags-append index value rows more)) ∙ ap (λ es. old ++ tags_above index value es) (sym e)
 
-pub tags_block : (index : Option ℕ) (value : Cell) (bs : List BlockParts) (k : ℕ) (b : BlockParts) (out after : List Tag) → k < length bs → b ≡ get_or bs k b
-    → out ≡ tags_above index value (rows_of_blocks (take k bs))
-    → after ≡ out ++ tags_above index value (block_rows b)
-    → after ≡ tags_above index value (rows_of_blocks (take (k + 1) bs))
-tags_block index value bs k b out after lt is so_far made =
-    let own = block_rows b in
-    made
-    ∙ ap (λ ts. ts ++ tags_above index value own) so_far
-    ∙ sym (tags-append index value (rows_of_blocks (take k bs)) own)
-    ∙ ap (tags_above index value) (sym (rows_more bs k b lt is))
+pub tags_of_three : (index : Option ℕ) (value : Cell) (rows a b d : List (Tag × List Cell)) (old x y z : List Tag) → rows ≡ a ++ (b ++ d) → x ≡ old ++ tags_above index value a → y ≡ x ++ tags_above index value b → z ≡ y ++ tags_above index value d
+    → z ≡ old ++ tags_above index value rows
+tags_of_three index value rows a b d old x y z e one two three =
+    tags_more index value (a ++ b) d rows old y z (e ∙ sym (append_assoc a b d)) (tags_more index value a b (a ++ b) old x y refl one two) three
 
-pub all_blocks : (bs : List BlockParts) (k : ℕ) (es : List (Tag × List Cell)) → length bs ≤ k → rows_of_blocks bs ≡ es → rows_of_blocks (take k bs) ≡ es
-all_blocks bs k es le is = ap rows_of_blocks (take_all k bs le) ∙ is
+-- where the greatest cell is not above a value, no cell is
+pub none_above_cell : (value g : Cell) (cells : List Cell) → is_gt (cell_cmp g value) ≡ false → Some g ≡ extreme_of extreme.Greatest cells → T (list_all (λ c. not (is_above value c)) cells)
+none_above_cell value g cells h is =
+    above_nonnull value cells (not_above_all value g (non_null cells) h (lowest_found extreme.Greatest (non_null cells) g (sym is)))
+
+pub none_above_none : (value : Cell) (cells : List Cell) → None ≡ extreme_of extreme.Greatest cells → T (list_all (λ c. not (is_above value c)) cells)
+none_above_none value cells is =
+    above_nonnull value cells (subst (λ cs. T (list_all (λ c. not (is_above value c)) cs)) (sym (none_found extreme.Greatest (non_null cells) (sym is))) tt)
 
 -- the cells of a block's rows are those of its column
 pub column_rows : (b : BlockParts) (i : ℕ) (c : Column) → T (are_even (length b.tags) (map column_cells b.columns)) → i < length b.columns → c ≡ get_or b.columns i c → cells_at (Some i) (map (λ r. r.1) (block_rows b)) ≡ column_cells c

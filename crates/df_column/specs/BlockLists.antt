@@ -1,35 +1,54 @@
--- Lists of blocks whose leaves are shared.
-use Rattle.std.specs.Prelude.{◌≡◌, ℕ, ◌<◌, ◌≤◌, ◌^◌, ◌==◌, T, List, [], ◌∷◌, ◌++◌, ◌-◌, length, map, slice_index_or}
-use Rattle.std.specs.Arc.{arc_value}
-use Rattle.std.specs.List.{list_all}
-use Rattle.std.specs.declared.alloc.Global.{Global}
-use Rattle.std.specs.declared.sync.Arc.{Arc}
-use Rattle.std.specs.declared.vec.Vec.{Vec}
+-- Runs of blocks, where a block stands in one, and what a leaf keeps of its blocks.
+use Rattle.std.specs.Prelude.{◌≡◌, ℕ, ◌+◌, ◌<◌, List, [], ◌∷◌, ◌++◌, ◌-◌, Option, Some, None, length, map, slice_index_or}
+use Rattle.df_value.specs.declared.cell.Cell.{Cell}
 use Rattle.df_column.specs.Blocks.{BlockParts, ends_of, rows_of_blocks}
+use Rattle.df_column.specs.Changes.{IsNext}
+use Rattle.df_column.specs.Extremes.{cells_at, extreme_of}
+use Rattle.df_column.specs.declared.extremes.Extreme.{Extreme}
+use Rattle.df_column.specs.declared.extremes.Extreme.TheVariants as extreme
+use Rattle.df_column.specs.declared.tag.Tag.{Tag}
 
--- a leaf, as it is kept
-abbrev pub Leaf : Type 0
-Leaf = Arc (Vec (Arc BlockParts Global) Global) Global
+-- each of these blocks has rows
+abbrev pub HaveRows : List BlockParts → Type 0
+HaveRows [] = Unit {0}
+HaveRows (b ∷ bs) = (0 < length b.tags) × HaveRows bs
 
--- the blocks of a leaf
-abbrev pub leaf_blocks : Leaf → List BlockParts
-leaf_blocks leaf = map arc_value (arc_value leaf).items
+-- the fields of a run: its blocks, and where each of them ends
+pub record IsRun (blocks : List BlockParts) (ends : List ℕ) : Type 0 where
+  pub some : HaveRows blocks
+  pub ends_are : ends ≡ ends_of 0 blocks
+
+-- the cell of a column of these blocks that no other lies beyond, if one is not null
+abbrev pub extreme_cell : Extreme → List BlockParts → ℕ → Option Cell
+extreme_cell e blocks column = extreme_of e (cells_at (Some column) (map (λ r. r.1) (rows_of_blocks blocks)))
+
+-- these are those of the first columns; of further ones nothing is said
+abbrev pub AreExtremeCells : Extreme → List BlockParts → List (Option Cell) → Type 0
+AreExtremeCells e blocks cells = (i : ℕ) → i < length cells → slice_index_or cells i None ≡ extreme_cell e blocks i
+
+-- what a leaf keeps of its blocks: the tag of the first row, none where they have no rows, and the least and the greatest
+-- cells of some first columns
+pub record IsLeaf (blocks : List BlockParts) (first : Option Tag) (low high : List (Option Cell)) : Type 0 where
+  pub first_is : IsNext (rows_of_blocks blocks) first
+  pub least : AreExtremeCells extreme.Least blocks low
+  pub greatest : AreExtremeCells extreme.Greatest blocks high
+
+-- how many rows these blocks have
+abbrev pub rows_in : List BlockParts → ℕ
+rows_in blocks = length (rows_of_blocks blocks)
 
 -- the blocks of leaves, in order
-abbrev pub blocks_of_leaves : List Leaf → List BlockParts
+abbrev pub blocks_of_leaves : List (List BlockParts) → List BlockParts
 blocks_of_leaves [] = []
-blocks_of_leaves (l ∷ ls) = leaf_blocks l ++ blocks_of_leaves ls
+blocks_of_leaves (l ∷ ls) = l ++ blocks_of_leaves ls
 
--- and those behind them
-abbrev pub blocks_in : List Leaf → List (Arc BlockParts Global) → List BlockParts
-blocks_in leaves tail = blocks_of_leaves leaves ++ map arc_value tail
-
--- the leaves have 32 blocks each, and fewer stand behind them; where each block ends
-pub record IsBlockList (leaves : List Leaf) (tail : List (Arc BlockParts Global)) (ends : List ℕ) : Type 0 where
-  pub full : T (list_all (λ l. length (leaf_blocks l) == 32) leaves)
-  pub short : length tail < 32
-  pub ends_are : ends ≡ ends_of 0 (blocks_in leaves tail)
-  pub few : length (rows_of_blocks (blocks_in leaves tail)) ≤ 2 ^ 60
+-- the block at an index of these blocks stands in a run of them, at a place
+pub record IsRunAt (blocks : List BlockParts) (at : ℕ) (run : List BlockParts) (place : ℕ) : Type 0 where
+  pub front : List BlockParts
+  pub rest : List BlockParts
+  pub cut : blocks ≡ front ++ (run ++ rest)
+  pub at_is : at ≡ length front + place
+  pub inside : place < length run
 
 -- the last of these ends, 0 where there is none
 abbrev pub last_of : List ℕ → ℕ

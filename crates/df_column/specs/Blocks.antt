@@ -4,6 +4,7 @@ use Rattle.df_value.specs.declared.cell.Cell.{Cell}
 use Rattle.df_value.specs.declared.cell.CellType.{CellType}
 use Rattle.df_column.specs.Columns.{column_cells, dtype_of_column}
 use Rattle.df_column.specs.Rows.{are_even, tagged_rows}
+use Rattle.df_column.specs.Sizes.{most_rows}
 use Rattle.df_column.specs.declared.column.Column.{Column}
 use Rattle.df_column.specs.declared.tag.Tag.{Tag}
 
@@ -12,10 +13,10 @@ pub record BlockParts : Type 0 where
   pub tags : List Tag
   pub columns : List Column
 
--- from 1 to 1,024 rows, each with a cell in each column
+-- from 1 to most_rows, each with a cell in each column
 pub record IsBlock (tags : List Tag) (columns : List Column) : Type 0 where
   pub some : 0 < length tags
-  pub few : length tags ≤ 1024
+  pub few : length tags ≤ most_rows
   pub even : T (are_even (length tags) (map column_cells columns))
 
 -- the rows of a block with their tags

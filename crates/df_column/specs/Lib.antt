@@ -8,6 +8,7 @@ pub mod Texts
 pub mod ValueCells
 pub mod Picks
 pub mod Columns
+pub mod Sizes
 pub mod Rows
 pub mod Changes
 pub mod Tables
@@ -16,4 +17,6 @@ pub mod BlockRows
 pub mod BlockLists
 pub mod TableBlocks
 pub mod Extremes
+pub mod LeafTotals
+pub mod LeafTrees
 pub mod BlockExtremes

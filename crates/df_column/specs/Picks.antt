@@ -1,5 +1,5 @@
 -- Rows picked from an old block and from new rows.
-use Rattle.std.specs.Prelude.{ℕ, Bool, true, false, nat_lt, T, List, [], map, slice_index_or}
+use Rattle.std.specs.Prelude.{ℕ, ◌+◌, ◌==◌, Bool, true, false, nat_lt, T, List, [], ◌∷◌, map, slice_index_or}
 use Rattle.std.specs.List.{list_all}
 use Rattle.df_value.specs.Cells.{fits_dtype}
 use Rattle.df_value.specs.declared.cell.Cell.{Cell}
@@ -32,6 +32,16 @@ is_within n (New row) = true
 abbrev pub is_fit : CellType → ℕ → Origin → Bool
 is_fit dtype at (Old i) = true
 is_fit dtype at (New row) = fits_dtype dtype (slice_index_or row.now at cell.Null)
+
+-- whether it is the old row at this index
+abbrev pub is_old : ℕ → Origin → Bool
+is_old n (Old i) = i == n
+is_old n (New row) = false
+
+-- these are old rows that follow one another from this one on
+abbrev pub AreOld : ℕ → List Pick → Type 0
+AreOld first [] = Unit {0}
+AreOld first (p ∷ picks) = T (is_old first p.origin) × AreOld (first + 1) picks
 
 -- all old rows are among the first n
 abbrev pub AreWithin : ℕ → List Pick → Type 0

@@ -1,10 +1,13 @@
 -- The blocks of a table, and where its rows stand in them.
-use Rattle.std.specs.Prelude.{◌≡◌, ℕ, ◌<◌, ◌≤◌, T, List, length, slice_index_or}
+use Rattle.std.specs.Prelude.{◌≡◌, ℕ, ◌<◌, ◌≤◌, ◌++◌, T, List, length, not, slice_index_or}
 use Rattle.std.specs.FinMap.{is_sorted}
+use Rattle.std.specs.FinMap.Entries.{below_all}
+use Rattle.std.specs.Ordering.{is_gt}
 use Rattle.std.specs.declared.cmp.Ordering.TheVariants.{Less, Greater}
 use Rattle.df_value.specs.declared.cell.Cell.{Cell}
 use Rattle.df_value.specs.declared.cell.CellType.{CellType}
 use Rattle.df_column.specs.Blocks.{AreOfDtypes, BlockParts, block_rows, rows_of_blocks}
+use Rattle.df_column.specs.Changes.{IsHead, all_under}
 use Rattle.df_column.specs.Tables.{dtypes_of}
 use Rattle.df_column.specs.Tags.{tag_cmp}
 use Rattle.df_column.specs.declared.tag.Tag.{Tag}
@@ -34,3 +37,17 @@ pub record IsEndCount (ends : List ℕ) (at count : ℕ) : Type 0 where
   pub in_range : count ≤ length ends
   pub before : (k : ℕ) (d : ℕ) → k < count → slice_index_or ends k d ≤ at
   pub after : (k : ℕ) (d : ℕ) → count ≤ k → k < length ends → at < slice_index_or ends k d
+
+-- a row with this tag can stand only in a run of these blocks, before which there are so many rows: those have lesser
+-- tags, and those behind the run greater ones
+pub record IsRunOfTag (blocks : List BlockParts) (tag : Tag) (run : List BlockParts) (before : ℕ) : Type 0 where
+  pub front : List BlockParts
+  pub rest : List BlockParts
+  pub cut : blocks ≡ front ++ (run ++ rest)
+  pub rows_are : before ≡ length (rows_of_blocks front)
+  pub below : T (all_under tag_cmp tag (rows_of_blocks front))
+  pub above : T (below_all tag_cmp tag (rows_of_blocks rest))
+  -- the run has a first row, whose tag is not above this one
+  pub first : Tag
+  pub head : IsHead (rows_of_blocks run) first
+  pub reached : T (not (is_gt (tag_cmp first tag)))

@@ -1,4 +1,4 @@
-//! Blocks of at most 1,024 tagged rows.
+//! Blocks of at most 256 tagged rows.
 ghost use Rattle.std.specs.Prelude.{◌≡◌, ◌<◌, ◌≤◌, ◌+◌, ◌++◌, T, List, IfOk, map, length, slice_index_or};
 ghost use Rattle.df_value.specs.Rows.{row_eq};
 ghost use Rattle.df_value.specs.declared.cell.Cell.{Cell};
@@ -9,6 +9,7 @@ ghost use Rattle.df_column.specs.Columns.{column_cells, dtype_of_column};
 ghost use Rattle.df_column.specs.Picks.{AreWithin, picked_cells, all_or_none};
 ghost use Rattle.df_column.specs.Rows as rows;
 ghost use Rattle.df_column.specs.Rows.{AreRows, are_even, row_at};
+ghost use Rattle.df_column.specs.Sizes.{most_rows};
 ghost use Rattle.df_column.specs.declared.column.Column.{Column};
 
 use crate::column::Column;
@@ -20,7 +21,7 @@ use std::alloc::{AllocError, Global};
 use std::marker::Model;
 
 /// The most rows of a block.
-pub const MOST_ROWS: usize = 1024;
+pub const MOST_ROWS: usize = 256;
 
 /// Some rows: a tag for each, and a cell in each column. Of each column it is kept where the least and the greatest cell
 /// stand.
@@ -55,7 +56,7 @@ fn picked_column(
     requires even { T (are_even (length tags.now) (map column_cells columns.now)) }
     requires within { AreWithin (length tags.now) picks.now }
     requires rows { AreRows (map dtype_of_column columns.now) picks.now }
-    requires few { length (all_or_none whole tags.now) + length picks.now ≤ 1024 }
+    requires few { length (all_or_none whole tags.now) + length picks.now ≤ most_rows }
     ensures cells { IfOk result (λ c. (d : Column) → column_cells c ≡
         all_or_none whole (column_cells (slice_index_or columns.now at d))
         ++ picked_cells (column_cells (slice_index_or columns.now at d)) at picks.now) }
@@ -76,7 +77,7 @@ fn picked_columns(
     requires even { T (are_even (length tags.now) (map column_cells columns.now)) }
     requires within { AreWithin (length tags.now) picks.now }
     requires rows { AreRows (map dtype_of_column columns.now) picks.now }
-    requires few { length (all_or_none whole tags.now) + length picks.now ≤ 1024 }
+    requires few { length (all_or_none whole tags.now) + length picks.now ≤ most_rows }
     ensures cells { IfOk result (λ v. map column_cells v.items ≡
         rows.picked_columns whole 0 (map column_cells columns.now) picks.now) }
     ensures dtypes { IfOk result (λ v. map dtype_of_column v.items ≡ map dtype_of_column columns.now) }
@@ -96,7 +97,7 @@ fn picked_tags(
     whole: bool,
     picks: &[Pick<'_>],
 ) -> Result<Vec<Tag>, AllocError>
-    requires { length (all_or_none whole tags.now) + length picks.now ≤ 1024 }
+    requires { length (all_or_none whole tags.now) + length picks.now ≤ most_rows }
     ensures { IfOk result (λ v. v.items ≡ all_or_none whole tags.now ++ map (λ p. p.tag) picks.now) }
 {
     let mut out = start_tags(alloc, tags, whole, picks.len())?;
@@ -108,7 +109,7 @@ fn picked_tags(
 
 /// These tags or none, with room for more.
 fn start_tags(alloc: Global, tags: &[Tag], whole: bool, more: usize) -> Result<Vec<Tag>, AllocError>
-    requires { length (all_or_none whole tags.now) + more ≤ 1024 }
+    requires { length (all_or_none whole tags.now) + more ≤ most_rows }
     ensures { IfOk result (λ v. v.items ≡ all_or_none whole tags.now) }
 {
     if whole {
@@ -153,7 +154,7 @@ impl Block {
         requires within { AreWithin (length tags.now) picks.now }
         requires rows { AreRows (map dtype_of_column columns.now) picks.now }
         requires some { 0 < length picks.now }
-        requires few { length (all_or_none whole tags.now) + length picks.now ≤ 1024 }
+        requires few { length (all_or_none whole tags.now) + length picks.now ≤ most_rows }
         ensures rows { IfOk result (λ b. block_rows b ≡
             all_or_none whole (rows.tagged_rows tags.now (map column_cells columns.now))
             ++ rows.picked_rows (map column_cells columns.now) picks.now) }
@@ -173,7 +174,7 @@ impl Block {
     pub fn tags(&self) -> &[Tag]
         ensures tags { result.now ≡ self.now.tags }
         ensures some { 0 < length self.now.tags }
-        ensures few { length self.now.tags ≤ 1024 }
+        ensures few { length self.now.tags ≤ most_rows }
     {
         &self.tags
     }

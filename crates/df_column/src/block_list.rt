@@ -1,42 +1,46 @@
 //! Lists of blocks, which share what they have in common.
-ghost use Rattle.std.specs.Prelude.{◌≡◌, ◌<◌, ◌≤◌, ◌+◌, ◌++◌, ◌∷◌, ◌^◌, ◌%◌, ◌==◌, [], IfOk, IsTrue, OnOk, T, drop, length, map, slice_index_or, take};
+ghost use Rattle.std.specs.Prelude.{◌≡◌, ◌<◌, ◌≤◌, ◌+◌, ◌-◌, ◌++◌, ◌∷◌, ◌^◌, [], IfNone, IfOk, IfSome, T, drop, length, slice_index_or, take};
 ghost use Rattle.std.specs.Arc.{arc_value};
-ghost use Rattle.std.specs.List.{list_all};
-ghost use Rattle.df_column.specs.BlockLists.{IsBlockList, blocks_in, last_of, leaf_blocks};
+ghost use Rattle.std.specs.FinMap as finite;
+ghost use Rattle.std.specs.FinMap.Entries.{below_all};
+ghost use Rattle.df_column.specs.BlockLists.{IsRunAt, extreme_cell, rows_in};
 ghost use Rattle.df_column.specs.Blocks.{BlockParts, ends_of, rows_of_blocks};
+ghost use Rattle.df_column.specs.Pools.{start_at};
+ghost use Rattle.df_column.specs.TableBlocks.{IsEndCount, IsRunOfTag};
+ghost use Rattle.df_column.specs.Tags.{tag_cmp};
 
 use crate::block::Block;
-use crate::pool::start_of_part;
+use crate::extremes::Extreme;
+use crate::leaf::Leaf;
+use crate::leaves::{Leaves, Stretch};
+use crate::run::{Run, Spot, end_behind};
+use crate::tag::{Tag, begins_behind};
+use df_value::Cell;
 use std::alloc::{AllocError, Global};
 use std::marker::Model;
 use std::sync::Arc;
 
-/// How many blocks a leaf has.
-const LEAF: usize = 32;
+/// The most blocks of a leaf.
+const LEAF: usize = 8;
 
-/// The most rows of a list: more would take more memory than an allocator has.
-const MOST_ROWS_OF_LIST: usize = 1 << 60;
-
-/// Blocks in order: leaves of 32, which several lists share, and at most 31 behind them. So a list that differs from
-/// another at its end or in one place shares all but one leaf with it. It is kept how many rows stand up to the end of
-/// each block. Contracts see the blocks.
+/// Blocks in order: leaves of up to 8 blocks, which several lists share, and up to 15 blocks behind them. So a list that
+/// differs from another in one place shares all but one leaf with it. Contracts see the blocks.
 #[derive(Drop)]
 pub struct BlockList {
-    leaves: Vec<Arc<Vec<Arc<Block>>>>,
-    tail: Vec<Arc<Block>>,
-    ends: Vec<usize>,
+    leaves: Leaves,
+    tail: Run,
 }
 
 impl Model for BlockList {
-    ghost use Rattle.std.specs.Prelude.{List};
+    ghost use Rattle.std.specs.Prelude.{List, ◌++◌, ◌≤◌, ◌^◌};
     ghost use Rattle.df_column.specs.Blocks.{BlockParts};
-    ghost use Rattle.df_column.specs.BlockLists.{IsBlockList, blocks_in};
+    ghost use Rattle.df_column.specs.BlockLists.{rows_in};
 
     ghost Value = { List BlockParts };
 
-    ghost view = { λ l. blocks_in l.leaves.items l.tail.items };
+    ghost view = { λ l. l.leaves ++ l.tail };
 
-    ghost invariant = { λ l. IsBlockList l.leaves.items l.tail.items l.ends.items };
+    ghost invariant = { λ l. rows_in (l.leaves ++ l.tail) ≤ 2 ^ 60 };
 }
 
 impl BlockList {
@@ -45,36 +49,23 @@ impl BlockList {
         ensures { result ≡ [] }
     {
         BlockList {
-            leaves: Vec::new(alloc),
-            tail: Vec::new(alloc),
-            ends: Vec::new(alloc),
+            leaves: Leaves::new(),
+            tail: Run::new(alloc),
         }
     }
 
-    /// No blocks, with room for so many.
-    pub fn with_capacity(alloc: Global, blocks: usize) -> Result<BlockList, AllocError>
-        ensures { IfOk result (λ l. l ≡ []) }
+    /// The leaves, and the blocks behind them.
+    pub fn parts(&self) -> (&Leaves, &Run)
+        ensures { result.0.now ++ result.1.now ≡ self.now }
     {
-        Ok(BlockList {
-            leaves: Vec::with_capacity(alloc, blocks / LEAF)?,
-            tail: Vec::with_capacity(alloc, blocks.min(LEAF))?,
-            ends: Vec::with_capacity(alloc, blocks)?,
-        })
+        (&self.leaves, &self.tail)
     }
 
     /// The number of blocks.
     pub fn len(&self) -> usize
         ensures { result ≡ length self.now }
     {
-        let ends: &[usize] = &self.ends;
-        ends.len()
-    }
-
-    /// How many rows stand up to the end of each block.
-    pub fn ends(&self) -> &[usize]
-        ensures { result.now ≡ ends_of 0 self.now }
-    {
-        &self.ends
+        self.leaves.blocks() + self.tail.len()
     }
 
     /// The number of rows.
@@ -82,7 +73,20 @@ impl BlockList {
         ensures value { result ≡ length (rows_of_blocks self.now) }
         ensures few { result ≤ 2 ^ 60 }
     {
-        last_end(&self.ends)
+        self.leaves.rows() + self.tail.rows()
+    }
+
+    /// The run that the block at this index stands in, and the index of the block there.
+    fn run_at(&self, at: usize) -> (&Run, usize)
+        requires { at < length self.now }
+        ensures { IsRunAt self.now at result.0.now result.1 }
+    {
+        let first = self.leaves.blocks();
+        if at < first {
+            self.leaves.run_at(at)
+        } else {
+            (&self.tail, at - first)
+        }
     }
 
     /// The block at this index.
@@ -90,31 +94,95 @@ impl BlockList {
         requires { at < length self.now }
         ensures { (d : BlockParts) → arc_value result.now ≡ slice_index_or self.now at d }
     {
-        let leaf = at / LEAF;
-        if leaf < self.leaves.len() {
-            &self.leaves[leaf][at % LEAF]
-        } else {
-            &self.tail[at % LEAF]
+        let (run, place) = self.run_at(at);
+        run.get(place)
+    }
+
+    /// Where the row at this index of all rows stands. Behind the last row, the index behind the last block.
+    pub fn spot(&self, at: usize) -> Spot
+        ensures block { IsEndCount (ends_of 0 self.now) at result.block }
+        ensures few { result.block ≤ 2 ^ 60 }
+        ensures row { result.row ≡ at - start_at 0 (ends_of 0 self.now) result.block }
+    {
+        let first = self.leaves.rows();
+        if at < first {
+            return self.leaves.spot(at);
         }
+        let spot = self.tail.spot(at - first);
+        let block = self.leaves.blocks() + spot.block;
+        Spot {
+            block,
+            row: spot.row,
+        }
+    }
+
+    /// The only run in which a row with this tag can stand, and how many rows stand before it; none where all rows have
+    /// greater tags.
+    pub fn run_of_tag(&self, tag: Tag) -> Option<(&Run, usize)>
+        requires { T (finite.is_sorted tag_cmp (rows_of_blocks self.now)) }
+        ensures run { IfSome result (λ r. IsRunOfTag self.now tag r.0.now r.1) }
+        ensures none { IfNone result (T (below_all tag_cmp tag (rows_of_blocks self.now))) }
+        ensures few { IfSome result (λ r. r.1 + length (rows_of_blocks r.0.now) ≤ 2 ^ 60) }
+    {
+        let first = self.tail.first_tag();
+        if first.is_none() || begins_behind(first, tag) {
+            return self.leaves.run_of_tag(tag);
+        }
+        Some((&self.tail, self.leaves.rows()))
+    }
+
+    /// The cell of the column at this index that no other lies beyond, if one is not null. Of each leaf and of each block
+    /// behind them one cell is read.
+    pub fn extreme(
+        &self,
+        alloc: Global,
+        extreme: Extreme,
+        index: usize,
+    ) -> Result<Option<Cell>, AllocError>
+        ensures { IfOk result (λ v. v ≡ extreme_cell extreme self.now index) }
+    {
+        let best = self.leaves.furthest(alloc, extreme, None, index)?;
+        self.tail.furthest(alloc, extreme, best, index)
     }
 
     /// The list with this block behind it.
     pub fn pushed(self, alloc: Global, block: Arc<Block>) -> Result<BlockList, AllocError>
         ensures { IfOk result (λ l. l ≡ self ++ arc_value block ∷ []) }
     {
-        let BlockList {
-            mut leaves,
-            mut tail,
-            mut ends,
-        } = self;
-        let end = end_behind(last_end(&ends), block.tags().len())?;
-        ends.push(end)?;
-        tail.push(block)?;
-        from_parts(alloc, leaves, tail, ends)
+        let BlockList { leaves, tail } = self;
+        end_behind(leaves.rows() + tail.rows(), block.tags().len())?;
+        let tail = tail.pushed(block)?;
+        if tail.len() < 2 * LEAF {
+            return Ok(BlockList { leaves, tail });
+        }
+        let list = with_first_leaf(alloc, leaves, tail)?;
+        Ok(list)
     }
 
     /// The list with the blocks of another one behind it, from one index up to another. Whole leaves are shared.
     pub fn joined(
+        self,
+        alloc: Global,
+        other: &BlockList,
+        low: usize,
+        high: usize,
+    ) -> Result<BlockList, AllocError>
+        requires ordered { low ≤ high }
+        requires in_range { high ≤ length other.now }
+        ensures { IfOk result (λ l. l ≡ self ++ drop low (take high other.now)) }
+    {
+        let Stretch { leaves, from, to } = other.leaves.between(alloc, low, high)?;
+        if from == to {
+            return self.with_blocks(alloc, other, low, high);
+        }
+        let out = self.with_blocks(alloc, other, low, from)?;
+        let out = out.with_leaves(alloc, &leaves)?;
+        let out = out.with_blocks(alloc, other, to, high)?;
+        Ok(out)
+    }
+
+    /// The same, block by block.
+    fn with_blocks(
         self,
         alloc: Global,
         other: &BlockList,
@@ -135,8 +203,7 @@ impl BlockList {
         Ok(out)
     }
 
-    /// The list with the next blocks of another one behind it, and the index behind these: a leaf where one begins there
-    /// and here, else one block.
+    /// The list with the next blocks of another one behind it, which stand in one run there, and the index behind these.
     fn with_next(
         self,
         alloc: Global,
@@ -150,117 +217,98 @@ impl BlockList {
         ensures more { IfOk result (λ v. at < v.1) }
         ensures within { IfOk result (λ v. v.1 ≤ high) }
     {
-        let BlockList { leaves, tail, ends } = self;
-        let leaf = at / LEAF;
-        if tail.is_empty() && is_whole(at, high) && leaf < other.leaves.len() {
-            let start = start_of_part(other.ends(), at);
-            let (_, later) = other.ends().split_at(at);
-            let (old, _) = later.split_at(LEAF);
-            let shared = &other.leaves[leaf];
-            let list = with_leaf(leaves, tail, ends, shared, old, start)?;
-            return Ok((list, at + LEAF));
+        let (run, low) = other.run_at(at);
+        let end = low + (high - at).min(run.len() - low);
+        let (list, added) = self.with_next_blocks(alloc, run, low, end)?;
+        Ok((list, at + added))
+    }
+
+    /// The list with blocks of a run behind it, and how many: those from one index up to another where there is room for
+    /// them behind the leaves, else the first of them.
+    fn with_next_blocks(
+        self,
+        alloc: Global,
+        run: &Run,
+        low: usize,
+        high: usize,
+    ) -> Result<(BlockList, usize), AllocError>
+        requires some { low < high }
+        requires in_range { high ≤ length run.now }
+        ensures list { IfOk result (λ v. v.0 ≡ self ++ drop low (take (low + v.1) run.now)) }
+        ensures some { IfOk result (λ v. 0 < v.1) }
+        ensures within { IfOk result (λ v. low + v.1 ≤ high) }
+    {
+        if self.tail.len().saturating_add(high - low) < 2 * LEAF {
+            let list = self.with_part(run, low, high)?;
+            return Ok((list, high - low));
         }
-        let block = Arc::try_clone(other.get(at))?;
-        let list = BlockList { leaves, tail, ends };
-        Ok((list.pushed(alloc, block)?, at + 1))
+        let block = Arc::try_clone(run.get(low))?;
+        let list = self.pushed(alloc, block)?;
+        Ok((list, 1))
+    }
+
+    /// The list with the blocks of a run behind it, from one index up to another, behind the leaves.
+    fn with_part(self, run: &Run, low: usize, high: usize) -> Result<BlockList, AllocError>
+        requires ordered { low ≤ high }
+        requires in_range { high ≤ length run.now }
+        ensures { IfOk result (λ l. l ≡ self ++ drop low (take high run.now)) }
+    {
+        let BlockList { leaves, tail } = self;
+        let tail = tail.joined(run, low, high)?;
+        end_behind(leaves.rows(), tail.rows())?;
+        Ok(BlockList { leaves, tail })
+    }
+
+    /// The list with these leaves behind it.
+    fn with_leaves(self, alloc: Global, shared: &Leaves) -> Result<BlockList, AllocError>
+        ensures { IfOk result (λ l. l ≡ self ++ shared.now) }
+    {
+        let BlockList { leaves, tail } = self;
+        let closed = with_run(alloc, leaves, tail)?;
+        let leaves = closed.joined(alloc, shared)?;
+        Ok(BlockList {
+            leaves,
+            tail: Run::new(alloc),
+        })
     }
 }
 
-/// The list of these leaves and the blocks behind them, which become a leaf where they are 32.
-fn from_parts(
-    alloc: Global,
-    mut leaves: Vec<Arc<Vec<Arc<Block>>>>,
-    tail: Vec<Arc<Block>>,
-    ends: Vec<usize>,
-) -> Result<BlockList, AllocError>
-    requires full { T (list_all (λ l. length (leaf_blocks l) == 32) leaves.items) }
-    requires short { length tail.items ≤ 32 }
-    requires ends { ends.items ≡ ends_of 0 (blocks_in leaves.items tail.items) }
-    requires few { length (rows_of_blocks (blocks_in leaves.items tail.items)) ≤ 2 ^ 60 }
-    ensures { IfOk result (λ l. l ≡ blocks_in leaves.items tail.items) }
+/// The list of these leaves and a run behind them, of which the first blocks become a leaf.
+fn with_first_leaf(alloc: Global, leaves: Leaves, run: Run) -> Result<BlockList, AllocError>
+    requires { rows_in (leaves ++ run) ≤ 2 ^ 60 }
+    ensures { IfOk result (λ l. l ≡ leaves ++ run) }
 {
-    if tail.len() < LEAF {
-        return Ok(BlockList { leaves, tail, ends });
+    let many = LEAF.min(run.len());
+    let leaves = with_leaf(alloc, leaves, run.part(alloc, 0, many)?)?;
+    let tail = run.part(alloc, many, run.len())?;
+    Ok(BlockList { leaves, tail })
+}
+
+/// The leaves with the blocks of a run behind them, in one leaf or in two.
+fn with_run(alloc: Global, leaves: Leaves, run: Run) -> Result<Leaves, AllocError>
+    requires { rows_in (leaves ++ run) ≤ 2 ^ 60 }
+    ensures { IfOk result (λ l. l ≡ leaves ++ run) }
+{
+    let len = run.len();
+    if len == 0 {
+        return Ok(leaves);
     }
-    let leaf = Arc::new(alloc, tail)?;
-    leaves.push(leaf)?;
-    Ok(BlockList {
-        leaves,
-        tail: Vec::new(alloc),
-        ends,
-    })
-}
-
-/// Whether a leaf begins at an index, and ends not behind another one.
-fn is_whole(at: usize, high: usize) -> bool
-    requires { at < high }
-    ensures begins { IsTrue result → at % 32 ≡ 0 }
-    ensures within { IsTrue result → at + 32 ≤ high }
-{
-    at % LEAF == 0 && LEAF <= high - at
-}
-
-/// The list of these leaves, and of one more that another list has; no blocks stand behind them.
-fn with_leaf(
-    mut leaves: Vec<Arc<Vec<Arc<Block>>>>,
-    tail: Vec<Arc<Block>>,
-    mut ends: Vec<usize>,
-    leaf: &Arc<Vec<Arc<Block>>>,
-    old: &[usize],
-    start: usize,
-) -> Result<BlockList, AllocError>
-    requires list { IsBlockList leaves.items tail.items ends.items }
-    requires none { tail.items ≡ [] }
-    requires full { length (leaf_blocks leaf.now) ≡ 32 }
-    requires old { old.now ≡ ends_of start (leaf_blocks leaf.now) }
-    ensures { IfOk result (λ l. l ≡ blocks_in leaves.items tail.items ++ leaf_blocks leaf.now) }
-{
-    push_ends(&mut ends, leaf, old, start)?;
-    let leaf = Arc::try_clone(leaf)?;
-    leaves.push(leaf)?;
-    Ok(BlockList { leaves, tail, ends })
-}
-
-/// Adds how many rows stand up to the end of each block, where in another list it is so many.
-fn push_ends(
-    ends: &mut Vec<usize>,
-    blocks: &[Arc<Block>],
-    old: &[usize],
-    start: usize,
-) -> Result<(), AllocError>
-    requires few { last_of ends.old.items ≤ 2 ^ 60 }
-    requires old { old.now ≡ ends_of start (map arc_value blocks.now) }
-    ensures ends { OnOk result (ends.new.items
-        ≡ ends.old.items ++ ends_of (last_of ends.old.items) (map arc_value blocks.now)) }
-    ensures few { OnOk result
-        (last_of ends.old.items + length (rows_of_blocks (map arc_value blocks.now)) ≤ 2 ^ 60) }
-{
-    let before = last_end(ends);
-    for at in 0..blocks.len() {
-        let end = end_behind(before, old[at] - start)?;
-        ends.push(end)?;
+    if len <= LEAF {
+        return with_leaf(alloc, leaves, run);
     }
-    Ok(())
+    let middle = len / 2;
+    let first = with_leaf(alloc, leaves, run.part(alloc, 0, middle)?)?;
+    let both = with_leaf(alloc, first, run.part(alloc, middle, len)?)?;
+    Ok(both)
 }
 
-/// The last of these ends; 0 where there is none.
-fn last_end(ends: &[usize]) -> usize
-    ensures { result ≡ last_of ends.now }
+/// The leaves with the blocks of a run behind them in one leaf.
+fn with_leaf(alloc: Global, leaves: Leaves, run: Run) -> Result<Leaves, AllocError>
+    requires { rows_in leaves + rows_in run ≤ 2 ^ 60 }
+    ensures { IfOk result (λ l. l ≡ leaves ++ run) }
 {
-    match ends.last() {
-        Some(end) => *end,
-        None => 0,
-    }
-}
-
-/// So many rows behind an end.
-fn end_behind(end: usize, rows: usize) -> Result<usize, AllocError>
-    requires { end ≤ 2 ^ 60 }
-    ensures value { IfOk result (λ e. e ≡ end + rows) }
-    ensures few { IfOk result (λ e. e ≤ 2 ^ 60) }
-{
-    if rows > MOST_ROWS_OF_LIST - end {
-        return Err(AllocError);
-    }
-    Ok(end + rows)
+    let leaf = Leaf::new(alloc, run)?;
+    let leaf = Arc::new(alloc, leaf)?;
+    let made = leaves.pushed(alloc, &leaf)?;
+    Ok(made)
 }

@@ -12,6 +12,7 @@ ghost use Rattle.df_column.specs.Columns.{column_cells, dtype_of_column};
 ghost use Rattle.df_column.specs.Picks.{AreWithin, all_or_none};
 ghost use Rattle.df_column.specs.Rows as rows;
 ghost use Rattle.df_column.specs.Rows.{AreNewRows, AreRows, are_even};
+ghost use Rattle.df_column.specs.Sizes.{most_rows};
 ghost use Rattle.df_column.specs.Tables as tables;
 ghost use Rattle.df_column.specs.Tables.{AreRising, entry_change};
 ghost use Rattle.df_column.specs.Tags.{tag_cmp};
@@ -56,7 +57,7 @@ pub fn with_picked(
     requires within { AreWithin (length tags.now) picks.now }
     requires rows { AreRows (map dtype_of_column columns.now) picks.now }
     requires some { 0 < length picks.now }
-    requires few { length (all_or_none whole tags.now) + length picks.now ≤ 1024 }
+    requires few { length (all_or_none whole tags.now) + length picks.now ≤ most_rows }
     ensures { IfOk result (AddsRows (map dtype_of_column columns.now)
         (all_or_none whole (rows.tagged_rows tags.now (map column_cells columns.now))
         ++ rows.picked_rows (map column_cells columns.now) picks.now) out) }
@@ -80,7 +81,7 @@ pub fn with_parts(
     requires within { AreWithin (length tags.now) picks.now }
     requires rows { AreRows (map dtype_of_column columns.now) picks.now }
     requires some { 0 < size }
-    requires few { size ≤ 1024 }
+    requires few { size ≤ most_rows }
     ensures { IfOk result (AddsRows (map dtype_of_column columns.now)
         (rows.picked_rows (map column_cells columns.now) picks.now) out) }
 {
@@ -97,7 +98,7 @@ pub fn with_parts(
 /// The most rows of each block that this many rows are cut into, evenly.
 fn part_size(rows: usize) -> usize
     ensures some { 0 < result }
-    ensures few { result ≤ 1024 }
+    ensures few { result ≤ most_rows }
 {
     let parts = rows.div_ceil(MOST_ROWS);
     if parts == 0 {
@@ -127,7 +128,7 @@ fn with_grown(
 ) -> Result<BlockList, AllocError>
     requires within { AreWithin 0 picks.now }
     requires rows { AreRows (map dtype_of_column (arc_value block.now).columns) picks.now }
-    requires few { length (arc_value block.now).tags + length picks.now ≤ 1024 }
+    requires few { length (arc_value block.now).tags + length picks.now ≤ most_rows }
     ensures { IfOk result (AddsRows (map dtype_of_column (arc_value block.now).columns)
         (block_rows (arc_value block.now)
         ++ rows.picked_rows (map column_cells (arc_value block.now).columns) picks.now)

@@ -4,6 +4,7 @@ ghost use Rattle.df_value.specs.CellEq.{cell_eq};
 ghost use Rattle.df_value.specs.declared.cell.Cell.{Cell};
 ghost use Rattle.df_column.specs.Columns.{column_cells, dtype_of_column};
 ghost use Rattle.df_column.specs.Picks.{AreFit, AreWithin, picked_cells, all_or_none};
+ghost use Rattle.df_column.specs.Sizes.{most_rows};
 
 use crate::masked::Masked;
 use crate::picks::Pick;
@@ -77,19 +78,6 @@ impl Column {
         }
     }
 
-    /// The number of cells.
-    pub fn len(&self) -> usize
-        ensures { result ≡ length (column_cells self.now) }
-    {
-        match self {
-            Column::Int(values) => values.len(),
-            Column::Wide(values) => values.len(),
-            Column::Text(texts) => texts.len(),
-            Column::Bool(values) => values.len(),
-            Column::Frac(values) => values.len(),
-        }
-    }
-
     /// The cells of the picked rows, in this column or at this index of a new row; behind all cells of this
     /// column, if `whole` says so.
     pub(crate) fn picked(
@@ -101,7 +89,7 @@ impl Column {
     ) -> Result<Column, AllocError>
         requires within { AreWithin (length (column_cells self.now)) picks.now }
         requires fits { AreFit (dtype_of_column self.now) at picks.now }
-        requires few { length (all_or_none whole (column_cells self.now)) + length picks.now ≤ 1024 }
+        requires few { length (all_or_none whole (column_cells self.now)) + length picks.now ≤ most_rows }
         ensures cells { IfOk result (λ c. column_cells c ≡
             all_or_none whole (column_cells self.now) ++ picked_cells (column_cells self.now) at picks.now) }
         ensures dtype { IfOk result (λ c. dtype_of_column c ≡ dtype_of_column self.now) }

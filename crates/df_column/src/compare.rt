@@ -53,7 +53,7 @@ fn compare_text(text: Option<&str>, cell: &Cell) -> Ordering
 
 impl Texts {
     /// How two of the cells compare.
-    fn compare(&self, a: usize, b: usize) -> Ordering
+    pub(crate) fn compare(&self, a: usize, b: usize) -> Ordering
         requires first { a < length (map text_cell self.now) }
         requires second { b < length (map text_cell self.now) }
         ensures { (d : Cell) → result ≡ cell_cmp (slice_index_or (map text_cell self.now) a d)
@@ -83,22 +83,6 @@ impl Column {
             Column::Text(texts) => texts.is_null(at),
             Column::Bool(values) => is_null(&values.cell(at)),
             Column::Frac(values) => is_null(&values.cell(at)),
-        }
-    }
-
-    /// How two of the cells compare.
-    pub(crate) fn compare(&self, a: usize, b: usize) -> Ordering
-        requires first { a < length (column_cells self.now) }
-        requires second { b < length (column_cells self.now) }
-        ensures { (d : Cell) → result ≡ cell_cmp (slice_index_or (column_cells self.now) a d)
-            (slice_index_or (column_cells self.now) b d) }
-    {
-        match self {
-            Column::Int(values) => values.cell(a).cmp(&values.cell(b)),
-            Column::Wide(values) => values.cell(a).cmp(&values.cell(b)),
-            Column::Text(texts) => texts.compare(a, b),
-            Column::Bool(values) => values.cell(a).cmp(&values.cell(b)),
-            Column::Frac(values) => values.cell(a).cmp(&values.cell(b)),
         }
     }
 

@@ -1,13 +1,17 @@
 //! The least and the greatest cell of a column, and where they stand.
-ghost use Rattle.std.specs.Prelude.{◌≡◌, ◌+◌, ◌<◌, IfOk, IfSome, length, map, slice_index_or, take};
+ghost use Rattle.std.specs.Prelude.{◌≡◌, IfOk, map, slice_index_or, take};
 ghost use Rattle.df_value.specs.CellOrder.{cell_cmp};
 ghost use Rattle.df_value.specs.declared.cell.Cell.{Cell};
-ghost use Rattle.df_value.specs.declared.cell.Cell.TheVariants as cell_as;
-ghost use Rattle.df_column.specs.BlockExtremes.{AreExtremes, AreExtremesOf, AreStarts, IsExtremeAt, cell_there, no_extremes};
+ghost use Rattle.df_column.specs.BlockExtremes.{AreExtremes, AreExtremesOf, AreStarts, no_extremes};
 ghost use Rattle.df_column.specs.Columns.{column_cells};
 ghost use Rattle.df_column.specs.Extremes as extremes;
+ghost use Rattle.df_column.specs.ValueCells.{text_cell};
 
+use crate::best::{best_text_from, best_value_from};
 use crate::column::Column;
+use crate::masked::Masked;
+use crate::texts::Texts;
+use crate::values::CellValue;
 use std::alloc::{AllocError, Global};
 use std::cmp::Ordering;
 
@@ -35,54 +39,39 @@ pub fn is_beyond(extreme: Extreme, ordering: Ordering) -> bool
     }
 }
 
-/// Whether the cell at this index is not null and lies beyond the best one.
-fn is_better(extreme: Extreme, column: &Column, best: Option<usize>, at: usize) -> bool
-    requires at { at < length (column_cells column.now) }
-    requires best { IfSome best (λ i. i < length (column_cells column.now)) }
-    ensures { result ≡ extremes.is_better extreme (cell_there (column_cells column.now) best)
-        (slice_index_or (column_cells column.now) at cell_as.Null) }
+/// Where both stand among values, where those of the first `from` are known.
+fn value_extremes<T: CellValue>(values: &Masked<T>, known: Extremes, from: usize) -> Extremes
+    requires { AreExtremesOf (take from (map T.cell_of values.now)) known }
+    ensures { AreExtremesOf (map T.cell_of values.now) result }
 {
-    if column.is_null(at) {
-        return false;
-    }
-    match best {
-        Some(best) => is_beyond(extreme, column.compare(at, best)),
-        None => true,
+    Extremes {
+        least: best_value_from(Extreme::Least, values, known.least, from),
+        greatest: best_value_from(Extreme::Greatest, values, known.greatest, from),
     }
 }
 
-/// The index of the best cell, the one at this index being looked at too.
-fn better(extreme: Extreme, column: &Column, best: Option<usize>, at: usize) -> Option<usize>
-    requires at { at < length (column_cells column.now) }
-    requires best { IsExtremeAt extreme (take at (column_cells column.now)) best }
-    ensures { IsExtremeAt extreme (take (at + 1) (column_cells column.now)) result }
+/// Where both stand among texts, where those of the first `from` are known.
+fn text_extremes(texts: &Texts, known: Extremes, from: usize) -> Extremes
+    requires { AreExtremesOf (take from (map text_cell texts.now)) known }
+    ensures { AreExtremesOf (map text_cell texts.now) result }
 {
-    if is_better(extreme, column, best, at) {
-        return Some(at);
+    Extremes {
+        least: best_text_from(Extreme::Least, texts, known.least, from),
+        greatest: best_text_from(Extreme::Greatest, texts, known.greatest, from),
     }
-    best
 }
 
-/// The index of the best cell, all cells from an index on being looked at too.
-fn best_from(extreme: Extreme, column: &Column, known: Option<usize>, from: usize) -> Option<usize>
-    requires { IsExtremeAt extreme (take from (column_cells column.now)) known }
-    ensures { IsExtremeAt extreme (column_cells column.now) result }
-{
-    let mut best = known;
-    for at in from..column.len() {
-        best = better(extreme, column, best, at);
-    }
-    best
-}
-
-/// Where both stand, all cells from an index on being looked at too.
+/// Where both stand in a column, where those of its first `from` cells are known.
 fn extremes_from(column: &Column, known: Extremes, from: usize) -> Extremes
     requires { AreExtremesOf (take from (column_cells column.now)) known }
     ensures { AreExtremesOf (column_cells column.now) result }
 {
-    Extremes {
-        least: best_from(Extreme::Least, column, known.least, from),
-        greatest: best_from(Extreme::Greatest, column, known.greatest, from),
+    match column {
+        Column::Int(values) => value_extremes(values, known, from),
+        Column::Wide(values) => value_extremes(values, known, from),
+        Column::Text(texts) => text_extremes(texts, known, from),
+        Column::Bool(values) => value_extremes(values, known, from),
+        Column::Frac(values) => value_extremes(values, known, from),
     }
 }
 

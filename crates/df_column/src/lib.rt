@@ -1,17 +1,19 @@
 //! Tables of tagged rows, in shared blocks of typed columns.
 //!
 //! A [`Table`] has a schema and rows by rising [`Tag`]. Contracts see it as the schema and a finite map from tags to
-//! rows. The rows stand in blocks of at most 1,024, which tables share. A block has a tag for each row and a [`Column`]
+//! rows. The rows stand in blocks of at most 256, which tables share. A block has a tag for each row and a [`Column`]
 //! for each column of the schema: values under a null mask ([`Masked`]), or texts by their places in a dictionary
 //! ([`Texts`], [`TextPool`]).
 //!
-//! A block keeps where a least and a greatest cell of each of its columns stand, so that [`Table::least`],
-//! [`Table::greatest`] and [`Table::tags_above`] pass over most cells.
+//! A block keeps where a least and a greatest cell of each of its columns stand, and each leaf of a list of blocks has
+//! copies of these cells, so that [`Table::least`], [`Table::greatest`] and [`Table::tags_above`] pass over most cells. A
+//! leaf has the tag of its first row too, by which [`Table::find`] goes down to one leaf.
 //!
 //! [`Table::edited`] gives the table after the changes of some [`Entry`]s. It makes new only the blocks that are
 //! changed, column by column.
 #![tactic(auto)]
 
+mod best;
 mod block;
 mod block_list;
 mod blocks;
@@ -19,11 +21,17 @@ mod column;
 mod compare;
 mod entry;
 mod extremes;
+mod further;
+mod leaf;
+mod leaf_totals;
+mod leaf_tree;
+mod leaves;
 mod masked;
 mod merge;
 mod picks;
 mod pool;
 mod reads;
+mod run;
 mod sharing;
 mod spots;
 mod table;

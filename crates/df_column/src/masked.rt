@@ -1,16 +1,18 @@
 //! Values with a null mask.
-ghost use Rattle.std.specs.Prelude.{◌≡◌, ◌<◌, ◌≤◌, ◌++◌, ◌∷◌, [], T as Holds, length, map, slice_index_or, IfOk, OnOk, OnErr, Option, None, true};
+ghost use Rattle.std.specs.Prelude.{◌≡◌, ◌<◌, ◌≤◌, ◌+◌, ◌++◌, ◌∷◌, [], IsTrue, length, map, slice_index_or, drop, take, IfOk, OnOk, OnErr, Option, None, true};
+ghost use Rattle.df_value.specs.Cells.{fits_dtype};
 ghost use Rattle.df_value.specs.declared.cell.Cell.{Cell};
-ghost use Rattle.df_column.specs.Masks.{filled_mask, masked_values};
-ghost use Rattle.df_column.specs.Picks.{AreFit, AreWithin, is_fit, is_within, origin_cell, picked_cells, all_or_none};
+ghost use Rattle.df_value.specs.declared.cell.Cell.TheVariants as cell_as;
+ghost use Rattle.df_column.specs.Masks.{filled_mask, joined_mask, masked_values};
+ghost use Rattle.df_column.specs.Picks.{AreFit, AreWithin, picked_cells, all_or_none};
 
-use crate::picks::{Origin, Pick};
+use crate::picks::{Origin, Pick, old_rows};
 use crate::values::CellValue;
-use df_value::Cell;
+use df_value::{Cell, Row};
 use std::alloc::{AllocError, Global};
 use std::marker::Model;
 
-/// Values of one type, or nulls, which contracts see as a list of options. The mask ends with the last null.
+/// Values of one type, or nulls, which contracts see as a list of options. Values past the mask's end are not null.
 #[derive(Drop)]
 pub struct Masked<T> {
     nulls: Vec<bool>,
@@ -67,6 +69,37 @@ fn push_null<T: Drop>(
     values.push(filler)?;
     fill_mask(nulls, len)?;
     nulls.push(true)?;
+    Ok(())
+}
+
+/// This many items from an index on.
+fn part<T>(items: &[T], from: usize, count: usize) -> &[T]
+    requires { from + count ≤ length items.now }
+    ensures { result.now ≡ take count (drop from items.now) }
+{
+    let rest = &items[from..];
+    &rest[..count]
+}
+
+/// The mask of this many values from an index on; it may end before them.
+fn mask_part(mask: &[bool], from: usize, count: usize) -> &[bool]
+    ensures { result.now ≡ take count (drop from mask.now) }
+{
+    let from = from.min(mask.len());
+    part(mask, from, count.min(mask.len() - from))
+}
+
+/// Adds the mask of more values behind the mask of the first `len`.
+fn push_mask(nulls: &mut Vec<bool>, len: usize, more: &[bool]) -> Result<(), AllocError>
+    requires { length nulls.old.items ≤ len }
+    ensures mask { length nulls.new.items ≤ len + length more.now }
+    ensures nulls { OnOk result (nulls.new.items ≡ joined_mask nulls.old.items len more.now) }
+{
+    if more.is_empty() {
+        return Ok(());
+    }
+    fill_mask(nulls, len)?;
+    nulls.extend_from_slice(more)?;
     Ok(())
 }
 
@@ -144,6 +177,18 @@ impl<T: Copy> Masked<T> {
             }
         }
     }
+
+    /// Adds this many values of another list, from an index on. After a refusal other values may be there.
+    fn push_values(&mut self, old: &Masked<T>, from: usize, count: usize) -> Result<(), AllocError>
+        requires { from + count ≤ length old.now }
+        ensures { OnOk result (self.new ≡ self.old ++ take count (drop from old.now)) }
+    {
+        let len = self.values.as_slice().len();
+        self.values
+            .extend_from_slice(part(&old.values, from, count))?;
+        push_mask(&mut self.nulls, len, mask_part(&old.nulls, from, count))?;
+        Ok(())
+    }
 }
 
 impl<T: CellValue> Masked<T> {
@@ -175,6 +220,35 @@ impl<T: CellValue> Masked<T> {
         Ok(values)
     }
 
+    /// Adds the first of the picked rows, and gives their number: one new row, or old rows that follow one another.
+    fn push_first(
+        &mut self,
+        old: &Masked<T>,
+        column: usize,
+        picks: &[Pick<'_>],
+    ) -> Result<usize, AllocError>
+        requires some { 0 < length picks.now }
+        requires within { AreWithin (length old.now) picks.now }
+        requires fits { AreFit T.dtype column picks.now }
+        ensures some { IfOk result (λ n. 0 < n) }
+        ensures most { IfOk result (λ n. n ≤ length picks.now) }
+        ensures cells { IfOk result (λ n. map T.cell_of self.new ≡ map T.cell_of self.old
+            ++ picked_cells (map T.cell_of old.now) column (take n picks.now)) }
+    {
+        let origin = picks[0].origin;
+        match origin {
+            Origin::Old(first) => {
+                let count = old_rows(picks, first);
+                self.push_values(old, first, count)?;
+                Ok(count)
+            }
+            Origin::New(row) => {
+                self.push(new_value(row, column), T::filler())?;
+                Ok(1)
+            }
+        }
+    }
+
     /// Adds the cells of the picked rows, in the old column or at this index of a new row.
     pub(crate) fn push_picked(
         &mut self,
@@ -187,24 +261,21 @@ impl<T: CellValue> Masked<T> {
         ensures { OnOk result (map T.cell_of self.new ≡
             map T.cell_of self.old ++ picked_cells (map T.cell_of old.now) column picks.now) }
     {
-        for pick in picks {
-            self.push(value_from(old, column, pick.origin), T::filler())?;
+        let mut from = 0;
+        while from < picks.len() {
+            from += self.push_first(old, column, &picks[from..])?;
         }
         Ok(())
     }
 }
 
-/// The value of a picked row, in the old column or at this index of a new row.
-fn value_from<T: CellValue>(old: &Masked<T>, column: usize, origin: Origin<'_>) -> Option<T>
-    requires within { Holds (is_within (length old.now) origin) }
-    requires fits { Holds (is_fit T.dtype column origin) }
-    ensures { T.cell_of result ≡ origin_cell (map T.cell_of old.now) column origin.entry }
+/// The value at an index of a new row.
+fn new_value<T: CellValue>(row: &Row, column: usize) -> Option<T>
+    requires { IsTrue (fits_dtype T.dtype (slice_index_or row.now column cell_as.Null)) }
+    ensures { T.cell_of result ≡ slice_index_or row.now column cell_as.Null }
 {
-    match origin {
-        Origin::Old(at) => old.get(at),
-        Origin::New(row) => match row.get(column) {
-            Some(cell) => T::from_cell(cell),
-            None => None,
-        },
+    match row.get(column) {
+        Some(cell) => T::from_cell(cell),
+        None => None,
     }
 }

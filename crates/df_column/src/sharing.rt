@@ -19,8 +19,7 @@ use std::alloc::{AllocError, Global};
 pub fn shared_blocks(alloc: Global, blocks: &BlockList) -> Result<BlockList, AllocError>
     ensures { IfOk result (λ l. l ≡ blocks.now) }
 {
-    let out = BlockList::with_capacity(alloc, blocks.len())?;
-    out.joined(alloc, blocks, 0, blocks.len())
+    BlockList::new(alloc).joined(alloc, blocks, 0, blocks.len())
 }
 
 /// How many of the first blocks end before the first change: all where there is none. Else the last block is not one of
@@ -78,8 +77,7 @@ pub fn edited_blocks(
 {
     let front = untouched(blocks, entries);
     let back = reached(blocks, front, entries);
-    let room = blocks.len().saturating_add(1);
-    let before = BlockList::with_capacity(alloc, room)?.joined(alloc, blocks, 0, front)?;
+    let before = BlockList::new(alloc).joined(alloc, blocks, 0, front)?;
     let changed = with_changes(alloc, before, blocks, front..back, columns, entries)?;
     let made = changed.joined(alloc, blocks, back, blocks.len())?;
     Ok(made)

@@ -1,49 +1,30 @@
-//! Rows of a list of blocks by their index among all rows.
+//! Rows of a list of blocks, or of one run, by their index and by their tags.
 ghost use Rattle.std.specs.Prelude.{◌≡◌, ℕ, ◌<◌, ◌≤◌, ◌^◌, T, List, IfErr, IfOk, drop, length, slice_index_or, take};
 ghost use Rattle.std.specs.FinMap as finite;
 ghost use Rattle.std.specs.FinMap.Entries.{below_all};
-ghost use Rattle.std.specs.List.Sorted.{IsNonDecreasing};
 ghost use Rattle.df_value.specs.Rows.{row_eq};
 ghost use Rattle.df_value.specs.declared.cell.Cell.{Cell};
 ghost use Rattle.df_column.specs.Blocks.{rows_of_blocks};
 ghost use Rattle.df_column.specs.Bounds.{IsLowerBound, IsUpperBound};
 ghost use Rattle.df_column.specs.Changes.{all_under};
 ghost use Rattle.df_column.specs.Places.{IsGap, IsPlace};
-ghost use Rattle.df_column.specs.TableBlocks.{IsEndCount, IsSpot, IsWindow};
+ghost use Rattle.df_column.specs.TableBlocks.{IsSpot, IsWindow};
 ghost use Rattle.df_column.specs.Tags.{tag_cmp};
 ghost use Rattle.df_column.specs.declared.tag.Tag.{Tag};
 
 use crate::block_list::BlockList;
-use crate::pool::start_of_part;
+use crate::run::{Run, Spot};
 use crate::tag::Tag;
 use df_value::Row;
 use std::alloc::{AllocError, Global};
 use std::cmp::Ordering;
-
-/// The index of a block, and that of a row in it.
-#[derive(Clone, Copy)]
-struct Spot {
-    block: usize,
-    row: usize,
-}
-
-/// How many of the ends are at most this number.
-fn ends_up_to(ends: &[usize], at: usize) -> usize
-    requires { IsNonDecreasing ends.now }
-    ensures { IsEndCount ends.now at result }
-{
-    ends.partition_point(|end| *end <= at)
-}
 
 /// Where the row at this index of all rows stands.
 fn locate(blocks: &BlockList, at: usize) -> Spot
     requires { at < length (rows_of_blocks blocks.now) }
     ensures { IsSpot blocks.now at result.block result.row }
 {
-    let ends = blocks.ends();
-    let block = ends_up_to(ends, at);
-    let row = at - start_of_part(ends, block);
-    Spot { block, row }
+    blocks.spot(at)
 }
 
 /// The tag of the row at this index.
@@ -76,23 +57,66 @@ pub fn is_row_at(blocks: &BlockList, at: usize, row: &Row) -> bool
     blocks.get(spot.block).is_row(spot.row, row)
 }
 
-/// The index of the row at this tag, or where it would stand, between these indexes.
-pub fn search(blocks: &BlockList, tag: Tag, low: usize, high: usize) -> Result<usize, usize>
-    requires sorted { T (finite.is_sorted tag_cmp (rows_of_blocks blocks.now)) }
-    requires window { IsWindow (rows_of_blocks blocks.now) tag low high }
-    ensures found { IfOk result (IsPlace tag_cmp (rows_of_blocks blocks.now) tag) }
-    ensures absent { IfErr result (IsGap tag_cmp (rows_of_blocks blocks.now) tag) }
+/// Where the row at this index of a run stands.
+fn locate_in_run(run: &Run, at: usize) -> Spot
+    requires { at < length (rows_of_blocks run.now) }
+    ensures { IsSpot run.now at result.block result.row }
+{
+    run.spot(at)
+}
+
+/// The tag of the row at this index of a run.
+fn tag_in_run(run: &Run, at: usize) -> Tag
+    requires { at < length (rows_of_blocks run.now) }
+    ensures { (d : Tag × List Cell) → result ≡ (slice_index_or (rows_of_blocks run.now) at d).0 }
+{
+    let spot = locate_in_run(run, at);
+    run.get(spot.block).tags()[spot.row]
+}
+
+/// The index of the row at this tag in a run, or where it would stand, between these indexes.
+fn search(run: &Run, tag: Tag, low: usize, high: usize) -> Result<usize, usize>
+    requires sorted { T (finite.is_sorted tag_cmp (rows_of_blocks run.now)) }
+    requires window { IsWindow (rows_of_blocks run.now) tag low high }
+    ensures found { IfOk result (IsPlace tag_cmp (rows_of_blocks run.now) tag) }
+    ensures absent { IfErr result (IsGap tag_cmp (rows_of_blocks run.now) tag) }
 {
     if low >= high {
         return Err(low);
     }
     let middle = low + (high - low) / 2;
-    let found = tag_at(blocks, middle);
+    let found = tag_in_run(run, middle);
     match found.cmp(&tag) {
-        Ordering::Less => search(blocks, tag, middle + 1, high),
+        Ordering::Less => search(run, tag, middle + 1, high),
         Ordering::Equal => Ok(middle),
-        Ordering::Greater => search(blocks, tag, low, middle),
+        Ordering::Greater => search(run, tag, low, middle),
     }
+}
+
+/// Where a search for the tag in a run begins: behind its last row where the tag is above that one's, as the tags of most
+/// new rows are.
+fn search_start(run: &Run, tag: Tag) -> usize
+    requires { T (finite.is_sorted tag_cmp (rows_of_blocks run.now)) }
+    ensures { IsWindow (rows_of_blocks run.now) tag result (length (rows_of_blocks run.now)) }
+{
+    let rows = run.rows();
+    if rows == 0 {
+        return 0;
+    }
+    let last = tag_in_run(run, rows - 1);
+    match last.cmp(&tag) {
+        Ordering::Less => rows,
+        _ => 0,
+    }
+}
+
+/// The index of the row at this tag in a run, or where it would stand.
+fn find_in_run(run: &Run, tag: Tag) -> Result<usize, usize>
+    requires { T (finite.is_sorted tag_cmp (rows_of_blocks run.now)) }
+    ensures found { IfOk result (IsPlace tag_cmp (rows_of_blocks run.now) tag) }
+    ensures absent { IfErr result (IsGap tag_cmp (rows_of_blocks run.now) tag) }
+{
+    search(run, tag, search_start(run, tag), run.rows())
 }
 
 /// The index of the row at this tag, or where it would stand.
@@ -102,7 +126,13 @@ pub fn find(blocks: &BlockList, tag: Tag) -> Result<usize, usize>
     ensures absent { IfErr result (IsGap tag_cmp (rows_of_blocks blocks.now) tag) }
     ensures few { IfOk result (λ at. at < 2 ^ 60) }
 {
-    search(blocks, tag, 0, blocks.rows())
+    let Some((run, before)) = blocks.run_of_tag(tag) else {
+        return Err(0);
+    };
+    match find_in_run(run, tag) {
+        Ok(at) => Ok(before + at),
+        Err(at) => Err(before + at),
+    }
 }
 
 /// How many rows have a tag below this one.
@@ -122,7 +152,7 @@ pub fn whole_blocks_below(blocks: &BlockList, tag: Tag) -> usize
     ensures { (n : ℕ) → n ≤ result →
         T (all_under tag_cmp tag (rows_of_blocks (take n blocks.now))) }
 {
-    ends_up_to(blocks.ends(), rows_below(blocks, tag))
+    blocks.spot(rows_below(blocks, tag)).block
 }
 
 /// How many rows have a tag not above this one.
@@ -136,11 +166,14 @@ fn rows_up_to(blocks: &BlockList, tag: Tag) -> usize
     }
 }
 
-/// How many of the first blocks there are up to the one where rows with tags above this one begin.
+/// How many of the first blocks there are up to the last one that has a row with a tag not above this one.
 pub fn blocks_up_to(blocks: &BlockList, tag: Tag) -> usize
     requires { T (finite.is_sorted tag_cmp (rows_of_blocks blocks.now)) }
     ensures { (n : ℕ) → result ≤ n →
         T (below_all tag_cmp tag (rows_of_blocks (drop n blocks.now))) }
 {
-    ends_up_to(blocks.ends(), rows_up_to(blocks, tag)).saturating_add(1)
+    match rows_up_to(blocks, tag) {
+        0 => 0,
+        rows => blocks.spot(rows - 1).block + 1,
+    }
 }

@@ -1,4 +1,7 @@
 //! The tags of rows.
+ghost use Rattle.std.specs.Prelude.{◌≡◌};
+ghost use Rattle.df_column.specs.Bounds as bounds;
+
 use df_value::{Duplicate, Exact};
 use std::alloc::{AllocError, Global};
 
@@ -19,5 +22,15 @@ impl Exact for Tag {
 impl Duplicate for Tag {
     fn copy(&self, _alloc: Global) -> Result<Tag, AllocError> {
         Ok(*self)
+    }
+}
+
+/// Whether there is a first tag, and it is above this one.
+pub fn begins_behind(first: Option<Tag>, tag: Tag) -> bool
+    ensures { result ≡ bounds.begins_behind first tag }
+{
+    match first {
+        Some(first) => first > tag,
+        None => false,
     }
 }

@@ -8,6 +8,7 @@ ghost use Rattle.df_column.specs.Extremes as extremes;
 ghost use Rattle.df_column.specs.Picks.{AreFit, AreWithin, is_fit, is_within, origin_cell, picked_cells, all_or_none};
 ghost use Rattle.df_column.specs.Pools as pools;
 ghost use Rattle.df_column.specs.Pools.{place_of};
+ghost use Rattle.df_column.specs.Sizes.{most_rows};
 ghost use Rattle.df_column.specs.Texts.{ArePlaces, pool_text, text_now};
 ghost use Rattle.df_column.specs.ValueCells.{text_cell};
 
@@ -47,7 +48,7 @@ fn push_text(
     text: Option<&str>,
 ) -> Result<(), AllocError>
     requires sound { ArePlaces pool.old places.old }
-    requires few { length places.old < 1024 }
+    requires few { length places.old < most_rows }
     ensures sound { OnOk result (ArePlaces pool.new places.new) }
     ensures len { OnOk result (length places.new ≡ length places.old + 1) }
     ensures texts { OnOk result (map (pool_text pool.new) places.new ≡
@@ -72,7 +73,7 @@ fn put_known<'a>(
     known: &mut IndexSet<&'a str>,
     text: &'a str,
 ) -> Result<u32, AllocError>
-    requires few { length pool.old < 1024 }
+    requires few { length pool.old < most_rows }
     requires known { map (λ t. t.now) known.old.keys ≡ pool.old }
     ensures place { IfOk result (λ p. p ≡ pools.place_or_end (place_of text.now pool.old) pool.old) }
     ensures texts { OnOk result (pool.new ≡
@@ -95,7 +96,7 @@ fn push_known<'a>(
     text: Option<&'a str>,
 ) -> Result<(), AllocError>
     requires sound { ArePlaces pool.old places.old }
-    requires few { length places.old < 1024 }
+    requires few { length places.old < most_rows }
     requires known { map (λ t. t.now) known.old.keys ≡ pool.old }
     ensures sound { OnOk result (ArePlaces pool.new places.new) }
     ensures len { OnOk result (length places.new ≡ length places.old + 1) }
@@ -133,7 +134,7 @@ fn push_column<'a>(
 ) -> Result<(), AllocError>
     requires sound { ArePlaces pool.old places.old }
     requires within { count ≤ length old.now }
-    requires few { length places.old + count ≤ 1024 }
+    requires few { length places.old + count ≤ most_rows }
     requires known { map (λ t. t.now) known.old.keys ≡ pool.old }
     ensures sound { OnOk result (ArePlaces pool.new places.new) }
     ensures texts { OnOk result (map (pool_text pool.new) places.new ≡
@@ -159,7 +160,7 @@ fn push_rows<'a>(
     requires known { map (λ t. t.now) known.old.keys ≡ pool.old }
     requires within { AreWithin (length old.now) picks.now }
     requires fits { AreFit dtype_as.Text column picks.now }
-    requires few { length places.old + length picks.now ≤ 1024 }
+    requires few { length places.old + length picks.now ≤ most_rows }
     ensures sound { OnOk result (ArePlaces pool.new places.new) }
     ensures texts { OnOk result (map text_cell (map (pool_text pool.new) places.new) ≡
         map text_cell (map (pool_text pool.old) places.old)
@@ -181,7 +182,7 @@ fn picked_by_hash<'a>(
 ) -> Result<Texts, AllocError>
     requires within { AreWithin (length old.now) picks.now }
     requires fits { AreFit dtype_as.Text column picks.now }
-    requires few { length (all_or_none whole old.now) + length picks.now ≤ 1024 }
+    requires few { length (all_or_none whole old.now) + length picks.now ≤ most_rows }
     ensures { IfOk result (λ t. map text_cell t ≡ map text_cell (all_or_none whole old.now)
         ++ picked_cells (map text_cell old.now) column picks.now) }
 {
@@ -321,7 +322,7 @@ impl Texts {
     ) -> Result<Texts, AllocError>
         requires within { AreWithin (length (map text_cell self.now)) picks.now }
         requires fits { AreFit dtype_as.Text column picks.now }
-        requires few { length (all_or_none whole (map text_cell self.now)) + length picks.now ≤ 1024 }
+        requires few { length (all_or_none whole (map text_cell self.now)) + length picks.now ≤ most_rows }
         ensures { IfOk result (λ t. map text_cell t ≡
             all_or_none whole (map text_cell self.now)
             ++ picked_cells (map text_cell self.now) column picks.now) }
@@ -344,7 +345,7 @@ impl Texts {
     ) -> Result<Texts, AllocError>
         requires within { AreWithin (length old.now) picks.now }
         requires fits { AreFit dtype_as.Text column picks.now }
-        requires few { length self + length picks.now ≤ 1024 }
+        requires few { length self + length picks.now ≤ most_rows }
         ensures { IfOk result (λ t. map text_cell t ≡
             map text_cell self ++ picked_cells (map text_cell old.now) column picks.now) }
     {

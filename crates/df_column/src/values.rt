@@ -1,13 +1,16 @@
 //! Values of a fixed size, and their cells.
-ghost use Rattle.std.specs.Prelude.{◌≡◌, IsTrue, None, Option};
+ghost use Rattle.std.specs.Prelude.{◌≡◌, IsTrue, None, Option, Some, false};
+ghost use Rattle.df_value.specs.CellOrder.{cell_cmp};
 ghost use Rattle.df_value.specs.Cells.{fits_dtype};
 ghost use Rattle.df_value.specs.declared.cell.Cell.{Cell};
 ghost use Rattle.df_value.specs.declared.cell.Cell.TheVariants as cell_as;
 ghost use Rattle.df_value.specs.declared.cell.CellType.{CellType};
 ghost use Rattle.df_value.specs.declared.cell.CellType.TheVariants as dtype_as;
+ghost use Rattle.df_column.specs.Extremes.{is_null};
 ghost use Rattle.df_column.specs.ValueCells as value_cells;
 
 use df_value::{Cell, Frac};
+use std::cmp::Ordering;
 
 /// A value of a fixed size that a cell can hold.
 pub trait CellValue: Copy {
@@ -28,8 +31,15 @@ pub trait CellValue: Copy {
     fn to_cell(value: Option<Self>) -> Cell
         ensures { result ≡ cell_of value };
 
+    /// How two values compare as cells.
+    fn compare(a: Self, b: Self) -> Ordering
+        ensures { result ≡ cell_cmp (cell_of (Some a)) (cell_of (Some b)) };
+
     // The cell of no value is null.
     ghost null: { cell_of None ≡ cell_as.Null };
+
+    // The cell of a value is not null.
+    ghost some: { (v : Self) → is_null (cell_of (Some v)) ≡ false };
 }
 
 impl CellValue for i64 {
@@ -40,6 +50,8 @@ impl CellValue for i64 {
     ghost cell_of = { value_cells.int_cell };
 
     ghost null = { refl };
+
+    ghost some = { λ v. refl };
 
     fn filler() -> i64 {
         0
@@ -63,6 +75,12 @@ impl CellValue for i64 {
             None => Cell::Null,
         }
     }
+
+    fn compare(a: i64, b: i64) -> Ordering
+        ensures { result ≡ cell_cmp (value_cells.int_cell (Some a)) (value_cells.int_cell (Some b)) }
+    {
+        a.cmp(&b)
+    }
 }
 
 impl CellValue for i128 {
@@ -73,6 +91,8 @@ impl CellValue for i128 {
     ghost cell_of = { value_cells.wide_cell };
 
     ghost null = { refl };
+
+    ghost some = { λ v. refl };
 
     fn filler() -> i128 {
         0
@@ -96,6 +116,12 @@ impl CellValue for i128 {
             None => Cell::Null,
         }
     }
+
+    fn compare(a: i128, b: i128) -> Ordering
+        ensures { result ≡ cell_cmp (value_cells.wide_cell (Some a)) (value_cells.wide_cell (Some b)) }
+    {
+        a.cmp(&b)
+    }
 }
 
 impl CellValue for bool {
@@ -106,6 +132,8 @@ impl CellValue for bool {
     ghost cell_of = { value_cells.bool_cell };
 
     ghost null = { refl };
+
+    ghost some = { λ v. refl };
 
     fn filler() -> bool {
         false
@@ -129,6 +157,12 @@ impl CellValue for bool {
             None => Cell::Null,
         }
     }
+
+    fn compare(a: bool, b: bool) -> Ordering
+        ensures { result ≡ cell_cmp (value_cells.bool_cell (Some a)) (value_cells.bool_cell (Some b)) }
+    {
+        a.cmp(&b)
+    }
 }
 
 impl CellValue for Frac {
@@ -139,6 +173,8 @@ impl CellValue for Frac {
     ghost cell_of = { value_cells.frac_cell };
 
     ghost null = { refl };
+
+    ghost some = { λ v. refl };
 
     fn filler() -> Frac {
         Frac::new(0, 1)
@@ -161,5 +197,11 @@ impl CellValue for Frac {
             Some(value) => Cell::Frac(value),
             None => Cell::Null,
         }
+    }
+
+    fn compare(a: Frac, b: Frac) -> Ordering
+        ensures { result ≡ cell_cmp (value_cells.frac_cell (Some a)) (value_cells.frac_cell (Some b)) }
+    {
+        a.cmp(&b)
     }
 }

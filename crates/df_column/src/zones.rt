@@ -1,73 +1,22 @@
 //! Reads of a table that pass over blocks by what they keep of their columns.
-ghost use Rattle.std.specs.Prelude.{◌≡◌, ◌<◌, ◌++◌, ◌∷◌, [], IfOk, OnOk, Some, T, cond, length, map, not, slice_index_or};
+ghost use Rattle.std.specs.Prelude.{◌≡◌, ◌<◌, ◌++◌, ◌∷◌, [], IfOk, OnOk, Some, T, cond, length, not, slice_index_or};
 ghost use Rattle.std.specs.FinMap as finite;
 ghost use Rattle.std.specs.List.{list_all};
-ghost use Rattle.df_value.specs.declared.cell.Cell.{Cell};
 ghost use Rattle.df_value.specs.declared.cell.Cell.TheVariants as cell_as;
 ghost use Rattle.df_column.specs.BlockExtremes.{IsExtremeAt};
-ghost use Rattle.df_column.specs.Blocks.{block_rows};
+ghost use Rattle.df_column.specs.Blocks.{block_rows, rows_of_blocks};
 ghost use Rattle.df_column.specs.Columns.{column_cells};
-ghost use Rattle.df_column.specs.Extremes as extremes;
 ghost use Rattle.df_column.specs.Extremes.{cells_at, extreme_of, greatest_of, is_above, least_of, tags_above};
 
 use crate::block::Block;
 use crate::column::Column;
-use crate::extremes::{Extreme, is_beyond};
+use crate::extremes::Extreme;
+use crate::leaf::Leaf;
+use crate::run::Run;
 use crate::table::Table;
 use crate::tag::Tag;
 use df_value::Cell;
 use std::alloc::{AllocError, Global};
-
-/// Whether the cell at this index lies beyond the best one, if there is one.
-fn is_further(extreme: Extreme, best: &Option<Cell>, column: &Column, at: usize) -> bool
-    requires { at < length (column_cells column.now) }
-    ensures { result ≡ extremes.is_further extreme best.now
-        (slice_index_or (column_cells column.now) at cell_as.Null) }
-{
-    match best {
-        Some(best) => is_beyond(extreme, column.compare_with(at, best)),
-        None => true,
-    }
-}
-
-/// The best cell; where the one at this index lies beyond it, a copy of that.
-fn furthest(
-    alloc: Global,
-    extreme: Extreme,
-    best: Option<Cell>,
-    column: &Column,
-    at: usize,
-) -> Result<Option<Cell>, AllocError>
-    requires { at < length (column_cells column.now) }
-    ensures { IfOk result (λ v. v ≡ extremes.further extreme best
-        (Some (slice_index_or (column_cells column.now) at cell_as.Null))) }
-{
-    if is_further(extreme, &best, column, at) {
-        return Ok(Some(column.cell(alloc, at)?));
-    }
-    Ok(best)
-}
-
-/// The best cell; where a block has one beyond it in the column at an index, a copy of that.
-fn furthest_in_block(
-    alloc: Global,
-    extreme: Extreme,
-    best: Option<Cell>,
-    block: &Block,
-    index: usize,
-) -> Result<Option<Cell>, AllocError>
-    ensures { IfOk result (λ v. v ≡ extremes.further extreme best
-        (extreme_of extreme (cells_at (Some index) (map (λ r. r.1) (block_rows block.now))))) }
-{
-    let columns = block.columns();
-    if index >= columns.len() {
-        return Ok(best);
-    }
-    match block.extreme_at(extreme, index) {
-        Some(at) => furthest(alloc, extreme, best, &columns[index], at),
-        None => Ok(best),
-    }
-}
 
 /// Whether the column, whose greatest cell stands at this index, has none above the value.
 fn has_none_above(column: &Column, greatest: Option<usize>, value: &Cell) -> bool
@@ -138,15 +87,49 @@ fn push_tags_in_block(
     push_tags_above(tags, block, index, value)
 }
 
+/// The same for the rows of a run of blocks.
+fn push_tags_in_run(
+    tags: &mut Vec<Tag>,
+    run: &Run,
+    index: usize,
+    value: &Cell,
+) -> Result<(), AllocError>
+    ensures { OnOk result (tags.new.items ≡ tags.old.items
+        ++ tags_above (Some index) value.now (rows_of_blocks run.now)) }
+{
+    for at in 0..run.len() {
+        push_tags_in_block(tags, run.get(at), index, value)?;
+    }
+    Ok(())
+}
+
+/// The same for the rows of a leaf. Where the greatest cell of the column is not above the value, no block is looked at.
+pub fn push_tags_in_leaf(
+    tags: &mut Vec<Tag>,
+    leaf: &Leaf,
+    index: usize,
+    value: &Cell,
+) -> Result<(), AllocError>
+    ensures { OnOk result (tags.new.items ≡ tags.old.items
+        ++ tags_above (Some index) value.now (rows_of_blocks leaf.now)) }
+{
+    if leaf.has_none_above(index, value) {
+        return Ok(());
+    }
+    push_tags_in_run(tags, leaf.run(), index, value)
+}
+
 impl Table {
-    /// The least cell at an index that is not null, if there is one. One cell of each block is read.
+    /// The least cell at an index that is not null, if there is one. One cell of each leaf is read, and of each block
+    /// behind the leaves.
     pub fn least(&self, alloc: Global, index: Option<usize>) -> Result<Option<Cell>, AllocError>
         ensures { IfOk result (λ v. v ≡ least_of (cells_at index (finite.values self.now.rows))) }
     {
         self.extreme(alloc, Extreme::Least, index)
     }
 
-    /// The greatest cell at an index that is not null, if there is one. One cell of each block is read.
+    /// The greatest cell at an index that is not null, if there is one. One cell of each leaf is read, and of each block
+    /// behind the leaves.
     pub fn greatest(&self, alloc: Global, index: Option<usize>) -> Result<Option<Cell>, AllocError>
         ensures { IfOk result (λ v. v ≡ greatest_of (cells_at index (finite.values self.now.rows))) }
     {
@@ -162,19 +145,15 @@ impl Table {
     ) -> Result<Option<Cell>, AllocError>
         ensures { IfOk result (λ v. v ≡ extreme_of extreme (cells_at index (finite.values self.now.rows))) }
     {
-        let blocks = self.blocks();
         let Some(index) = index else {
             return Ok(None);
         };
-        let mut best = None;
-        for at in 0..blocks.len() {
-            best = furthest_in_block(alloc, extreme, best, blocks.get(at), index)?;
-        }
-        Ok(best)
+        let cell = self.blocks().extreme(alloc, extreme, index)?;
+        Ok(cell)
     }
 
-    /// The tags of the rows whose cell at an index is not null and above the value, by rising tag. A block whose greatest
-    /// cell there is not above it is passed over, and no row is copied.
+    /// The tags of the rows whose cell at an index is not null and above the value, by rising tag. A leaf or a block whose
+    /// greatest cell there is not above it is passed over, and no row is copied.
     pub fn tags_above(
         &self,
         alloc: Global,
@@ -183,14 +162,13 @@ impl Table {
     ) -> Result<Vec<Tag>, AllocError>
         ensures { IfOk result (λ v. v.items ≡ tags_above index value.now (finite.entries self.now.rows)) }
     {
-        let blocks = self.blocks();
         let mut tags = Vec::new(alloc);
         let Some(index) = index else {
             return Ok(tags);
         };
-        for at in 0..blocks.len() {
-            push_tags_in_block(&mut tags, blocks.get(at), index, value)?;
-        }
+        let (leaves, tail) = self.blocks().parts();
+        leaves.tree().push_tags_above(&mut tags, index, value)?;
+        push_tags_in_run(&mut tags, tail, index, value)?;
         Ok(tags)
     }
 }

@@ -116,7 +116,8 @@ impl LiveTree {
                 right.commit(Box::into_inner(on_right));
                 node.commit(staged);
             }
-            _ => {}
+            // Staged by a tree of another shape, which no prepare of this one does.
+            (_, staged) => drop(staged),
         }
     }
 }

@@ -5,7 +5,7 @@ use Rattle.df_value.proofs.list.List.TheSendSync as list
 use Rattle.df_value.proofs.row.Row.TheSendSync as row
 use Rattle.df_value.proofs.schema.Schema.TheSendSync as schema
 use Rattle.df_value.proofs.text.Text.TheSendSync as text
-use Rattle.df_column.proofs.table.Table.TheSendSync as table
+use Rattle.df_column.proofs.Crossing.{table_send}
 use Rattle.df_ops.proofs.agg.Agg.TheSendSync as agg
 use Rattle.df_nodes.specs.contracts.row_operator.RowOperator as RowOperator
 use Rattle.df_nodes.specs.contracts.filter.LiveFilter as LiveFilter
@@ -39,16 +39,16 @@ column_send : IsSend (RankColumn.the_field).row
 column_send = search (sendable, crosses, schema.the_send, text.the_send) depth 40
 
 pub rank_send : IsSend (LiveRank.the_field).row
-rank_send = let c = counts_send in let k = column_send in search (sendable, crosses, table.the_send) depth 40
+rank_send = let c = counts_send in let k = column_send in search (sendable, crosses, table_send) depth 40
 
 pub staged_rank_send : IsSend (StagedRank.the_field).row
-staged_rank_send = let c = counts_send in search (sendable, crosses, table.the_send) depth 40
+staged_rank_send = let c = counts_send in search (sendable, crosses, table_send) depth 40
 
 total_send : IsSend (Total.the_field).row
 total_send = let c = counts_send in search (sendable, crosses) depth 40
 
 member_send : IsSend (Group.the_field).row
-member_send = let t = total_send in search (sendable, crosses, list.the_send, table.the_send, row.the_send) depth 40
+member_send = let t = total_send in search (sendable, crosses, list.the_send, table_send, row.the_send) depth 40
 
 grouping_send : IsSend (Grouping.the_field).row
 grouping_send = let p = pair_send in search (sendable, crosses, list.the_send, schema.the_send, text.the_send, agg.the_send) depth 40

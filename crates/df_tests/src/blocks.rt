@@ -1,5 +1,5 @@
-//! Tables of blocks: rows across several blocks, look-ups between tags, changes at the ends of blocks, and the
-//! dictionary of texts.
+//! Tables of blocks of at most 256 rows, of which leaves have up to 8: rows across several blocks and leaves, look-ups
+//! between tags, changes at the ends of blocks and leaves, and the dictionary of texts.
 use df_column::{Entry, Table, Tag, TextPool};
 use df_delta::{Delta, apply, push_change};
 use df_value::{Cell, CellType, Duplicate, List, Row, Schema, Text};
@@ -79,7 +79,7 @@ fn changed(alloc: Global, table: &Table, entries: Vec<Entry>) -> Result<Table, A
 #[test]
 fn tables_give_back_their_rows(rt: HostRuntime) -> Result<(), Fail> {
     let alloc = rt.alloc();
-    for len in [0, 1, 1024, 1025, 2049] {
+    for len in [0, 1, 256, 257, 513, 4096, 4097, 8192, 8193] {
         let rows = rows(alloc, len)?;
         let table = table(alloc, &rows)?;
         let read = table.rows(alloc)?;
@@ -92,11 +92,13 @@ fn tables_give_back_their_rows(rt: HostRuntime) -> Result<(), Fail> {
 #[test]
 fn a_tag_between_two_is_not_found(rt: HostRuntime) -> Result<(), Fail> {
     let alloc = rt.alloc();
-    let table = table(alloc, &rows(alloc, 2049)?)?;
-    for n in [0, 1023, 1024, 2047, 2048] {
+    let table = table(alloc, &rows(alloc, 8194)?)?;
+    for n in [
+        0, 255, 256, 511, 512, 2047, 2048, 4095, 4096, 8191, 8192, 8193,
+    ] {
         assert!(rt; table.find(tag(n)) == Some(n as usize));
     }
-    for n in [0, 1023, 1024, 2048] {
+    for n in [0, 255, 256, 2047, 2048, 4095, 4096, 8191, 8192, 8193] {
         assert!(rt; table.find(between(n)) == None);
     }
     Ok(())
@@ -160,12 +162,12 @@ fn a_repeated_text_is_the_same(rt: HostRuntime) -> Result<(), Fail> {
 #[test]
 fn rows_are_compared_at_the_end_of_a_block(rt: HostRuntime) -> Result<(), Fail> {
     let alloc = rt.alloc();
-    let table = table(alloc, &rows(alloc, 1026)?)?;
-    assert!(rt; has_cells(alloc, &table, 1023, Some("b"), Some(23))?);
-    assert!(rt; !has_cells(alloc, &table, 1023, None, Some(24))?);
-    assert!(rt; has_cells(alloc, &table, 1024, None, Some(24))?);
-    assert!(rt; !has_cells(alloc, &table, 1024, Some("b"), None)?);
-    assert!(rt; has_cells(alloc, &table, 1025, Some("b"), None)?);
+    let table = table(alloc, &rows(alloc, 258)?)?;
+    assert!(rt; has_cells(alloc, &table, 255, Some("b"), Some(255))?);
+    assert!(rt; !has_cells(alloc, &table, 255, None, Some(256))?);
+    assert!(rt; has_cells(alloc, &table, 256, None, Some(256))?);
+    assert!(rt; !has_cells(alloc, &table, 256, Some("b"), Some(255))?);
+    assert!(rt; has_cells(alloc, &table, 257, Some("b"), None)?);
     Ok(())
 }
 
@@ -212,9 +214,9 @@ fn has_rows(alloc: Global, table: &Table, rows: &[Row]) -> Result<bool, AllocErr
     Ok(read.as_slice() == rows)
 }
 
-// The rows of these numbers, after the first 1,023.
-fn rows_after(alloc: Global, numbers: &[u64]) -> Result<Vec<Row>, AllocError> {
-    let mut rows = rows(alloc, 1023)?;
+// So many first rows, and those of these numbers behind them.
+fn rows_after(alloc: Global, len: u64, numbers: &[u64]) -> Result<Vec<Row>, AllocError> {
+    let mut rows = rows(alloc, len)?;
     for number in numbers {
         rows.push(row(alloc, *number)?)?;
     }
@@ -226,18 +228,58 @@ fn rows_after(alloc: Global, numbers: &[u64]) -> Result<Vec<Row>, AllocError> {
 #[test]
 fn changes_at_the_ends_of_blocks(rt: HostRuntime) -> Result<(), Fail> {
     let alloc = rt.alloc();
-    let before = rows(alloc, 1026)?;
+    let before = rows(alloc, 258)?;
     let table = table(alloc, &before)?;
     let edits = [
-        (tag(1023), Some(1023), None),
-        (between(1023), None, Some(5)),
-        (tag(1024), Some(1024), Some(7)),
-        (tag(1026), None, Some(1026)),
+        (tag(255), Some(255), None),
+        (between(255), None, Some(5)),
+        (tag(256), Some(256), Some(7)),
+        (tag(258), None, Some(258)),
     ];
     let after = edited(alloc, &table, &edits)?;
-    let want = rows_after(alloc, &[5, 7, 1025, 1026])?;
+    let want = rows_after(alloc, 255, &[5, 7, 257, 258])?;
     assert!(rt; has_rows(alloc, &after, &want)?);
     assert!(rt; has_rows(alloc, &table, &before)?);
+    Ok(())
+}
+
+// The same at the end of the last leaf.
+#[test]
+fn changes_at_the_ends_of_leaves(rt: HostRuntime) -> Result<(), Fail> {
+    let alloc = rt.alloc();
+    let before = rows(alloc, 8194)?;
+    let table = table(alloc, &before)?;
+    let edits = [
+        (tag(8191), Some(8191), None),
+        (between(8191), None, Some(5)),
+        (tag(8192), Some(8192), Some(7)),
+        (tag(8194), None, Some(8194)),
+    ];
+    let after = edited(alloc, &table, &edits)?;
+    let want = rows_after(alloc, 8191, &[5, 7, 8193, 8194])?;
+    assert!(rt; has_rows(alloc, &after, &want)?);
+    assert!(rt; has_rows(alloc, &table, &before)?);
+    Ok(())
+}
+
+// A row comes into a full block of the first leaf, so that there is a block more before the second one, and the least
+// and the greatest number are those of the leaves.
+#[test]
+fn a_block_more_in_the_first_leaf(rt: HostRuntime) -> Result<(), Fail> {
+    let alloc = rt.alloc();
+    let before = rows(alloc, 8200)?;
+    let table = table(alloc, &before)?;
+    let edits = [(between(300), None, Some(999))];
+    let after = edited(alloc, &table, &edits)?;
+    let mut want = rows_after(alloc, 301, &[999])?;
+    for number in 301..8200 {
+        want.push(row(alloc, number)?)?;
+    }
+    assert!(rt; has_rows(alloc, &after, &want)?);
+    assert!(rt; after.find(tag(8191)) == Some(8192));
+    assert!(rt; after.find(tag(4095)) == Some(4096));
+    assert!(rt; after.least(alloc, Some(1))? == Some(Cell::Int(0)));
+    assert!(rt; after.greatest(alloc, Some(1))? == Some(Cell::Int(999)));
     Ok(())
 }
 
@@ -298,7 +340,40 @@ fn random_changes_beside_a_plain_list(rt: HostRuntime) -> Result<(), Fail> {
         table = step(alloc, &mut state, &mut places, &table)?;
         assert!(rt; has_rows(alloc, &table, &rows_at(alloc, &places)?)?);
     }
-    assert!(rt; table.len() > 2048);
+    assert!(rt; table.len() > 256);
+    Ok(())
+}
+
+// Places that all have a row, and the table of these rows.
+fn filled(alloc: Global, len: u64) -> Result<(Vec<Option<u64>>, Table), AllocError> {
+    let mut places = Vec::new(alloc);
+    let mut entries = Vec::new(alloc);
+    for at in 0..len {
+        places.push(Some(at))?;
+        entries.push(Entry {
+            tag: Tag {
+                first: at,
+                second: 0,
+                third: 0,
+            },
+            old: None,
+            new: Some(row(alloc, at)?),
+        })?;
+    }
+    let empty = Table::new(alloc, schema(alloc)?)?;
+    Ok((places, changed(alloc, &empty, entries)?))
+}
+
+#[test]
+fn random_changes_among_leaves(rt: HostRuntime) -> Result<(), Fail> {
+    let alloc = rt.alloc();
+    let (mut places, mut table) = filled(alloc, 9000)?;
+    let mut state = 19;
+    for _ in 0..15 {
+        table = step(alloc, &mut state, &mut places, &table)?;
+        assert!(rt; has_rows(alloc, &table, &rows_at(alloc, &places)?)?);
+    }
+    assert!(rt; table.len() > 4096);
     Ok(())
 }
 

@@ -11,7 +11,7 @@ use Rattle.atomic_table.proofs.send_lease.SendLease.TheSendSync as lease
 use Rattle.atomic_table.proofs.shared.Seat.TheSendSync as seat
 use Rattle.atomic_table.proofs.shared.Shared.TheSendSync as shared
 use Rattle.df_value.proofs.text.Text.TheSendSync as text
-use Rattle.df_column.proofs.table.Table.TheSendSync as table
+use Rattle.df_column.proofs.Crossing.{table_send, table_sync}
 use Rattle.df_catalogue.specs.contracts.catalogue.Catalogue as Catalogue
 use Rattle.df_versions.specs.declared.history.Naming.{Ghosts as Names}
 use Rattle.df_versions.specs.contracts.history.History as History
@@ -28,10 +28,10 @@ use Rattle.df_versions.specs.contracts.versioned.VersionedCatalogue as Versioned
 use Rattle.df_versions.specs.contracts.versioned.VersionedCatalogue.TheInside as VersionedInside
 
 pub version_send : IsSend Version.the_row
-version_send = search (sendable, crosses, text.the_send, table.the_send) depth 40
+version_send = search (sendable, crosses, text.the_send, table_send) depth 40
 
 pub version_sync : IsSync Version.the_row
-version_sync = search (sendable, crosses, text.the_sync, table.the_sync) depth 40
+version_sync = search (sendable, crosses, text.the_sync, table_sync) depth 40
 
 history_inside_send : IsSend HistoryInside.the_row
 history_inside_send = search (sendable, seen.the_send) depth 20

@@ -9,7 +9,7 @@ use Rattle.df_column.specs.Rows.{AreNewRows, AreRows, picked_rows}
 use Rattle.df_column.specs.Tables.{entry_change}
 use Rattle.df_column.specs.Tags.{tag_cmp}
 use Rattle.df_column.specs.TagOrder.{tag_total}
-use Rattle.df_column.proofs.BlockListLemmas.{none_between}
+use Rattle.df_column.proofs.ListParts.{none_between}
 use Rattle.df_column.proofs.ChangeRuns.{sorted_second}
 use Rattle.df_column.proofs.TableLemmas.{cut_between, types_at}
 use Rattle.df_column.proofs.blocks.with_changes.Goals as goal

@@ -8,8 +8,8 @@ search-requires t c = (
   omega (arith, c.decreases, c.if-low-high.false),
   (
     c.requires.sorted,
-    window_above (rows_of_blocks c.args.blocks.now) c.args.tag c.args.low c.args.high _ c.tag_at-found.result c.requires.sorted c.requires.window
-        (omega (arith, c.if-low-high.false)) (omega (arith, c.if-low-high.false)) c.tag_at-found.ensures (sym c.in-Less.ensures),
+    window_above (rows_of_blocks c.args.run.now) c.args.tag c.args.low c.args.high _ c.tag_in_run-found.result c.requires.sorted c.requires.window
+        (omega (arith, c.if-low-high.false)) (omega (arith, c.if-low-high.false)) c.tag_in_run-found.ensures (sym c.in-Less.ensures),
   ),
 )
 
@@ -18,7 +18,7 @@ search-requires-in-Greater t c = (
   omega (arith, c.decreases, c.if-low-high.false),
   (
     c.requires.sorted,
-    window_below (rows_of_blocks c.args.blocks.now) c.args.tag c.args.low c.args.high _ c.tag_at-found.result c.requires.sorted c.requires.window
-        (omega (arith, c.if-low-high.false)) (omega (arith, c.if-low-high.false)) c.tag_at-found.ensures (sym c.in-Greater.ensures),
+    window_below (rows_of_blocks c.args.run.now) c.args.tag c.args.low c.args.high _ c.tag_in_run-found.result c.requires.sorted c.requires.window
+        (omega (arith, c.if-low-high.false)) (omega (arith, c.if-low-high.false)) c.tag_in_run-found.ensures (sym c.in-Greater.ensures),
   ),
 )

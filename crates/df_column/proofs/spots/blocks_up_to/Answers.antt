@@ -1,10 +1,12 @@
-use Rattle.std.proofs.Common.{arith}
-use Rattle.df_column.proofs.SharedLemmas.{above_ends}
-use Rattle.df_column.proofs.SpotLemmas.{ends_rise}
+use Rattle.std.proofs.Common.{◌<◌, arith, refl}
+use Rattle.df_column.specs.Blocks.{ends_of}
+use Rattle.df_column.proofs.SharedLemmas.{above_all, above_last}
 use Rattle.df_column.proofs.spots.blocks_up_to.Goals as goal
 
-pub ends_up_to-requires : goal.ends_up_to-requires
-ends_up_to-requires c = ends_rise c.args.blocks.now c.ends.result.now c.ends.ensures
+pub returns-in-0 : goal.returns-in-0
+returns-in-0 c = λ n le. above_all c.args.blocks.now c.rows_up_to.result n c.args.tag c.in-0.is c.rows_up_to.ensures
 
-pub returns : goal.returns
-returns c = λ n le. above_ends c.args.blocks.now c.ends.result.now c.rows_up_to.result c.ends_up_to.result n c.args.tag c.ends.ensures c.ends_up_to.ensures c.rows_up_to.ensures (omega (arith, le, c.saturating_add.ensures, c.ends_up_to.ensures.in_range, c.ends.type_inv.1))
+pub returns-in_default : goal.returns-in_default
+returns-in_default c = λ n le.
+    let some : 0 < c.rows_up_to.result = omega (arith, c.in_default) in
+    above_last c.args.blocks.now (ends_of 0 c.args.blocks.now) c.rows_up_to.result c.spot.result.block n c.args.tag refl some c.spot.ensures.block c.rows_up_to.ensures (omega (arith, le))

@@ -1,5 +1,6 @@
 use Rattle.std.proofs.Common.{sym, ap, ◌<◌, ◌≤◌, ◌∙◌, arith, length, subst}
 use Rattle.std.specs.Arc.{arc_value}
+use Rattle.df_column.specs.Sizes.{most_rows}
 use Rattle.df_column.proofs.SpotLemmas.{at_spot}
 use Rattle.df_column.proofs.spots.tag_at.Goals as goal
 
@@ -14,7 +15,7 @@ pub offset_bounds-tags-spot : goal.offset_bounds-tags-spot
 offset_bounds-tags-spot c =
     let b = arc_value c.get.result.now in
     let here = subst (λ p. c.locate-spot.result.row < length p.tags) (sym (c.get.ensures b)) (c.locate-spot.ensures.in_block b) in
-    let few = subst (λ p. length p.tags ≤ 1024) c.deref.ensures c.tags.ensures.few in
+    let few = subst (λ p. length p.tags ≤ most_rows) c.deref.ensures c.tags.ensures.few in
     omega (arith, here, few)
 
 pub returns : goal.returns

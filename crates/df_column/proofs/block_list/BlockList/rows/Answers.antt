@@ -1,14 +1,22 @@
-use Rattle.std.proofs.Common.{ap, ◌∙◌, length, arith}
-use Rattle.df_column.specs.Blocks.{rows_of_blocks}
-use Rattle.df_column.specs.BlockLists.{last_of}
-use Rattle.df_column.proofs.BlockListLemmas.{rows_there}
+use Rattle.std.proofs.Common.{ap, arith}
+use Rattle.df_column.specs.BlockLists.{rows_in}
+use Rattle.df_column.proofs.BlockListLemmas.{rows_both}
 use Rattle.df_column.proofs.block_list.BlockList.rows.Goals as goal
+
+pub overflow_add-result : goal.overflow_add-result
+overflow_add-result c =
+    let both = rows_both c.self.inside.leaves c.self.inside.tail in
+    let few = c.self.invariant in
+    omega (arith, both, few, c.rows.ensures.value, c.rows-2.ensures.value)
 
 pub returns-clause-value : goal.returns-clause-value
 returns-clause-value c =
-    c.last_end.ensures ∙ ap last_of c.deref.ensures.value ∙ rows_there _ _ c.self.invariant.ends_are ∙ ap (λ bs. length (rows_of_blocks bs)) c.self.view_is
+    let both = rows_both c.self.inside.leaves c.self.inside.tail in
+    let v = ap rows_in c.self.view_is in
+    omega (arith, both, v, c.rows.ensures.value, c.rows-2.ensures.value)
 
 pub returns-clause-few : goal.returns-clause-few
 returns-clause-few c =
-    let n = c.last_end.ensures ∙ ap last_of c.deref.ensures.value ∙ rows_there _ _ c.self.invariant.ends_are in
-    omega (arith, n, c.self.invariant.few)
+    let both = rows_both c.self.inside.leaves c.self.inside.tail in
+    let few = c.self.invariant in
+    omega (arith, both, few, c.rows.ensures.value, c.rows-2.ensures.value)

@@ -1,9 +1,10 @@
-use Rattle.std.proofs.Common.{◌≡◌, ◌++◌, ◌∙◌, Some, ap, sym, subst, arith}
-use Rattle.std.specs.Arc.{arc_value}
+use Rattle.std.proofs.Common.{◌≡◌, ◌++◌, ◌∙◌, [], Some, ap, sym}
 use Rattle.std.specs.FinMap as finite
-use Rattle.df_column.specs.Blocks.{block_rows}
+use Rattle.df_column.specs.Blocks.{rows_of_blocks}
 use Rattle.df_column.specs.Extremes.{tags_above}
-use Rattle.df_column.proofs.ZoneLemmas.{all_blocks, no_tags, tags_block}
+use Rattle.df_column.specs.LeafTrees.{blocks_in}
+use Rattle.df_column.proofs.SharedLemmas.{rows_append}
+use Rattle.df_column.proofs.ZoneLemmas.{no_tags, tags_more}
 use Rattle.df_column.proofs.table.Table.tags_above.Goals as goal
 
 pub returns-in_default : goal.returns-in_default
@@ -11,14 +12,14 @@ returns-in_default c =
     let es = finite.entries c.args.self.now.rows in
     c.new-tags.ensures.items ∙ sym (ap (λ i. tags_above i c.args.value.now es) c.in_default.is ∙ no_tags c.args.value.now es)
 
-pub loop-at-preserved : goal.loop-at-preserved
-loop-at-preserved c =
-    let made = subst (λ b. c.push_tags_in_block.new.tags.items ≡ c.loop-at.tags.items ++ tags_above (Some c.in-Some.index) c.args.value.now (block_rows b)) c.deref.ensures c.in_ok-push_tags_in_block.ensures in
-    tags_block (Some c.in-Some.index) c.args.value.now c.blocks-blocks.result.now c.loop-at.at (arc_value c.get.result.now) c.loop-at.tags.items c.push_tags_in_block.new.tags.items (omega arith) (c.get.ensures (arc_value c.get.result.now)) c.loop-at.invariant made
-
 pub returns : goal.returns
 returns c =
-    let es = finite.entries c.args.self.now.rows in
-    c.loop-at.invariant
-    ∙ ap (tags_above (Some c.in-Some.index) c.args.value.now) (all_blocks c.blocks-blocks.result.now c.loop-at.at es (omega (arith, c.len-at-end.ensures, c.loop-at-test.false)) c.blocks-blocks.ensures.rows)
-    ∙ ap (λ i. tags_above i c.args.value.now es) (sym c.in-Some.is)
+    let leaves = c.parts.result.0.now in
+    let front = rows_of_blocks leaves in
+    let back = rows_of_blocks c.parts.result.1.now in
+    let rows = finite.entries c.args.self.now.rows in
+    let all : rows ≡ front ++ back = sym (ap rows_of_blocks c.parts.ensures ∙ c.blocks-2.ensures.rows) ∙ rows_append leaves c.parts.result.1.now in
+    let tree = ap (λ bs. tags_above (Some c.in-Some.index) c.args.value.now (rows_of_blocks bs)) c.tree.ensures in
+    tags_more (Some c.in-Some.index) c.args.value.now front back rows [] c.push_tags_above.new.tags.items c.push_tags_in_run.new.tags.items all
+    (c.in_ok-push_tags_above.ensures ∙ ap (λ ts. ts ++ tags_above (Some c.in-Some.index) c.args.value.now (rows_of_blocks (blocks_in c.tree.result.now))) c.new-tags.ensures.items ∙ tree) c.in_ok-push_tags_in_run.ensures
+    ∙ ap (λ i. tags_above i c.args.value.now rows) (sym c.in-Some.is)

@@ -1,0 +1,219 @@
+//! Runs of blocks.
+ghost use Rattle.std.specs.Prelude.{◌≡◌, ◌<◌, ◌≤◌, ◌+◌, ◌-◌, ◌++◌, ◌∷◌, ◌^◌, [], IfOk, drop, length, slice_index_or, take};
+ghost use Rattle.std.specs.Arc.{arc_value};
+ghost use Rattle.std.specs.List.Sorted.{IsNonDecreasing};
+ghost use Rattle.df_column.specs.BlockLists.{HaveRows, extreme_cell, last_of};
+ghost use Rattle.df_column.specs.Blocks.{BlockParts, ends_of, rows_of_blocks};
+ghost use Rattle.df_column.specs.Changes.{IsNext};
+ghost use Rattle.df_column.specs.Extremes as extremes;
+ghost use Rattle.df_column.specs.Pools.{start_at};
+ghost use Rattle.df_column.specs.TableBlocks.{IsEndCount};
+
+use crate::block::Block;
+use crate::extremes::Extreme;
+use crate::further::furthest_in_block;
+use crate::pool::start_of_part;
+use crate::tag::Tag;
+use df_value::Cell;
+use std::alloc::{AllocError, Global};
+use std::marker::Model;
+use std::sync::Arc;
+
+/// Blocks in order, with how many rows stand up to the end of each. Contracts see the blocks.
+#[derive(Drop)]
+pub struct Run {
+    blocks: Vec<Arc<Block>>,
+    ends: Vec<usize>,
+}
+
+impl Model for Run {
+    ghost use Rattle.std.specs.Prelude.{List, map};
+    ghost use Rattle.std.specs.Arc.{arc_value};
+    ghost use Rattle.df_column.specs.Blocks.{BlockParts};
+    ghost use Rattle.df_column.specs.BlockLists.{IsRun};
+
+    ghost Value = { List BlockParts };
+
+    ghost view = { λ r. map arc_value r.blocks.items };
+
+    ghost invariant = { λ r. IsRun (map arc_value r.blocks.items) r.ends.items };
+}
+
+/// The index of a block, and that of a row in it.
+#[derive(Clone, Copy)]
+pub struct Spot {
+    pub block: usize,
+    pub row: usize,
+}
+
+/// How many of the ends are at most this number.
+pub fn ends_up_to(ends: &[usize], at: usize) -> usize
+    requires { IsNonDecreasing ends.now }
+    ensures { IsEndCount ends.now at result }
+{
+    ends.partition_point(|end| *end <= at)
+}
+
+/// The last of these ends; 0 where there is none.
+pub fn last_end(ends: &[usize]) -> usize
+    ensures { result ≡ last_of ends.now }
+{
+    match ends.last() {
+        Some(end) => *end,
+        None => 0,
+    }
+}
+
+/// The most rows of a list; more is refused as memory. They may be more than memory has, as a block may stand in a list
+/// many times.
+const MOST_ROWS_OF_LIST: usize = 1 << 60;
+
+/// So many rows behind an end.
+pub fn end_behind(end: usize, rows: usize) -> Result<usize, AllocError>
+    requires { end ≤ 2 ^ 60 }
+    ensures value { IfOk result (λ e. e ≡ end + rows) }
+    ensures few { IfOk result (λ e. e ≤ 2 ^ 60) }
+{
+    if rows > MOST_ROWS_OF_LIST - end {
+        return Err(AllocError);
+    }
+    Ok(end + rows)
+}
+
+impl Run {
+    /// No blocks. It takes no memory.
+    pub fn new(alloc: Global) -> Run
+        ensures { result ≡ [] }
+    {
+        Run {
+            blocks: Vec::new(alloc),
+            ends: Vec::new(alloc),
+        }
+    }
+
+    /// The number of blocks.
+    pub fn len(&self) -> usize
+        ensures value { result ≡ length self.now }
+        ensures some { HaveRows self.now }
+    {
+        let blocks: &[Arc<Block>] = &self.blocks;
+        blocks.len()
+    }
+
+    /// The number of rows.
+    pub fn rows(&self) -> usize
+        ensures value { result ≡ length (rows_of_blocks self.now) }
+        ensures some { HaveRows self.now }
+    {
+        last_end(&self.ends)
+    }
+
+    /// The block at this index.
+    pub fn get(&self, at: usize) -> &Arc<Block>
+        requires { at < length self.now }
+        ensures { (d : BlockParts) → arc_value result.now ≡ slice_index_or self.now at d }
+    {
+        &self.blocks[at]
+    }
+
+    /// The tag of the first row, none where there are no rows.
+    pub fn first_tag(&self) -> Option<Tag>
+        ensures { IsNext (rows_of_blocks self.now) result }
+    {
+        match self.blocks.first() {
+            Some(block) => Some(block.first()),
+            None => None,
+        }
+    }
+
+    /// How many columns the first block has; 0 where there is none.
+    pub fn columns(&self) -> usize {
+        match self.blocks.first() {
+            Some(block) => block.columns().len(),
+            None => 0,
+        }
+    }
+
+    /// The run with this block behind it.
+    pub fn pushed(self, block: Arc<Block>) -> Result<Run, AllocError>
+        requires { length (rows_of_blocks self) + length (arc_value block).tags ≤ 2 ^ 60 }
+        ensures { IfOk result (λ r. r ≡ self ++ arc_value block ∷ []) }
+    {
+        let Run {
+            mut blocks,
+            mut ends,
+        } = self;
+        let end = last_end(&ends) + block.tags().len();
+        ends.push(end)?;
+        blocks.push(block)?;
+        Ok(Run { blocks, ends })
+    }
+
+    /// The same run, with room for so many blocks more.
+    fn with_room(self, more: usize) -> Result<Run, AllocError>
+        ensures { IfOk result (λ r. r ≡ self) }
+    {
+        let Run {
+            mut blocks,
+            mut ends,
+        } = self;
+        blocks.reserve(more)?;
+        ends.reserve(more)?;
+        Ok(Run { blocks, ends })
+    }
+
+    /// The run with the blocks of another one behind it, from one index up to another, shared. It has room for one more.
+    pub fn joined(self, other: &Run, low: usize, high: usize) -> Result<Run, AllocError>
+        requires ordered { low ≤ high }
+        requires in_range { high ≤ length other.now }
+        requires few { length (rows_of_blocks self) ≤ 2 ^ 60 }
+        ensures { IfOk result (λ r. r ≡ self ++ drop low (take high other.now)) }
+    {
+        let mut out = self.with_room((high - low).saturating_add(1))?;
+        for at in low..high {
+            let block = Arc::try_clone(other.get(at))?;
+            end_behind(out.rows(), block.tags().len())?;
+            out = out.pushed(block)?;
+        }
+        Ok(out)
+    }
+
+    /// The blocks from one index up to another, shared.
+    pub fn part(&self, alloc: Global, low: usize, high: usize) -> Result<Run, AllocError>
+        requires ordered { low ≤ high }
+        requires in_range { high ≤ length self.now }
+        ensures { IfOk result (λ r. r ≡ drop low (take high self.now)) }
+    {
+        let part = Run::new(alloc).joined(self, low, high)?;
+        Ok(part)
+    }
+
+    /// Where the row at this index of all rows stands. Behind the last row, the index behind the last block.
+    pub fn spot(&self, at: usize) -> Spot
+        ensures block { IsEndCount (ends_of 0 self.now) at result.block }
+        ensures row { result.row ≡ at - start_at 0 (ends_of 0 self.now) result.block }
+        ensures some { HaveRows self.now }
+    {
+        let block = ends_up_to(&self.ends, at);
+        let row = at - start_of_part(&self.ends, block);
+        Spot { block, row }
+    }
+
+    /// The best cell; where the blocks have one beyond it in the column at an index, a copy of that.
+    pub fn furthest(
+        &self,
+        alloc: Global,
+        extreme: Extreme,
+        best: Option<Cell>,
+        index: usize,
+    ) -> Result<Option<Cell>, AllocError>
+        ensures { IfOk result (λ v. v ≡ extremes.further extreme best
+            (extreme_cell extreme self.now index)) }
+    {
+        let mut best = best;
+        for at in 0..self.len() {
+            best = furthest_in_block(alloc, extreme, best, self.get(at), index)?;
+        }
+        Ok(best)
+    }
+}
