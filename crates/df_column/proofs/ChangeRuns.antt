@@ -92,7 +92,7 @@ module _ {K : Type 0} {R : K → K → Ordering} (o : IsTotalOrder R) where
         ap (λ es. after_changes R es cs) (edit-right xs ys c.0 c.1.new (apart_heads xs c cs h))
         ∙ after_changes-right xs (edit R ys c.0 c.1.new) cs (apart_tails xs c cs h)
 
-    after_changes-append : (xs : List (K × X)) (cs ds : List (K × Change X)) → after_changes R xs (cs ++ ds) ≡ after_changes R (after_changes R xs cs) ds
+    pub after_changes-append : (xs : List (K × X)) (cs ds : List (K × Change X)) → after_changes R xs (cs ++ ds) ≡ after_changes R (after_changes R xs cs) ds
     after_changes-append xs [] ds = refl
     after_changes-append xs (c ∷ cs) ds = after_changes-append (edit R xs c.0 c.1.new) cs ds
 
@@ -109,11 +109,11 @@ module _ {K : Type 0} {R : K → K → Ordering} (o : IsTotalOrder R) where
 
   -- lists in order that are cut
   module _ {X : Type 0} where
-    below_first : (k : K) (xs ys : List (K × X)) → T (below_all R k (xs ++ ys)) → T (below_all R k xs)
+    pub below_first : (k : K) (xs ys : List (K × X)) → T (below_all R k (xs ++ ys)) → T (below_all R k xs)
     below_first k [] ys h = tt
     below_first k (x ∷ xs) ys h = T-both _ _ (T-first _ _ h) (below_first k xs ys (T-second _ _ h))
 
-    below_second : (k : K) (xs ys : List (K × X)) → T (below_all R k (xs ++ ys)) → T (below_all R k ys)
+    pub below_second : (k : K) (xs ys : List (K × X)) → T (below_all R k (xs ++ ys)) → T (below_all R k ys)
     below_second k [] ys h = h
     below_second k (x ∷ xs) ys h = below_second k xs ys (T-second _ _ h)
 
@@ -161,7 +161,7 @@ module _ {K : Type 0} {R : K → K → Ordering} (o : IsTotalOrder R) where
 
   -- a key that no key of the first list reaches, and none of the second falls below
   module _ {Y : Type 0} where
-    below_from : (x k : K) (ys : List (K × Y)) → R x k ≡ Less → T (all_from R k ys) → T (below_all R x ys)
+    pub below_from : (x k : K) (ys : List (K × Y)) → R x k ≡ Less → T (all_from R k ys) → T (below_all R x ys)
     below_from x k [] e h = tt
     below_from x k (y ∷ ys) e h = T-both _ _ (less_from x y.0 k e (T-first _ _ h)) (below_from x k ys e (T-second _ _ h))
 

@@ -34,6 +34,9 @@ pub mod Bounds
 pub mod FitLemmas
 pub mod BlockLemmas
 pub mod ChangeRuns
+mod ChangedParts
+mod ChangedTrees
+mod ChangedNodes
 pub mod MergeLemmas
 pub mod TextPlaces
 mod KnownLemmas

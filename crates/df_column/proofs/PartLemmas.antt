@@ -23,7 +23,7 @@ module _ {X : Type 0} where
   all_drop p (suc n) [] h = tt
   all_drop p (suc n) (x ∷ xs) h = all_drop p n xs (T-second (p x) _ h)
 
-  all_take : (p : X → Bool) (n : ℕ) (xs : List X) → T (list_all p xs) → T (list_all p (take n xs))
+  pub all_take : (p : X → Bool) (n : ℕ) (xs : List X) → T (list_all p xs) → T (list_all p (take n xs))
   all_take p zero xs h = tt
   all_take p (suc n) [] h = tt
   all_take p (suc n) (x ∷ xs) h = T-both _ _ (T-first (p x) _ h) (all_take p n xs (T-second (p x) _ h))

@@ -18,7 +18,7 @@ use Rattle.df_column.proofs.Removal.{remove_is}
 use Rattle.df_column.specs.TagOrder.{tag_total, tag_same}
 
 -- changes in order, cut at a tag
-halves : (n : ℕ) (es : List Entry) → map entry_change (take n es) ++ map entry_change (drop n es) ≡ map entry_change es
+pub halves : (n : ℕ) (es : List Entry) → map entry_change (take n es) ++ map entry_change (drop n es) ≡ map entry_change es
 halves n es = sym (map-append entry_change (take n es) (drop n es)) ∙ ap (map entry_change) (take-append-drop n es)
 
 halves_sorted : (n : ℕ) (es : List Entry) → T (is_sorted tag_cmp (map entry_change es)) → T (is_sorted tag_cmp (map entry_change (take n es) ++ map entry_change (drop n es)))
@@ -34,11 +34,11 @@ prefix_pairs : (k : Tag) (es : List Entry) → prefix_len (λ x. is_lt (tag_cmp 
 prefix_pairs k [] = refl
 prefix_pairs k (e ∷ es) = ap (λ n. cond (is_lt (tag_cmp e.tag k)) (1 + n) 0) (prefix_pairs k es)
 
-under_taken : (k : Tag) (es : List Entry) → T (all_under tag_cmp k (map entry_change (take (count_before (Some k) es) es)))
+pub under_taken : (k : Tag) (es : List Entry) → T (all_under tag_cmp k (map entry_change (take (count_before (Some k) es) es)))
 under_taken k es =
     subst (λ cs. T (all_under tag_cmp k cs)) (ap (λ n. take n (map entry_change es)) (prefix_pairs k es) ∙ take-map entry_change (count_before (Some k) es) es) (under_prefix tag_total k (map entry_change es))
 
-from_dropped : (k : Tag) (es : List Entry) → T (is_sorted tag_cmp (map entry_change es)) → T (all_from tag_cmp k (map entry_change (drop (count_before (Some k) es) es)))
+pub from_dropped : (k : Tag) (es : List Entry) → T (is_sorted tag_cmp (map entry_change es)) → T (all_from tag_cmp k (map entry_change (drop (count_before (Some k) es) es)))
 from_dropped k es h =
     subst (λ cs. T (all_from tag_cmp k cs)) (ap (λ n. drop n (map entry_change es)) (prefix_pairs k es) ∙ drop-map entry_change (count_before (Some k) es) es) (from_rest tag_total k (map entry_change es) h)
 

@@ -61,6 +61,10 @@ pub head_between : (bs : List BlockParts) (at end : ℕ) (b : BlockParts) (k : T
 head_between bs at end b k lt le e h =
     subst (λ cs. IsHead (rows_of_blocks cs) k) (sym (cut_between bs at end b lt le e)) (head_first (block_rows b) (rows_of_blocks (drop (at + 1) (take end bs))) k h)
 
+pub head_of_first : (bs : List BlockParts) (b : BlockParts) (k : Tag) → 0 < length bs → b ≡ get_or bs 0 b → IsHead (block_rows b) k → IsHead (rows_of_blocks bs) k
+head_of_first [] b k lt e h = absurd (omega (arith, lt))
+head_of_first (c ∷ bs) b k lt e h = head_first (block_rows c) (rows_of_blocks bs) k (subst (λ p. IsHead (block_rows p) k) e h)
+
 -- rows that fit a schema are rows of its types
 pub fits_types : (schema : List (List ℕ × CellType)) (row : List Cell) → T (row_fits schema row) → T (is_row (dtypes_of schema) row)
 fits_types [] [] h = tt

@@ -46,7 +46,7 @@ above_first (r ∷ rows) first tag sorted h k =
     let less : tag_cmp tag r.0 ≡ Less = flipped tag_total r.0 tag Greater (ap (λ t. tag_cmp t tag) h ∙ greater (tag_cmp first tag) k) in
     T-both _ _ (lt_from_less (tag_cmp tag r.0) less) (below_trans tag_total tag r.0 rows less (T-first _ _ sorted))
 
-head_below : (k first : Tag) (xs ys : List (Tag × List Cell)) → T (below_all tag_cmp k (xs ++ ys)) → IsHead ys first → tag_cmp k first ≡ Less
+pub head_below : (k first : Tag) (xs ys : List (Tag × List Cell)) → T (below_all tag_cmp k (xs ++ ys)) → IsHead ys first → tag_cmp k first ≡ Less
 head_below k first [] [] h head = absurd head
 head_below k first [] (y ∷ ys) h head = ap (tag_cmp k) (sym head) ∙ less_from_is_lt (tag_cmp k y.0) (T-first _ _ h)
 head_below k first (x ∷ xs) ys h head = head_below k first xs ys (T-second (is_lt (tag_cmp k x.0)) _ h) head
@@ -57,7 +57,7 @@ under_first (x ∷ xs) ys first tag sorted head k =
     T-both _ _ (lt_from_less (tag_cmp x.0 tag) (reached_below x.0 first tag (head_below x.0 first xs ys (T-first _ _ sorted) head) k))
     (under_first xs ys first tag (T-second (below_all tag_cmp x.0 (xs ++ ys)) _ sorted) head k)
 
-below_both : (k : Tag) (xs ys : List (Tag × List Cell)) → T (below_all tag_cmp k xs) → T (below_all tag_cmp k ys) → T (below_all tag_cmp k (xs ++ ys))
+pub below_both : (k : Tag) (xs ys : List (Tag × List Cell)) → T (below_all tag_cmp k xs) → T (below_all tag_cmp k ys) → T (below_all tag_cmp k (xs ++ ys))
 below_both k [] ys p q = q
 below_both k (x ∷ xs) ys p q = T-both _ _ (T-first (is_lt (tag_cmp k x.0)) _ p) (below_both k xs ys (T-second (is_lt (tag_cmp k x.0)) _ p) q)
 
@@ -78,7 +78,7 @@ blocks_above tag bs cs p q = subst (λ rs. T (below_all tag_cmp tag rs)) (sym (r
 blocks_under : (tag first : Tag) (bs cs : List BlockParts) → T (is_sorted tag_cmp (rows_of_blocks (bs ++ cs))) → IsHead (rows_of_blocks cs) first → T (not (is_gt (tag_cmp first tag))) → T (all_under tag_cmp tag (rows_of_blocks bs))
 blocks_under tag first bs cs sorted head k = under_first (rows_of_blocks bs) (rows_of_blocks cs) first tag (subst (λ rs. T (is_sorted tag_cmp rs)) (rows_append bs cs) sorted) head k
 
-blocks_head : (bs cs : List BlockParts) (k : Tag) → IsHead (rows_of_blocks bs) k → IsHead (rows_of_blocks (bs ++ cs)) k
+pub blocks_head : (bs cs : List BlockParts) (k : Tag) → IsHead (rows_of_blocks bs) k → IsHead (rows_of_blocks (bs ++ cs)) k
 blocks_head bs cs k h = subst (λ rs. IsHead rs k) (sym (rows_append bs cs)) (head_front (rows_of_blocks bs) (rows_of_blocks cs) k h)
 
 pub sorted_left : (all a b : List BlockParts) → all ≡ a ++ b → T (is_sorted tag_cmp (rows_of_blocks all)) → T (is_sorted tag_cmp (rows_of_blocks a))

@@ -2,7 +2,7 @@
 use Rattle.std.specs.Prelude.{◌≡◌, ℕ, ◌+◌, ◌<◌, List, [], ◌∷◌, ◌++◌, ◌-◌, Option, Some, None, length, map, slice_index_or}
 use Rattle.df_value.specs.declared.cell.Cell.{Cell}
 use Rattle.df_column.specs.Blocks.{BlockParts, ends_of, rows_of_blocks}
-use Rattle.df_column.specs.Changes.{IsNext}
+use Rattle.df_column.specs.Changes.{IsHead}
 use Rattle.df_column.specs.Extremes.{cells_at, extreme_of}
 use Rattle.df_column.specs.declared.extremes.Extreme.{Extreme}
 use Rattle.df_column.specs.declared.extremes.Extreme.TheVariants as extreme
@@ -26,10 +26,9 @@ extreme_cell e blocks column = extreme_of e (cells_at (Some column) (map (λ r. 
 abbrev pub AreExtremeCells : Extreme → List BlockParts → List (Option Cell) → Type 0
 AreExtremeCells e blocks cells = (i : ℕ) → i < length cells → slice_index_or cells i None ≡ extreme_cell e blocks i
 
--- what a leaf keeps of its blocks: the tag of the first row, none where they have no rows, and the least and the greatest
--- cells of some first columns
-pub record IsLeaf (blocks : List BlockParts) (first : Option Tag) (low high : List (Option Cell)) : Type 0 where
-  pub first_is : IsNext (rows_of_blocks blocks) first
+-- what a leaf keeps of its blocks: the tag of the first row, and the least and the greatest cells of some first columns
+pub record IsLeaf (blocks : List BlockParts) (first : Tag) (low high : List (Option Cell)) : Type 0 where
+  pub first_is : IsHead (rows_of_blocks blocks) first
   pub least : AreExtremeCells extreme.Least blocks low
   pub greatest : AreExtremeCells extreme.Greatest blocks high
 

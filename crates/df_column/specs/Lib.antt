@@ -19,4 +19,5 @@ pub mod TableBlocks
 pub mod Extremes
 pub mod LeafTotals
 pub mod LeafTrees
+pub mod TreeChanges
 pub mod BlockExtremes

@@ -1,15 +1,23 @@
 //! Lists of blocks, which share what they have in common.
-ghost use Rattle.std.specs.Prelude.{◌≡◌, ◌<◌, ◌≤◌, ◌+◌, ◌-◌, ◌++◌, ◌∷◌, ◌^◌, [], IfNone, IfOk, IfSome, T, drop, length, slice_index_or, take};
+ghost use Rattle.std.specs.Prelude.{◌≡◌, ◌<◌, ◌≤◌, ◌+◌, ◌-◌, ◌++◌, ◌∷◌, ◌^◌, [], IfNone, IfOk, IfSome, T, drop, length, map, slice_index_or, take};
 ghost use Rattle.std.specs.Arc.{arc_value};
 ghost use Rattle.std.specs.FinMap as finite;
 ghost use Rattle.std.specs.FinMap.Entries.{below_all};
 ghost use Rattle.df_column.specs.BlockLists.{IsRunAt, extreme_cell, rows_in};
-ghost use Rattle.df_column.specs.Blocks.{BlockParts, ends_of, rows_of_blocks};
+ghost use Rattle.df_column.specs.Blocks.{AreOfDtypes, BlockParts, ends_of, rows_of_blocks};
+ghost use Rattle.df_column.specs.Changes.{apart};
+ghost use Rattle.df_column.specs.Columns.{column_cells, dtype_of_column};
 ghost use Rattle.df_column.specs.Pools.{start_at};
+ghost use Rattle.df_column.specs.Rows.{AreNewRows, are_even};
 ghost use Rattle.df_column.specs.TableBlocks.{IsEndCount, IsRunOfTag};
+ghost use Rattle.df_column.specs.Tables.{AreRising, entry_change};
 ghost use Rattle.df_column.specs.Tags.{tag_cmp};
+ghost use Rattle.df_column.specs.TreeChanges.{AreChangedBetween};
 
 use crate::block::Block;
+use crate::blocks::entries_before;
+use crate::column::Column;
+use crate::entry::Entry;
 use crate::extremes::Extreme;
 use crate::leaf::Leaf;
 use crate::leaves::{Leaves, Stretch};
@@ -52,6 +60,21 @@ impl BlockList {
             leaves: Leaves::new(),
             tail: Run::new(alloc),
         }
+    }
+
+    /// The blocks of a run, shared.
+    pub fn of_run(alloc: Global, run: &Run) -> Result<BlockList, AllocError>
+        ensures { IfOk result (λ l. l ≡ run.now) }
+    {
+        BlockList::new(alloc).with_part(run, 0, run.len())
+    }
+
+    /// All blocks as leaves.
+    pub fn into_leaves(self, alloc: Global) -> Result<Leaves, AllocError>
+        ensures { IfOk result (λ l. l ≡ self) }
+    {
+        let BlockList { leaves, tail } = self;
+        with_run(alloc, leaves, tail)
     }
 
     /// The leaves, and the blocks behind them.
@@ -259,6 +282,33 @@ impl BlockList {
         Ok(BlockList { leaves, tail })
     }
 
+    /// The list after the changes of entries that stand before the first row behind the leaves, but for those before the
+    /// first row of all; none where there are no such entries. What has no change is shared.
+    pub fn with_changed_leaves(
+        &self,
+        alloc: Global,
+        columns: &[Column],
+        entries: &[Entry],
+    ) -> Result<Option<Edited>, AllocError>
+        requires rows { T (finite.is_sorted tag_cmp (rows_of_blocks self.now)) }
+        requires types { AreOfDtypes (map dtype_of_column columns.now) self.now }
+        requires empty { T (are_even 0 (map column_cells columns.now)) }
+        requires entries { AreRising entries.now }
+        requires fits { AreNewRows (map dtype_of_column columns.now) entries.now }
+        ensures { IfOk result (λ o. IfSome o (λ e. AreChangedBetween (map dtype_of_column columns.now) self.now
+            entries.now e.list e.from e.to)) }
+    {
+        let to = entries_before_run(entries, &self.tail);
+        if to == 0 {
+            return Ok(None);
+        }
+        let (leaves, from) = self.leaves.changed(alloc, columns, &entries[..to])?;
+        end_behind(leaves.rows(), self.tail.rows())?;
+        let tail = self.tail.part(alloc, 0, self.tail.len())?;
+        let list = BlockList { leaves, tail };
+        Ok(Some(Edited { list, from, to }))
+    }
+
     /// The list with these leaves behind it.
     fn with_leaves(self, alloc: Global, shared: &Leaves) -> Result<BlockList, AllocError>
         ensures { IfOk result (λ l. l ≡ self ++ shared.now) }
@@ -273,9 +323,30 @@ impl BlockList {
     }
 }
 
+/// A list after the changes of some entries: those from one index up to another.
+#[derive(Drop)]
+pub struct Edited {
+    pub list: BlockList,
+    pub from: usize,
+    pub to: usize,
+}
+
+/// How many of the entries stand before the first row of a run; 0 where it has no rows.
+fn entries_before_run(entries: &[Entry], run: &Run) -> usize
+    requires { T (finite.is_sorted tag_cmp (rows_of_blocks run.now)) }
+    ensures within { result ≤ length entries.now }
+    ensures apart { T (apart tag_cmp (map entry_change (take result entries.now)) (rows_of_blocks run.now)) }
+{
+    match run.first_tag() {
+        Some(first) => entries_before(entries, first),
+        None => 0,
+    }
+}
+
 /// The list of these leaves and a run behind them, of which the first blocks become a leaf.
 fn with_first_leaf(alloc: Global, leaves: Leaves, run: Run) -> Result<BlockList, AllocError>
-    requires { rows_in (leaves ++ run) ≤ 2 ^ 60 }
+    requires few { rows_in (leaves ++ run) ≤ 2 ^ 60 }
+    requires some { 0 < length run }
     ensures { IfOk result (λ l. l ≡ leaves ++ run) }
 {
     let many = LEAF.min(run.len());
@@ -304,7 +375,8 @@ fn with_run(alloc: Global, leaves: Leaves, run: Run) -> Result<Leaves, AllocErro
 
 /// The leaves with the blocks of a run behind them in one leaf.
 fn with_leaf(alloc: Global, leaves: Leaves, run: Run) -> Result<Leaves, AllocError>
-    requires { rows_in leaves + rows_in run ≤ 2 ^ 60 }
+    requires few { rows_in leaves + rows_in run ≤ 2 ^ 60 }
+    requires some { 0 < length run }
     ensures { IfOk result (λ l. l ≡ leaves ++ run) }
 {
     let leaf = Leaf::new(alloc, run)?;

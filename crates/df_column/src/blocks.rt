@@ -149,13 +149,29 @@ fn with_grown(
     )
 }
 
-/// The list with the block's rows and then the picked rows behind it. The block is filled up.
+/// A last block of so many rows is not filled up further, since each row that comes makes it anew.
+const MOST_GROWN_ROWS: usize = 64;
+
+/// How many rows may be put behind those of the block.
+fn room_in(block: &Block, is_last: bool) -> usize
+    ensures { length block.now.tags + result ≤ most_rows }
+{
+    let rows = block.tags().len();
+    if is_last && rows >= MOST_GROWN_ROWS {
+        return 0;
+    }
+    MOST_ROWS - rows
+}
+
+/// The list with the block's rows and then the picked rows behind it, of which so many go into the block.
 fn with_filled(
     alloc: Global,
     out: BlockList,
     block: &Arc<Block>,
+    room: usize,
     picks: &[Pick<'_>],
 ) -> Result<BlockList, AllocError>
+    requires room { length (arc_value block.now).tags + room ≤ most_rows }
     requires within { AreWithin 0 picks.now }
     requires rows { AreRows (map dtype_of_column (arc_value block.now).columns) picks.now }
     ensures { IfOk result (AddsRows (map dtype_of_column (arc_value block.now).columns)
@@ -163,18 +179,18 @@ fn with_filled(
         ++ rows.picked_rows (map column_cells (arc_value block.now).columns) picks.now)
         out) }
 {
-    let room = MOST_ROWS - block.tags().len();
     let (first, rest) = picks.split_at(room.min(picks.len()));
     let grown = with_grown(alloc, out, block, first)?;
     let made = with_parts(alloc, grown, block.tags(), block.columns(), rest, MOST_ROWS)?;
     Ok(made)
 }
 
-/// The list with the block's rows and then the new rows of these entries behind it. The block is filled up.
+/// The list with the block's rows and then the new rows of these entries behind it.
 fn with_behind(
     alloc: Global,
     out: BlockList,
     block: &Arc<Block>,
+    is_last: bool,
     entries: &[Entry],
 ) -> Result<BlockList, AllocError>
     requires entries { AreRising entries.now }
@@ -184,11 +200,11 @@ fn with_behind(
         ++ after_changes tag_cmp [] (map entry_change entries.now)) out) }
 {
     let picks = merge(alloc, &[], entries)?;
-    with_filled(alloc, out, block, &picks)
+    with_filled(alloc, out, block, room_in(block, is_last), &picks)
 }
 
 /// The list with the block's rows after these changes behind it: the block itself where there is none. New rows behind
-/// the last block fill it up; else the rows are cut evenly.
+/// those of the block are put there, if all fit into it or it is the last block; else the rows are cut evenly.
 fn with_changed(
     alloc: Global,
     out: BlockList,
@@ -206,17 +222,19 @@ fn with_changed(
     if entries.is_empty() {
         return with_shared(alloc, out, block);
     }
-    if is_last && is_behind(block.tags(), entries) {
-        let made = with_behind(alloc, out, block, entries)?;
+    let tags = block.tags();
+    let has_room = tags.len().saturating_add(entries.len()) <= MOST_ROWS;
+    if (is_last || has_room) && is_behind(tags, entries) {
+        let made = with_behind(alloc, out, block, is_last, entries)?;
         return Ok(made);
     }
-    let picks = merge(alloc, block.tags(), entries)?;
+    let picks = merge(alloc, tags, entries)?;
     let size = part_size(picks.len());
-    with_parts(alloc, out, block.tags(), block.columns(), &picks, size)
+    with_parts(alloc, out, tags, block.columns(), &picks, size)
 }
 
 /// How many of the entries stand before the tag.
-fn entries_before(entries: &[Entry], tag: Tag) -> usize
+pub fn entries_before(entries: &[Entry], tag: Tag) -> usize
     ensures count { result ≡ prefix_len (λ e. is_lt (tag_cmp e.tag tag)) entries.now }
     ensures within { result ≤ length entries.now }
 {

@@ -1,10 +1,10 @@
 //! Leaves of lists of blocks.
-ghost use Rattle.std.specs.Prelude.{◌≡◌, [], IfOk, List, Some, T, not};
+ghost use Rattle.std.specs.Prelude.{◌≡◌, ◌<◌, [], IfOk, List, Some, T, length, not};
 ghost use Rattle.std.specs.List.{list_all};
 ghost use Rattle.df_value.specs.declared.cell.Cell.{Cell};
 ghost use Rattle.df_column.specs.BlockLists.{AreExtremeCells, extreme_cell};
 ghost use Rattle.df_column.specs.Blocks.{rows_of_blocks};
-ghost use Rattle.df_column.specs.Changes.{IsNext};
+ghost use Rattle.df_column.specs.Changes.{IsHead};
 ghost use Rattle.df_column.specs.Extremes as extremes;
 ghost use Rattle.df_column.specs.Extremes.{extreme_of, is_above, tags_above};
 
@@ -21,7 +21,7 @@ use std::marker::Model;
 #[derive(Drop)]
 pub struct Leaf {
     run: Run,
-    first: Option<Tag>,
+    first: Tag,
     least: Vec<Option<Cell>>,
     greatest: Vec<Option<Cell>>,
 }
@@ -88,9 +88,10 @@ fn is_none_above(greatest: &Option<Cell>, value: &Cell) -> bool
 impl Leaf {
     /// The leaf of this run. One cell of each block is read for an end of a column.
     pub fn new(alloc: Global, run: Run) -> Result<Leaf, AllocError>
+        requires { 0 < length run }
         ensures { IfOk result (λ l. l ≡ run) }
     {
-        let first = run.first_tag();
+        let first = run.get(0).first();
         let least = extreme_cells(alloc, Extreme::Least, &run)?;
         let greatest = extreme_cells(alloc, Extreme::Greatest, &run)?;
         Ok(Leaf {
@@ -108,9 +109,9 @@ impl Leaf {
         &self.run
     }
 
-    /// The tag of the first row, none where there are no rows. No block is read.
-    pub fn first_tag(&self) -> Option<Tag>
-        ensures { IsNext (rows_of_blocks self.now) result }
+    /// The tag of the first row. No block is read.
+    pub fn first_tag(&self) -> Tag
+        ensures { IsHead (rows_of_blocks self.now) result }
     {
         self.first
     }

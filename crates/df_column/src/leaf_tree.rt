@@ -1,5 +1,5 @@
 //! A tree of leaves, which is balanced by heights.
-ghost use Rattle.std.specs.Prelude.{◌≡◌, ◌≤◌, ◌++◌, ◌∷◌, ◌^◌, [], IfOk, drop, length, take};
+ghost use Rattle.std.specs.Prelude.{◌≡◌, ◌≤◌, ◌++◌, ◌∷◌, ◌^◌, [], IfOk, IfSome, drop, length, take};
 ghost use Rattle.std.specs.Arc.{arc_value};
 ghost use Rattle.df_column.specs.BlockLists.{rows_in};
 ghost use Rattle.df_column.specs.LeafTotals.{AreTotals};
@@ -11,6 +11,7 @@ use std::alloc::{AllocError, Global};
 use std::marker::Model;
 use std::sync::Arc;
 
+mod changes;
 mod reads;
 
 /// Leaves in order. Trees share the nodes that they have in common.
@@ -209,6 +210,24 @@ fn linked(
     }
 }
 
+/// The tree of these leaves, of three trees of any heights.
+fn spliced(
+    alloc: Global,
+    left: &LeafTree,
+    middle: &LeafTree,
+    right: &LeafTree,
+) -> Result<LeafTree, AllocError>
+    ensures { IfOk result (λ t. leaves_of t ≡ leaves_of left.now ++ (leaves_of middle.now ++ leaves_of right.now)) }
+{
+    match middle.only_leaf() {
+        Some(leaf) => linked(alloc, left, leaf, right),
+        None => {
+            let behind = middle.joined(alloc, right)?;
+            left.joined(alloc, &behind)
+        }
+    }
+}
+
 /// The first of the leaves of a node, and the others.
 fn split_first(alloc: Global, node: &Node) -> Result<Parted, AllocError>
     ensures { IfOk result (λ p. arc_value p.leaf ∷ leaves_of p.rest ≡ node.now) }
@@ -238,6 +257,20 @@ impl LeafTree {
                 let node: &Node = node;
                 node.height
             }
+        }
+    }
+
+    /// The leaf, if there is just one.
+    fn only_leaf(&self) -> Option<&Arc<Leaf>>
+        ensures { IfSome result (λ l. leaves_of self.now ≡ arc_value l.now ∷ []) }
+    {
+        let LeafTree::Fork(node) = self else {
+            return None;
+        };
+        let node: &Node = node;
+        match (&node.left, &node.right) {
+            (LeafTree::Empty, LeafTree::Empty) => Some(&node.leaf),
+            _ => None,
         }
     }
 

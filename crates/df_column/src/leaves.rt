@@ -1,16 +1,22 @@
 //! Leaves that several lists of blocks share.
-ghost use Rattle.std.specs.Prelude.{◌≡◌, ◌<◌, ◌≤◌, ◌+◌, ◌-◌, ◌++◌, ◌^◌, [], IfNone, IfOk, IfSome, List, T, drop, length, take};
+ghost use Rattle.std.specs.Prelude.{◌≡◌, ◌<◌, ◌≤◌, ◌+◌, ◌-◌, ◌++◌, ◌^◌, [], IfNone, IfOk, IfSome, List, T, drop, length, map, take};
 ghost use Rattle.std.specs.Arc.{arc_value};
 ghost use Rattle.std.specs.FinMap as finite;
 ghost use Rattle.std.specs.FinMap.Entries.{below_all};
 ghost use Rattle.df_column.specs.BlockLists.{HaveRows, IsRunAt, extreme_cell, rows_in};
-ghost use Rattle.df_column.specs.Blocks.{BlockParts, ends_of, rows_of_blocks};
+ghost use Rattle.df_column.specs.Blocks.{AreOfDtypes, BlockParts, ends_of, rows_of_blocks};
+ghost use Rattle.df_column.specs.Columns.{column_cells, dtype_of_column};
 ghost use Rattle.df_column.specs.LeafTrees.{blocks_in};
 ghost use Rattle.df_column.specs.Extremes as extremes;
 ghost use Rattle.df_column.specs.Pools.{start_at};
+ghost use Rattle.df_column.specs.Rows.{AreNewRows, are_even};
 ghost use Rattle.df_column.specs.TableBlocks.{IsEndCount, IsRunOfTag};
+ghost use Rattle.df_column.specs.Tables.{AreRising};
 ghost use Rattle.df_column.specs.Tags.{tag_cmp};
+ghost use Rattle.df_column.specs.TreeChanges.{AreChangedFrom};
 
+use crate::column::Column;
+use crate::entry::Entry;
 use crate::extremes::Extreme;
 use crate::leaf::Leaf;
 use crate::leaf_tree::LeafTree;
@@ -129,6 +135,33 @@ impl Leaves {
             (extreme_cell extreme self.now index)) }
     {
         self.tree.furthest(alloc, extreme, best, index)
+    }
+
+    /// The tree that they stand in.
+    pub fn into_tree(self) -> LeafTree
+        ensures { blocks_in result ≡ self }
+    {
+        self.tree
+    }
+
+    /// The leaves after the changes, but for those that stand before the first row, and how many these are. What has no
+    /// change is shared.
+    pub fn changed(
+        &self,
+        alloc: Global,
+        columns: &[Column],
+        entries: &[Entry],
+    ) -> Result<(Leaves, usize), AllocError>
+        requires rows { T (finite.is_sorted tag_cmp (rows_of_blocks self.now)) }
+        requires types { AreOfDtypes (map dtype_of_column columns.now) self.now }
+        requires empty { T (are_even 0 (map column_cells columns.now)) }
+        requires entries { AreRising entries.now }
+        requires fits { AreNewRows (map dtype_of_column columns.now) entries.now }
+        ensures { IfOk result (λ v. AreChangedFrom (map dtype_of_column columns.now) self.now entries.now v.0 v.1) }
+    {
+        end_behind(self.rows(), entries.len())?;
+        let (tree, from) = self.tree.changed(alloc, columns, entries)?;
+        Ok((Leaves { tree }, from))
     }
 
     /// The leaves with this one behind them.

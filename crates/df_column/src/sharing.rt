@@ -8,7 +8,7 @@ ghost use Rattle.df_column.specs.Rows.{AreNewRows, are_even};
 ghost use Rattle.df_column.specs.Tables.{AreRising, entry_change};
 ghost use Rattle.df_column.specs.Tags.{tag_cmp};
 
-use crate::block_list::BlockList;
+use crate::block_list::{BlockList, Edited};
 use crate::blocks::with_changes;
 use crate::column::Column;
 use crate::entry::Entry;
@@ -58,9 +58,8 @@ fn reached(blocks: &BlockList, at: usize, entries: &[Entry]) -> usize
     }
 }
 
-/// The blocks after the changes. Those before the first change and behind the last one are not read. Where there are no
-/// blocks, the new rows go into blocks of these columns, which have no cells.
-pub fn edited_blocks(
+/// The blocks after the changes. Those before the first change and behind the last one are not read, all between are.
+fn with_range_changed(
     alloc: Global,
     blocks: &BlockList,
     columns: &[Column],
@@ -81,4 +80,52 @@ pub fn edited_blocks(
     let changed = with_changes(alloc, before, blocks, front..back, columns, entries)?;
     let made = changed.joined(alloc, blocks, back, blocks.len())?;
     Ok(made)
+}
+
+/// The list after the changes of further entries.
+fn with_others(
+    alloc: Global,
+    list: BlockList,
+    columns: &[Column],
+    entries: &[Entry],
+) -> Result<BlockList, AllocError>
+    requires rows { T (finite.is_sorted tag_cmp (rows_of_blocks list)) }
+    requires types { AreOfDtypes (map dtype_of_column columns.now) list }
+    requires empty { T (are_even 0 (map column_cells columns.now)) }
+    requires entries { AreRising entries.now }
+    requires fits { AreNewRows (map dtype_of_column columns.now) entries.now }
+    ensures rows { IfOk result (λ l. rows_of_blocks l ≡
+        after_changes tag_cmp (rows_of_blocks list) (map entry_change entries.now)) }
+    ensures types { IfOk result (AreOfDtypes (map dtype_of_column columns.now)) }
+{
+    if entries.is_empty() {
+        return Ok(list);
+    }
+    with_range_changed(alloc, &list, columns, entries)
+}
+
+/// The blocks after the changes. Leaves without a change are shared, and not read. Where there are no blocks, the new rows
+/// go into blocks of these columns, which have no cells.
+pub fn edited_blocks(
+    alloc: Global,
+    blocks: &BlockList,
+    columns: &[Column],
+    entries: &[Entry],
+) -> Result<BlockList, AllocError>
+    requires rows { T (finite.is_sorted tag_cmp (rows_of_blocks blocks.now)) }
+    requires types { AreOfDtypes (map dtype_of_column columns.now) blocks.now }
+    requires empty { T (are_even 0 (map column_cells columns.now)) }
+    requires entries { AreRising entries.now }
+    requires fits { AreNewRows (map dtype_of_column columns.now) entries.now }
+    ensures rows { IfOk result (λ l. rows_of_blocks l ≡
+        after_changes tag_cmp (rows_of_blocks blocks.now) (map entry_change entries.now)) }
+    ensures types { IfOk result (AreOfDtypes (map dtype_of_column columns.now)) }
+{
+    match blocks.with_changed_leaves(alloc, columns, entries)? {
+        None => with_range_changed(alloc, blocks, columns, entries),
+        Some(Edited { list, from, to }) => {
+            let list = with_others(alloc, list, columns, &entries[to..])?;
+            with_others(alloc, list, columns, &entries[..from])
+        }
+    }
 }

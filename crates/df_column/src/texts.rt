@@ -222,6 +222,16 @@ fn text_from<'a>(old: &'a Texts, column: usize, origin: Origin<'a>) -> Option<&'
     }
 }
 
+/// Whether each text of so many picks is looked for in the pool text by text: where there are few, or some behind all rows
+/// of a column that has few texts, as a key column has. Else the texts are found by their hashes, and the pool's too.
+fn is_looked_up(whole: bool, pool: usize, picks: usize) -> bool {
+    if whole && pool <= MOST_LOOKED_UP {
+        picks <= 4 * MOST_LOOKED_UP
+    } else {
+        picks <= MOST_LOOKED_UP
+    }
+}
+
 /// Whether the cell is this text, or a null where there is none.
 fn is_cell_of(text: Option<&str>, cell: &Cell) -> bool
     ensures { result ≡ cell_eq (text_cell (text_now text.entry)) cell.now }
@@ -327,7 +337,7 @@ impl Texts {
             all_or_none whole (map text_cell self.now)
             ++ picked_cells (map text_cell self.now) column picks.now) }
     {
-        if picks.len() > MOST_LOOKED_UP {
+        if !is_looked_up(whole, self.pool.len(), picks.len()) {
             let texts = picked_by_hash(alloc, self, whole, column, picks)?;
             return Ok(texts);
         }

@@ -79,17 +79,13 @@ impl LeafTree {
             return None;
         };
         let node: &Node = node;
-        let first = node.leaf.first_tag();
+        let first = Some(node.leaf.first_tag());
         if begins_behind(first, tag) {
             return node.left.run_of_tag(tag);
         }
         if let Some((other, between)) = node.right.run_of_tag(tag) {
             let rows = node.left.totals().rows + node.leaf.run().rows();
             return Some((other, rows + between));
-        }
-        // No leaf that is made has no rows, but no invariant says so.
-        if first.is_none() {
-            return node.left.run_of_tag(tag);
         }
         Some((node.leaf.run(), node.left.totals().rows))
     }

@@ -1,4 +1,4 @@
-use Rattle.std.proofs.Common.{ap, arith}
+use Rattle.std.proofs.Common.{◌∙◌, ap, arith, length, length-take}
 use Rattle.df_column.specs.BlockLists.{rows_in}
 use Rattle.df_column.proofs.BlockListLemmas.{rows_both}
 use Rattle.df_column.proofs.LeafEnds.{part_rows}
@@ -10,7 +10,8 @@ with_leaf-requires c =
     let b = rows_both c.args.leaves c.args.run in
     let p = part_rows c.args.run 0 c.min-many.result in
     let own = ap rows_in c.in_ok-part.ensures in
-    omega (arith, b, p, own, c.requires)
+    let many = ap length c.in_ok-part.ensures ∙ length-take c.min-many.result c.args.run in
+    omega (arith, b, p, own, many, c.requires)
 
 pub invariant_of-result : goal.invariant_of-result
 invariant_of-result c =

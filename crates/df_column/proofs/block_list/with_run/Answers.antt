@@ -1,4 +1,4 @@
-use Rattle.std.proofs.Common.{◌≡◌, ◌∙◌, ◌++◌, ◌/◌, ap, append_assoc, arith, drop, sym, take}
+use Rattle.std.proofs.Common.{◌≡◌, ◌∙◌, ◌++◌, ◌/◌, ap, append_assoc, arith, drop, length, length-drop, length-take, sym, take}
 use Rattle.df_column.specs.BlockLists.{rows_in}
 use Rattle.df_column.proofs.BlockListLemmas.{rows_both}
 use Rattle.df_column.proofs.LeafEnds.{part_rows}
@@ -13,7 +13,8 @@ with_leaf-requires-2 c =
     let b = rows_both c.args.leaves c.args.run in
     let p = part_rows c.args.run 0 (c.len-len.result / 2) in
     let own = ap rows_in c.in_ok-part.ensures in
-    omega (arith, b, p, own, c.requires)
+    let many = ap length c.in_ok-part.ensures ∙ length-take (c.len-len.result / 2) c.args.run in
+    omega (arith, b, p, own, many, c.requires)
 
 -- both halves
 halves : (c : goal.In_ok-part-2) → c.in_ok-part.field-0 ++ c.in_ok-part-2.field-0 ≡ c.args.run
@@ -28,7 +29,9 @@ with_leaf-requires-3 c =
     let b = rows_both c.args.leaves c.args.run in
     let first = ap rows_in c.in_ok-first.ensures ∙ rows_both c.args.leaves c.in_ok-part.field-0 in
     let both = ap rows_in (sym (halves c)) ∙ rows_both c.in_ok-part.field-0 c.in_ok-part-2.field-0 in
-    omega (arith, b, first, both, c.requires)
+    let many = ap length c.in_ok-part-2.ensures ∙ length-drop (c.len-len.result / 2) (take c.len-len.result c.args.run) in
+    let whole = length-take c.len-len.result c.args.run in
+    omega (arith, b, first, both, many, whole, c.requires)
 
 pub returns : goal.returns
 returns c =

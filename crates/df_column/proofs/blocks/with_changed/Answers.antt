@@ -14,9 +14,9 @@ returns-then-is_behind c =
     let block = arc_value c.args.block.now in
     let t : Tag = record { first = 0; second = 0; third = 0 } in
     let e : Entry = record { tag = t; old = None; new = None } in
-    let behind = rw (c.tags.ensures.tags, c.deref.ensures) at (sym (c.is_behind.ensures t e) ∙ c.if-is_behind.true) in
-    let some = rw c.deref.ensures at c.tags.ensures.some in
+    let behind = rw (c.tags-tags.ensures.tags, c.deref.ensures) at (sym (c.is_behind.ensures t e) ∙ c.if-is_behind.true) in
+    let some = rw c.deref.ensures at c.tags-tags.ensures.some in
     adds_same _ _ _ _ _ _ refl (rows_behind block.tags (map column_cells block.columns) c.args.entries.now t e c.requires.rows c.requires.entries some (subst T (sym behind) tt)) c.in_ok-made.ensures
 
 pub merge-requires-clause-tags : goal.merge-requires-clause-tags
-merge-requires-clause-tags c = rw (c.tags-2.ensures.tags, c.deref-2.ensures) (rising_tags (arc_value c.args.block.now).tags (map column_cells (arc_value c.args.block.now).columns) c.requires.rows)
+merge-requires-clause-tags c = rw (c.tags-tags.ensures.tags, c.deref.ensures) (rising_tags (arc_value c.args.block.now).tags (map column_cells (arc_value c.args.block.now).columns) c.requires.rows)

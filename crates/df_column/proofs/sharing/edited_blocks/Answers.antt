@@ -1,37 +1,56 @@
-use Rattle.std.proofs.Common.{◌≡◌, ◌∙◌, ◌++◌, ap, arith, drop, map, subst, sym, take}
-use Rattle.df_column.specs.Blocks.{AreOfDtypes, rows_of_blocks}
+use Rattle.std.proofs.Common.{◌∙◌, ap, drop, map, subst, sym, take}
+use Rattle.std.specs.Option.{IfSome}
+use Rattle.std.proofs.lemmas.Result.{IfOk-weaker}
+use Rattle.df_column.specs.Blocks.{rows_of_blocks}
 use Rattle.df_column.specs.Changes.{after_changes}
 use Rattle.df_column.specs.Columns.{dtype_of_column}
-use Rattle.df_column.specs.Tables.{entry_change}
+use Rattle.df_column.specs.Rows.{AreNewRows, is_row_if_any}
+use Rattle.df_column.specs.Tables.{AreRising, entry_change}
 use Rattle.df_column.specs.Tags.{tag_cmp}
-use Rattle.df_column.proofs.ListParts.{all_taken}
-use Rattle.df_column.proofs.SharedLemmas.{changed_between, rows_append, sorted_between, types_append, types_front, types_rest}
+use Rattle.df_column.specs.TreeChanges.{AreChangedBetween}
+use Rattle.df_column.proofs.ChangedParts.{in_three, rest_all}
+use Rattle.df_column.proofs.PartLemmas.{all_drop, all_take}
+use Rattle.df_column.proofs.TableChanges.{applied_sorted, sorted_dropped, sorted_taken}
 use Rattle.df_column.proofs.sharing.edited_blocks.Goals as goal
 
-pub with_changes-requires-clause-rows : goal.with_changes-requires-clause-rows
-with_changes-requires-clause-rows c = sorted_between c.untouched-front.result c.reached-back.result c.args.blocks.now c.requires.rows
+pub with_others-requires-clause-rows : goal.with_others-requires-clause-rows
+with_others-requires-clause-rows c =
+    let h = subst (λ o. IfSome o (λ e. AreChangedBetween (map dtype_of_column c.args.columns.now) c.args.blocks.now c.args.entries.now e.list e.from e.to)) c.in-Some.is c.in_ok-with_changed_leaves.ensures in
+    applied_sorted (rows_of_blocks c.args.blocks.now) (rows_of_blocks c.in-Some.field-0.list) (drop c.in-Some.field-0.from (take c.in-Some.field-0.to c.args.entries.now)) c.requires.rows h.rows
 
-pub returns-clause-rows : goal.returns-clause-rows
-returns-clause-rows c =
-    let bs = c.args.blocks.now in
-    let front = c.untouched-front.result in
-    let back = c.reached-back.result in
-    let before : c.in_ok-before.before ≡ take front bs = c.in_ok-before.ensures ∙ ap (λ l. l ++ take front bs) c.new.ensures in
-    let behind : drop back (take c.len.result bs) ≡ drop back bs = ap (drop back) (all_taken bs c.len.result (omega (arith, c.len.ensures))) in
-    let changes = map entry_change c.args.entries.now in
-    let middle = after_changes tag_cmp (rows_of_blocks (drop front (take back bs))) changes in
-    ap rows_of_blocks (c.in_ok-made.ensures ∙ ap (λ cs. c.in_ok-changed.changed ++ cs) behind)
-    ∙ rows_append c.in_ok-changed.changed (drop back bs)
-    ∙ ap (λ rs. rs ++ rows_of_blocks (drop back bs)) (c.in_ok-changed.ensures.rows ∙ ap (λ cs. rows_of_blocks cs ++ middle) before)
-    ∙ changed_between bs front back c.args.entries.now c.reached-back.ensures.ordered c.untouched-front.ensures.apart c.reached-back.ensures.apart
+pub with_others-requires-clause-entries : goal.with_others-requires-clause-entries
+with_others-requires-clause-entries c =
+    subst AreRising (sym (rest_all c.in-Some.field-0.to c.args.entries.now)) (sorted_dropped c.in-Some.field-0.to c.args.entries.now c.requires.entries)
 
-pub returns-clause-types : goal.returns-clause-types
-returns-clause-types c =
-    let bs = c.args.blocks.now in
-    let front = c.untouched-front.result in
-    let back = c.reached-back.result in
+pub with_others-requires-clause-fits : goal.with_others-requires-clause-fits
+with_others-requires-clause-fits c =
     let dtypes = map dtype_of_column c.args.columns.now in
-    let before : c.in_ok-before.before ≡ take front bs = c.in_ok-before.ensures ∙ ap (λ l. l ++ take front bs) c.new.ensures in
-    let behind : drop back (take c.len.result bs) ≡ drop back bs = ap (drop back) (all_taken bs c.len.result (omega (arith, c.len.ensures))) in
-    let changed = c.in_ok-changed.ensures.types (subst (AreOfDtypes dtypes) (sym before) (types_front dtypes front bs c.requires.types)) in
-    subst (AreOfDtypes dtypes) (sym (c.in_ok-made.ensures ∙ ap (λ cs. c.in_ok-changed.changed ++ cs) behind)) (types_append dtypes c.in_ok-changed.changed (drop back bs) changed (types_rest dtypes back bs c.requires.types))
+    subst (AreNewRows dtypes) (sym (rest_all c.in-Some.field-0.to c.args.entries.now)) (all_drop (λ e. is_row_if_any dtypes e.new) c.in-Some.field-0.to c.args.entries.now c.requires.fits)
+
+pub with_others-requires-in-Some-clause-rows : goal.with_others-requires-in-Some-clause-rows
+with_others-requires-in-Some-clause-rows c =
+    let h = subst (λ o. IfSome o (λ e. AreChangedBetween (map dtype_of_column c.args.columns.now) c.args.blocks.now c.args.entries.now e.list e.from e.to)) c.in-Some.is c.in_ok-with_changed_leaves.ensures in
+    let es = c.args.entries.now in
+    let list = rows_of_blocks c.in-Some.field-0.list in
+    applied_sorted list (rows_of_blocks c.in_ok-list-in-Some.list) (drop c.in-Some.field-0.to es)
+    (applied_sorted (rows_of_blocks c.args.blocks.now) list (drop c.in-Some.field-0.from (take c.in-Some.field-0.to es)) c.requires.rows h.rows)
+    (c.in_ok-list-in-Some.ensures.rows ∙ ap (λ es. after_changes tag_cmp list (map entry_change es)) (rest_all c.in-Some.field-0.to es))
+
+pub with_others-requires-in-Some-clause-entries : goal.with_others-requires-in-Some-clause-entries
+with_others-requires-in-Some-clause-entries c = sorted_taken c.in-Some.field-0.from c.args.entries.now c.requires.entries
+
+pub with_others-requires-in-Some-clause-fits : goal.with_others-requires-in-Some-clause-fits
+with_others-requires-in-Some-clause-fits c = all_take (λ e. is_row_if_any (map dtype_of_column c.args.columns.now) e.new) c.in-Some.field-0.from c.args.entries.now c.requires.fits
+
+pub returns-in_ok-list-in-Some-clause-rows : goal.returns-in_ok-list-in-Some-clause-rows
+returns-in_ok-list-in-Some-clause-rows c =
+    let h = subst (λ o. IfSome o (λ e. AreChangedBetween (map dtype_of_column c.args.columns.now) c.args.blocks.now c.args.entries.now e.list e.from e.to)) c.in-Some.is c.in_ok-with_changed_leaves.ensures in
+    let es = c.args.entries.now in
+    let first = map entry_change (take c.in-Some.field-0.from es) in
+    let list = rows_of_blocks c.in-Some.field-0.list in
+    let behind = c.in_ok-list-in-Some.ensures.rows ∙ ap (λ es. after_changes tag_cmp list (map entry_change es)) (rest_all c.in-Some.field-0.to es) in
+    let last = map entry_change (drop c.in-Some.field-0.to es) in
+    IfOk-weaker c.with_others-in-Some.result _ _
+    (λ l e. e ∙ ap (λ rs. after_changes tag_cmp rs first) (behind ∙ ap (λ rs. after_changes tag_cmp rs last) h.rows)
+    ∙ in_three (rows_of_blocks c.args.blocks.now) es c.in-Some.field-0.from c.in-Some.field-0.to h.ordered c.requires.entries h.before)
+    c.with_others-in-Some.ensures.rows

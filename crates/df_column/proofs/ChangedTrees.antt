@@ -1,0 +1,73 @@
+-- The rows and types of a tree of which both sides and what stands between them are known.
+use Rattle.std.proofs.Common.{◌≡◌, List, [], ◌∷◌, ◌++◌, length, map, refl, sym, ap, subst, ◌∙◌, arith}
+use Rattle.df_value.specs.declared.cell.Cell.{Cell}
+use Rattle.df_value.specs.declared.cell.CellType.{CellType}
+use Rattle.df_column.specs.BlockLists.{blocks_of_leaves}
+use Rattle.df_column.specs.Blocks.{AreOfDtypes, BlockParts, rows_of_blocks}
+use Rattle.df_column.specs.Changes.{after_changes}
+use Rattle.df_column.specs.Tables.{entry_change}
+use Rattle.df_column.specs.Tags.{tag_cmp}
+use Rattle.df_column.specs.declared.entry.Entry.{Entry}
+use Rattle.df_column.specs.declared.tag.Tag.{Tag}
+use Rattle.df_column.proofs.BlockListLemmas.{leaves_append}
+use Rattle.df_column.proofs.LeafTreeLemmas.{node_blocks}
+use Rattle.df_column.proofs.SharedLemmas.{rows_append, types_append}
+
+pub nothing_changed : (rows : List (Tag × List Cell)) (es : List Entry) → length es ≡ 0 → after_changes tag_cmp rows (map entry_change es) ≡ rows
+nothing_changed rows [] h = refl
+nothing_changed rows (e ∷ es) h = absurd (omega (arith, h))
+
+rows_parts : (a b d : List BlockParts) → rows_of_blocks (a ++ (b ++ d)) ≡ rows_of_blocks a ++ (rows_of_blocks b ++ rows_of_blocks d)
+rows_parts a b d = rows_append a (b ++ d) ∙ ap (λ rs. rows_of_blocks a ++ rs) (rows_append b d)
+
+types_parts : (dtypes : List CellType) (a b d : List BlockParts) → AreOfDtypes dtypes a → AreOfDtypes dtypes b → AreOfDtypes dtypes d → AreOfDtypes dtypes (a ++ (b ++ d))
+types_parts dtypes a b d p q r = types_append dtypes a (b ++ d) p (types_append dtypes b d q r)
+
+types_first : (dtypes : List CellType) (a b : List BlockParts) → AreOfDtypes dtypes (a ++ b) → AreOfDtypes dtypes a
+types_first dtypes [] b h = tt
+types_first dtypes (x ∷ a) b h = (h.0, types_first dtypes a b h.1)
+
+types_second : (dtypes : List CellType) (a b : List BlockParts) → AreOfDtypes dtypes (a ++ b) → AreOfDtypes dtypes b
+types_second dtypes [] b h = h
+types_second dtypes (x ∷ a) b h = types_second dtypes a b h.1
+
+-- parts of blocks whose columns have these types
+pub record HaveTypes (dtypes : List CellType) (a b d : List BlockParts) : Type 0 where
+  pub left : AreOfDtypes dtypes a
+  pub middle : AreOfDtypes dtypes b
+  pub right : AreOfDtypes dtypes d
+
+pub types_cut : (dtypes : List CellType) (all a b d : List BlockParts) → all ≡ a ++ (b ++ d) → AreOfDtypes dtypes all → HaveTypes dtypes a b d
+types_cut dtypes all a b d e h =
+    let k : AreOfDtypes dtypes (a ++ (b ++ d)) = subst (AreOfDtypes dtypes) e h in
+    let r = types_second dtypes a (b ++ d) k in
+    record { left = types_first dtypes a (b ++ d) k; middle = types_first dtypes b d r; right = types_second dtypes b d r }
+
+pub types_cut_two : (dtypes : List CellType) (all a b : List BlockParts) → all ≡ a ++ b → AreOfDtypes dtypes all → AreOfDtypes dtypes a
+types_cut_two dtypes all a b e h = types_first dtypes a b (subst (AreOfDtypes dtypes) e h)
+
+pub types_cut_rest : (dtypes : List CellType) (all a b : List BlockParts) → all ≡ a ++ b → AreOfDtypes dtypes all → AreOfDtypes dtypes b
+types_cut_rest dtypes all a b e h = types_second dtypes a b (subst (AreOfDtypes dtypes) e h)
+
+pub rows_cut : (all a b d : List BlockParts) → all ≡ a ++ (b ++ d) → rows_of_blocks all ≡ rows_of_blocks a ++ (rows_of_blocks b ++ rows_of_blocks d)
+rows_cut all a b d e = ap rows_of_blocks e ∙ rows_parts a b d
+
+-- one leaf between both sides
+module _ (ls ms all : List (List BlockParts)) (l : List BlockParts) (is : all ≡ ls ++ l ∷ ms) where
+  pub rows_linked : rows_of_blocks (blocks_of_leaves all) ≡ rows_of_blocks (blocks_of_leaves ls) ++ (rows_of_blocks l ++ rows_of_blocks (blocks_of_leaves ms))
+  rows_linked = rows_cut (blocks_of_leaves all) (blocks_of_leaves ls) l (blocks_of_leaves ms) (node_blocks ls ms l all (sym is))
+
+  pub types_linked : (dtypes : List CellType) → AreOfDtypes dtypes l → AreOfDtypes dtypes (blocks_of_leaves ls) → AreOfDtypes dtypes (blocks_of_leaves ms) → AreOfDtypes dtypes (blocks_of_leaves all)
+  types_linked dtypes own left right =
+      subst (AreOfDtypes dtypes) (sym (node_blocks ls ms l all (sym is))) (types_parts dtypes (blocks_of_leaves ls) l (blocks_of_leaves ms) left own right)
+
+-- leaves between both sides
+module _ (ls ks ms all : List (List BlockParts)) (is : all ≡ ls ++ (ks ++ ms)) where
+  cut : blocks_of_leaves all ≡ blocks_of_leaves ls ++ (blocks_of_leaves ks ++ blocks_of_leaves ms)
+  cut = ap blocks_of_leaves is ∙ leaves_append ls (ks ++ ms) ∙ ap (λ bs. blocks_of_leaves ls ++ bs) (leaves_append ks ms)
+
+  pub rows_spliced : rows_of_blocks (blocks_of_leaves all) ≡ rows_of_blocks (blocks_of_leaves ls) ++ (rows_of_blocks (blocks_of_leaves ks) ++ rows_of_blocks (blocks_of_leaves ms))
+  rows_spliced = rows_cut (blocks_of_leaves all) (blocks_of_leaves ls) (blocks_of_leaves ks) (blocks_of_leaves ms) cut
+
+  pub types_spliced : (dtypes : List CellType) → AreOfDtypes dtypes (blocks_of_leaves ks) → AreOfDtypes dtypes (blocks_of_leaves ls) → AreOfDtypes dtypes (blocks_of_leaves ms) → AreOfDtypes dtypes (blocks_of_leaves all)
+  types_spliced dtypes own left right = subst (AreOfDtypes dtypes) (sym cut) (types_parts dtypes (blocks_of_leaves ls) (blocks_of_leaves ks) (blocks_of_leaves ms) left own right)
