@@ -1,14 +1,16 @@
 -- The row of a group, cell by cell, from totals that are those of its members.
-use Rattle.std.proofs.Common.{◌≡◌, ℕ, ◌+◌, ◌<◌, ◌≤◌, List, [], ◌∷◌, ◌++◌, length, get_or, map, min, take, sym, ap, ◌∙◌, arith}
-use Rattle.std.specs.Prelude.{Result, Ok, IfOk}
+use Rattle.std.proofs.Common.{◌≡◌, ℕ, suc, ◌+◌, ◌<◌, ◌≤◌, List, [], ◌∷◌, ◌++◌, length, get_or, map, min, take, sym, ap, subst, ◌∙◌, arith, length-append, length-take}
+use Rattle.std.specs.Prelude.{IfOk, IfSome, Ok, Option, None, Result, Some, slice_get}
+use Rattle.std.proofs.lemmas.Option.{slice_get-get_or}
 use Rattle.std.proofs.lemmas.List.{get_or-map, length-map, take_all}
 use Rattle.df_value.specs.declared.cell.Cell.{Cell}
 use Rattle.df_value.specs.declared.cell.CellType.{CellType}
+use Rattle.df_column.specs.declared.entry.Entry.{Entry}
 use Rattle.df_ops.specs.Tables.{aggregate_cell}
 use Rattle.df_ops.specs.declared.agg.Agg.{Agg}
 use Rattle.df_ops.proofs.Steps.{made_has, mapped_behind}
-use Rattle.df_group.specs.GroupIndex.{row_of_group, totals_of}
-use Rattle.df_group.specs.Totals.{total_for}
+use Rattle.df_group.specs.GroupIndex.{IsRowBefore, cell_at_if, row_of_group, totals_of}
+use Rattle.df_group.specs.Totals.{IsCellBefore, total_for}
 use Rattle.df_group.specs.declared.grouping.Grouping.{Grouping}
 use Rattle.df_group.specs.declared.total.Total.{Total}
 
@@ -41,3 +43,35 @@ module _ (g : Grouping) (key : List Cell) (rows : List (List Cell)) (totals : Li
       let same : length totals ≡ length g.aggregates = ap length own ∙ length-map g.aggregates (λ a. total_for g.schema a.1 rows) in
       let all : length g.aggregates ≤ n = omega (arith, same, count) in
       so_far ∙ ap (λ taken. key ++ map (λ a. aggregate_cell g.schema rows a.1) taken) (take_all n g.aggregates all)
+
+get_behind : {X : Type 0} (xs ys : List X) (n : ℕ) (d : X) → get_or (xs ++ ys) (length xs + n) d ≡ get_or ys n d
+get_behind [] ys n d = let e : 0 + n ≡ n = omega arith in ap (λ i. get_or ys i d) e
+get_behind (x ∷ xs) ys n d = let e : suc (length xs) + n ≡ suc (length xs + n) = omega arith in ap (λ i. get_or (x ∷ (xs ++ ys)) i d) e ∙ get_behind xs ys n d
+
+module _ (g : Grouping) (key : List Cell) (entries : List Entry) (rows : List (List Cell)) where
+  -- the cell of the row before at the place of an aggregate
+  row_cell : (row : List Cell) (n at : ℕ) (a : List ℕ × Agg) (h : IsRowBefore g key row entries rows) → n < length g.aggregates → a ≡ get_or g.aggregates n a → at ≡ length key + n → slice_get row at ≡ Some (aggregate_cell g.schema h.old a.1)
+  row_cell row n at a h lt here is =
+      let cells = map (λ a. aggregate_cell g.schema h.old a.1) g.aggregates in
+      let many = length-map g.aggregates (λ a. aggregate_cell g.schema h.old a.1) in
+      let whole = length-append key cells in
+      let d = aggregate_cell g.schema h.old a.1 in
+      ap (λ r. slice_get r at) h.is
+      ∙ slice_get-get_or (key ++ cells) at d (omega (arith, whole, many, is, lt))
+      ∙ ap Some (ap (λ i. get_or (key ++ cells) i d) is ∙ get_behind key cells n d
+      ∙ get_or-map (λ a. aggregate_cell g.schema h.old a.1) g.aggregates n a d lt ∙ ap (λ b. aggregate_cell g.schema h.old b.1) (sym here))
+
+  pub known_cell : (before : Option (List Cell)) (columns : List (List ℕ × CellType)) (n at : ℕ) (a : List ℕ × Agg) → columns ≡ g.schema → n < length g.aggregates → a ≡ get_or g.aggregates n a → at ≡ length key + n
+      → IfSome before (λ row. IsRowBefore g key row entries rows) → IfSome (cell_at_if before at) (λ k. IsCellBefore columns a.1 k entries rows)
+  known_cell None columns n at a of lt here is h = tt
+  known_cell (Some row) columns n at a of lt here is h =
+      subst (λ o. IfSome o (λ k. IsCellBefore columns a.1 k entries rows)) (sym (row_cell row n at a h lt here is))
+      (record { old = h.old; is = ap (λ cs. aggregate_cell cs h.old a.1) (sym of); lead = h.lead })
+
+-- where the cell of the next aggregate comes
+pub place_of : (g : Grouping) (key : List Cell) (rows : List (List Cell)) (n : ℕ) → n < length g.aggregates → length (key ++ map (λ a. aggregate_cell g.schema rows a.1) (take n g.aggregates)) ≡ length key + n
+place_of g key rows n lt =
+    let whole = length-append key (map (λ a. aggregate_cell g.schema rows a.1) (take n g.aggregates)) in
+    let many = length-map (take n g.aggregates) (λ a. aggregate_cell g.schema rows a.1) in
+    let taken = length-take n g.aggregates in
+    omega (arith, whole, many, taken, lt)

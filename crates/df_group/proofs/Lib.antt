@@ -4,6 +4,8 @@ pub mod Appearance
 pub mod KeyOrder
 pub mod IndexMaps
 pub mod RowSums
+pub mod RowExtremes
+pub mod KnownExtremes
 pub mod ValueCounts
 pub mod CountedChanges
 pub mod DistinctValues

@@ -52,14 +52,14 @@ module _ {K X : Type 0} {R : K → K → Ordering} (o : IsTotalOrder R) (same : 
   tied q k e = same q k (equal_from_is_eq _ (subst T (sym e) tt))
 
   -- without a key that has no value
-  remove_none : (t : FinMap R X) (k : K) → get t k ≡ None → remove t k ≡ t
+  pub remove_none : (t : FinMap R X) (k : K) → get t k ≡ None → remove t k ≡ t
   remove_none t k none = same_map o same _ _ (λ q. get-remove o t k q ∙ by_case q (eq_by_cmp R q k) refl) where
     by_case : (q : K) (b : Bool) → eq_by_cmp R q k ≡ b → cond b None (get t q) ≡ get t q
     by_case q true e = sym (ap (get t) (tied q k e) ∙ none)
     by_case q false e = refl
 
   -- what was removed, put back
-  put_back : (t : FinMap R X) (k : K) (x : X) → get t k ≡ Some x → insert (remove t k) k x ≡ t
+  pub put_back : (t : FinMap R X) (k : K) (x : X) → get t k ≡ Some x → insert (remove t k) k x ≡ t
   put_back t k x some = same_map o same _ _ (λ q. get-insert o (remove t k) k x q ∙ ap (cond (eq_by_cmp R q k) (Some x)) (get-remove o t k q) ∙ by_case q (eq_by_cmp R q k) refl) where
     by_case : (q : K) (b : Bool) → eq_by_cmp R q k ≡ b → cond b (Some x) (cond b None (get t q)) ≡ get t q
     by_case q true e = sym (ap (get t) (tied q k e) ∙ some)

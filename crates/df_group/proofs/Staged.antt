@@ -1,6 +1,6 @@
 -- What is staged follows a change of the input.
-use Rattle.std.proofs.Common.{◌≡◌, true, false, cond, List, [], ◌∷◌, ◌++◌, map, Option, Some, None, refl, sym, ap, subst, ◌∙◌}
-use Rattle.std.specs.Prelude.{T}
+use Rattle.std.proofs.Common.{◌≡◌, Bool, true, false, cond, List, [], ◌∷◌, ◌++◌, map, Option, Some, None, refl, sym, ap, subst, ◌∙◌}
+use Rattle.std.specs.Prelude.{◌==◌, T}
 use Rattle.std.specs.Option.{IfSome}
 use Rattle.std.specs.Map.{lookup}
 use Rattle.std.specs.FinMap as finite
@@ -17,7 +17,7 @@ use Rattle.df_delta.specs.Keyed.{kept_changes, keyed_changes}
 use Rattle.df_delta.specs.declared.keyed.KeyChanges.{KeyChanges}
 use Rattle.df_delta.proofs.KeyedChanges.{keyed_diff}
 use Rattle.df_ops.specs.Groups.{key_of}
-use Rattle.df_group.specs.GroupIndex.{Follows, IsIndexOf, LeadsTo, changed_group, edited_table, group_in, group_with, members_now, non_empty, staged_or, staged_with, state_of, totals_now, totals_of}
+use Rattle.df_group.specs.GroupIndex.{Follows, IsIndexOf, LeadsTo, changed_group, edited_table, group_in, group_with, members_now, non_empty, row_of_group, staged_or, staged_with, state_of, totals_now, totals_of}
 use Rattle.df_group.specs.GroupRows.{members_of}
 use Rattle.df_group.specs.Totals.{Lead}
 use Rattle.df_group.specs.declared.group.Group.{Group}
@@ -78,26 +78,34 @@ module _ (g : Grouping) (t : TaggedRows) (d : Changes) (fits : Fits t d) (fit : 
       ∙ ap (λ m. record { schema = g.schema; rows = m }) (gives k))
 
   -- the totals of a key's group follow the changes of its rows
-  follows_at : (k : List Cell) (now : Option Group) (c : KeyChanges) → now ≡ non_empty (group_in g k t) → map entry_change c.entries.items ≡ finite.entries (of k) → Follows g now c
+  follows_at : (k : List Cell) (now : Option Group) (c : KeyChanges) → now ≡ non_empty (group_in g k t) → map entry_change c.entries.items ≡ finite.entries (of k) → Follows g k now c
   follows_at k now c is e =
       let m = members_of g.indices k t in
       let members : members_now g now ≡ members_table g m = ap (members_now g) is ∙ members_now_is g k m in
       let edited : edited_table (members_table g m) c.entries.items ≡ members_table g (applied m (of k)) =
       edited_members g k m (of k) c.entries.items e (subst (RowsFit g.schema) (sym (gives k)) (members_fit g k (applied t d) fit)) in
       record {
+        row = rows_own now is;
         own = ap (totals_now g) is ∙ totals_now_are g k m ∙ sym (ap (λ p. totals_of g (finite.values p.rows)) members);
         lead = subst (λ p. Lead (finite.values p.rows) c.entries.items (finite.values (edited_table p c.entries.items).rows)) (sym members)
             (subst (λ p. Lead (finite.values m) c.entries.items (finite.values p.rows)) (sym edited)
             (lead_applied m (of k) c.entries.items e (keyed_diff (key_of g.indices) k t d fits).fits));
       }
+    where
+      rows_own : (now : Option Group) → now ≡ non_empty (group_in g k t) → IfSome now (λ group. group.row ≡ row_of_group g k (finite.values group.members.rows))
+      rows_own None e = tt
+      rows_own (Some group) e = own_row (finite.len (group_in g k t).members.rows == 0) e where
+        own_row : (b : Bool) → Some group ≡ cond b None (Some (group_in g k t)) → group.row ≡ row_of_group g k (finite.values group.members.rows)
+        own_row true e = absurd (cc e)
+        own_row false e = let same : group ≡ group_in g k t = cc e in ap (λ (x : Group). x.row) same ∙ ap (λ (x : Group). row_of_group g k (finite.values x.members.rows)) (sym same)
 
-  follows_if : (k : List Cell) (now : Option Group) (c : Option KeyChanges) → now ≡ non_empty (group_in g k t) → kept_changes c ≡ finite.entries (of k) → IfSome c (λ c. Follows g now c)
+  follows_if : (k : List Cell) (now : Option Group) (c : Option KeyChanges) → now ≡ non_empty (group_in g k t) → kept_changes c ≡ finite.entries (of k) → IfSome c (λ c. Follows g k now c)
   follows_if k now None is e = tt
   follows_if k now (Some c) is e = follows_at k now c is e
 
   pub follow : {S Z : Type 0} (index : IndexMap (List Cell) Group S) (changes : IndexMap (List Cell) KeyChanges Z) → IsIndexOf g index t
       → ((k : List Cell) → kept_changes (get row_eq changes k) ≡ finite.entries (of k))
-      → (k : List Cell) → IfSome (get row_eq changes k) (λ c. Follows g (get row_eq index k) c)
+      → (k : List Cell) → IfSome (get row_eq changes k) (λ c. Follows g k (get row_eq index k) c)
   follow index changes over kept k = follows_if k (get row_eq index k) (get row_eq changes k) (over.at k) (kept k)
 
   pub leads : {S Z : Type 0} (index staged : IndexMap (List Cell) Group S) (changes : IndexMap (List Cell) KeyChanges Z) → IsIndexOf g index t

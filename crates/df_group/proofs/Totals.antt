@@ -1,6 +1,6 @@
 -- Totals follow the changes of rows.
 use Rattle.std.proofs.Common.{◌≡◌, ℕ, pos, ◌+ℤ◌, ◌+◌, List, [], ◌∷◌, ◌++◌, map, length, take, get_or, ◌<◌, Option, Some, None, refl, sym, ap, subst, ◌∙◌}
-use Rattle.std.specs.Prelude.{ℤ, ◌-ℤ◌, fold}
+use Rattle.std.specs.Prelude.{ℤ, ◌-ℤ◌, ◌&&◌, IfSome, cond, fold, not}
 use Rattle.std.specs.FinMap as finite
 use Rattle.std.proofs.lemmas.List.{get_or-map, length-map}
 use Rattle.df_value.specs.declared.cell.Cell.{Cell}
@@ -14,15 +14,19 @@ use Rattle.df_column.specs.declared.tag.Tag.{Tag}
 use Rattle.df_delta.specs.Deltas.{Changes}
 use Rattle.df_delta.specs.Differences.{Fits}
 use Rattle.df_ops.specs.Aggregates.{cells_of, count_of}
+use Rattle.df_counts.specs.Counts.{value_in}
+use Rattle.df_ops.specs.LoopStates.{min_or_max_with}
 use Rattle.df_ops.specs.declared.agg.Agg.{Agg}
+use Rattle.df_ops.specs.declared.min_max.MinMax.{MinMax}
 use Rattle.df_ops.proofs.AggregateLaws.{count_is_count, sum_is_sum}
 use Rattle.df_ops.proofs.Steps.{mapped_more}
 use Rattle.df_group.specs.GroupIndex.{totals_of}
-use Rattle.df_group.specs.Totals.{HaveValuesOf, Lead, alone, sums_after, sums_after_entry, sums_of, total_for, total_of, totals_over, values_of}
+use Rattle.df_group.specs.Totals.{HaveValuesOf, Lead, alone, extreme_after, extreme_after_entry, extreme_in, is_as_good, may_be_best, value_of, sums_after, sums_after_entry, sums_of, total_for, total_of, totals_over, values_of}
 use Rattle.df_group.specs.declared.grouping.Grouping.{Grouping}
 use Rattle.df_group.specs.declared.sums.Sums.{Sums}
 use Rattle.df_group.specs.declared.total.Total.{Total}
 use Rattle.df_group.proofs.CountedChanges.{counts_applied}
+use Rattle.df_group.proofs.RowExtremes.{best_after, best_after_all, extreme_applied, part as extreme_part, row_extreme, row_extreme_is}
 use Rattle.df_group.proofs.RowSums.{part, row_sum, sum_after, sum_applied}
 
 -- what a row adds to the count, and to the sum
@@ -74,6 +78,25 @@ numbers_after index count sum (e ∷ es) =
     ap (λ s. sums_after s es) step
     ∙ numbers_after index (sum_after (one_of index) count (entry_change e).1) (sum_after (number_in index) sum (entry_change e).1) es
 
+-- the least or greatest cell moves as by the changes
+abbrev part_of : MinMax → Option ℕ → Option (List Cell) → Option Cell
+part_of m index row = extreme_part m (λ row. value_in (cell_at index row)) row
+
+value_is : (m : MinMax) (index : Option ℕ) (row : Option (List Cell)) → value_of index row ≡ part_of m index row
+value_is m index None = refl
+value_is m index (Some row) = refl
+
+entry_moves : (m : MinMax) (index : Option ℕ) (best : Option (Option Cell)) (e : Entry) → extreme_after_entry m index best e ≡ best_after m (λ row. value_in (cell_at index row)) best (entry_change e).1
+entry_moves m index None e = refl
+entry_moves m index (Some best) e = λ i. cond (may_be_best m best (value_is m index e.old i) && not (is_as_good m best (value_is m index e.new i))) None (Some (min_or_max_with m best (value_is m index e.new i)))
+
+extreme_moves : (m : MinMax) (index : Option ℕ) (best : Option (Option Cell)) (entries : List Entry)
+    → fold (extreme_after_entry m index) best entries ≡ best_after_all m (λ row. value_in (cell_at index row)) best (map entry_change entries)
+extreme_moves m index best [] = refl
+extreme_moves m index best (e ∷ es) =
+    ap (λ b. fold (extreme_after_entry m index) b es) (entry_moves m index best e)
+    ∙ extreme_moves m index (best_after m (λ row. value_in (cell_at index row)) best (entry_change e).1) es
+
 -- entries that fit lead the totals of the rows to those of the rows afterwards
 pub lead_applied : (t : TaggedRows) (d : Changes) (entries : List Entry) → map entry_change entries ≡ finite.entries d → Fits t d → Lead (finite.values t) entries (finite.values (applied t d))
 lead_applied t d entries e fits = record {
@@ -89,6 +112,16 @@ lead_applied t d entries e fits = record {
       numbers_after index (sums_of index (finite.values t)).count (sums_of index (finite.values t)).sum entries
       ∙ (λ i. made_of index (count i) (sum i));
   counts = λ index. counts_applied index t d entries e fits;
+  extremes = λ m index.
+      let value : List Cell → Option Cell = λ row. value_in (cell_at index row) in
+      let start = row_extreme_is m (cell_at index) (finite.entries t) in
+      let end = row_extreme_is m (cell_at index) (finite.entries (applied t d)) in
+      let moved : extreme_after m index (extreme_in m index (finite.values t)) entries ≡ best_after_all m value (Some (row_extreme m value (finite.entries t))) (finite.entries d) =
+      extreme_moves m index (Some (extreme_in m index (finite.values t))) entries
+      ∙ (λ i. best_after_all m value (Some (start i)) (e i)) in
+      subst (λ found. IfSome found (λ best. best ≡ extreme_in m index (finite.values (applied t d)))) (sym moved)
+      (subst (λ last. IfSome (best_after_all m value (Some (row_extreme m value (finite.entries t))) (finite.entries d)) (λ best. best ≡ last)) (sym end)
+      (extreme_applied m tag_total tag_same value t d fits));
 }
 
 -- the totals of a grouping, over other rows

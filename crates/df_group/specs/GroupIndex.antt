@@ -1,5 +1,5 @@
 -- What the index of groups holds of an input, and what a change stages for it.
-use Rattle.std.specs.Prelude.{◌≡◌, ◌==◌, true, cond, List, [], ◌∷◌, map, Option, Some, None, is_some}
+use Rattle.std.specs.Prelude.{◌≡◌, ◌==◌, ℕ, slice_get, true, cond, List, [], ◌∷◌, map, Option, Some, None, is_some}
 use Rattle.std.specs.Option.{IfSome}
 use Rattle.std.specs.FinMap as finite
 use Rattle.indexmap.specs.IndexMap.{IndexMap, get}
@@ -71,8 +71,21 @@ edited_table t entries = cond (new_rows_fit t.schema entries) (after_entries t e
 abbrev pub changed_group : Grouping → List Cell → Option Group → KeyChanges → Group
 changed_group g k now changes = group_with g k (edited_table (members_now g now) changes.entries.items)
 
--- the totals of the key's group are those of its members, and the changes lead them to those of its members afterwards
-pub record Follows (g : Grouping) (now : Option Group) (changes : KeyChanges) : Type 0 where
+-- the cell at an index of a row, if both are there
+abbrev pub cell_at_if : Option (List Cell) → ℕ → Option Cell
+cell_at_if None at = None
+cell_at_if (Some row) at = slice_get row at
+
+-- a row that is the group's of some rows of a key, which the entries lead to others
+pub record IsRowBefore (g : Grouping) (key row : List Cell) (entries : List Entry) (new : List (List Cell)) : Type 0 where
+  pub old : List (List Cell)
+  pub is : row ≡ row_of_group g key old
+  pub lead : Lead old entries new
+
+-- the row and the totals of the key's group are those of its members, and the changes lead them to those of its members
+-- afterwards
+pub record Follows (g : Grouping) (key : List Cell) (now : Option Group) (changes : KeyChanges) : Type 0 where
+  pub row : IfSome now (λ group. group.row ≡ row_of_group g key (finite.values group.members.rows))
   pub own : totals_now g now ≡ totals_of g (finite.values (members_now g now).rows)
   pub lead : Lead (finite.values (members_now g now).rows) changes.entries.items
       (finite.values (edited_table (members_now g now) changes.entries.items).rows)

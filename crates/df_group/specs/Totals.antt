@@ -1,6 +1,6 @@
 -- Running totals: the count and the sum of the cells that rows have at an index, the number of rows that have each value at an index, and
 -- how all of these follow changes of the rows.
-use Rattle.std.specs.Prelude.{◌≡◌, ℕ, pos, ◌+◌, ◌-◌, ◌+ℤ◌, ◌-ℤ◌, List, [], ◌∷◌, Option, Some, None, All, fold, map, unwrap_or}
+use Rattle.std.specs.Prelude.{◌≡◌, ℕ, Bool, true, false, cond, not, ◌&&◌, pos, ◌+◌, ◌-◌, ◌+ℤ◌, ◌-ℤ◌, List, [], ◌∷◌, Option, Some, None, IfSome, All, fold, map, unwrap_or}
 use Rattle.std.specs.FinMap.{find}
 use Rattle.df_value.specs.CellOrder.{cell_cmp}
 use Rattle.df_value.specs.Rows.{cell_at}
@@ -10,7 +10,10 @@ use Rattle.df_value.specs.Schemas.{column_index}
 use Rattle.df_column.specs.Changes.{edit}
 use Rattle.df_column.specs.declared.entry.Entry.{Entry}
 use Rattle.df_counts.specs.Counts.{some_count, value_in}
-use Rattle.df_ops.specs.Aggregates.{cells_of, count_of, sum_of}
+use Rattle.df_ops.specs.Aggregates.{cells_of, count_of, is_beyond, min_or_max_in, min_or_max_of, non_null, sum_of}
+use Rattle.df_ops.specs.Tables.{aggregate_cell}
+use Rattle.df_ops.specs.LoopStates.{min_or_max_with}
+use Rattle.df_ops.specs.declared.min_max.MinMax.{MinMax}
 use Rattle.df_ops.specs.declared.agg.Agg.{Agg}
 use Rattle.df_ops.specs.declared.agg.Agg.TheVariants as agg
 use Rattle.df_group.specs.declared.sums.Sums.{Sums}
@@ -77,8 +80,35 @@ values_of index rows = record { index = index; counts = counts_of index rows }
 abbrev pub total_of : Option ℕ → Option ℕ → List (List Cell) → Total
 total_of summed valued rows = record { sums = sums_of summed rows; values = values_of valued rows }
 
--- the entries lead the totals of some rows to those of others
+-- the least or the greatest cell of these rows at an index that is not null
+abbrev pub extreme_in : MinMax → Option ℕ → List (List Cell) → Option Cell
+extreme_in e index rows = min_or_max_in e (non_null (cells_of index rows))
+
+-- whether the cell of a row that goes may be the best one
+abbrev pub may_be_best : MinMax → Option Cell → Option Cell → Bool
+may_be_best e best None = false
+may_be_best e None (Some gone) = true
+may_be_best e (Some best) (Some gone) = not (is_beyond e best gone)
+
+-- whether the cell of a row that comes is as good as the best one, or better
+abbrev pub is_as_good : MinMax → Option Cell → Option Cell → Bool
+is_as_good e best None = false
+is_as_good e None (Some come) = true
+is_as_good e (Some best) (Some come) = not (is_beyond e best come)
+
+-- the best cell after an entry, from the one before; not known where the one that goes may be the best, and the one that
+-- comes is not as good
+abbrev pub extreme_after_entry : MinMax → Option ℕ → Option (Option Cell) → Entry → Option (Option Cell)
+extreme_after_entry e index None entry = None
+extreme_after_entry e index (Some best) entry = cond (may_be_best e best (value_of index entry.old) && not (is_as_good e best (value_of index entry.new))) None (Some (min_or_max_with e best (value_of index entry.new)))
+
+-- the best cell after each of these entries in turn
+abbrev pub extreme_after : MinMax → Option ℕ → Option Cell → List Entry → Option (Option Cell)
+extreme_after e index best entries = fold (extreme_after_entry e index) (Some best) entries
+
+-- the entries lead the totals of some rows to those of others, and their least and greatest cells where they are known afterwards
 pub record Lead (old : List (List Cell)) (entries : List Entry) (new : List (List Cell)) : Type 0 where
+  pub extremes : (e : MinMax) (index : Option ℕ) → IfSome (extreme_after e index (extreme_in e index old) entries) (λ best. best ≡ extreme_in e index new)
   pub sums : (index : Option ℕ) → sums_after (sums_of index old) entries ≡ sums_of index new
   pub counts : (index : Option ℕ) → counts_after index (counts_of index old) entries ≡ counts_of index new
 
@@ -106,3 +136,16 @@ valued_index columns _ = None
 -- the total of these rows for an aggregate
 abbrev pub total_for : List (List ℕ × CellType) → Agg → List (List Cell) → Total
 total_for columns a rows = total_of (summed_index columns a) (valued_index columns a) rows
+
+-- a cell that is the least or the greatest of some rows at an index, null where all are null; the entries lead these rows
+-- to others
+pub record IsExtremeBefore (e : MinMax) (index : Option ℕ) (known : Cell) (entries : List Entry) (new : List (List Cell)) : Type 0 where
+  pub old : List (List Cell)
+  pub is : known ≡ min_or_max_of e (cells_of index old)
+  pub lead : Lead old entries new
+
+-- a cell that is this aggregate of some rows, which the entries lead to others
+pub record IsCellBefore (columns : List (List ℕ × CellType)) (a : Agg) (known : Cell) (entries : List Entry) (new : List (List Cell)) : Type 0 where
+  pub old : List (List Cell)
+  pub is : known ≡ aggregate_cell columns old a
+  pub lead : Lead old entries new

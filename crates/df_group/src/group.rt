@@ -1,6 +1,6 @@
 //! The groups of keys: their members, and their finished rows.
-ghost use Rattle.std.specs.Prelude.{◌≡◌, ◌+◌, ◌<◌, ◌≤◌, ◌^◌, IfOk, List, OnOk, Some, cond};
-ghost use Rattle.std.specs.Option.{IfSome};
+ghost use Rattle.std.specs.Prelude.{◌≡◌, ◌+◌, ◌<◌, ◌≤◌, ◌^◌, IfOk, List, OnOk, Some, cond, option_map};
+ghost use Rattle.std.specs.Option.{IfSome, option_copied};
 ghost use Rattle.std.specs.FinMap as finite;
 ghost use Rattle.indexmap.specs.IndexMap.{get, index_map_len, spare};
 ghost use Rattle.df_value.specs.Rows.{row_eq};
@@ -8,7 +8,7 @@ ghost use Rattle.df_value.specs.declared.cell.Cell.{Cell};
 ghost use Rattle.df_column.specs.Tables.{AreRising, after_entries, new_rows_fit};
 ghost use Rattle.df_delta.specs.Work.{IsWithin, plus};
 ghost use Rattle.df_group.specs.GroupIndex as index_spec;
-ghost use Rattle.df_group.specs.GroupIndex.{Follows, edited_table, group_with, members_now, totals_of};
+ghost use Rattle.df_group.specs.GroupIndex.{Follows, IsRowBefore, edited_table, group_with, members_now, totals_of};
 ghost use Rattle.df_group.specs.Work.{finishes};
 
 use crate::grouping::Grouping;
@@ -67,7 +67,7 @@ pub fn changed_totals(
     changes: &KeyChanges,
     members: &Table,
 ) -> Result<List<Total>, AllocError>
-    ensures { IfOk result (λ ts. Follows grouping.now (get row_eq index.now key.now) changes.now
+    ensures { IfOk result (λ ts. Follows grouping.now key.now (get row_eq index.now key.now) changes.now
         → members.now ≡ edited_table (members_now grouping.now (get row_eq index.now key.now)) changes.now.entries.items
         → ts ≡ totals_of grouping.now (finite.values members.now.rows)) }
 {
@@ -80,22 +80,37 @@ pub fn changed_totals(
     }
 }
 
-/// The group of these members and their totals, with its row.
+/// The row of the key's group before, if there is a group.
+pub fn row_before<'a>(index: &'a IndexMap<Row, Group>, key: &Row) -> Option<&'a Row>
+    ensures { option_copied result ≡ option_map (λ g. g.row) (get row_eq index.now key.now) }
+{
+    match index.get(key) {
+        Some(group) => Some(&group.row),
+        None => None,
+    }
+}
+
+/// The group of these members and their totals, with its row. The entries lead to the members from those of the row
+/// before, if there was one.
 pub fn finished_group(
     alloc: Global,
     grouping: &Grouping,
     key: &Row,
+    before: Option<&Row>,
+    entries: &[Entry],
     members: Table,
     totals: List<Total>,
     meter: &mut Meter,
 ) -> Result<Group, AllocError>
     requires { meter.old.finishes + 1 < 2 ^ 128 }
     ensures group { IfOk result (λ g. totals ≡ totals_of grouping.now (finite.values members.rows)
+        → IfSome (option_copied before.entry)
+        (λ row. IsRowBefore grouping.now key.now row entries.now (finite.values members.rows))
         → g ≡ group_with grouping.now key.now members) }
     ensures counted { meter.new ≡ plus meter.old (finishes 1) }
 {
     meter.finishes += 1;
-    let row = grouping.finished_row(alloc, key, &members, totals.as_slice())?;
+    let row = grouping.finished_row(alloc, key, before, entries, &members, totals.as_slice())?;
     Ok(Group {
         members,
         totals,

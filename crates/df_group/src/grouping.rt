@@ -1,20 +1,21 @@
 //! How rows are grouped, and the row of a group.
-ghost use Rattle.std.specs.Prelude.{◌≡◌, [], IfOk, slice_get, unwrap_or};
+ghost use Rattle.std.specs.Prelude.{◌≡◌, [], IfOk, IfSome, slice_get, unwrap_or};
+ghost use Rattle.std.specs.Option.{option_copied};
 ghost use Rattle.std.specs.FinMap as finite;
 ghost use Rattle.df_value.specs.Rows.{cell_at};
 ghost use Rattle.df_value.specs.declared.cell.Cell.TheVariants as cells;
-ghost use Rattle.df_ops.specs.Aggregates.{cells_of, min_or_max_of};
+ghost use Rattle.df_ops.specs.Aggregates.{cells_of};
 ghost use Rattle.df_ops.specs.NamedColumns as named_columns;
 ghost use Rattle.df_ops.specs.Tables.{aggregate_cell};
-ghost use Rattle.df_ops.specs.declared.min_max.MinMax.TheVariants as min_max;
 ghost use Rattle.df_group.specs.GroupIndex as index_spec;
-ghost use Rattle.df_group.specs.GroupIndex.{totals_of};
+ghost use Rattle.df_group.specs.GroupIndex.{IsRowBefore, cell_at_if, totals_of};
 ghost use Rattle.df_group.specs.Totals as totals_spec;
-ghost use Rattle.df_group.specs.Totals.{total_for};
+ghost use Rattle.df_group.specs.Totals.{IsCellBefore, total_for};
 
+use crate::extremes::extreme_cell;
 use crate::total::Total;
-use df_column::Table;
-use df_ops::{Agg, column_indices};
+use df_column::{Entry, Table};
+use df_ops::{Agg, MinMax, column_indices};
 use df_value::{
     Cell, CellType, Duplicate, List, Row, Schema, Text, column_index, copies, push_made,
 };
@@ -64,21 +65,28 @@ impl Grouping {
     }
 
     /// The row of a group of these members: the key, and after it the aggregates. Only a first and a last member are
-    /// read, where they are wanted, and of a least and a greatest cell one cell of each block of members.
+    /// read, where they are wanted. A least and a greatest cell are found from the row before and the entries, which lead
+    /// to the members, unless a member goes that may have that cell; then one cell of each leaf of members is read, and
+    /// of each block behind them.
     pub fn finished_row(
         &self,
         alloc: Global,
         key: &Row,
+        before: Option<&Row>,
+        entries: &[Entry],
         members: &Table,
         totals: &[Total],
     ) -> Result<Row, AllocError>
         ensures { IfOk result (λ r. totals.now ≡ totals_of self.now (finite.values members.now.rows)
+            → IfSome (option_copied before.entry)
+            (λ row. IsRowBefore self.now key.now row entries.now (finite.values members.now.rows))
             → r ≡ index_spec.row_of_group self.now key.now (finite.values members.now.rows)) }
     {
         let columns = self.schema.columns().as_slice();
         let mut cells = copies(alloc, key.as_slice())?;
         for (named, total) in self.aggregates.as_slice().iter().zip(totals) {
-            let cell = finished_cell(alloc, columns, members, &named.1, total);
+            let known = cell_before(before, cells.as_slice().len());
+            let cell = finished_cell(alloc, columns, known, entries, members, &named.1, total);
             push_made(&mut cells, cell)?;
         }
         Row::new(alloc, cells)
@@ -108,16 +116,30 @@ fn valued_index(columns: &[(Text, CellType)], agg: &Agg) -> Option<usize>
     }
 }
 
-/// An aggregate of a group of these members.
+/// The cell at this index of the row before, if there was one.
+fn cell_before(before: Option<&Row>, at: usize) -> Option<&Cell>
+    ensures { option_copied result ≡ cell_at_if (option_copied before.entry) at }
+{
+    match before {
+        Some(row) => row.get(at),
+        None => None,
+    }
+}
+
+/// An aggregate of a group of these members. The one before is known, if there was one; the entries lead from there.
 fn finished_cell(
     alloc: Global,
     columns: &[(Text, CellType)],
+    known: Option<&Cell>,
+    entries: &[Entry],
     members: &Table,
     agg: &Agg,
     total: &Total,
 ) -> Result<Cell, AllocError>
     ensures { IfOk result (λ c. total.now
         ≡ total_for columns.now agg.now (finite.values members.now.rows)
+        → IfSome (option_copied known.entry)
+        (λ k. IsCellBefore columns.now agg.now k entries.now (finite.values members.now.rows))
         → c ≡ aggregate_cell columns.now (finite.values members.now.rows) agg.now) }
 {
     match agg {
@@ -125,8 +147,14 @@ fn finished_cell(
         Agg::Count(_) => Ok(Cell::Int(total.sums.count)),
         Agg::Sum(_) => Ok(Cell::Wide(total.sums.sum)),
         Agg::Mean(_) => Ok(total.sums.mean()),
-        Agg::Min(name) => least_cell(alloc, column_index(name, columns), members),
-        Agg::Max(name) => greatest_cell(alloc, column_index(name, columns), members),
+        Agg::Min(name) => {
+            let index = column_index(name, columns);
+            extreme_cell(alloc, MinMax::Min, index, known, entries, members)
+        }
+        Agg::Max(name) => {
+            let index = column_index(name, columns);
+            extreme_cell(alloc, MinMax::Max, index, known, entries, members)
+        }
         Agg::NUnique(_) => Ok(Cell::Int(total.distinct_cells(members.len()))),
         Agg::First(name) => member_cell(alloc, column_index(name, columns), members, 0),
         Agg::Last(name) => {
@@ -134,24 +162,6 @@ fn finished_cell(
             member_cell(alloc, column_index(name, columns), members, last)
         }
     }
-}
-
-/// The least cell at an index of the members that is no null, null where there is none.
-fn least_cell(alloc: Global, index: Option<usize>, members: &Table) -> Result<Cell, AllocError>
-    ensures { IfOk result (λ c. c
-        ≡ min_or_max_of min_max.Min (cells_of index (finite.values members.now.rows))) }
-{
-    let least = members.least(alloc, index)?;
-    Ok(least.unwrap_or(Cell::Null))
-}
-
-/// The greatest cell at an index of the members that is no null, null where there is none.
-fn greatest_cell(alloc: Global, index: Option<usize>, members: &Table) -> Result<Cell, AllocError>
-    ensures { IfOk result (λ c. c
-        ≡ min_or_max_of min_max.Max (cells_of index (finite.values members.now.rows))) }
-{
-    let greatest = members.greatest(alloc, index)?;
-    Ok(greatest.unwrap_or(Cell::Null))
 }
 
 /// The cell at an index of the member at a place, null where there is none.

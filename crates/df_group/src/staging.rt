@@ -9,7 +9,7 @@ ghost use Rattle.df_delta.specs.Work.{IsWithin, plus};
 ghost use Rattle.df_group.specs.GroupIndex.{Follows, changed_group, non_empty, staged_with, state_of};
 ghost use Rattle.df_group.specs.Work.{finishes};
 
-use crate::group::{Group, changed_members, changed_totals, finished_group};
+use crate::group::{Group, changed_members, changed_totals, finished_group, row_before};
 use crate::grouping::Grouping;
 use df_delta::KeyChanges;
 use df_expr::Meter;
@@ -29,7 +29,7 @@ fn stage_group(
 ) -> Result<(), AllocError>
     requires rising { AreRising changes.now.entries.items }
     requires counts { meter.old.finishes + 1 < 2 ^ 128 }
-    ensures staged { OnOk result (Follows grouping.now (get row_eq index.now key) changes.now
+    ensures staged { OnOk result (Follows grouping.now key (get row_eq index.now key) changes.now
         → (k : List Cell) → get row_eq staged.new k
         ≡ cond (row_eq key k)
         (Some (changed_group grouping.now key (get row_eq index.now key) changes.now))
@@ -39,7 +39,11 @@ fn stage_group(
 {
     let members = changed_members(alloc, grouping, index, &key, changes)?;
     let totals = changed_totals(alloc, grouping, index, &key, changes, &members)?;
-    let group = finished_group(alloc, grouping, &key, members, totals, meter)?;
+    let before = row_before(index, &key);
+    let entries = &changes.entries;
+    let group = finished_group(
+        alloc, grouping, &key, before, entries, members, totals, meter,
+    )?;
     match staged.insert(key, group) {
         Ok(_) => Ok(()),
         Err(_) => Err(AllocError),
@@ -58,7 +62,7 @@ pub fn stage_all(
         (λ c. AreRising c.entries.items) }
     requires counts { meter.old.finishes + 2 ^ 64 < 2 ^ 128 }
     ensures staged { IfOk result (λ staged. ((k : List Cell) → IfSome (get row_eq changes k)
-        (λ c. Follows grouping.now (get row_eq index.now k) c))
+        (λ c. Follows grouping.now k (get row_eq index.now k) c))
         → (k : List Cell) → get row_eq staged k
         ≡ staged_with grouping.now k (get row_eq index.now k) (get row_eq changes k) None) }
     ensures grows { IsWithin meter.old meter.new }

@@ -73,6 +73,16 @@ fn value_at<'a>(index: Option<usize>, row: &'a Row) -> Option<&'a Cell>
     }
 }
 
+/// The value at an index of the row, if there is one.
+pub fn value_of<'a>(index: Option<usize>, row: &'a Option<Row>) -> Option<&'a Cell>
+    ensures { option_copied result ≡ value_of index row.now }
+{
+    match row {
+        Some(row) => value_at(index, row),
+        None => None,
+    }
+}
+
 /// The counts with one row more of this value.
 fn with_one_more(alloc: Global, counts: &Counts, value: &Cell) -> Result<Counts, AllocError>
     requires { count_in counts.now value.now + 1 < 2 ^ 64 }

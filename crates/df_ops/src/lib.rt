@@ -28,7 +28,7 @@ pub use grouping::group_by;
 pub use groups::{group_lengths, group_of, key_of, keys_of};
 pub use join_columns::{JoinIndices, column_indices, columns_of_join, join_indices_of};
 pub use joins::{How, has_null, join, join_row, join_rows, nulls, row_beside};
-pub use min_max::{MinMax, min_and_max_of, min_or_max_of};
+pub use min_max::{MinMax, is_beyond, min_and_max_of, min_or_max_of, min_or_max_with};
 pub use named_columns::with_columns;
 pub use one_column::{columns_with, places_with, with_column_row};
 pub use places::{Origin, Place, placed_row, places_of};

@@ -56,7 +56,8 @@ fn min_or_max_so_far<'a>(min_max: MinMax, index: Option<usize>, rows: &'a [Row])
     so_far
 }
 
-fn min_or_max_with<'a>(
+/// The least or the greatest of some cells, or the next one where it lies beyond.
+pub fn min_or_max_with<'a>(
     min_max: MinMax,
     so_far: Option<&'a Cell>,
     next: Option<&'a Cell>,
@@ -83,7 +84,8 @@ fn further<'a>(min_max: MinMax, so_far: &'a Cell, next: &'a Cell) -> &'a Cell
     }
 }
 
-fn is_beyond(min_max: MinMax, a: &Cell, b: &Cell) -> bool
+/// Whether a cell lies below another, or above it.
+pub fn is_beyond(min_max: MinMax, a: &Cell, b: &Cell) -> bool
     ensures { result ≡ aggregates.is_beyond min_max a.now b.now }
 {
     match min_max {

@@ -12,7 +12,7 @@ returns-in-Some c =
     let now = get row_eq c.args.index.now c.args.key.now in
     let some : now ≡ Some c.in-Some.group.now = cc c.in-Some.ensures.value in
     IfOk-weaker c.moved_totals.result _ _
-    (λ ts made. followed g now c.args.changes.now c.args.members.now c.as_slice.result.now ts c.deref.result.now (c.as_slice.ensures ∙ ap (totals_now g) (sym some)) (cc c.deref.ensures.value) made)
+    (λ ts made. followed g c.args.key.now now c.args.changes.now c.args.members.now c.as_slice.result.now ts c.deref.result.now (c.as_slice.ensures ∙ ap (totals_now g) (sym some)) (cc c.deref.ensures.value) made)
     c.moved_totals.ensures
 
 pub returns-in_ok-none-in-None : goal.returns-in_ok-none-in-None
@@ -21,6 +21,6 @@ returns-in_ok-none-in-None c =
     let now = get row_eq c.args.index.now c.args.key.now in
     let none : now ≡ None = cc c.in-None.ensures.value in
     IfOk-weaker c.moved_totals-in-None.result _ _
-    (λ ts made. followed g now c.args.changes.now c.args.members.now c.as_slice-in-None.result.now ts c.deref-in-None.result.now
+    (λ ts made. followed g c.args.key.now now c.args.changes.now c.args.members.now c.as_slice-in-None.result.now ts c.deref-in-None.result.now
     (c.as_slice-in-None.ensures ∙ c.in_ok-none-in-None.ensures ∙ ap (totals_now g) (sym none)) (cc c.deref-in-None.ensures.value) made)
     c.moved_totals-in-None.ensures

@@ -25,12 +25,12 @@ loop-key-preserved c =
     let g = c.loop-key.invariant.grows in
     let h = c.loop-key.invariant.counted in
     let n = c.in-Some.ensures.len in
-    let here = λ (all : (k : List Cell) → IfSome (get row_eq c.args.changes k) (λ x. Follows c.args.grouping.now (get row_eq c.args.index.now k) x)).
-    taken_has (λ x. Follows c.args.grouping.now (get row_eq c.args.index.now key) x) key (get row_eq c.loop-key.changes key) (get row_eq c.pop.new.self key) c.in-Some.key_changes
+    let here = λ (all : (k : List Cell) → IfSome (get row_eq c.args.changes k) (λ x. Follows c.args.grouping.now k (get row_eq c.args.index.now k) x)).
+    taken_has (λ x. Follows c.args.grouping.now key (get row_eq c.args.index.now key) x) key (get row_eq c.loop-key.changes key) (get row_eq c.pop.new.self key) c.in-Some.key_changes
     (popped c.loop-key.changes c.pop.new.self key c.in-Some.key_changes c.in-Some.ensures.entries c.in-Some.ensures.updates.0 key)
     (c.loop-key.invariant.follow all key) in
     record {
-      follow = λ all k. rest_has (λ x. Follows c.args.grouping.now (get row_eq c.args.index.now k) x) (row_eq key k) (get row_eq c.loop-key.changes k) (get row_eq c.pop.new.self k) (c.in-Some.ensures.updates.0 k) (c.loop-key.invariant.follow all k);
+      follow = λ all k. rest_has (λ x. Follows c.args.grouping.now k (get row_eq c.args.index.now k) x) (row_eq key k) (get row_eq c.loop-key.changes k) (get row_eq c.pop.new.self k) (c.in-Some.ensures.updates.0 k) (c.loop-key.invariant.follow all k);
       staged = λ all k. stage_more c.args.grouping.now key k (get row_eq c.args.index.now) c.in-Some.key_changes
           (get row_eq c.loop-key.changes k) (get row_eq c.pop.new.self k) (get row_eq c.loop-key.staged k) (get row_eq c.stage_group.new.staged k)
           (popped c.loop-key.changes c.pop.new.self key c.in-Some.key_changes c.in-Some.ensures.entries c.in-Some.ensures.updates.0 k)

@@ -13,8 +13,8 @@ use Rattle.df_group.proofs.staging.stage_all.Given as goal
 abbrev pub invariant-loop-key : goal.invariant-loop-key
 invariant-loop-key l =
     record {
-      follow : ((k : List Cell) → IfSome (get row_eq l.fn.changes k) (λ c. Follows l.grouping (get row_eq l.index k) c)) → (k : List Cell) → IfSome (get row_eq l.changes k) (λ c. Follows l.grouping (get row_eq l.index k) c);
-      staged : ((k : List Cell) → IfSome (get row_eq l.fn.changes k) (λ c. Follows l.grouping (get row_eq l.index k) c)) → (k : List Cell) → staged_with l.grouping k (get row_eq l.index k) (get row_eq l.changes k) (get row_eq l.staged k) ≡ staged_with l.grouping k (get row_eq l.index k) (get row_eq l.fn.changes k) None;
+      follow : ((k : List Cell) → IfSome (get row_eq l.fn.changes k) (λ c. Follows l.grouping k (get row_eq l.index k) c)) → (k : List Cell) → IfSome (get row_eq l.changes k) (λ c. Follows l.grouping k (get row_eq l.index k) c);
+      staged : ((k : List Cell) → IfSome (get row_eq l.fn.changes k) (λ c. Follows l.grouping k (get row_eq l.index k) c)) → (k : List Cell) → staged_with l.grouping k (get row_eq l.index k) (get row_eq l.changes k) (get row_eq l.staged k) ≡ staged_with l.grouping k (get row_eq l.index k) (get row_eq l.fn.changes k) None;
       rising : (k : List Cell) → IfSome (get row_eq l.changes k) (λ c. AreRising c.entries.items);
       grows : IsWithin l.fn.meter l.meter;
       small : index_map_len l.fn.changes < 2 ^ 63;
