@@ -60,6 +60,11 @@ impl<Acc: Ledger, Del: Ledger, J: Naming> Hall<Acc, Del, J> {
         }
     }
 
+    // Takes the lock, for several calls in a row.
+    pub(crate) fn lock<R: Wait>(&self, rt: &R) -> MutexGuard<'_, VersionedCatalogue<Acc, Del, J>> {
+        self.catalogue.lock(rt)
+    }
+
     /// Appends the chunk to the desk's frame, and every view follows. The desk's share grows by the
     /// chunk's rows, and at a refusal stays as it was.
     pub fn commit_chunk<R: Wait>(

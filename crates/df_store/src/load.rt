@@ -32,6 +32,9 @@ use std::thread::Threads;
 // The most workers of a load.
 const MOST_WORKERS: usize = 16;
 
+/// The most jobs that a worker draws at once.
+const MOST_AT_ONCE: u64 = 16;
+
 /// A catalogue that was loaded.
 #[derive(Drop)]
 pub struct Loaded<Acc: Ledger, Del: Ledger> {
@@ -111,9 +114,17 @@ pub fn load_all<
         jobs,
         claims: &claims,
         desks: desks.len(),
+        at_once: jobs_at_once(jobs, workers),
     };
     let (desks, outcomes) = do_jobs(rt, &hall, &work, seats, desks);
     finish(rt, hall, desks, &work, views, outcomes)
+}
+
+// How many jobs each of so many workers draws at once: so many that a lock is taken seldom, and so few that each worker
+// draws several times.
+fn jobs_at_once(jobs: u64, workers: usize) -> usize {
+    let share = jobs / (workers.clamp(1, MOST_WORKERS) as u64 * 4);
+    share.clamp(1, MOST_AT_ONCE) as usize
 }
 
 // Registers copies of the views, in their order.

@@ -1,8 +1,8 @@
 //! Workers: threads that make the chunks of jobs, and commit those that are good.
-ghost use Rattle.std.specs.Prelude.{◌≡◌, ◌<◌, ◌++◌, ◌∷◌, [], IfOk, IfSome, None, OnErr, OnOk, if◌then◌else◌, length, slice_index_or};
+ghost use Rattle.std.specs.Prelude.{◌≡◌, ◌<◌, ◌≤◌, ◌+◌, ◌++◌, ◌∷◌, [], ℕ, List, IfOk, IfSome, None, OnErr, OnOk, if◌then◌else◌, length, slice_index_or, vec_capacity};
 ghost use Rattle.df_catalogue.specs.Desks.{DeskParts};
 ghost use Rattle.df_claims.specs.Seats.{IsSeatOf};
-ghost use Rattle.df_store.specs.Jobs.{chunks_of};
+ghost use Rattle.df_store.specs.Jobs.{AreOutcomes, chunks_of};
 ghost use Rattle.df_store.specs.Workers.{AreCounted, IsIdle, IsWorker, all_without_accepted};
 
 use crate::fault::Stop;
@@ -12,10 +12,10 @@ use crate::jobs::{Outcome, make};
 use df_catalogue::Desk;
 use df_claims::{ClaimSeat, Claims};
 use df_value::{Piece, Source};
-use df_versions::{ChangeFault, Naming, Told};
+use df_versions::{ChangeFault, Naming, Told, VersionedCatalogue};
 use std::alloc::{AllocError, Global};
-use std::sync::Wait;
 use std::sync::ledger::Ledger;
+use std::sync::{MutexGuard, Wait};
 
 /// What a thread that does jobs owns: its desks, what it draws jobs with, and what it has done so far.
 #[derive(Drop)]
@@ -41,6 +41,8 @@ pub(crate) struct Work<'a, S, G> {
     pub(crate) claims: &'a Claims,
     /// The most desks that a worker may have.
     pub(crate) desks: usize,
+    /// How many jobs a worker draws at once.
+    pub(crate) at_once: usize,
 }
 
 impl<Acc: Ledger, Del: Ledger> Worker<Acc, Del> {
@@ -80,25 +82,26 @@ impl<Acc: Ledger, Del: Ledger> Worker<Acc, Del> {
     {
         let mut told: Option<Told<J>> = None;
         for _ in 0..work.jobs {
-            let Some(job) = work.claims.next(&mut self.seat) else {
-                return;
-            };
-            if let Err(stop) = self.do_job(rt, hall, work, job, &mut told) {
-                self.stopped = Some(stop);
-                return;
+            match self.do_next(rt, hall, work, &mut told) {
+                Ok(true) => {}
+                Ok(false) => return,
+                Err(stop) => {
+                    self.stopped = Some(stop);
+                    return;
+                }
             }
         }
     }
 
-    // Passes the gate, makes the job's chunk, commits it if it is good, and keeps the outcome.
-    fn do_job<J: Naming, S: Source, G: Gate, R: Wait>(
+    // Does the next jobs that it draws, and tells whether there were any. Their chunks are made before the lock is taken,
+    // and enter under one lock: what the commits work on goes from one processor's cache to another's with the lock.
+    fn do_next<J: Naming, S: Source, G: Gate, R: Wait>(
         &mut self,
         rt: &R,
         hall: &Hall<Acc, Del, J>,
         work: &Work<S, G>,
-        job: u64,
         told: &mut Option<Told<J>>,
-    ) -> Result<(), Stop>
+    ) -> Result<bool, Stop>
         requires { IsWorker work.now.claims.now work.now.desks
             (chunks_of S.made S.start_of work.now.sources.now)
             self.old }
@@ -110,16 +113,54 @@ impl<Acc: Ledger, Del: Ledger> Worker<Acc, Del> {
         ensures counted { AreCounted self.old.desks.items self.old.done.items
             self.new.desks.items self.new.done.items }
     {
-        work.gate.pass(job);
-        // The room comes first: of each chunk that has entered there is an outcome.
-        self.done.reserve(1)?;
-        let Some(outcome) = make(work.alloc, work.sources, job)? else {
-            return Ok(());
-        };
-        if enter(rt, work.alloc, hall, &mut self.desks, &outcome, told)? {
-            self.done.push_reserved(outcome);
+        let made = self.make_next(work)?;
+        if made.is_empty() {
+            return Ok(false);
         }
-        Ok(())
+        // The room comes first: of each chunk that has entered there is an outcome.
+        self.done.reserve(made.len())?;
+        let mut catalogue = hall.lock(rt);
+        let entered = enter_all(
+            rt,
+            work.alloc,
+            &mut catalogue,
+            &mut self.desks,
+            made,
+            &mut self.done,
+            told,
+        );
+        MutexGuard::unlock(catalogue);
+        entered?;
+        Ok(true)
+    }
+
+    // Draws the next jobs, passes the gate with each, and makes their chunks. There are none where no job is left.
+    fn make_next<S: Source, G: Gate>(
+        &mut self,
+        work: &Work<S, G>,
+    ) -> Result<Vec<Outcome>, AllocError>
+        requires { IsWorker work.now.claims.now work.now.desks
+            (chunks_of S.made S.start_of work.now.sources.now)
+            self.old }
+        ensures worker { IsWorker work.now.claims.now work.now.desks
+            (chunks_of S.made S.start_of work.now.sources.now)
+            self.new }
+        ensures desks { self.new.desks ≡ self.old.desks }
+        ensures done { self.new.done ≡ self.old.done }
+        ensures made { IfOk result (λ made.
+            AreOutcomes (chunks_of S.made S.start_of work.now.sources.now) made.items) }
+    {
+        let mut made = Vec::with_capacity(work.alloc, work.at_once)?;
+        for _ in 0..work.at_once {
+            let Some(job) = work.claims.next(&mut self.seat) else {
+                return Ok(made);
+            };
+            work.gate.pass(job);
+            if let Some(outcome) = make(work.alloc, work.sources, job)? {
+                made.push(outcome)?;
+            }
+        }
+        Ok(made)
     }
 
     /// Adds what it has done to the others' outcomes, unless it was stopped.
@@ -135,13 +176,37 @@ impl<Acc: Ledger, Del: Ledger> Worker<Acc, Del> {
     }
 }
 
+// Commits the good chunks of these outcomes in their order, and keeps the outcomes that stand.
+fn enter_all<Acc: Ledger, Del: Ledger, J: Naming, R: Wait>(
+    rt: &R,
+    alloc: Global,
+    catalogue: &mut VersionedCatalogue<Acc, Del, J>,
+    desks: &mut Vec<Desk<Acc, Del>>,
+    made: Vec<Outcome>,
+    done: &mut Vec<Outcome>,
+    told: &mut Option<Told<J>>,
+) -> Result<(), Stop>
+    requires { length done.old.items + length made.items ≤ vec_capacity done.old }
+    ensures desks { all_without_accepted desks.new.items ≡ all_without_accepted desks.old.items }
+    ensures counted { AreCounted desks.old.items done.old.items desks.new.items done.new.items }
+    ensures done { (chunks : List (List (ℕ × Piece))) → AreOutcomes chunks made.items →
+        AreOutcomes chunks done.old.items → AreOutcomes chunks done.new.items }
+{
+    for outcome in made {
+        if enter(rt, alloc, catalogue, desks, &outcome, told)? {
+            done.push_reserved(outcome);
+        }
+    }
+    Ok(())
+}
+
 // Commits a good chunk through a desk of its frame, and tells whether the outcome stands: that of a
 // bad chunk does, which changes nothing. It does not where the catalogue refuses the chunk, or no desk
 // here is of its frame.
 fn enter<Acc: Ledger, Del: Ledger, J: Naming, R: Wait>(
     rt: &R,
     alloc: Global,
-    hall: &Hall<Acc, Del, J>,
+    catalogue: &mut VersionedCatalogue<Acc, Del, J>,
     desks: &mut Vec<Desk<Acc, Del>>,
     outcome: &Outcome,
     told: &mut Option<Told<J>>,
@@ -157,7 +222,7 @@ fn enter<Acc: Ledger, Del: Ledger, J: Naming, R: Wait>(
     let Some(at) = desk_of(desks.as_slice(), outcome.frame) else {
         return Ok(false);
     };
-    match hall.commit_chunk(rt, alloc, &mut desks[at], chunk, told.as_ref()) {
+    match catalogue.append(rt, alloc, &mut desks[at], chunk, told.as_ref()) {
         Ok(next) => {
             *told = Some(next);
             Ok(true)
