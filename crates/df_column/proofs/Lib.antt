@@ -34,6 +34,7 @@ pub mod Bounds
 pub mod FitLemmas
 pub mod BlockLemmas
 pub mod ChangeRuns
+mod RunRows
 mod ChangedParts
 mod ChangedTrees
 mod ChangedNodes

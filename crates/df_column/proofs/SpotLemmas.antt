@@ -46,7 +46,8 @@ record IsSpotFrom (n at k : ℕ) (bs : List BlockParts) : Type 0 where
   in_blocks : k < length bs
   start : start_at n (ends_of n bs) k ≤ at
   in_block : (b : BlockParts) → at - start_at n (ends_of n bs) k < length (get_or bs k b).tags
-  here : (b : BlockParts) (d : Tag × List Cell) → get_or (rows_of_blocks bs) (at - n) d ≡ get_or (block_rows (get_or bs k b)) (at - start_at n (ends_of n bs) k) d
+  along : (b : BlockParts) (d : Tag × List Cell) (i : ℕ) → (at - start_at n (ends_of n bs) k) + i < length (get_or bs k b).tags
+      → get_or (rows_of_blocks bs) ((at - n) + i) d ≡ get_or (block_rows (get_or bs k b)) ((at - start_at n (ends_of n bs) k) + i) d
 
 located : (n at k : ℕ) (bs : List BlockParts) → n ≤ at → at < n + length (rows_of_blocks bs) → IsEndCount (ends_of n bs) at k → IsSpotFrom n at k bs
 located n at k [] le lt h = absurd (omega arith)
@@ -57,7 +58,7 @@ located n at zero (b ∷ bs) le lt h =
       in_blocks = omega arith;
       start = le;
       in_block = λ c. omega (arith, end, le);
-      here = λ c d. get_front (block_rows b) (rows_of_blocks bs) (at - n) d (omega (arith, end, le, l));
+      along = λ c d i lt. get_front (block_rows b) (rows_of_blocks bs) ((at - n) + i) d (omega (arith, lt, l));
     }
 located n at (suc k) (b ∷ bs) le lt h =
     let m = n + length b.tags in
@@ -74,7 +75,7 @@ located n at (suc k) (b ∷ bs) le lt h =
       in_blocks = omega (arith, rest.in_blocks);
       start = rest.start;
       in_block = rest.in_block;
-      here = λ c d. get_back (block_rows b) (rows_of_blocks bs) (at - n) (at - m) d (omega (arith, l, end)) ∙ rest.here c d;
+      along = λ c d i lt. get_back (block_rows b) (rows_of_blocks bs) ((at - n) + i) ((at - m) + i) d (omega (arith, l, end)) ∙ rest.along c d i lt;
     }
 
 pub spot_from_ends : (bs : List BlockParts) (ends : List ℕ) (at k : ℕ) → ends ≡ ends_of 0 bs → at < length (rows_of_blocks bs) → IsEndCount ends at k
@@ -82,14 +83,18 @@ pub spot_from_ends : (bs : List BlockParts) (ends : List ℕ) (at k : ℕ) → e
 spot_from_ends bs ends at k e lt h =
     let found = located 0 at k bs (omega arith) (omega (arith, lt)) (subst (λ es. IsEndCount es at k) e h) in
     let s : start_at 0 ends k ≡ start_at 0 (ends_of 0 bs) k = ap (λ es. start_at 0 es k) e in
-    let zero_off : at - 0 ≡ at = omega arith in
     record {
       start = subst (λ n. n ≤ at) (sym s) found.start;
       inside = h.in_range;
       spot = subst (λ n. IsSpot bs at k (at - n)) (sym s) (record {
         in_blocks = found.in_blocks;
         in_block = found.in_block;
-        here = λ b d. ap (λ i. get_or (rows_of_blocks bs) i d) (sym zero_off) ∙ found.here b d;
+        here = λ b d.
+            let off : at ≡ (at - 0) + 0 = omega arith in
+            let row : (at - start_at 0 (ends_of 0 bs) k) + 0 ≡ at - start_at 0 (ends_of 0 bs) k = omega arith in
+            let inside = found.in_block b in
+            ap (λ i. get_or (rows_of_blocks bs) i d) off ∙ found.along b d 0 (omega (arith, inside)) ∙ ap (λ i. get_or (block_rows (get_or bs k b)) i d) row;
+        along = λ b d i lt. let off : at + i ≡ (at - 0) + i = omega arith in ap (λ j. get_or (rows_of_blocks bs) j d) off ∙ found.along b d i lt;
       });
     }
 

@@ -16,6 +16,7 @@ pub mod Blocks
 pub mod BlockRows
 pub mod BlockLists
 pub mod TableBlocks
+pub mod RowRuns
 pub mod Extremes
 pub mod LeafTotals
 pub mod LeafTrees

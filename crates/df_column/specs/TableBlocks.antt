@@ -1,5 +1,5 @@
 -- The blocks of a table, and where its rows stand in them.
-use Rattle.std.specs.Prelude.{◌≡◌, ℕ, ◌<◌, ◌≤◌, ◌++◌, T, List, length, not, slice_index_or}
+use Rattle.std.specs.Prelude.{◌≡◌, ℕ, ◌+◌, ◌<◌, ◌≤◌, ◌++◌, T, List, length, not, slice_index_or}
 use Rattle.std.specs.FinMap.{is_sorted}
 use Rattle.std.specs.FinMap.Entries.{below_all}
 use Rattle.std.specs.Ordering.{is_gt}
@@ -23,6 +23,9 @@ pub record IsSpot (blocks : List BlockParts) (at block row : ℕ) : Type 0 where
   pub in_block : (b : BlockParts) → row < length (slice_index_or blocks block b).tags
   pub here : (b : BlockParts) (d : Tag × List Cell) →
       slice_index_or (rows_of_blocks blocks) at d ≡ slice_index_or (block_rows (slice_index_or blocks block b)) row d
+  -- and so with the rows behind it, as far as the block goes
+  pub along : (b : BlockParts) (d : Tag × List Cell) (i : ℕ) → row + i < length (slice_index_or blocks block b).tags →
+      slice_index_or (rows_of_blocks blocks) (at + i) d ≡ slice_index_or (block_rows (slice_index_or blocks block b)) (row + i) d
 
 -- rows before the first of these indexes have lesser tags, and those from the second on greater ones
 pub record IsWindow (rows : List (Tag × List Cell)) (tag : Tag) (low high : ℕ) : Type 0 where

@@ -282,8 +282,8 @@ impl BlockList {
         Ok(BlockList { leaves, tail })
     }
 
-    /// The list after the changes of entries that stand before the first row behind the leaves, but for those before the
-    /// first row of all; none where there are no such entries. What has no change is shared.
+    /// The list after the changes of the entries that go into leaves, but for those before the first row of all; none where
+    /// no entry goes into leaves. Leaves without a change are shared.
     pub fn with_changed_leaves(
         &self,
         alloc: Global,
@@ -298,7 +298,7 @@ impl BlockList {
         ensures { IfOk result (λ o. IfSome o (λ e. AreChangedBetween (map dtype_of_column columns.now) self.now
             entries.now e.list e.from e.to)) }
     {
-        let to = entries_before_run(entries, &self.tail);
+        let to = entries_of_leaves(entries, &self.leaves, &self.tail);
         if to == 0 {
             return Ok(None);
         }
@@ -331,14 +331,25 @@ pub struct Edited {
     pub to: usize,
 }
 
-/// How many of the entries stand before the first row of a run; 0 where it has no rows.
-fn entries_before_run(entries: &[Entry], run: &Run) -> usize
-    requires { T (finite.is_sorted tag_cmp (rows_of_blocks run.now)) }
+/// How many of the entries go into leaves: those before the first row of the blocks behind them; where there is no such
+/// row, those up to the last row of the leaves.
+fn entries_of_leaves(entries: &[Entry], leaves: &Leaves, tail: &Run) -> usize
+    requires { T (finite.is_sorted tag_cmp (rows_of_blocks tail.now)) }
     ensures within { result ≤ length entries.now }
-    ensures apart { T (apart tag_cmp (map entry_change (take result entries.now)) (rows_of_blocks run.now)) }
+    ensures apart { T (apart tag_cmp (map entry_change (take result entries.now)) (rows_of_blocks tail.now)) }
 {
-    match run.first_tag() {
+    match tail.first_tag() {
         Some(first) => entries_before(entries, first),
+        None => entries_up_to(entries, leaves.tree().last_tag()),
+    }
+}
+
+/// How many of the entries stand up to the tag; 0 where there is none.
+fn entries_up_to(entries: &[Entry], last: Option<Tag>) -> usize
+    ensures { result ≤ length entries.now }
+{
+    match last {
+        Some(last) => entries.iter().take_while(|e| e.tag <= last).count(),
         None => 0,
     }
 }

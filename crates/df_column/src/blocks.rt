@@ -149,21 +149,22 @@ fn with_grown(
     )
 }
 
-/// A last block of so many rows is not filled up further, since each row that comes makes it anew.
-const MOST_GROWN_ROWS: usize = 64;
+/// A last block that has so many rows is closed: further rows go into a new one, since each row that comes into a block
+/// makes it anew.
+const CLOSED_ROWS: usize = 64;
 
-/// How many rows may be put behind those of the block.
+/// At most how many rows may be put behind those of the block.
 fn room_in(block: &Block, is_last: bool) -> usize
     ensures { length block.now.tags + result ≤ most_rows }
 {
     let rows = block.tags().len();
-    if is_last && rows >= MOST_GROWN_ROWS {
+    if is_last && rows >= CLOSED_ROWS {
         return 0;
     }
     MOST_ROWS - rows
 }
 
-/// The list with the block's rows and then the picked rows behind it, of which so many go into the block.
+/// The list with the block's rows and then the picked rows behind it, of which at most so many go into the block.
 fn with_filled(
     alloc: Global,
     out: BlockList,
@@ -204,7 +205,8 @@ fn with_behind(
 }
 
 /// The list with the block's rows after these changes behind it: the block itself where there is none. New rows behind
-/// those of the block are put there, if all fit into it or it is the last block; else the rows are cut evenly.
+/// all of a last block go into it until it is closed, and then into new ones; those behind another block go into it if
+/// all fit. Else the rows are cut evenly.
 fn with_changed(
     alloc: Global,
     out: BlockList,
@@ -265,13 +267,14 @@ fn first_tag(blocks: &BlockList, range: Range<usize>) -> Option<Tag>
 }
 
 /// The list with a block behind it after its changes, and the changes of the later ones in a range. Where there are no
-/// changes, nothing is read.
+/// changes, nothing is read. Only where the list grows, rows behind the last one go into new blocks.
 fn with_first<'a>(
     alloc: Global,
     out: BlockList,
     block: &Arc<Block>,
     blocks: &BlockList,
     later: Range<usize>,
+    grows: bool,
     entries: &'a [Entry],
 ) -> Result<(BlockList, &'a [Entry]), AllocError>
     requires in_range { later.end ≤ length blocks.now }
@@ -290,19 +293,21 @@ fn with_first<'a>(
         let out = with_shared(alloc, out, block)?;
         return Ok((out, entries));
     }
-    let is_last = later.start == blocks.len();
+    let is_last = grows && later.start == blocks.len();
     let (mine, others) = entries.split_at(count_before(entries, first_tag(blocks, later)));
     let made = with_changed(alloc, out, block, mine, is_last)?;
     Ok((made, others))
 }
 
 /// The list with the blocks in a range behind it after the changes. Where there are none, the new rows go into blocks of
-/// these columns, which have no cells.
+/// these columns, which have no cells. Only where the list of the blocks grows, rows behind its last one go into new
+/// blocks once that is closed.
 pub fn with_changes(
     alloc: Global,
     out: BlockList,
     blocks: &BlockList,
     range: Range<usize>,
+    grows: bool,
     columns: &[Column],
     entries: &[Entry],
 ) -> Result<BlockList, AllocError>
@@ -323,7 +328,7 @@ pub fn with_changes(
     let mut at = range.start;
     while at < range.end {
         let later = at + 1..range.end;
-        let (list, others) = with_first(alloc, made, blocks.get(at), blocks, later, rest)?;
+        let (list, others) = with_first(alloc, made, blocks.get(at), blocks, later, grows, rest)?;
         made = list;
         rest = others;
         at += 1;

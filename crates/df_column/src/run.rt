@@ -126,6 +126,12 @@ impl Run {
         }
     }
 
+    /// The tag of the last row, none where there are no rows.
+    pub fn last_tag(&self) -> Option<Tag> {
+        let tags = self.blocks.last()?.tags();
+        tags.last().copied()
+    }
+
     /// How many columns the first block has; 0 where there is none.
     pub fn columns(&self) -> usize {
         match self.blocks.first() {

@@ -77,7 +77,7 @@ fn with_range_changed(
     let front = untouched(blocks, entries);
     let back = reached(blocks, front, entries);
     let before = BlockList::new(alloc).joined(alloc, blocks, 0, front)?;
-    let changed = with_changes(alloc, before, blocks, front..back, columns, entries)?;
+    let changed = with_changes(alloc, before, blocks, front..back, true, columns, entries)?;
     let made = changed.joined(alloc, blocks, back, blocks.len())?;
     Ok(made)
 }

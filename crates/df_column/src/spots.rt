@@ -1,17 +1,19 @@
 //! Rows of a list of blocks, or of one run, by their index and by their tags.
-ghost use Rattle.std.specs.Prelude.{◌≡◌, ℕ, ◌<◌, ◌≤◌, ◌^◌, T, List, IfErr, IfOk, drop, length, slice_index_or, take};
+ghost use Rattle.std.specs.Prelude.{◌≡◌, ℕ, ◌+◌, ◌<◌, ◌≤◌, ◌^◌, T, List, IfErr, IfOk, drop, length, slice_index_or, take, true};
 ghost use Rattle.std.specs.FinMap as finite;
 ghost use Rattle.std.specs.FinMap.Entries.{below_all};
 ghost use Rattle.df_value.specs.Rows.{row_eq};
 ghost use Rattle.df_value.specs.declared.cell.Cell.{Cell};
-ghost use Rattle.df_column.specs.Blocks.{rows_of_blocks};
+ghost use Rattle.df_column.specs.Blocks.{block_rows, rows_of_blocks};
 ghost use Rattle.df_column.specs.Bounds.{IsLowerBound, IsUpperBound};
 ghost use Rattle.df_column.specs.Changes.{all_under};
 ghost use Rattle.df_column.specs.Places.{IsGap, IsPlace};
+ghost use Rattle.df_column.specs.RowRuns.{StandFrom};
 ghost use Rattle.df_column.specs.TableBlocks.{IsSpot, IsWindow};
 ghost use Rattle.df_column.specs.Tags.{tag_cmp};
 ghost use Rattle.df_column.specs.declared.tag.Tag.{Tag};
 
+use crate::block::Block;
 use crate::block_list::BlockList;
 use crate::run::{Run, Spot};
 use crate::tag::Tag;
@@ -55,6 +57,42 @@ pub fn is_row_at(blocks: &BlockList, at: usize, row: &Row) -> bool
 {
     let spot = locate(blocks, at);
     blocks.get(spot.block).is_row(spot.row, row)
+}
+
+/// Whether these rows stand in a block from an index on, at tags whose first numbers rise by one from this one.
+fn are_rows_in(block: &Block, low: usize, first: u64, rows: &[Row]) -> bool
+    requires within { low + length rows.now ≤ length block.now.tags }
+    requires numbers { first + length rows.now < 2 ^ 64 }
+    ensures { result ≡ true → StandFrom (block_rows block.now) low first rows.now }
+{
+    let tags = block.tags();
+    for at in 0..rows.len() {
+        if tags[low + at].first != first + at as u64 || !block.is_row(low + at, &rows[at]) {
+            return false;
+        }
+    }
+    true
+}
+
+/// Whether these rows stand from an index on, at tags whose first numbers rise by one from this one.
+pub fn are_rows_at(blocks: &BlockList, at: usize, first: u64, rows: &[Row]) -> bool
+    requires within { at + length rows.now ≤ length (rows_of_blocks blocks.now) }
+    requires few { at + length rows.now < 2 ^ 64 }
+    requires numbers { first + length rows.now < 2 ^ 64 }
+    ensures { result ≡ true → StandFrom (rows_of_blocks blocks.now) at first rows.now }
+{
+    let mut done = 0;
+    while done < rows.len() {
+        let spot = locate(blocks, at + done);
+        let block = blocks.get(spot.block);
+        let many = (rows.len() - done).min(block.tags().len() - spot.row);
+        let part = &rows[done..done + many];
+        if !are_rows_in(block, spot.row, first + done as u64, part) {
+            return false;
+        }
+        done += many;
+    }
+    true
 }
 
 /// Where the row at this index of a run stands.

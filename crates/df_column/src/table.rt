@@ -1,5 +1,5 @@
 //! Tables of tagged rows in shared blocks.
-ghost use Rattle.std.specs.Prelude.{◌≡◌, ◌↔◌, ℕ, ◌<◌, ◌≤◌, ◌++◌, ◌^◌, T, List, Some, None, IfErr, IfNone, IfOk, IfSome, IsTrue, true, drop, map, length, not, slice_index_or, take};
+ghost use Rattle.std.specs.Prelude.{◌≡◌, ◌↔◌, ℕ, ◌+◌, ◌<◌, ◌≤◌, ◌++◌, ◌^◌, T, List, Some, None, IfErr, IfNone, IfOk, IfSome, IsTrue, true, drop, map, length, not, slice_index_or, take};
 ghost use Rattle.std.specs.Arc.{arc_value};
 ghost use Rattle.std.specs.FinMap as finite;
 ghost use Rattle.std.specs.List.{list_all};
@@ -11,6 +11,7 @@ ghost use Rattle.df_column.specs.Columns.{column_cells, dtype_of_column};
 ghost use Rattle.df_column.specs.Picks.{AreWithin};
 ghost use Rattle.df_column.specs.Bounds.{IsLowerBound, IsUpperBound};
 ghost use Rattle.df_column.specs.Places.{IsGap, IsPlace};
+ghost use Rattle.df_column.specs.RowRuns.{StandFrom};
 ghost use Rattle.df_column.specs.Rows.{AreRows, are_even, picked_rows};
 ghost use Rattle.df_column.specs.Tables.{NewRowsFit, AreRising, after_entries, dtypes_of, new_rows_fit};
 ghost use Rattle.df_column.specs.Tags.{tag_cmp};
@@ -200,6 +201,20 @@ impl Table {
             row_eq (slice_index_or (finite.entries self.now.rows) at d).1 row.now }
     {
         spots::is_row_at(&self.blocks, at, row)
+    }
+
+    /// Whether these rows stand from this index on, at tags whose first numbers rise by one from this one. No cell is
+    /// copied, and each block is looked for once.
+    pub fn are_rows(&self, at: usize, first: u64, rows: &[Row]) -> bool
+        requires { first + length rows.now < 2 ^ 64 }
+        ensures within { result ≡ true → at + length rows.now ≤ finite.len self.now.rows }
+        ensures rows { result ≡ true → StandFrom (finite.entries self.now.rows) at first rows.now }
+    {
+        let Some(end) = at.checked_add(rows.len()) else {
+            return false;
+        };
+        let blocks = self.blocks();
+        end <= self.len() && spots::are_rows_at(blocks, at, first, rows)
     }
 
     /// The index of the row at this tag, if there is one. The number of steps goes by the logarithm of the number of

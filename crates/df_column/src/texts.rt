@@ -20,8 +20,13 @@ use indexmap::IndexSet;
 use std::alloc::{AllocError, Global};
 use std::marker::Model;
 
-/// The most texts that are looked for along the pool. For more of them their hashes are made.
-const MOST_LOOKED_UP: usize = 16;
+/// Up to so many rows, each text is looked for along the pool. For more of them the hashes of all texts are made.
+const FEW_ROWS: usize = 16;
+
+/// So many texts of a pool are few: then that is done for up to as many rows behind it as follow.
+const FEW_TEXTS: usize = 16;
+
+const FEW_ROWS_BEHIND_FEW_TEXTS: usize = 64;
 
 /// Texts or nulls: the places of the texts in a pool. Contracts see a list of options.
 #[derive(Drop)]
@@ -222,13 +227,13 @@ fn text_from<'a>(old: &'a Texts, column: usize, origin: Origin<'a>) -> Option<&'
     }
 }
 
-/// Whether each text of so many picks is looked for in the pool text by text: where there are few, or some behind all rows
-/// of a column that has few texts, as a key column has. Else the texts are found by their hashes, and the pool's too.
-fn is_looked_up(whole: bool, pool: usize, picks: usize) -> bool {
-    if whole && pool <= MOST_LOOKED_UP {
-        picks <= 4 * MOST_LOOKED_UP
+/// Whether the texts of so many rows are looked for along the pool, which has so many texts if all rows of it stay. By
+/// hashes, the texts of these rows too would be hashed.
+fn searches_pool(whole: bool, texts: usize, rows: usize) -> bool {
+    if whole && texts <= FEW_TEXTS {
+        rows <= FEW_ROWS_BEHIND_FEW_TEXTS
     } else {
-        picks <= MOST_LOOKED_UP
+        rows <= FEW_ROWS
     }
 }
 
@@ -337,7 +342,7 @@ impl Texts {
             all_or_none whole (map text_cell self.now)
             ++ picked_cells (map text_cell self.now) column picks.now) }
     {
-        if !is_looked_up(whole, self.pool.len(), picks.len()) {
+        if !searches_pool(whole, self.pool.len(), picks.len()) {
             let texts = picked_by_hash(alloc, self, whole, column, picks)?;
             return Ok(texts);
         }

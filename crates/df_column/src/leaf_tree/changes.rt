@@ -39,12 +39,12 @@ fn changed_leaf(
     let blocks = BlockList::of_run(alloc, leaf.run())?;
     let all = 0..blocks.len();
     let none = BlockList::new(alloc);
-    let changed = with_changes(alloc, none, &blocks, all, columns, entries)?;
+    let changed = with_changes(alloc, none, &blocks, all, false, columns, entries)?;
     let leaves = changed.into_leaves(alloc)?;
     Ok(leaves.into_tree())
 }
 
-/// The tree of both sides and of what stands between them: the leaf after the changes, itself where there is none.
+/// The tree of both sides and of what stands between them: the leaf after the changes, itself where there are no changes.
 fn with_changed_leaf(
     alloc: Global,
     left: &LeafTree,
@@ -75,8 +75,8 @@ fn with_changed_leaf(
 }
 
 impl LeafTree {
-    /// The tree after the changes, but for those that stand before its first row, and how many these are. What has no
-    /// change is shared: of a node on the way to a change, and of no other, a new one is made.
+    /// The tree after the changes, but for those that stand before its first row, and how many these are. New are only the
+    /// nodes on the way to a change, and those that are turned or joined.
     pub fn changed(
         &self,
         alloc: Global,

@@ -67,6 +67,18 @@ impl LeafTree {
         (other, before.with(run.len(), run.rows(), between))
     }
 
+    /// The tag of the last row, none where there are no rows.
+    pub fn last_tag(&self) -> Option<Tag> {
+        let LeafTree::Fork(node) = self else {
+            return None;
+        };
+        let node: &Node = node;
+        match &node.right {
+            LeafTree::Empty => node.leaf.run().last_tag(),
+            right => right.last_tag(),
+        }
+    }
+
     /// The only run in which a row with this tag can stand, and how many rows stand before it; none where all rows have
     /// greater tags. Of each node on the way down one tag is read.
     pub fn run_of_tag(&self, tag: Tag) -> Option<(&Run, usize)>
