@@ -15,7 +15,7 @@ use Rattle.df_ops.specs.declared.agg.Agg.{Agg}
 use Rattle.df_ops.specs.declared.agg.Agg.TheVariants as agg
 use Rattle.df_ops.specs.declared.min_max.MinMax.{MinMax}
 use Rattle.df_ops.specs.declared.min_max.MinMax.TheVariants as min_max
-use Rattle.df_group.specs.Totals.{IsCellBefore, IsExtremeBefore, extreme_after, extreme_after_entry, extreme_in, is_as_good, may_be_best, value_of}
+use Rattle.df_group.specs.Totals.{IsCellBefore, IsExtremeBefore, extreme_after, extreme_after_entry, extreme_of_rows, is_as_good, may_be_best, value_of}
 
 -- what is found among cells that are not null is not null
 found : (p : Cell → Bool) (cells : List Cell) (c : Cell) → find p (non_null cells) ≡ Some c → is_null c ≡ false
@@ -57,9 +57,9 @@ pub extreme_if : {X : Type 0} (of : X → Option Cell) (e : MinMax) (index : Opt
     → IfSome answer (λ best. unwrap_or (of best) cell.Null ≡ min_or_max_of e (cells_of index rows))
 extreme_if of e index k entries rows None h is = tt
 extreme_if of e index k entries rows (Some best) h is =
-    let from : value_in k ≡ extreme_in e index h.old = ap value_in h.is ∙ value_of_extreme e (cells_of index h.old) in
-    let known : extreme_after e index (extreme_in e index h.old) entries ≡ Some (of best) = ap (λ b. extreme_after e index b entries) (sym from) ∙ sym is in
-    ap (λ o. unwrap_or o cell.Null) (subst (λ o. IfSome o (λ b. b ≡ extreme_in e index rows)) known (h.lead.extremes e index))
+    let from : value_in k ≡ extreme_of_rows e index h.old = ap value_in h.is ∙ value_of_extreme e (cells_of index h.old) in
+    let known : extreme_after e index (extreme_of_rows e index h.old) entries ≡ Some (of best) = ap (λ b. extreme_after e index b entries) (sym from) ∙ sym is in
+    ap (λ o. unwrap_or o cell.Null) (subst (λ o. IfSome o (λ b. b ≡ extreme_of_rows e index rows)) known (h.lead.extremes e index))
 
 -- a least or greatest cell before, from a cell that is this aggregate
 of_end : (e : MinMax) (columns : List (List ℕ × CellType)) (index : Option ℕ) (a : Agg) (known : Option Cell) (entries : List Entry) (rows : List (List Cell))

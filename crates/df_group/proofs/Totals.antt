@@ -21,7 +21,7 @@ use Rattle.df_ops.specs.declared.min_max.MinMax.{MinMax}
 use Rattle.df_ops.proofs.AggregateLaws.{count_is_count, sum_is_sum}
 use Rattle.df_ops.proofs.Steps.{mapped_more}
 use Rattle.df_group.specs.GroupIndex.{totals_of}
-use Rattle.df_group.specs.Totals.{HaveValuesOf, Lead, alone, extreme_after, extreme_after_entry, extreme_in, is_as_good, may_be_best, value_of, sums_after, sums_after_entry, sums_of, total_for, total_of, totals_over, values_of}
+use Rattle.df_group.specs.Totals.{HaveValuesOf, Lead, alone, extreme_after, extreme_after_entry, extreme_of_rows, is_as_good, may_be_best, value_of, sums_after, sums_after_entry, sums_of, total_for, total_of, totals_over, values_of}
 use Rattle.df_group.specs.declared.grouping.Grouping.{Grouping}
 use Rattle.df_group.specs.declared.sums.Sums.{Sums}
 use Rattle.df_group.specs.declared.total.Total.{Total}
@@ -116,10 +116,10 @@ lead_applied t d entries e fits = record {
       let value : List Cell → Option Cell = λ row. value_in (cell_at index row) in
       let start = row_extreme_is m (cell_at index) (finite.entries t) in
       let end = row_extreme_is m (cell_at index) (finite.entries (applied t d)) in
-      let moved : extreme_after m index (extreme_in m index (finite.values t)) entries ≡ best_after_all m value (Some (row_extreme m value (finite.entries t))) (finite.entries d) =
-      extreme_moves m index (Some (extreme_in m index (finite.values t))) entries
+      let moved : extreme_after m index (extreme_of_rows m index (finite.values t)) entries ≡ best_after_all m value (Some (row_extreme m value (finite.entries t))) (finite.entries d) =
+      extreme_moves m index (Some (extreme_of_rows m index (finite.values t))) entries
       ∙ (λ i. best_after_all m value (Some (start i)) (e i)) in
-      subst (λ found. IfSome found (λ best. best ≡ extreme_in m index (finite.values (applied t d)))) (sym moved)
+      subst (λ found. IfSome found (λ best. best ≡ extreme_of_rows m index (finite.values (applied t d)))) (sym moved)
       (subst (λ last. IfSome (best_after_all m value (Some (row_extreme m value (finite.entries t))) (finite.entries d)) (λ best. best ≡ last)) (sym end)
       (extreme_applied m tag_total tag_same value t d fits));
 }

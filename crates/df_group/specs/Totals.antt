@@ -1,5 +1,5 @@
--- Running totals: the count and the sum of the cells that rows have at an index, the number of rows that have each value at an index, and
--- how all of these follow changes of the rows.
+-- Running totals: the count and the sum of the cells that rows have at an index, and the number of rows that have each
+-- value there; the least and the greatest cell; and how all of these follow changes of the rows.
 use Rattle.std.specs.Prelude.{◌≡◌, ℕ, Bool, true, false, cond, not, ◌&&◌, pos, ◌+◌, ◌-◌, ◌+ℤ◌, ◌-ℤ◌, List, [], ◌∷◌, Option, Some, None, IfSome, All, fold, map, unwrap_or}
 use Rattle.std.specs.FinMap.{find}
 use Rattle.df_value.specs.CellOrder.{cell_cmp}
@@ -81,8 +81,8 @@ abbrev pub total_of : Option ℕ → Option ℕ → List (List Cell) → Total
 total_of summed valued rows = record { sums = sums_of summed rows; values = values_of valued rows }
 
 -- the least or the greatest cell of these rows at an index that is not null
-abbrev pub extreme_in : MinMax → Option ℕ → List (List Cell) → Option Cell
-extreme_in e index rows = min_or_max_in e (non_null (cells_of index rows))
+abbrev pub extreme_of_rows : MinMax → Option ℕ → List (List Cell) → Option Cell
+extreme_of_rows e index rows = min_or_max_in e (non_null (cells_of index rows))
 
 -- whether the cell of a row that goes may be the best one
 abbrev pub may_be_best : MinMax → Option Cell → Option Cell → Bool
@@ -108,7 +108,7 @@ extreme_after e index best entries = fold (extreme_after_entry e index) (Some be
 
 -- the entries lead the totals of some rows to those of others, and their least and greatest cells where they are known afterwards
 pub record Lead (old : List (List Cell)) (entries : List Entry) (new : List (List Cell)) : Type 0 where
-  pub extremes : (e : MinMax) (index : Option ℕ) → IfSome (extreme_after e index (extreme_in e index old) entries) (λ best. best ≡ extreme_in e index new)
+  pub extremes : (e : MinMax) (index : Option ℕ) → IfSome (extreme_after e index (extreme_of_rows e index old) entries) (λ best. best ≡ extreme_of_rows e index new)
   pub sums : (index : Option ℕ) → sums_after (sums_of index old) entries ≡ sums_of index new
   pub counts : (index : Option ℕ) → counts_after index (counts_of index old) entries ≡ counts_of index new
 

@@ -91,7 +91,7 @@ fn extreme_from<'a>(
 }
 
 /// The least cell at an index of the members that is not null, null where there is none. Of each leaf of members one
-/// cell is read, and of each block behind them.
+/// cell is read, and of each block behind the leaves.
 fn least_cell(alloc: Global, index: Option<usize>, members: &Table) -> Result<Cell, AllocError>
     ensures { IfOk result (λ c. c
         ≡ min_or_max_of MinMax.Min (cells_of index (finite.values members.now.rows))) }
@@ -109,7 +109,7 @@ fn greatest_cell(alloc: Global, index: Option<usize>, members: &Table) -> Result
     Ok(greatest.unwrap_or(Cell::Null))
 }
 
-/// The least or the greatest cell at an index of the members, as these functions read it.
+/// The least or the greatest cell at an index of the members that is not null, null where there is none.
 fn extreme_among(
     alloc: Global,
     min_max: MinMax,

@@ -37,19 +37,18 @@ fn edit_table(alloc: Global, table: &Table, entries: &[Entry]) -> Result<Table, 
     table.edited(alloc, entries)
 }
 
-/// The members of the key's group after these changes.
+/// The members of a group after these changes; those of no group are none.
 pub fn changed_members(
     alloc: Global,
     grouping: &Grouping,
-    index: &IndexMap<Row, Group>,
-    key: &Row,
+    group: Option<&Group>,
     changes: &KeyChanges,
 ) -> Result<Table, AllocError>
     requires { AreRising changes.now.entries.items }
     ensures { IfOk result (λ t. t ≡ edited_table
-        (members_now grouping.now (get row_eq index.now key.now)) changes.now.entries.items) }
+        (members_now grouping.now (option_copied group.entry)) changes.now.entries.items) }
 {
-    match index.get(key) {
+    match group {
         Some(group) => edit_table(alloc, &group.members, &changes.entries),
         None => {
             let none = Table::new(alloc, grouping.schema.copy(alloc)?)?;
@@ -62,16 +61,16 @@ pub fn changed_members(
 pub fn changed_totals(
     alloc: Global,
     grouping: &Grouping,
-    index: &IndexMap<Row, Group>,
     key: &Row,
+    group: Option<&Group>,
     changes: &KeyChanges,
     members: &Table,
 ) -> Result<List<Total>, AllocError>
-    ensures { IfOk result (λ ts. Follows grouping.now key.now (get row_eq index.now key.now) changes.now
-        → members.now ≡ edited_table (members_now grouping.now (get row_eq index.now key.now)) changes.now.entries.items
+    ensures { IfOk result (λ ts. Follows grouping.now key.now (option_copied group.entry) changes.now
+        → members.now ≡ edited_table (members_now grouping.now (option_copied group.entry)) changes.now.entries.items
         → ts ≡ totals_of grouping.now (finite.values members.now.rows)) }
 {
-    match index.get(key) {
+    match group {
         Some(group) => moved_totals(alloc, group.totals.as_slice(), &changes.entries, members),
         None => {
             let none = grouping.no_totals(alloc)?;
@@ -80,11 +79,11 @@ pub fn changed_totals(
     }
 }
 
-/// The row of the key's group before, if there is a group.
-pub fn row_before<'a>(index: &'a IndexMap<Row, Group>, key: &Row) -> Option<&'a Row>
-    ensures { option_copied result ≡ option_map (λ g. g.row) (get row_eq index.now key.now) }
+/// The row of a group, if there is one.
+pub fn row_before<'a>(group: Option<&'a Group>) -> Option<&'a Row>
+    ensures { option_copied result ≡ option_map (λ g. g.row) (option_copied group.entry) }
 {
-    match index.get(key) {
+    match group {
         Some(group) => Some(&group.row),
         None => None,
     }

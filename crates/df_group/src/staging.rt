@@ -37,9 +37,10 @@ fn stage_group(
     ensures grows { IsWithin meter.old meter.new }
     ensures counted { IsWithin meter.new (plus meter.old (finishes 1)) }
 {
-    let members = changed_members(alloc, grouping, index, &key, changes)?;
-    let totals = changed_totals(alloc, grouping, index, &key, changes, &members)?;
-    let before = row_before(index, &key);
+    let now = index.get(&key);
+    let members = changed_members(alloc, grouping, now, changes)?;
+    let totals = changed_totals(alloc, grouping, &key, now, changes, &members)?;
+    let before = row_before(now);
     let entries = &changes.entries;
     let group = finished_group(
         alloc, grouping, &key, before, entries, members, totals, meter,
