@@ -9,6 +9,7 @@ pub mod ViewFacts
 pub mod Legal
 pub mod NumberSetFacts
 pub mod FrameTableFacts
+pub mod StandingRows
 pub mod Refusing
 pub mod Counting
 pub mod RangeFacts

@@ -1,9 +1,8 @@
 //! Whether a frame has the rows of its good chunks. Nothing is copied.
-ghost use Rattle.std.specs.Prelude.{◌≡◌, ◌≤◌, ◌+◌, ◌^◌, ◌<◌, Some, true, IfNone, IfSome, List, flat_map, length, map, slice_get};
+ghost use Rattle.std.specs.Prelude.{◌≡◌, ◌+◌, ◌<◌, Some, true, IfNone, IfSome, flat_map, length, map, slice_get};
 ghost use Rattle.df_store.specs.Jobs.{job_of};
-ghost use Rattle.df_value.specs.declared.cell.Cell.{Cell};
 ghost use Rattle.df_catalogue.specs.declared.state.FrameState.{FrameState};
-ghost use Rattle.df_store.specs.Loaded.{AreLoaded, HasChunk, HasRows, chunk_rows, job_rows, row_at};
+ghost use Rattle.df_store.specs.Loaded.{AreLoaded, HasChunk, HasRows, chunk_rows, job_rows};
 
 use crate::jobs::Outcome;
 use crate::totals::frame_count;
@@ -92,29 +91,5 @@ fn has_chunk<Acc: Ledger, Del: Ledger>(
     ensures { result ≡ true → HasChunk catalogue.now.state frame place chunk.now }
 {
     let rows = chunk.rows();
-    for at in 0..rows.len() {
-        if !has_row(catalogue, frame, place, chunk, at) {
-            return false;
-        }
-    }
-    true
-}
-
-// Whether the row at this place of a chunk stands so far behind a place of a frame.
-fn has_row<Acc: Ledger, Del: Ledger>(
-    catalogue: &Catalogue<Acc, Del>,
-    frame: usize,
-    place: u64,
-    chunk: &Chunk,
-    at: usize,
-) -> bool
-    requires { at < length chunk.now.rows }
-    ensures { result ≡ true → (x : List Cell) → slice_get chunk.now.rows at ≡ Some x → row_at catalogue.now.state frame (place + at) ≡ Some (chunk.now.first + at, x) }
-{
-    let rows = chunk.rows().as_slice();
-    let number = (chunk.first() as u64 + at as u64) as u32;
-    match place.checked_add(at as u64) {
-        Some(there) => catalogue.is_row(frame, there as usize, number, &rows[at]),
-        None => false,
-    }
+    catalogue.are_rows(frame, place as usize, chunk.first(), rows.as_slice())
 }
