@@ -141,6 +141,24 @@ done
 with listed.toml --chunk 65536
 ended "chunks of 65536" 1 "$whole" ""
 
+# The numbers from 1 to 400 with a bad cell at 200, in chunks of 4, of which several enter in one change.
+cat > many.toml << 'END'
+[[frame]]
+name = "t"
+columns = [["k", "Text"], ["x", "Int"]]
+path = "many.csv"
+[[view]]
+name = "sums"
+from = "t"
+steps = [["group_by", ["k"], ["n", "len"], ["total", "sum", "x"]]]
+END
+{ echo k,x; seq -f 'a,%g' 199; echo a,200x; seq -f 'a,%g' 201 400; } > many.csv
+printf -v sums '%s\n' "sums (1 x 3)" "k    n  total" "a  396  79406" "" "refused t 196: record 200, column x"
+for workers in 1 2 16; do
+  with many.toml --chunk 4 --workers "$workers"
+  ended "many chunks, $workers workers" 1 "$sums" ""
+done
+
 # Words that are refused.
 for words in "--workers 17" "--workers 0" "--workers" "--chunk 0" "--chunk 65537" "--chunk x" "--chunk -1" \
   "listed.toml t.csv" "--threads 2" "--chunk 1 --chunk 1" "-x"; do

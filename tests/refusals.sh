@@ -1,13 +1,14 @@
 #!/usr/bin/env bash
 # Runs a program over a document with each allocation, read and write refused in turn:
-# refusals.sh PROGRAM DOCUMENT, where DOCUMENT.stdout is its whole output and DOCUMENT.status, if it is there,
-# the status that goes with it. A refused allocation ends in
+# refusals.sh PROGRAM DOCUMENT WORDS.., where DOCUMENT.stdout is its whole output with these words and DOCUMENT.status, if
+# it is there, the status that goes with it. A refused allocation ends in
 # `dfviews: memory` or leaves the output as it is; a refused read of the document is V10, one of a frame's file F1
 # and a refused write, or one that takes no byte, `write`, with nothing or a prefix of the output written. Prints what
 # went otherwise, and ends with a count.
 set -u
 program=$1
 document=$2
+words=("${@:3}")
 want=$document.stdout
 want_status=$(cat "$document.status" 2> /dev/null || echo 0)
 here=$(cd "$(dirname "$0")" && pwd)
@@ -18,7 +19,7 @@ compiler=${CC:-$(command -v cc || echo "$(dirname "$(rt doc)")/toolchain/bin/cla
 
 # Runs the program with these variables set; the status, output and error go to files.
 run() {
-  env LD_PRELOAD="$work/failing.so" "$@" "$program" < "$document" > "$work/out" 2> "$work/err"
+  env LD_PRELOAD="$work/failing.so" "$@" "$program" "${words[@]}" < "$document" > "$work/out" 2> "$work/err"
   status=$?
 }
 
@@ -74,5 +75,5 @@ for n in $(seq 1 "$writes"); do
   run SHORT=1 EMPTY_WRITE="$n"
   faulted write || other "short write $n, which takes no byte"
 done
-echo "$document: $allocs allocations, $reads reads, $file_reads of files and $writes writes refused in turn, $wrong otherwise"
+echo "$document ${words[*]}: $allocs allocations, $reads reads, $file_reads of files and $writes writes refused in turn, $wrong otherwise"
 [ "$wrong" -eq 0 ]

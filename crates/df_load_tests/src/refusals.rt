@@ -167,7 +167,7 @@ fn run_refused<
     }
 }
 
-static CASES: [RefusedLoad; 9] = [
+static CASES: [RefusedLoad; 11] = [
     RefusedLoad {
         name: "the second of two chunks that share a number",
         before: Before::Nothing,
@@ -221,6 +221,24 @@ static CASES: [RefusedLoad; 9] = [
         cause: LoadCause::Lost(0),
         left: Some([1, 2]),
         calls: [1, 1],
+    },
+    RefusedLoad {
+        name: "the same of one of several chunks that would enter together",
+        before: Before::Row(0, 4),
+        views: &["t"],
+        sources: [(16, 2), (0, 0)],
+        cause: LoadCause::Lost(2),
+        left: Some([31, 0]),
+        calls: [16, 0],
+    },
+    RefusedLoad {
+        name: "many chunks, each of which shares a number with the one before",
+        before: Before::Nothing,
+        views: &["t"],
+        sources: [(16, 1), (0, 0)],
+        cause: LoadCause::Lost(1),
+        left: Some([16, 0]),
+        calls: [16, 0],
     },
     RefusedLoad {
         name: "a view before the load",

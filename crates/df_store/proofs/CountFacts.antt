@@ -1,13 +1,16 @@
 -- What the desks of workers count, and the outcomes that they brought.
 use Rattle.std.proofs.Common.{◌≡◌, ℕ, suc, ◌+◌, ◌<◌, ◌==◌, ◌∙◌, Bool, true, false, List, [], ◌∷◌, ◌++◌, length, get_or, set, refl, ap, sym, arith, sum_by}
-use Rattle.std.specs.Prelude.{if◌then◌else◌}
+use Rattle.std.specs.Prelude.{Result, Ok, Err, IfOk, if◌then◌else◌}
+use Rattle.df_value.specs.Chunks.{ChunkParts}
+use Rattle.df_value.specs.declared.chunk.BadCell.{BadCell}
+use Rattle.df_value.specs.declared.chunk.Piece.TheVariants.{Bad, Good}
 use Rattle.std.proofs.lemmas.List.Sums.{sum_by-append, sum_by-cons, sum_by-set, sum_by_push}
 use Rattle.df_catalogue.specs.Desks.{DeskParts, parts_of}
 use Rattle.df_store.specs.declared.jobs.Outcome.{Outcome}
 use Rattle.df_store.specs.declared.worker.Worker.{Worker}
 use Rattle.df_store.specs.Closing.{HaveSameSums}
 use Rattle.df_store.specs.Halls.{having_accepted}
-use Rattle.df_store.specs.Workers.{AreCounted, all_without_accepted, desks_of, outcomes_in, rows_of, without_accepted}
+use Rattle.df_store.specs.Workers.{AreCounted, HaveAccepted, all_without_accepted, desks_of, outcomes_in, rows_of, without_accepted}
 
 pub nothing-new : (desks : List DeskParts) (done : List Outcome) → AreCounted desks done desks done
 nothing-new desks done = record { same = λ frame. refl }
@@ -22,22 +25,65 @@ if-sum : (b : Bool) (m n : ℕ) → (if b then m + n else 0) ≡ (if b then m el
 if-sum true m n = refl
 if-sum false m n = refl
 
--- a chunk was committed through a desk of its frame
+if-none : (b : Bool) → ◌≡◌ {A = ℕ} (if b then 0 else 0) 0
+if-none true = refl
+if-none false = refl
+
+-- so many rows of a frame were accepted through a desk of it
 pub one-committed :
-    (desks : List DeskParts) (at : ℕ) (d now : DeskParts) (o : Outcome) (rows : ℕ) → at < length desks → rows_of o.made ≡ rows → (get_or desks at d).frame ≡ o.frame →
-    now ≡ having_accepted rows (get_or desks at d) → AreCounted desks [] (set desks at now) (o ∷ [])
-one-committed desks at d now o rows low many of_frame is = record {
-  same = λ frame.
-      let h : DeskParts → ℕ = λ x. if x.frame == frame then x.accepted else 0 in
+    (desks : List DeskParts) (at : ℕ) (d now : DeskParts) (frame rows : ℕ) → at < length desks → (get_or desks at d).frame ≡ frame →
+    now ≡ having_accepted rows (get_or desks at d) → HaveAccepted frame rows desks (set desks at now)
+one-committed desks at d now frame rows low of_frame is = record {
+  same = λ f.
+      let h : DeskParts → ℕ = λ x. if x.frame == f then x.accepted else 0 in
       let was = get_or desks at d in
       let moved = sum_by-set h desks at now d low in
-      let more : h now ≡ h was + (if o.frame == frame then rows_of o.made else 0) =
-      ap h is
-      ∙ (if-sum (was.frame == frame) was.accepted rows
-      ∙ (ap (λ f. h was + (if f == frame then rows else 0)) of_frame
-      ∙ ap (λ n. h was + (if o.frame == frame then n else 0)) (sym many))) in
+      let more : h now ≡ h was + (if frame == f then rows else 0) =
+      ap h is ∙ (if-sum (was.frame == f) was.accepted rows ∙ ap (λ n. h was + (if n == f then rows else 0)) of_frame) in
       omega (arith, moved, more);
 }
+
+-- no row was accepted
+pub none-accepted : (frame : ℕ) (desks : List DeskParts) → HaveAccepted frame 0 desks desks
+none-accepted frame desks = record { same = λ f. let none = if-none (frame == f) in omega (arith, none) }
+
+-- so no outcome counts
+pub none-counted : (frame : ℕ) (desks now : List DeskParts) (done : List Outcome) → HaveAccepted frame 0 desks now → AreCounted desks done now done
+none-counted frame desks now done none = record {
+  same = λ f.
+      let same = none.same f in
+      let nothing = if-none (frame == f) in
+      omega (arith, same, nothing);
+}
+
+-- the outcome of a chunk whose rows were accepted counts
+pub chunk-counted :
+    (desks now : List DeskParts) (o : Outcome) (c : ChunkParts) → o.made ≡ Good c → HaveAccepted o.frame (length c.rows) desks now → AreCounted desks [] now (o ∷ [])
+chunk-counted desks now o c made more = record {
+  same = λ f.
+      let one = sum_by-cons (λ (x : Outcome). if x.frame == f then rows_of x.made else 0) o [] in
+      let rows = ap (λ p. if o.frame == f then rows_of p else 0) made in
+      let accepted = more.same f in
+      omega (arith, one, rows, accepted);
+}
+
+-- so does that of a bad chunk, of which no row was
+pub bad-counted : (desks : List DeskParts) (o : Outcome) (b : BadCell) → o.made ≡ Bad b → AreCounted desks [] desks (o ∷ [])
+bad-counted desks o b made = record {
+  same = λ f.
+      let one = sum_by-cons (λ (x : Outcome). if x.frame == f then rows_of x.made else 0) o [] in
+      let rows = ap (λ p. if o.frame == f then rows_of p else 0) made in
+      let nothing = if-none (o.frame == f) in
+      omega (arith, one, rows, nothing);
+}
+
+-- a good chunk's outcome counts where its rows were accepted
+pub told-counted :
+    {S : Type 0} (r : Result Bool S) (desks now : List DeskParts) (o : Outcome) (c : ChunkParts) → o.made ≡ Good c →
+    IfOk r (λ entered. HaveAccepted o.frame (if entered then length c.rows else 0) desks now) → IfOk r (λ entered. AreCounted desks [] now (if entered then o ∷ [] else []))
+told-counted (Ok true) desks now o c made more = chunk-counted desks now o c made more
+told-counted (Ok false) desks now o c made more = none-counted o.frame desks now [] more
+told-counted (Err s) desks now o c made more = tt
 
 -- one more outcome behind those that were there
 pub one-more-outcome :

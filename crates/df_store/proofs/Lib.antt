@@ -7,6 +7,7 @@ pub mod TotalsFacts
 pub mod JobFacts
 pub mod OutcomeFacts
 pub mod RowFacts
+pub mod JoinedFacts
 pub mod LostFacts
 pub mod ViewFacts
 pub mod CrossingPlans

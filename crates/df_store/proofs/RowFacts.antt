@@ -27,7 +27,7 @@ behind : {X : Type 0} (xs ys zs : List X) → xs ++ (ys ++ zs) ≡ (xs ++ ys) ++
 behind [] ys zs = refl
 behind (x ∷ xs) ys zs = ap (λ ws. x ∷ ws) (behind xs ys zs)
 
-flat-more : {X Y : Type 0} (f : X → List Y) (xs : List X) (x : X) → flat_map f (xs ++ x ∷ []) ≡ flat_map f xs ++ f x
+pub flat-more : {X Y : Type 0} (f : X → List Y) (xs : List X) (x : X) → flat_map f (xs ++ x ∷ []) ≡ flat_map f xs ++ f x
 flat-more f [] x = nothing-behind (f x)
 flat-more f (y ∷ ys) x = ap (λ zs. f y ++ zs) (flat-more f ys x) ∙ behind (f y) (flat_map f ys) (f x)
 
@@ -81,7 +81,7 @@ stand-behind s frame place rows more many has was k r h =
 abbrev pub rows_at : ℕ → List Outcome → List (ℕ × List Cell)
 rows_at frame os = flat_map (λ o. job_rows frame (job_of o)) os
 
-rows-more :
+pub rows-more :
     (frame : ℕ) (os : List Outcome) (i : ℕ) (o : Outcome) → i < length os → o ≡ get_or os i o →
     rows_at frame (take (i + 1) os) ≡ rows_at frame (take i os) ++ job_rows frame (job_of o)
 rows-more frame os i o h is =

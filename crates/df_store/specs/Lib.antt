@@ -4,6 +4,7 @@ pub mod Halls
 pub mod Jobs
 pub mod Workers
 pub mod Loaded
+pub mod Joined
 pub mod Refused
 pub mod Lost
 pub mod Loads

@@ -53,6 +53,10 @@ rows_of (Bad b) = 0
 abbrev pub entered_at : ℕ → List Outcome → ℕ
 entered_at frame os = sum_by (λ o. if o.frame == frame then rows_of o.made else 0) os
 
+-- so many rows more of this frame were accepted through the desks, and of each other frame as many as before
+pub record HaveAccepted (frame rows : ℕ) (desks desks' : List DeskParts) : Type 0 where
+  pub same : (at : ℕ) → accepted_at at desks' ≡ accepted_at at desks + (if frame == at then rows else 0)
+
 -- desks and outcomes, before and after: of each frame as many rows more were accepted through the desks as the outcomes
 -- that came brought into it
 pub record AreCounted (desks : List DeskParts) (done : List Outcome) (desks' : List DeskParts) (done' : List Outcome) : Type 0 where

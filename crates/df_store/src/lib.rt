@@ -13,6 +13,7 @@ mod findings;
 mod gate;
 mod hall;
 mod jobs;
+mod joining;
 mod load;
 mod opened_hall;
 mod outcomes;

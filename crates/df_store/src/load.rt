@@ -33,7 +33,7 @@ use std::thread::Threads;
 const MOST_WORKERS: usize = 16;
 
 /// The most jobs that a worker draws at once.
-const MOST_AT_ONCE: u64 = 16;
+const MOST_AT_ONCE: u64 = 32;
 
 /// A catalogue that was loaded.
 #[derive(Drop)]
@@ -58,10 +58,10 @@ pub struct LoadFault<Acc: Ledger, Del: Ledger> {
 /// sources, a source for each frame, and closes the hall. There are 1 to 16 workers: of another number
 /// the nearest of these is taken.
 ///
-/// Each worker draws one job after another, until none is left. It passes the gate, makes the job's
-/// chunk, and commits it, if it is good, through its own desk of the frame; only the commit holds the
-/// hall's lock. After all workers have ended, what came of the jobs is compared with the sources and
-/// the views, once. Readers of the hall get no version from then on.
+/// Each worker draws the next jobs, again and again, until none is left. It passes the gate with each, makes the job's
+/// chunk, and commits the good ones through its own desk of the frame; only the commits hold the hall's lock. Where all
+/// chunks of a draw follow one another, they enter in one change. After all workers have ended, what came of the jobs is compared with
+/// the sources and the views, once. Readers of the hall get no version from then on.
 ///
 /// The causes of a fault are looked for in the order of [`LoadCause`]. A worker that is refused memory, or a further
 /// version, stops, and the others go on: what has entered is then in [`LoadFault::left`]. A desk of few parts

@@ -3,15 +3,17 @@ ghost use Rattle.std.specs.Prelude.{◌≡◌, ◌<◌, ◌≤◌, ◌+◌, ◌+
 ghost use Rattle.df_catalogue.specs.Desks.{DeskParts};
 ghost use Rattle.df_claims.specs.Seats.{IsSeatOf};
 ghost use Rattle.df_store.specs.Jobs.{AreOutcomes, chunks_of};
-ghost use Rattle.df_store.specs.Workers.{AreCounted, IsIdle, IsWorker, all_without_accepted};
+ghost use Rattle.df_store.specs.Joined.{IsJoined};
+ghost use Rattle.df_store.specs.Workers.{AreCounted, HaveAccepted, IsIdle, IsWorker, all_without_accepted};
 
 use crate::fault::Stop;
 use crate::gate::Gate;
 use crate::hall::Hall;
 use crate::jobs::{Outcome, make};
+use crate::joining::{Joined, join};
 use df_catalogue::Desk;
 use df_claims::{ClaimSeat, Claims};
-use df_value::{Piece, Source};
+use df_value::{Chunk, Piece, Source};
 use df_versions::{ChangeFault, Naming, Told, VersionedCatalogue};
 use std::alloc::{AllocError, Global};
 use std::sync::ledger::Ledger;
@@ -93,8 +95,9 @@ impl<Acc: Ledger, Del: Ledger> Worker<Acc, Del> {
         }
     }
 
-    // Does the next jobs that it draws, and tells whether there were any. Their chunks are made before the lock is taken,
-    // and enter under one lock: what the commits work on goes from one processor's cache to another's with the lock.
+    // Does the next jobs that it draws, and tells whether there were any. Their chunks are made, and joined, before the
+    // lock is taken, and enter under one lock: what the commits work on goes from one processor's cache to another's with
+    // the lock.
     fn do_next<J: Naming, S: Source, G: Gate, R: Wait>(
         &mut self,
         rt: &R,
@@ -119,6 +122,7 @@ impl<Acc: Ledger, Del: Ledger> Worker<Acc, Del> {
         }
         // The room comes first: of each chunk that has entered there is an outcome.
         self.done.reserve(made.len())?;
+        let joined = join(work.alloc, made.as_slice())?;
         let mut catalogue = hall.lock(rt);
         let entered = enter_all(
             rt,
@@ -126,6 +130,7 @@ impl<Acc: Ledger, Del: Ledger> Worker<Acc, Del> {
             &mut catalogue,
             &mut self.desks,
             made,
+            joined,
             &mut self.done,
             told,
         );
@@ -134,7 +139,8 @@ impl<Acc: Ledger, Del: Ledger> Worker<Acc, Del> {
         Ok(true)
     }
 
-    // Draws the next jobs, passes the gate with each, and makes their chunks. There are none where no job is left.
+    // Draws the next jobs, passes the gate with each, and makes their chunks. There are none where no job is left. All are
+    // drawn before the first is made, so that they mostly follow one another although other workers draw meanwhile.
     fn make_next<S: Source, G: Gate>(
         &mut self,
         work: &Work<S, G>,
@@ -150,17 +156,29 @@ impl<Acc: Ledger, Del: Ledger> Worker<Acc, Del> {
         ensures made { IfOk result (λ made.
             AreOutcomes (chunks_of S.made S.start_of work.now.sources.now) made.items) }
     {
-        let mut made = Vec::with_capacity(work.alloc, work.at_once)?;
+        let jobs = self.draw(work)?;
+        make_all(work, jobs.as_slice())
+    }
+
+    // Draws the next jobs.
+    fn draw<S: Source, G: Gate>(&mut self, work: &Work<S, G>) -> Result<Vec<u64>, AllocError>
+        requires { IsWorker work.now.claims.now work.now.desks
+            (chunks_of S.made S.start_of work.now.sources.now)
+            self.old }
+        ensures worker { IsWorker work.now.claims.now work.now.desks
+            (chunks_of S.made S.start_of work.now.sources.now)
+            self.new }
+        ensures desks { self.new.desks ≡ self.old.desks }
+        ensures done { self.new.done ≡ self.old.done }
+    {
+        let mut jobs = Vec::with_capacity(work.alloc, work.at_once)?;
         for _ in 0..work.at_once {
             let Some(job) = work.claims.next(&mut self.seat) else {
-                return Ok(made);
+                return Ok(jobs);
             };
-            work.gate.pass(job);
-            if let Some(outcome) = make(work.alloc, work.sources, job)? {
-                made.push(outcome)?;
-            }
+            jobs.push(job)?;
         }
-        Ok(made)
+        Ok(jobs)
     }
 
     /// Adds what it has done to the others' outcomes, unless it was stopped.
@@ -176,8 +194,63 @@ impl<Acc: Ledger, Del: Ledger> Worker<Acc, Del> {
     }
 }
 
-// Commits the good chunks of these outcomes in their order, and keeps the outcomes that stand.
+// Passes the gate with each of these jobs, and makes their chunks.
+fn make_all<S: Source, G: Gate>(work: &Work<S, G>, jobs: &[u64]) -> Result<Vec<Outcome>, AllocError>
+    ensures made { IfOk result (λ made.
+        AreOutcomes (chunks_of S.made S.start_of work.now.sources.now) made.items) }
+{
+    let mut made = Vec::with_capacity(work.alloc, jobs.len())?;
+    for job in jobs {
+        work.gate.pass(*job);
+        if let Some(outcome) = make(work.alloc, work.sources, *job)? {
+            made.push(outcome)?;
+        }
+    }
+    Ok(made)
+}
+
+// Commits the good chunks of these outcomes, and keeps the outcomes that stand. The chunk that has the rows of all of
+// them, if there is one, enters in one change; where it is refused, each chunk enters by itself, as far as it can.
 fn enter_all<Acc: Ledger, Del: Ledger, J: Naming, R: Wait>(
+    rt: &R,
+    alloc: Global,
+    catalogue: &mut VersionedCatalogue<Acc, Del, J>,
+    desks: &mut Vec<Desk<Acc, Del>>,
+    made: Vec<Outcome>,
+    joined: Option<Joined>,
+    done: &mut Vec<Outcome>,
+    told: &mut Option<Told<J>>,
+) -> Result<(), Stop>
+    requires room { length done.old.items + length made.items ≤ vec_capacity done.old }
+    requires joined { IfSome joined (IsJoined made.items) }
+    ensures desks { all_without_accepted desks.new.items ≡ all_without_accepted desks.old.items }
+    ensures counted { AreCounted desks.old.items done.old.items desks.new.items done.new.items }
+    ensures done { (chunks : List (List (ℕ × Piece))) → AreOutcomes chunks made.items →
+        AreOutcomes chunks done.old.items → AreOutcomes chunks done.new.items }
+{
+    if let Some(Joined { frame, chunk }) = joined {
+        let entered = enter_chunk(rt, alloc, catalogue, desks, frame, &chunk, told);
+        drop(chunk);
+        if entered? {
+            keep_all(made, done);
+            return Ok(());
+        }
+    }
+    enter_each(rt, alloc, catalogue, desks, made, done, told)
+}
+
+// Adds outcomes to those that are done.
+fn keep_all(made: Vec<Outcome>, done: &mut Vec<Outcome>)
+    requires { length done.old.items + length made.items ≤ vec_capacity done.old }
+    ensures { done.new.items ≡ done.old.items ++ made.items }
+{
+    for outcome in made {
+        done.push_reserved(outcome);
+    }
+}
+
+// Commits the good chunks of these outcomes in their order, and keeps the outcomes that stand.
+fn enter_each<Acc: Ledger, Del: Ledger, J: Naming, R: Wait>(
     rt: &R,
     alloc: Global,
     catalogue: &mut VersionedCatalogue<Acc, Del, J>,
@@ -200,9 +273,8 @@ fn enter_all<Acc: Ledger, Del: Ledger, J: Naming, R: Wait>(
     Ok(())
 }
 
-// Commits a good chunk through a desk of its frame, and tells whether the outcome stands: that of a
-// bad chunk does, which changes nothing. It does not where the catalogue refuses the chunk, or no desk
-// here is of its frame.
+// Commits the chunk of an outcome, if it is good, and tells whether the outcome stands: that of a bad chunk does, which
+// changes nothing, and that of a good one where it enters.
 fn enter<Acc: Ledger, Del: Ledger, J: Naming, R: Wait>(
     rt: &R,
     alloc: Global,
@@ -216,10 +288,31 @@ fn enter<Acc: Ledger, Del: Ledger, J: Naming, R: Wait>(
         (if stands then outcome.now ∷ [] else [])) }
     ensures refused { OnErr result (desks.new.items ≡ desks.old.items) }
 {
-    let Piece::Good(chunk) = &outcome.made else {
-        return Ok(true);
-    };
-    let Some(at) = desk_of(desks.as_slice(), outcome.frame) else {
+    match &outcome.made {
+        Piece::Good(chunk) => {
+            enter_chunk(rt, alloc, catalogue, desks, outcome.frame, chunk, told)
+        }
+        Piece::Bad(_) => Ok(true),
+    }
+}
+
+// Commits a chunk through a desk of a frame, and tells whether it entered. It does not where the catalogue refuses it, or
+// no desk here is of the frame.
+fn enter_chunk<Acc: Ledger, Del: Ledger, J: Naming, R: Wait>(
+    rt: &R,
+    alloc: Global,
+    catalogue: &mut VersionedCatalogue<Acc, Del, J>,
+    desks: &mut Vec<Desk<Acc, Del>>,
+    frame: usize,
+    chunk: &Chunk,
+    told: &mut Option<Told<J>>,
+) -> Result<bool, Stop>
+    ensures desks { all_without_accepted desks.new.items ≡ all_without_accepted desks.old.items }
+    ensures accepted { IfOk result (λ entered. HaveAccepted frame
+        (if entered then length chunk.now.rows else 0) desks.old.items desks.new.items) }
+    ensures refused { OnErr result (desks.new.items ≡ desks.old.items) }
+{
+    let Some(at) = desk_of(desks.as_slice(), frame) else {
         return Ok(false);
     };
     match catalogue.append(rt, alloc, &mut desks[at], chunk, told.as_ref()) {

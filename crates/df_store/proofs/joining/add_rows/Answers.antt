@@ -1,0 +1,29 @@
+use Rattle.std.proofs.Common.{◌≡◌, ◌+◌, ◌++◌, ◌∙◌, ap, length, rules, sym}
+use Rattle.std.specs.List.{enumerate_from}
+use Rattle.df_store.specs.Loaded.{made_rows}
+use Rattle.df_store.proofs.JoinedFacts.{enumerate-append, rows-of-own}
+use Rattle.df_store.proofs.joining.add_rows.Goals as goal
+
+pub returns-clause-part : goal.returns-clause-part
+returns-clause-part c = λ h. record {
+  of_frame = c.if-outcome-frame.false;
+  chunk = c.in-Good.chunk;
+  good = c.in-Good.is;
+  of_schema = c.goes_on.ensures.schema c.if-not-goes_on.false;
+}
+
+pub returns-clause-rows : goal.returns-clause-rows
+returns-clause-rows c = λ h.
+    let first = c.args.begin.now.first in
+    let old = c.args.rows.now.items in
+    let chunk = c.in-Good.chunk in
+    let appended = c.in_ok-append.ensures.items in
+    let copied : c.in_ok-more.more.items ≡ chunk.rows = c.in_ok-more.ensures ∙ (c.as_slice.ensures ∙ c.rows.ensures.value) in
+    let many : c.len.result ≡ length old = search rules in
+    let begins : chunk.first ≡ first + length old = c.goes_on.ensures.first c.if-not-goes_on.false ∙ ap (λ n. first + n) many in
+    let made = ap made_rows c.in-Good.is in
+    let own = rows-of-own c.args.frame c.args.outcome.now c.if-outcome-frame.false in
+    ap (enumerate_from first) (appended ∙ ap (λ xs. old ++ xs) copied)
+    ∙ (enumerate-append first old chunk.rows
+    ∙ (ap (λ n. enumerate_from first old ++ enumerate_from n chunk.rows) (sym begins)
+    ∙ ap (λ zs. enumerate_from first old ++ zs) (sym (own ∙ made))))
