@@ -59,6 +59,9 @@ impl Texts {
         ensures { (d : Cell) → result ≡ cell_cmp (slice_index_or (map text_cell self.now) a d)
             (slice_index_or (map text_cell self.now) b d) }
     {
+        if self.are_known_same(a, b) {
+            return Ordering::Equal;
+        }
         compare_texts(self.get(a), self.get(b))
     }
 

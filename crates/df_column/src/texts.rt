@@ -1,5 +1,5 @@
 //! The texts of one column of a block.
-ghost use Rattle.std.specs.Prelude.{◌≡◌, ◌<◌, ◌≤◌, ◌+◌, ◌++◌, ◌∷◌, [], T, List, ℕ, length, map, slice_index_or, take, IfOk, IsTrue, OnOk, Option};
+ghost use Rattle.std.specs.Prelude.{◌≡◌, ◌<◌, ◌≤◌, ◌+◌, ◌++◌, ◌∷◌, [], T, List, ℕ, true, length, map, slice_index_or, take, IfOk, IsTrue, OnOk, Option};
 ghost use Rattle.df_value.specs.CellEq.{cell_eq};
 ghost use Rattle.df_value.specs.Cells.{fits_dtype};
 ghost use Rattle.df_value.specs.declared.cell.Cell.{Cell};
@@ -285,6 +285,19 @@ impl Texts {
         match self.get(at) {
             Some(text) => Ok(Cell::Text(Text::from_str(alloc, text)?)),
             None => Ok(Cell::Null),
+        }
+    }
+
+    /// Whether it is known without a look at the texts that those at two indices are the same: a pool has each text once.
+    pub(crate) fn are_known_same(&self, a: usize, b: usize) -> bool
+        requires first { a < length self.now }
+        requires second { b < length self.now }
+        ensures { result ≡ true → (d : Option (List ℕ)) →
+            slice_index_or self.now a d ≡ slice_index_or self.now b d }
+    {
+        match (self.places.get(a), self.places.get(b)) {
+            (Some(a), Some(b)) => a == b,
+            _ => false,
         }
     }
 

@@ -28,14 +28,14 @@ pub on_ok_then : {A E P Q : Type 0} (r : Result A E) → OnOk r P → (P → Q) 
 on_ok_then (Ok a) p f = f p
 on_ok_then (Err e) p f = tt
 
--- the changes of a key were taken out, and one was added
-pub change_added : (key k : List Cell) (before now after at_key : Option KeyChanges) (made : KeyChanges) (tag : Tag) (o n : Option (List Cell))
-    → after ≡ cond (row_eq key k) (Some made) now → now ≡ cond (row_eq key k) None before
+-- one change was added to those of a key
+pub change_added : (key k : List Cell) (before after at_key : Option KeyChanges) (made : KeyChanges) (tag : Tag) (o n : Option (List Cell))
+    → after ≡ cond (row_eq key k) (Some made) before
     → map entry_change made.entries.items ≡ with_change (kept_changes at_key) tag o n → (key ≡ k → at_key ≡ before)
     → kept_changes after ≡ cond (row_eq key k) (with_change (kept_changes before) tag o n) (kept_changes before)
-change_added key k before now after at_key made tag o n put taken more is =
-    ap kept_changes (put ∙ ap (cond (row_eq key k) (Some made)) taken)
-    ∙ elim (row_eq key k) as (λ b. row_eq key k ≡ b → kept_changes (cond b (Some made) (cond b None before)) ≡ cond b (with_change (kept_changes before) tag o n) (kept_changes before)) [
+change_added key k before after at_key made tag o n put more is =
+    ap kept_changes put
+    ∙ elim (row_eq key k) as (λ b. row_eq key k ≡ b → kept_changes (cond b (Some made) before) ≡ cond b (with_change (kept_changes before) tag o n) (kept_changes before)) [
       | true ↦ λ e. more ∙ ap (λ c. with_change (kept_changes c) tag o n) (is ((row_eq-Decides key k).0 e))
       | false ↦ λ e. refl
     ] refl

@@ -24,22 +24,6 @@ pub struct KeyChanges {
     pub entries: Vec<Entry>,
 }
 
-/// Takes out the changes of a key, none where it has none yet.
-fn take_changes(alloc: Global, by_key: &mut IndexMap<Row, KeyChanges>, key: &Row) -> KeyChanges
-    ensures changes { map entry_change result.entries.items
-        ≡ kept_changes (get row_eq by_key.old key.now) }
-    ensures rest { (k : List Cell) → get row_eq by_key.new k
-        ≡ cond (row_eq key.now k) None (get row_eq by_key.old k) }
-    ensures few { index_map_len by_key.new ≤ index_map_len by_key.old }
-{
-    match by_key.swap_remove(key) {
-        Some(changes) => changes,
-        None => KeyChanges {
-            entries: Vec::new(alloc),
-        },
-    }
-}
-
 /// Adds a change of the rows of this key, unless both rows are equal.
 fn add_change(
     alloc: Global,
@@ -54,7 +38,12 @@ fn add_change(
         (kept_changes (get row_eq by_key.old k))) }
     ensures few { OnOk result (index_map_len by_key.new ≤ index_map_len by_key.old + 1) }
 {
-    let mut changes = take_changes(alloc, by_key, &key);
+    if let Some(changes) = by_key.get_mut(&key) {
+        return push_change(&mut changes.entries, tag, old, new);
+    }
+    let mut changes = KeyChanges {
+        entries: Vec::new(alloc),
+    };
     push_change(&mut changes.entries, tag, old, new)?;
     match by_key.insert(key, changes) {
         Ok(_) => Ok(()),

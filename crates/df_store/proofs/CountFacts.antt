@@ -1,9 +1,6 @@
 -- What the desks of workers count, and the outcomes that they brought.
 use Rattle.std.proofs.Common.{◌≡◌, ℕ, suc, ◌+◌, ◌<◌, ◌==◌, ◌∙◌, Bool, true, false, List, [], ◌∷◌, ◌++◌, length, get_or, set, refl, ap, sym, arith, sum_by}
-use Rattle.std.specs.Prelude.{Result, Ok, Err, IfOk, if◌then◌else◌}
-use Rattle.df_value.specs.Chunks.{ChunkParts}
-use Rattle.df_value.specs.declared.chunk.BadCell.{BadCell}
-use Rattle.df_value.specs.declared.chunk.Piece.TheVariants.{Bad, Good}
+use Rattle.std.specs.Prelude.{if◌then◌else◌}
 use Rattle.std.proofs.lemmas.List.Sums.{sum_by-append, sum_by-cons, sum_by-set, sum_by_push}
 use Rattle.df_catalogue.specs.Desks.{DeskParts, parts_of}
 use Rattle.df_store.specs.declared.jobs.Outcome.{Outcome}
@@ -25,10 +22,6 @@ if-sum : (b : Bool) (m n : ℕ) → (if b then m + n else 0) ≡ (if b then m el
 if-sum true m n = refl
 if-sum false m n = refl
 
-if-none : (b : Bool) → ◌≡◌ {A = ℕ} (if b then 0 else 0) 0
-if-none true = refl
-if-none false = refl
-
 -- so many rows of a frame were accepted through a desk of it
 pub one-committed :
     (desks : List DeskParts) (at : ℕ) (d now : DeskParts) (frame rows : ℕ) → at < length desks → (get_or desks at d).frame ≡ frame →
@@ -42,48 +35,6 @@ one-committed desks at d now frame rows low of_frame is = record {
       ap h is ∙ (if-sum (was.frame == f) was.accepted rows ∙ ap (λ n. h was + (if n == f then rows else 0)) of_frame) in
       omega (arith, moved, more);
 }
-
--- no row was accepted
-pub none-accepted : (frame : ℕ) (desks : List DeskParts) → HaveAccepted frame 0 desks desks
-none-accepted frame desks = record { same = λ f. let none = if-none (frame == f) in omega (arith, none) }
-
--- so no outcome counts
-pub none-counted : (frame : ℕ) (desks now : List DeskParts) (done : List Outcome) → HaveAccepted frame 0 desks now → AreCounted desks done now done
-none-counted frame desks now done none = record {
-  same = λ f.
-      let same = none.same f in
-      let nothing = if-none (frame == f) in
-      omega (arith, same, nothing);
-}
-
--- the outcome of a chunk whose rows were accepted counts
-pub chunk-counted :
-    (desks now : List DeskParts) (o : Outcome) (c : ChunkParts) → o.made ≡ Good c → HaveAccepted o.frame (length c.rows) desks now → AreCounted desks [] now (o ∷ [])
-chunk-counted desks now o c made more = record {
-  same = λ f.
-      let one = sum_by-cons (λ (x : Outcome). if x.frame == f then rows_of x.made else 0) o [] in
-      let rows = ap (λ p. if o.frame == f then rows_of p else 0) made in
-      let accepted = more.same f in
-      omega (arith, one, rows, accepted);
-}
-
--- so does that of a bad chunk, of which no row was
-pub bad-counted : (desks : List DeskParts) (o : Outcome) (b : BadCell) → o.made ≡ Bad b → AreCounted desks [] desks (o ∷ [])
-bad-counted desks o b made = record {
-  same = λ f.
-      let one = sum_by-cons (λ (x : Outcome). if x.frame == f then rows_of x.made else 0) o [] in
-      let rows = ap (λ p. if o.frame == f then rows_of p else 0) made in
-      let nothing = if-none (o.frame == f) in
-      omega (arith, one, rows, nothing);
-}
-
--- a good chunk's outcome counts where its rows were accepted
-pub told-counted :
-    {S : Type 0} (r : Result Bool S) (desks now : List DeskParts) (o : Outcome) (c : ChunkParts) → o.made ≡ Good c →
-    IfOk r (λ entered. HaveAccepted o.frame (if entered then length c.rows else 0) desks now) → IfOk r (λ entered. AreCounted desks [] now (if entered then o ∷ [] else []))
-told-counted (Ok true) desks now o c made more = chunk-counted desks now o c made more
-told-counted (Ok false) desks now o c made more = none-counted o.frame desks now [] more
-told-counted (Err s) desks now o c made more = tt
 
 -- one more outcome behind those that were there
 pub one-more-outcome :
