@@ -10,3 +10,4 @@ pub mod Deltas
 pub mod Work
 pub mod Inputs
 pub mod Keyed
+pub mod RowKeys

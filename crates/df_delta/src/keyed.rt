@@ -8,10 +8,12 @@ ghost use Rattle.df_ops.specs.Groups as groups;
 ghost use Rattle.df_column.specs.Tables.{entry_change};
 ghost use Rattle.df_delta.specs.Keyed as keyed;
 ghost use Rattle.df_delta.specs.Keyed.{kept_changes, row_of_key};
+ghost use Rattle.df_delta.specs.RowKeys.{key_cells};
 ghost use Rattle.df_delta.specs.SameRows.{with_change};
 
 use crate::delta::Delta;
 use crate::entries::push_change;
+use crate::row_key::RowKey;
 use df_column::{Entry, Tag};
 use df_ops::key_of;
 use df_value::{Duplicate, Row};
@@ -24,27 +26,29 @@ pub struct KeyChanges {
     pub entries: Vec<Entry>,
 }
 
-/// Adds a change of the rows of this key, unless both rows are equal.
+/// Adds a change of the rows of this key, unless both rows are equal. The key is made only where it is new.
 fn add_change(
     alloc: Global,
     by_key: &mut IndexMap<Row, KeyChanges>,
-    key: Row,
+    key: RowKey<'_>,
     tag: Tag,
     old: Option<Row>,
     new: Option<Row>,
 ) -> Result<(), AllocError>
     ensures changes { OnOk result ((k : List Cell) → kept_changes (get row_eq by_key.new k)
-        ≡ cond (row_eq key k) (with_change (kept_changes (get row_eq by_key.old k)) tag old new)
+        ≡ cond (row_eq (key_cells key.entry) k)
+        (with_change (kept_changes (get row_eq by_key.old k)) tag old new)
         (kept_changes (get row_eq by_key.old k))) }
     ensures few { OnOk result (index_map_len by_key.new ≤ index_map_len by_key.old + 1) }
 {
-    if let Some(changes) = by_key.get_mut(&key) {
+    if let Some(changes) = by_key.get_mut(key) {
         return push_change(&mut changes.entries, tag, old, new);
     }
     let mut changes = KeyChanges {
         entries: Vec::new(alloc),
     };
     push_change(&mut changes.entries, tag, old, new)?;
+    let key = key_of(alloc, key.indices, key.row)?;
     match by_key.insert(key, changes) {
         Ok(_) => Ok(()),
         Err(_) => Err(AllocError),
@@ -64,7 +68,7 @@ fn add_old(
         (row_of_key (groups.key_of indices.now) k (Some old.now)) None) }
     ensures few { OnOk result (index_map_len by_key.new ≤ index_map_len by_key.old + 1) }
 {
-    let key = key_of(alloc, indices, old)?;
+    let key = RowKey { indices, row: old };
     let row = old.copy(alloc)?;
     add_change(alloc, by_key, key, tag, Some(row), None)
 }
@@ -82,7 +86,7 @@ fn add_new(
         (row_of_key (groups.key_of indices.now) k (Some new.now))) }
     ensures few { OnOk result (index_map_len by_key.new ≤ index_map_len by_key.old + 1) }
 {
-    let key = key_of(alloc, indices, new)?;
+    let key = RowKey { indices, row: new };
     let row = new.copy(alloc)?;
     add_change(alloc, by_key, key, tag, None, Some(row))
 }
@@ -102,9 +106,8 @@ fn add_both(
         (row_of_key (groups.key_of indices.now) k (Some new.now))) }
     ensures few { OnOk result (index_map_len by_key.new ≤ index_map_len by_key.old + 2) }
 {
-    let key = key_of(alloc, indices, old)?;
-    let new_key = key_of(alloc, indices, new)?;
-    if key == new_key {
+    let key = RowKey { indices, row: old };
+    if key == (RowKey { indices, row: new }) {
         let old_row = old.copy(alloc)?;
         let new_row = new.copy(alloc)?;
         return add_change(alloc, by_key, key, tag, Some(old_row), Some(new_row));

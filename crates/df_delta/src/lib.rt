@@ -11,6 +11,7 @@ mod entries;
 mod keyed;
 mod node;
 mod notes;
+mod row_key;
 mod two_sided;
 
 pub use delta::{Delta, apply};

@@ -110,7 +110,8 @@ fn keep_in_group(
     Ok(())
 }
 
-fn is_in_group(indices: &[Option<usize>], row: &Row, key: &Row) -> bool
+/// Whether the cells of the row at these indices are the key. No cell is copied.
+pub fn is_in_group(indices: &[Option<usize>], row: &Row, key: &Row) -> bool
     ensures { result ≡ row_eq (groups.key_of indices.now row.now) key.now }
 {
     let cells = key.as_slice();

@@ -25,7 +25,7 @@ mod windows;
 pub use agg::Agg;
 pub use aggregates::{aggregate, count_of, mean_of, sum_of};
 pub use grouping::group_by;
-pub use groups::{group_lengths, group_of, key_of, keys_of};
+pub use groups::{group_lengths, group_of, is_in_group, key_of, keys_of};
 pub use join_columns::{JoinIndices, column_indices, columns_of_join, join_indices_of};
 pub use joins::{How, has_null, join, join_row, join_rows, nulls, row_beside};
 pub use min_max::{MinMax, is_beyond, min_and_max_of, min_or_max_of, min_or_max_with};

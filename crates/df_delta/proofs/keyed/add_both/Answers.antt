@@ -1,4 +1,4 @@
-use Rattle.std.proofs.Common.{◌≡◌, ◌∙◌, ap, sym, subst, false, cond, Some, None}
+use Rattle.std.proofs.Common.{◌≡◌, ◌∙◌, ap, sym, false, cond, Some, None}
 use Rattle.indexmap.specs.IndexMap.{get}
 use Rattle.df_value.specs.Rows.{row_eq}
 use Rattle.df_value.specs.RowEq.{row_eq-Decides}
@@ -12,18 +12,20 @@ pub returns-then-eq-clause-changes : goal.returns-then-eq-clause-changes
 returns-then-eq-clause-changes c = on_ok_then c.add_change.result c.add_change.ensures.changes (λ added k.
     let key = key_of c.args.indices.now in
     let es = kept_changes (get row_eq c.args.by_key.now k) in
-    let same : c.in_ok-key.key ≡ c.in_ok-new_key.new_key = (row_eq-Decides c.in_ok-key.key c.in_ok-new_key.new_key).0 (sym c.eq.ensures ∙ c.if-eq.true) in
-    let keys : key c.args.old.now ≡ key c.args.new.now = sym c.in_ok-key.ensures ∙ same ∙ c.in_ok-new_key.ensures in
-    subst (λ x. kept_changes (get row_eq c.add_change.new.by_key k) ≡ x)
-    (both_of_one_key es c.args.tag c.args.old.now c.args.new.now (row_eq (key c.args.old.now) k) (row_eq (key c.args.new.now) k) (ap (λ x. row_eq x k) keys))
-    (added k ∙ (λ i. cond (row_eq (c.in_ok-key.ensures i) k) (with_change es c.args.tag (Some (c.in_ok-old_row.ensures i)) (Some (c.in_ok-new_row.ensures i))) es)))
+    let old = c.args.old.now in
+    let new = c.args.new.now in
+    let keys : key old ≡ key new = (row_eq-Decides (key old) (key new)).0 (sym c.eq.ensures ∙ c.if-eq.true) in
+    added k
+    ∙ (λ i. cond (row_eq (key old) k) (with_change es c.args.tag (Some (c.in_ok-old_row.ensures i)) (Some (c.in_ok-new_row.ensures i))) es)
+    ∙ both_of_one_key es c.args.tag old new (row_eq (key old) k) (row_eq (key new) k) (ap (λ x. row_eq x k) keys))
 
 pub returns-clause-changes : goal.returns-clause-changes
 returns-clause-changes c = on_ok_then c.add_new.result c.add_new.ensures.changes (λ added k.
     let key = key_of c.args.indices.now in
     let es = kept_changes (get row_eq c.args.by_key.now k) in
-    let differ : row_eq (key c.args.old.now) (key c.args.new.now) ≡ false =
-    subst (λ x. row_eq x (key c.args.new.now) ≡ false) c.in_ok-key.ensures (subst (λ x. row_eq c.in_ok-key.key x ≡ false) c.in_ok-new_key.ensures (sym c.eq.ensures ∙ c.if-eq.false)) in
+    let old = c.args.old.now in
+    let new = c.args.new.now in
+    let differ : row_eq (key old) (key new) ≡ false = sym c.eq.ensures ∙ c.if-eq.false in
     added k
-    ∙ ap (λ x. with_change x c.args.tag None (cond (row_eq (key c.args.new.now) k) (Some c.args.new.now) None)) (c.in_ok-add_old.ensures.changes k)
-    ∙ both_of_two_keys es c.args.tag c.args.old.now c.args.new.now (row_eq (key c.args.old.now) k) (row_eq (key c.args.new.now) k) (not_both (key c.args.old.now) (key c.args.new.now) k differ))
+    ∙ ap (λ x. with_change x c.args.tag None (cond (row_eq (key new) k) (Some new) None)) (c.in_ok-add_old.ensures.changes k)
+    ∙ both_of_two_keys es c.args.tag old new (row_eq (key old) k) (row_eq (key new) k) (not_both (key old) (key new) k differ))
