@@ -33,3 +33,4 @@ pub mod StagingFacts
 pub mod StagedRowsFacts
 pub mod StagedFacts
 pub mod StagedViewsFacts
+pub mod PreparedFacts

@@ -1,11 +1,16 @@
 -- Changes of one frame's rows: which change of a catalogue each is, what it makes of the frame, and when the frame
 -- takes it.
 use Rattle.std.specs.Prelude.{◌≡◌, ℕ, List, [], None, false, map}
+use Rattle.std.specs.FinMap as finite
+use Rattle.std.specs.List.{enumerate_from}
+use Rattle.df_value.specs.Chunks.{ChunkParts}
+use Rattle.df_delta.specs.Deltas.{Changes}
 use Rattle.df_catalogue.specs.declared.change.Change.{Change}
 use Rattle.df_catalogue.specs.declared.change.Change.TheVariants as change
 use Rattle.df_catalogue.specs.declared.frame_change.FrameChange.{FrameChange}
 use Rattle.df_catalogue.specs.declared.frame_change.FrameChange.TheVariants.{Append, Delete, Replace}
 use Rattle.df_catalogue.specs.declared.state.FrameState.{FrameState}
+use Rattle.df_catalogue.specs.FrameTables.{coming_row}
 use Rattle.df_catalogue.specs.Frames.{with_chunk, with_replaced_rows, without_rows}
 use Rattle.df_catalogue.specs.Refusals.{doubled_number_after, first_not_live, first_taken, would_be_full}
 
@@ -30,3 +35,13 @@ abbrev pub FrameTakes : FrameState → FrameChange → Type 0
 FrameTakes x (Append chunk) = (first_taken x chunk.now ≡ None) × (would_be_full x chunk.now ≡ false)
 FrameTakes x (Delete numbers) = TakesNumbers x numbers.now
 FrameTakes x (Replace rows) = TakesNumbers x (map (λ r. r.0) rows.now)
+
+-- the delta by which the rows of a chunk come
+abbrev pub delta_of_chunk : ChunkParts → Changes
+delta_of_chunk c = finite.from_sorted (map coming_row (enumerate_from c.first c.rows))
+
+-- the change adds the rows of this chunk
+abbrev pub Appends : FrameChange → ChunkParts → Type 0
+Appends (Append chunk) c = chunk.now ≡ c
+Appends (Delete numbers) c = ⊥
+Appends (Replace rows) c = ⊥

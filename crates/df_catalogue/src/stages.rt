@@ -1,6 +1,6 @@
 //! The staging of changes: all that may be refused, and all that takes memory. The state stays, and
 //! so does the work.
-ghost use Rattle.std.specs.Prelude.{◌≡◌, None, Ok, IfOk, IsSomeAnd, OnErr, OnOk};
+ghost use Rattle.std.specs.Prelude.{◌≡◌, None, Ok, IfOk, IfSome, IsSomeAnd, OnErr, OnOk};
 ghost use Rattle.df_plan.specs.Checks.{plan_check};
 ghost use Rattle.df_live.specs.Views.{IsLive};
 ghost use Rattle.df_catalogue.specs.declared.change.Change.TheVariants.{Append, Delete, Replace, Register, DropView};
@@ -16,6 +16,7 @@ use crate::desk::Desk;
 use crate::fault::CatalogueFault;
 use crate::frame_change::FrameChange;
 use crate::live_views::{prepare_all, shared_tables};
+use crate::prepared::PreparedChunk;
 use crate::staged::{StagedRows, StagedViews};
 use crate::staging::{StagedFrame, Staging, clear, stage};
 use crate::views::{View, has_room};
@@ -39,7 +40,22 @@ impl<Acc: Ledger, Del: Ledger> Catalogue<Acc, Del> {
         ensures staged { IsStagedChange self.old (Append desk.now.frame chunk.now) result self.new }
         ensures token { IfOk result (λ token. token.catalogue.value ≡ self.new) }
     {
-        self.stage_frame_change(alloc, desk, FrameChange::Append(chunk))
+        self.stage_frame_change(alloc, desk, FrameChange::Append(chunk), None)
+    }
+
+    /// Makes the append of a prepared chunk ready, as [`stage_append`](Catalogue::stage_append) does
+    /// that of a chunk.
+    pub fn stage_prepared(
+        &mut self,
+        alloc: Global,
+        desk: &Desk<Acc, Del>,
+        chunk: &PreparedChunk,
+    ) -> Result<StagedRows<Acc, Del>, CatalogueFault>
+        ensures staged { IsStagedChange self.old (Append desk.now.frame chunk.now) result self.new }
+        ensures token { IfOk result (λ token. token.catalogue.value ≡ self.new) }
+    {
+        let change = FrameChange::Append(chunk.chunk());
+        self.stage_frame_change(alloc, desk, change, Some(chunk))
     }
 
     /// Makes [`delete`](Catalogue::delete) ready, in the place of what was staged before. It is
@@ -53,7 +69,7 @@ impl<Acc: Ledger, Del: Ledger> Catalogue<Acc, Del> {
         ensures staged { IsStagedChange self.old (Delete desk.now.frame numbers.now) result self.new }
         ensures token { IfOk result (λ token. token.catalogue.value ≡ self.new) }
     {
-        self.stage_frame_change(alloc, desk, FrameChange::Delete(numbers))
+        self.stage_frame_change(alloc, desk, FrameChange::Delete(numbers), None)
     }
 
     /// Makes [`replace`](Catalogue::replace) ready, in the place of what was staged before. It is
@@ -67,7 +83,7 @@ impl<Acc: Ledger, Del: Ledger> Catalogue<Acc, Del> {
         ensures staged { IsStagedChange self.old (Replace desk.now.frame rows.now) result self.new }
         ensures token { IfOk result (λ token. token.catalogue.value ≡ self.new) }
     {
-        self.stage_frame_change(alloc, desk, FrameChange::Replace(rows))
+        self.stage_frame_change(alloc, desk, FrameChange::Replace(rows), None)
     }
 
     /// Makes [`register`](Catalogue::register) ready, in the place of what was staged before. It is
@@ -107,13 +123,15 @@ impl<Acc: Ledger, Del: Ledger> Catalogue<Acc, Del> {
         }
     }
 
-    /// Stages a change of the rows of the desk's frame.
+    /// Stages a change of the rows of the desk's frame. The chunk that it adds may be a prepared one.
     pub(crate) fn stage_frame_change(
         &mut self,
         alloc: Global,
         desk: &Desk<Acc, Del>,
         change: FrameChange,
+        prepared: Option<&PreparedChunk>,
     ) -> Result<StagedRows<Acc, Del>, CatalogueFault>
+        requires { IfSome prepared (λ p. frame_changes.Appends change p.now) }
         ensures staged { IsStagedChange self.old
             (frame_changes.change_of desk.now.frame change.entry)
             result self.new }
@@ -122,7 +140,7 @@ impl<Acc: Ledger, Del: Ledger> Catalogue<Acc, Del> {
         let frame = desk.frame();
         self.unstage();
         self.check_frame_change(alloc, frame, change)?;
-        Ok(self.stage_rows(alloc, frame, change)?)
+        Ok(self.stage_rows(alloc, frame, change, prepared)?)
     }
 
     // Stages a change of a frame that is not refused.
@@ -131,7 +149,9 @@ impl<Acc: Ledger, Del: Ledger> Catalogue<Acc, Del> {
         alloc: Global,
         frame: usize,
         change: FrameChange,
+        prepared: Option<&PreparedChunk>,
     ) -> Result<StagedRows<Acc, Del>, AllocError>
+        requires prepared { IfSome prepared (λ p. frame_changes.Appends change p.now) }
         requires free { refusal_of self.old.state (frame_changes.change_of frame change) ≡ None }
         requires nothing { self.old.staged ≡ None }
         ensures state { self.new.state ≡ self.old.state }
@@ -146,8 +166,8 @@ impl<Acc: Ledger, Del: Ledger> Catalogue<Acc, Del> {
         let accepted = change.accepted_rows();
         let deleted = change.deleted_rows();
         let mut work = Meter::new();
-        let (changed, delta) = self.frames[frame].changed(alloc, change)?;
-        let views = prepare_all(alloc, &mut self.views, frame, &delta, &mut work)?;
+        let (changed, delta) = self.frames[frame].changed(alloc, change, prepared)?;
+        let views = prepare_all(alloc, &mut self.views, frame, delta.get(), &mut work)?;
         let rows = StagedFrame {
             frame,
             changed,

@@ -225,6 +225,22 @@ changed_between bs low high entries le p q =
     take_take (suc m) (suc n) [] le = refl
     take_take (suc m) (suc n) (b ∷ bs) le = ap (λ cs. b ∷ cs) (take_take m n bs (omega arith))
 
+-- all blocks that the changes make stand between others
+pub joined_between : (bs made : List BlockParts) (at : ℕ) (entries : List Entry) → T (apart tag_cmp (rows_of_blocks (take at bs)) (map entry_change entries)) → T (apart tag_cmp (map entry_change entries) (rows_of_blocks (drop at bs)))
+    → rows_of_blocks made ≡ after_changes tag_cmp [] (map entry_change entries) → rows_of_blocks ((take at bs ++ made) ++ drop at bs) ≡ after_changes tag_cmp (rows_of_blocks bs) (map entry_change entries)
+joined_between bs made at entries p q e =
+    let cs = map entry_change entries in
+    let front = rows_of_blocks (take at bs) in
+    let back = rows_of_blocks (drop at bs) in
+    rows_append (take at bs ++ made) (drop at bs)
+    ∙ ap (λ rs. rs ++ back) (rows_append (take at bs) made ∙ ap (λ rs. front ++ rs) (e ∙ ap (λ cs'. after_changes tag_cmp (rows_of_blocks cs') cs) (sym (none_between at bs))))
+    ∙ changed_between bs at at entries (omega arith) p q
+  where
+    none_between : (n : ℕ) (bs : List BlockParts) → drop n (take n bs) ≡ []
+    none_between zero bs = refl
+    none_between (suc n) [] = refl
+    none_between (suc n) (b ∷ bs) = none_between n bs
+
 pub sorted_between : (low high : ℕ) (bs : List BlockParts) → T (is_sorted tag_cmp (rows_of_blocks bs)) → T (is_sorted tag_cmp (rows_of_blocks (drop low (take high bs))))
 sorted_between low high bs h =
     sorted_back low (take high bs) (sorted_first tag_total (rows_of_blocks (take high bs)) (rows_of_blocks (drop high bs)) (subst (λ rs. T (is_sorted tag_cmp rs)) (rows_halves high bs) h))

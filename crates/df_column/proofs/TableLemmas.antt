@@ -1,5 +1,5 @@
 -- The blocks of a table, one by one, and its rows as a map.
-use Rattle.std.proofs.Common.{◌≡◌, ℕ, zero, suc, ◌+◌, ◌<◌, ◌≤◌, List, [], ◌∷◌, ◌++◌, Option, Some, None, length, map, drop, take, get_or, sym, ap, subst, ◌∙◌, arith, length-append}
+use Rattle.std.proofs.Common.{◌≡◌, ℕ, zero, suc, ◌+◌, ◌<◌, ◌≤◌, List, [], ◌∷◌, ◌++◌, Option, Some, None, length, map, drop, take, get_or, refl, sym, ap, subst, ◌∙◌, arith, length-append}
 use Rattle.std.specs.Prelude.{T}
 use Rattle.std.specs.FinMap as finite
 use Rattle.df_value.specs.Cells.{fits_dtype}
@@ -10,7 +10,7 @@ use Rattle.df_column.specs.Blocks.{AreOfDtypes, BlockParts, block_rows, ends_of,
 use Rattle.df_column.specs.Changes.{IsHead, after_changes, applied}
 use Rattle.df_column.specs.Columns.{column_cells, dtype_of_column}
 use Rattle.df_column.specs.Rows.{AreNewRows, is_row, is_row_if_any}
-use Rattle.df_column.specs.Tables.{NewRowsFit, AreRising, TableParts, after_entries, entry_change, new_row_fits, dtypes_of}
+use Rattle.df_column.specs.Tables.{NewRowsFit, AreRising, TableParts, TaggedRows, after_entries, entry_change, new_row_fits, dtypes_of}
 use Rattle.df_column.specs.Tags.{tag_cmp}
 use Rattle.df_column.specs.declared.entry.Entry.{Entry}
 use Rattle.df_column.specs.declared.tag.Tag.{Tag}
@@ -95,6 +95,18 @@ pub changed_length : (t : TableParts) (rows out : List (Tag × List Cell)) (entr
 changed_length t rows out entries h is rising e =
     sym (ap finite.len (sym (changed_rows t rows out entries h is rising e)) ∙ finite.len-entries (finite.from_sorted {R = tag_cmp} out)
     ∙ ap length (finite.entries-from_sorted tag_cmp out (changed_sorted rows out entries h e)))
+
+-- the rows that changes make of no rows
+pub made_rows : (rows : List (Tag × List Cell)) (m : TaggedRows) (entries : List Entry) → T (finite.is_sorted tag_cmp rows) → finite.from_sorted rows ≡ m → AreRising entries
+    → m ≡ applied finite.empty (finite.from_sorted (map entry_change entries)) → rows ≡ after_changes tag_cmp [] (map entry_change entries)
+made_rows rows m entries h is rising e =
+    let cs = map entry_change entries in
+    let out = after_changes tag_cmp [] cs in
+    let none : TaggedRows = finite.from_sorted [] in
+    let no_rows : none ≡ finite.empty = finite.empty_of_len none (finite.len-entries none ∙ ap length (finite.entries-from_sorted tag_cmp [] tt)) in
+    sym (finite.entries-from_sorted tag_cmp rows h) ∙ ap finite.entries is
+    ∙ ap finite.entries (e ∙ ap (λ t. applied t (finite.from_sorted cs)) (sym no_rows) ∙ sym (applied_cells [] out entries (finite.from_sorted cs) tt (sym (finite.entries-from_sorted tag_cmp cs rising)) refl))
+    ∙ finite.entries-from_sorted tag_cmp out (applied_sorted [] out entries tt refl)
 
 pub same_table : (t u : TableParts) → t.schema ≡ u.schema → t.rows ≡ u.rows → t ≡ u
 same_table t u s r = λ i. record { schema = s i; rows = r i }

@@ -1,6 +1,7 @@
 //! The blocks of a table that shares some of them with another.
-ghost use Rattle.std.specs.Prelude.{◌≡◌, ◌≤◌, T, IfOk, drop, map, length, take};
+ghost use Rattle.std.specs.Prelude.{◌≡◌, ◌≤◌, [], List, T, IfOk, IfSome, drop, map, length, take};
 ghost use Rattle.std.specs.FinMap as finite;
+ghost use Rattle.df_value.specs.declared.cell.CellType.{CellType};
 ghost use Rattle.df_column.specs.Blocks.{AreOfDtypes, rows_of_blocks};
 ghost use Rattle.df_column.specs.Changes.{after_changes, apart};
 ghost use Rattle.df_column.specs.Columns.{column_cells, dtype_of_column};
@@ -80,6 +81,52 @@ fn with_range_changed(
     let changed = with_changes(alloc, before, blocks, front..back, true, columns, entries)?;
     let made = changed.joined(alloc, blocks, back, blocks.len())?;
     Ok(made)
+}
+
+/// How many of the first blocks end before the first change, where all others begin behind the last one.
+fn gap(blocks: &BlockList, entries: &[Entry]) -> Option<usize>
+    requires rows { T (finite.is_sorted tag_cmp (rows_of_blocks blocks.now)) }
+    requires entries { AreRising entries.now }
+    ensures within { IfSome result (λ at. at ≤ length blocks.now) }
+    ensures before { IfSome result (λ at. T (apart tag_cmp (rows_of_blocks (take at blocks.now))
+        (map entry_change entries.now))) }
+    ensures behind { IfSome result (λ at. T (apart tag_cmp (map entry_change entries.now)
+        (rows_of_blocks (drop at blocks.now)))) }
+{
+    let Some(first) = entries.first() else {
+        return Some(blocks.len());
+    };
+    let last = entries.last()?;
+    let at = spots::whole_blocks_below(blocks, first.tag).min(blocks.len());
+    if spots::blocks_up_to(blocks, last.tag) > at {
+        return None;
+    }
+    Some(at)
+}
+
+/// The blocks after the changes, all shared: the old ones, and between them those of another list, which has the rows that
+/// the changes make of none. None where an old block reaches into the changes.
+pub fn joined_blocks(
+    alloc: Global,
+    blocks: &BlockList,
+    entries: &[Entry],
+    made: &BlockList,
+) -> Result<Option<BlockList>, AllocError>
+    requires rows { T (finite.is_sorted tag_cmp (rows_of_blocks blocks.now)) }
+    requires entries { AreRising entries.now }
+    requires made { rows_of_blocks made.now ≡ after_changes tag_cmp [] (map entry_change entries.now) }
+    ensures rows { IfOk result (λ o. IfSome o (λ l. rows_of_blocks l ≡
+        after_changes tag_cmp (rows_of_blocks blocks.now) (map entry_change entries.now))) }
+    ensures types { (dtypes : List CellType) → AreOfDtypes dtypes blocks.now → AreOfDtypes dtypes made.now →
+        IfOk result (λ o. IfSome o (AreOfDtypes dtypes)) }
+{
+    let Some(at) = gap(blocks, entries) else {
+        return Ok(None);
+    };
+    let before = BlockList::new(alloc).joined(alloc, blocks, 0, at)?;
+    let joined = before.joined(alloc, made, 0, made.len())?;
+    let list = joined.joined(alloc, blocks, at, blocks.len())?;
+    Ok(Some(list))
 }
 
 /// The list after the changes of further entries.

@@ -7,13 +7,14 @@ ghost use Rattle.df_value.specs.Rows.{row_eq, row_fits, rows_fit};
 ghost use Rattle.df_value.specs.declared.cell.Cell.{Cell};
 ghost use Rattle.df_value.specs.declared.cell.CellType.{CellType};
 ghost use Rattle.df_column.specs.Blocks.{AreOfDtypes, rows_of_blocks};
+ghost use Rattle.df_column.specs.Changes.{applied};
 ghost use Rattle.df_column.specs.Columns.{column_cells, dtype_of_column};
 ghost use Rattle.df_column.specs.Picks.{AreWithin};
 ghost use Rattle.df_column.specs.Bounds.{IsLowerBound, IsUpperBound};
 ghost use Rattle.df_column.specs.Places.{IsGap, IsPlace};
 ghost use Rattle.df_column.specs.RowRuns.{StandFrom};
 ghost use Rattle.df_column.specs.Rows.{AreRows, are_even, picked_rows};
-ghost use Rattle.df_column.specs.Tables.{NewRowsFit, AreRising, after_entries, dtypes_of, new_rows_fit};
+ghost use Rattle.df_column.specs.Tables.{NewRowsFit, AreRising, after_entries, dtypes_of, entry_change, new_rows_fit};
 ghost use Rattle.df_column.specs.Tags.{tag_cmp};
 ghost use Rattle.df_column.specs.declared.tag.Tag.{Tag};
 
@@ -24,10 +25,10 @@ use crate::column::Column;
 use crate::entry::{Entry, are_fitting};
 use crate::picks::{Origin, Pick};
 use crate::reads::{push_rows, push_tagged_rows};
-use crate::sharing::{edited_blocks, shared_blocks};
+use crate::sharing::{edited_blocks, joined_blocks, shared_blocks};
 use crate::spots;
 use crate::tag::Tag;
-use df_value::{Row, Schema};
+use df_value::{Row, Schema, same};
 use std::alloc::{AllocError, Global};
 use std::marker::Model;
 use std::sync::Arc;
@@ -142,6 +143,51 @@ impl Table {
         let blocks = edited_blocks(alloc, &self.blocks, &columns, entries)?;
         let schema = self.shared_schema()?;
         Ok(Table { schema, blocks })
+    }
+
+    /// The table after the changes of these entries, where another table has the rows that they make in an empty one. If
+    /// it has this schema, and each block of this table ends before the first change or begins behind the last one, its
+    /// blocks are shared and none is made.
+    pub fn edited_with(
+        &self,
+        alloc: Global,
+        entries: &[Entry],
+        made: &Table,
+    ) -> Result<Table, AllocError>
+        requires rising { AreRising entries.now }
+        requires made { made.now.rows ≡
+            applied finite.empty (finite.from_sorted (map entry_change entries.now)) }
+        ensures schema { IfOk result (λ t. t.schema ≡ self.now.schema) }
+        ensures changed { NewRowsFit self.now.schema entries.now
+            → IfOk result (λ t. t ≡ after_entries self.now entries.now) }
+    {
+        if same(self.schema(), made.schema()) {
+            if let Some(table) = self.joined(alloc, entries, made)? {
+                return Ok(table);
+            }
+        }
+        self.edited(alloc, entries)
+    }
+
+    /// The table after the changes of these entries, with the blocks of another one that has the rows which they make in
+    /// an empty table. None where a block of this table reaches into the changes.
+    fn joined(
+        &self,
+        alloc: Global,
+        entries: &[Entry],
+        made: &Table,
+    ) -> Result<Option<Table>, AllocError>
+        requires rising { AreRising entries.now }
+        requires schema { made.now.schema ≡ self.now.schema }
+        requires made { made.now.rows ≡
+            applied finite.empty (finite.from_sorted (map entry_change entries.now)) }
+        ensures { IfOk result (λ o. IfSome o (λ t. t ≡ after_entries self.now entries.now)) }
+    {
+        let Some(blocks) = joined_blocks(alloc, &self.blocks, entries, &made.blocks)? else {
+            return Ok(None);
+        };
+        let schema = self.shared_schema()?;
+        Ok(Some(Table { schema, blocks }))
     }
 
     /// The table of these rows. Their tags rise, and each fits the schema.

@@ -104,3 +104,19 @@ pub fn apply(alloc: Global, table: &Table, delta: &Delta) -> Result<Table, Alloc
 {
     table.edited(alloc, delta.entries())
 }
+
+/// The table after these changes, as [`apply`] gives it, where another table has the rows that they make in an empty one.
+/// Where [`Table::edited_with`] can take the blocks of that table, none is made.
+pub fn apply_with(
+    alloc: Global,
+    table: &Table,
+    delta: &Delta,
+    made: &Table,
+) -> Result<Table, AllocError>
+    requires { made.now.rows ≡ applied finite.empty delta.now }
+    ensures schema { IfOk result (λ t. t.schema ≡ table.now.schema) }
+    ensures rows { RowsFit table.now.schema (applied table.now.rows delta.now)
+        → IfOk result (λ t. t.rows ≡ applied table.now.rows delta.now) }
+{
+    table.edited_with(alloc, delta.entries(), made)
+}

@@ -1,5 +1,6 @@
 -- Chunks of one frame that follow one another, as one chunk.
-use Rattle.std.specs.Prelude.{◌≡◌, ℕ, All, List, flat_map}
+use Rattle.std.specs.Prelude.{◌≡◌, ◌+◌, ◌==◌, ℕ, All, List, [], ◌∷◌, flat_map}
+use Rattle.std.specs.List.{prefix_len}
 use Rattle.df_value.specs.Chunks.{ChunkParts}
 use Rattle.df_value.specs.declared.cell.CellType.{CellType}
 use Rattle.df_value.specs.declared.chunk.Piece.TheVariants.{Good}
@@ -7,6 +8,11 @@ use Rattle.df_store.specs.declared.jobs.Outcome.{Outcome}
 use Rattle.df_store.specs.declared.joining.Joined.{Joined}
 use Rattle.df_store.specs.Jobs.{job_of}
 use Rattle.df_store.specs.Loaded.{chunk_rows, job_rows}
+
+-- how many outcomes stand before the first one of another frame than the first
+abbrev pub count_of_first_frame : List Outcome → ℕ
+count_of_first_frame [] = 0
+count_of_first_frame (o ∷ os) = 1 + prefix_len (λ p. p.frame == o.frame) os
 
 -- an outcome of this frame whose chunk is good and has this schema
 pub record IsGoodOf (frame : ℕ) (schema : List (List ℕ × CellType)) (o : Outcome) : Type 0 where

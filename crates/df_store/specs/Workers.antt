@@ -2,10 +2,13 @@
 use Rattle.std.specs.Prelude.{◌≡◌, ◌≤◌, ◌+◌, ◌*◌, ◌==◌, ℕ, All, List, [], flat_map, if◌then◌else◌, length, map, sum_by, vec_capacity}
 use Rattle.df_catalogue.specs.Desks.{DeskParts}
 use Rattle.df_claims.specs.Seats.{ClaimsView, IsSeatOf}
+use Rattle.df_value.specs.Chunks.{ChunkParts}
 use Rattle.df_value.specs.declared.chunk.Piece.{Piece}
 use Rattle.df_value.specs.declared.chunk.Piece.TheVariants.{Bad, Good}
 use Rattle.df_store.specs.declared.jobs.Outcome.{Outcome}
 use Rattle.df_store.specs.declared.pool.WorkerPool.{WorkerPool}
+use Rattle.df_store.specs.declared.worker.Incoming.{Incoming}
+use Rattle.df_store.specs.declared.worker.Incoming.TheVariants as incoming
 use Rattle.df_store.specs.declared.worker.Worker.{Worker}
 use Rattle.df_store.specs.Closing.{accepted_at}
 use Rattle.df_store.specs.Jobs.{AreOutcomes}
@@ -43,6 +46,11 @@ without_accepted d = record d { accepted = 0 }
 
 abbrev pub all_without_accepted : List DeskParts → List DeskParts
 all_without_accepted desks = map without_accepted desks
+
+-- the chunk that a worker commits
+abbrev pub chunk_of : Incoming → ChunkParts
+chunk_of (incoming.Chunk c) = c.now
+chunk_of (incoming.Prepared c) = c.now
 
 -- how many rows a chunk has, if it is good
 abbrev pub rows_of : Piece → ℕ

@@ -1,25 +1,28 @@
 //! Joining: the chunks of several jobs become one, which enters in one change.
-ghost use Rattle.std.specs.Prelude.{◌≡◌, ◌+◌, ◌++◌, true, All, IfOk, IfSome, flat_map};
-ghost use Rattle.std.specs.List.{enumerate_from};
+ghost use Rattle.std.specs.Prelude.{◌≡◌, ◌<◌, ◌≤◌, ◌+◌, ◌++◌, ◌==◌, true, All, IfOk, IfSome, flat_map, length};
+ghost use Rattle.std.specs.List.{enumerate_from, prefix_len};
 ghost use Rattle.df_store.specs.Jobs.{job_of};
+ghost use Rattle.df_store.specs.Joined as joined;
 ghost use Rattle.df_store.specs.Joined.{IsGoodOf, IsJoined};
 ghost use Rattle.df_store.specs.Loaded.{job_rows};
 ghost use Rattle.df_value.specs.Chunks.{MakesChunk};
 
 use crate::jobs::Outcome;
+use df_catalogue::PreparedChunk;
 use df_value::{Chunk, ChunkFault, List, MOST_ROWS_OF_CHUNK, Piece, Row, copies, same};
 use std::alloc::{AllocError, Global};
 
 /// The chunks of several outcomes as one.
-#[derive(Debug, Drop)]
+#[derive(Drop)]
 pub(crate) struct Joined {
     /// The index of their frame.
     pub(crate) frame: usize,
-    pub(crate) chunk: Chunk,
+    pub(crate) chunk: PreparedChunk,
 }
 
 /// The chunks of all these outcomes as one, where there are several, all good, of one frame and one schema, each begins at
-/// the number behind the one before, and one chunk can have so many rows. None otherwise.
+/// the number behind the one before, and one chunk can have so many rows. None otherwise. Its rows stand in blocks already,
+/// so that few are made while the lock is held.
 pub(crate) fn join(alloc: Global, outcomes: &[Outcome]) -> Result<Option<Joined>, AllocError>
     ensures { IfOk result (λ joined. IfSome joined (IsJoined outcomes.now)) }
 {
@@ -33,10 +36,30 @@ pub(crate) fn join(alloc: Global, outcomes: &[Outcome]) -> Result<Option<Joined>
     let Some(rows) = joined_rows(alloc, frame, begin, outcomes)? else {
         return Ok(None);
     };
-    match chunk_like(alloc, begin, rows)? {
-        Some(chunk) => Ok(Some(Joined { frame, chunk })),
-        None => Ok(None),
-    }
+    let Some(chunk) = chunk_like(alloc, begin, rows)? else {
+        return Ok(None);
+    };
+    let chunk = PreparedChunk::new(alloc, chunk)?;
+    Ok(Some(Joined { frame, chunk }))
+}
+
+/// How many outcomes stand before the first one of another frame than the first.
+pub(crate) fn count_of_first_frame(outcomes: &[Outcome]) -> usize
+    requires { 0 < length outcomes.now }
+    ensures value { result ≡ joined.count_of_first_frame outcomes.now }
+    ensures some { 0 < result }
+    ensures within { result ≤ length outcomes.now }
+{
+    let frame = outcomes[0].frame;
+    1 + count_of_frame(frame, &outcomes[1..])
+}
+
+// How many of the first outcomes are of this frame.
+fn count_of_frame(frame: usize, outcomes: &[Outcome]) -> usize
+    ensures value { result ≡ prefix_len (λ o. o.frame == frame) outcomes.now }
+    ensures within { result ≤ length outcomes.now }
+{
+    outcomes.iter().take_while(|o| o.frame == frame).count()
 }
 
 // The rows of all these outcomes, if they can stand in one chunk of a frame that begins as this one.

@@ -60,8 +60,9 @@ pub struct LoadFault<Acc: Ledger, Del: Ledger> {
 ///
 /// Each worker draws the next jobs, again and again, until none is left. It passes the gate with each, makes the job's
 /// chunk, and commits the good ones through its own desk of the frame; only the commits hold the hall's lock. Where all
-/// chunks of a draw follow one another, they enter in one change. After all workers have ended, what came of the jobs is compared with
-/// the sources and the views, once. Readers of the hall get no version from then on.
+/// chunks of a draw and a frame follow one another, they enter in one change, with blocks that were made before. After
+/// all workers have ended, what came of the jobs is compared with the sources and the views, once. Readers of the hall get
+/// no version from then on.
 ///
 /// The causes of a fault are looked for in the order of [`LoadCause`]. A worker that is refused memory, or a further
 /// version, stops, and the others go on: what has entered is then in [`LoadFault::left`]. A desk of few parts

@@ -1,17 +1,18 @@
 //! Workers: threads that make the chunks of jobs, and commit those that are good.
 ghost use Rattle.std.specs.Prelude.{◌≡◌, ◌<◌, ◌≤◌, ◌+◌, ◌++◌, ◌∷◌, [], ℕ, List, IfOk, IfSome, None, OnErr, OnOk, if◌then◌else◌, length, slice_index_or, vec_capacity};
-ghost use Rattle.df_catalogue.specs.Desks.{DeskParts};
+ghost use Rattle.df_catalogue.specs.Desks.{DeskParts, desk_after};
+ghost use Rattle.df_catalogue.specs.declared.change.Change.TheVariants.{Append};
 ghost use Rattle.df_claims.specs.Seats.{IsSeatOf};
 ghost use Rattle.df_store.specs.Jobs.{AreOutcomes, chunks_of};
 ghost use Rattle.df_store.specs.Joined.{IsJoined};
-ghost use Rattle.df_store.specs.Workers.{AreCounted, HaveAccepted, IsIdle, IsWorker, all_without_accepted};
+ghost use Rattle.df_store.specs.Workers.{AreCounted, HaveAccepted, IsIdle, IsWorker, all_without_accepted, chunk_of};
 
 use crate::fault::Stop;
 use crate::gate::Gate;
 use crate::hall::Hall;
 use crate::jobs::{Outcome, make};
-use crate::joining::{Joined, join};
-use df_catalogue::Desk;
+use crate::joining::{Joined, count_of_first_frame, join};
+use df_catalogue::{Desk, PreparedChunk};
 use df_claims::{ClaimSeat, Claims};
 use df_value::{Chunk, Piece, Source};
 use df_versions::{ChangeFault, Naming, Told, VersionedCatalogue};
@@ -45,6 +46,13 @@ pub(crate) struct Work<'a, S, G> {
     pub(crate) desks: usize,
     /// How many jobs a worker draws at once.
     pub(crate) at_once: usize,
+}
+
+/// What a worker commits: a chunk, or one whose blocks it has made.
+#[derive(Clone, Copy)]
+pub(crate) enum Incoming<'a> {
+    Chunk(&'a Chunk),
+    Prepared(&'a PreparedChunk),
 }
 
 impl<Acc: Ledger, Del: Ledger> Worker<Acc, Del> {
@@ -95,9 +103,7 @@ impl<Acc: Ledger, Del: Ledger> Worker<Acc, Del> {
         }
     }
 
-    // Does the next jobs that it draws, and tells whether there were any. Their chunks are made, and joined, before the
-    // lock is taken, and enter under one lock: what the commits work on goes from one processor's cache to another's with
-    // the lock.
+    // Does the next jobs that it draws, and tells whether there were any. Those of each frame are committed together.
     fn do_next<J: Naming, S: Source, G: Gate, R: Wait>(
         &mut self,
         rt: &R,
@@ -116,10 +122,41 @@ impl<Acc: Ledger, Del: Ledger> Worker<Acc, Del> {
         ensures counted { AreCounted self.old.desks.items self.old.done.items
             self.new.desks.items self.new.done.items }
     {
-        let made = self.make_next(work)?;
-        if made.is_empty() {
+        let jobs = self.draw(work)?;
+        let mut left = make_all(work, jobs.as_slice())?;
+        if left.is_empty() {
             return Ok(false);
         }
+        while !left.is_empty() {
+            let others = left.split_off(count_of_first_frame(left.as_slice()))?;
+            self.commit(rt, hall, work, left, told)?;
+            left = others;
+        }
+        Ok(true)
+    }
+
+    // Commits what came of some jobs. Before the lock is taken their chunks are joined, and the blocks of the joined chunk
+    // made. All enter under one lock: what the commits work on goes from one processor's cache to another's with it.
+    fn commit<J: Naming, S: Source, G: Gate, R: Wait>(
+        &mut self,
+        rt: &R,
+        hall: &Hall<Acc, Del, J>,
+        work: &Work<S, G>,
+        made: Vec<Outcome>,
+        told: &mut Option<Told<J>>,
+    ) -> Result<(), Stop>
+        requires worker { IsWorker work.now.claims.now work.now.desks
+            (chunks_of S.made S.start_of work.now.sources.now)
+            self.old }
+        requires made { AreOutcomes (chunks_of S.made S.start_of work.now.sources.now) made.items }
+        ensures worker { IsWorker work.now.claims.now work.now.desks
+            (chunks_of S.made S.start_of work.now.sources.now)
+            self.new }
+        ensures desks { all_without_accepted self.new.desks.items
+            ≡ all_without_accepted self.old.desks.items }
+        ensures counted { AreCounted self.old.desks.items self.old.done.items
+            self.new.desks.items self.new.done.items }
+    {
         // The room comes first: of each chunk that has entered there is an outcome.
         self.done.reserve(made.len())?;
         let joined = join(work.alloc, made.as_slice())?;
@@ -130,37 +167,18 @@ impl<Acc: Ledger, Del: Ledger> Worker<Acc, Del> {
             &mut catalogue,
             &mut self.desks,
             made,
-            joined,
+            joined.as_ref(),
             &mut self.done,
             told,
         );
         MutexGuard::unlock(catalogue);
-        entered?;
-        Ok(true)
+        // Dropped once the lock is free.
+        drop(joined);
+        entered
     }
 
-    // Draws the next jobs, passes the gate with each, and makes their chunks. There are none where no job is left. All are
-    // drawn before the first is made, so that they mostly follow one another although other workers draw meanwhile.
-    fn make_next<S: Source, G: Gate>(
-        &mut self,
-        work: &Work<S, G>,
-    ) -> Result<Vec<Outcome>, AllocError>
-        requires { IsWorker work.now.claims.now work.now.desks
-            (chunks_of S.made S.start_of work.now.sources.now)
-            self.old }
-        ensures worker { IsWorker work.now.claims.now work.now.desks
-            (chunks_of S.made S.start_of work.now.sources.now)
-            self.new }
-        ensures desks { self.new.desks ≡ self.old.desks }
-        ensures done { self.new.done ≡ self.old.done }
-        ensures made { IfOk result (λ made.
-            AreOutcomes (chunks_of S.made S.start_of work.now.sources.now) made.items) }
-    {
-        let jobs = self.draw(work)?;
-        make_all(work, jobs.as_slice())
-    }
-
-    // Draws the next jobs.
+    // Draws the next jobs. All are drawn before the first is made, so that they mostly follow one another although other
+    // workers draw meanwhile. There are none where no job is left.
     fn draw<S: Source, G: Gate>(&mut self, work: &Work<S, G>) -> Result<Vec<u64>, AllocError>
         requires { IsWorker work.now.claims.now work.now.desks
             (chunks_of S.made S.start_of work.now.sources.now)
@@ -217,21 +235,20 @@ fn enter_all<Acc: Ledger, Del: Ledger, J: Naming, R: Wait>(
     catalogue: &mut VersionedCatalogue<Acc, Del, J>,
     desks: &mut Vec<Desk<Acc, Del>>,
     made: Vec<Outcome>,
-    joined: Option<Joined>,
+    joined: Option<&Joined>,
     done: &mut Vec<Outcome>,
     told: &mut Option<Told<J>>,
 ) -> Result<(), Stop>
     requires room { length done.old.items + length made.items ≤ vec_capacity done.old }
-    requires joined { IfSome joined (IsJoined made.items) }
+    requires joined { IfSome joined (λ j. IsJoined made.items j.now) }
     ensures desks { all_without_accepted desks.new.items ≡ all_without_accepted desks.old.items }
     ensures counted { AreCounted desks.old.items done.old.items desks.new.items done.new.items }
     ensures done { (chunks : List (List (ℕ × Piece))) → AreOutcomes chunks made.items →
         AreOutcomes chunks done.old.items → AreOutcomes chunks done.new.items }
 {
-    if let Some(Joined { frame, chunk }) = joined {
-        let entered = enter_chunk(rt, alloc, catalogue, desks, frame, &chunk, told);
-        drop(chunk);
-        if entered? {
+    if let Some(joined) = joined {
+        let incoming = Incoming::Prepared(&joined.chunk);
+        if enter_chunk(rt, alloc, catalogue, desks, joined.frame, incoming, told)? {
             keep_all(made, done);
             return Ok(());
         }
@@ -290,7 +307,8 @@ fn enter<Acc: Ledger, Del: Ledger, J: Naming, R: Wait>(
 {
     match &outcome.made {
         Piece::Good(chunk) => {
-            enter_chunk(rt, alloc, catalogue, desks, outcome.frame, chunk, told)
+            let incoming = Incoming::Chunk(chunk);
+            enter_chunk(rt, alloc, catalogue, desks, outcome.frame, incoming, told)
         }
         Piece::Bad(_) => Ok(true),
     }
@@ -304,18 +322,18 @@ fn enter_chunk<Acc: Ledger, Del: Ledger, J: Naming, R: Wait>(
     catalogue: &mut VersionedCatalogue<Acc, Del, J>,
     desks: &mut Vec<Desk<Acc, Del>>,
     frame: usize,
-    chunk: &Chunk,
+    chunk: Incoming<'_>,
     told: &mut Option<Told<J>>,
 ) -> Result<bool, Stop>
     ensures desks { all_without_accepted desks.new.items ≡ all_without_accepted desks.old.items }
     ensures accepted { IfOk result (λ entered. HaveAccepted frame
-        (if entered then length chunk.now.rows else 0) desks.old.items desks.new.items) }
+        (if entered then length (chunk_of chunk.entry).rows else 0) desks.old.items desks.new.items) }
     ensures refused { OnErr result (desks.new.items ≡ desks.old.items) }
 {
     let Some(at) = desk_of(desks.as_slice(), frame) else {
         return Ok(false);
     };
-    match catalogue.append(rt, alloc, &mut desks[at], chunk, told.as_ref()) {
+    match append(rt, alloc, catalogue, &mut desks[at], chunk, told.as_ref()) {
         Ok(next) => {
             *told = Some(next);
             Ok(true)
@@ -324,6 +342,25 @@ fn enter_chunk<Acc: Ledger, Del: Ledger, J: Naming, R: Wait>(
         Err(ChangeFault::Memory) => Err(Stop::Memory),
         Err(ChangeFault::Spent) => Err(Stop::Spent),
         Err(ChangeFault::Ahead) => Err(Stop::Ahead),
+    }
+}
+
+// Appends what comes to the desk's frame.
+fn append<Acc: Ledger, Del: Ledger, J: Naming, R: Wait>(
+    rt: &R,
+    alloc: Global,
+    catalogue: &mut VersionedCatalogue<Acc, Del, J>,
+    desk: &mut Desk<Acc, Del>,
+    chunk: Incoming<'_>,
+    told: Option<&Told<J>>,
+) -> Result<Told<J>, ChangeFault<J>>
+    ensures desk { OnOk result (desk.new ≡
+        desk_after desk.old (Append desk.old.frame (chunk_of chunk.entry))) }
+    ensures same_desk { OnErr result (desk.new ≡ desk.old) }
+{
+    match chunk {
+        Incoming::Chunk(chunk) => catalogue.append(rt, alloc, desk, chunk, told),
+        Incoming::Prepared(chunk) => catalogue.append_prepared(rt, alloc, desk, chunk, told),
     }
 }
 

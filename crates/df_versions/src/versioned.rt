@@ -9,7 +9,7 @@ use crate::fault::ChangeFault;
 use crate::history::Naming;
 use crate::publisher::Publisher;
 use crate::told::Told;
-use df_catalogue::{Catalogue, Desk};
+use df_catalogue::{Catalogue, Desk, PreparedChunk};
 use df_plan::CheckedPlan;
 use df_value::{Chunk, Row, Text};
 use std::alloc::Global;
@@ -108,6 +108,35 @@ impl<Acc: Ledger, Del: Ledger, J: Naming> VersionedCatalogue<Acc, Del, J> {
         ensures same_desk { OnErr result (desk.new ≡ desk.old) }
     {
         match self.catalogue.stage_append(alloc, desk, chunk) {
+            Ok(staged) => enter_rows(
+                &mut self.catalogue,
+                &mut self.publisher,
+                rt,
+                alloc,
+                desk,
+                staged,
+                told,
+            ),
+            Err(fault) => Err(report(&self.publisher, told, fault)),
+        }
+    }
+
+    /// Appends the prepared chunk to the desk's frame, as [`VersionedCatalogue::append`] does a chunk.
+    pub fn append_prepared<R: Wait>(
+        &mut self,
+        rt: &R,
+        alloc: Global,
+        desk: &mut Desk<Acc, Del>,
+        chunk: &PreparedChunk,
+        told: Option<&Told<J>>,
+    ) -> Result<Told<J>, ChangeFault<J>>
+        ensures answer { AnswersChange self.old (told_states (option_map (λ t. t.now) told.entry))
+            (Append desk.old.frame chunk.now) result }
+        ensures history { ChangesHistory self.old result self.new }
+        ensures desk { OnOk result (desk.new ≡ desk_after desk.old (Append desk.old.frame chunk.now)) }
+        ensures same_desk { OnErr result (desk.new ≡ desk.old) }
+    {
+        match self.catalogue.stage_prepared(alloc, desk, chunk) {
             Ok(staged) => enter_rows(
                 &mut self.catalogue,
                 &mut self.publisher,

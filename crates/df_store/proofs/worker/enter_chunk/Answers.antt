@@ -3,7 +3,7 @@ use Rattle.df_value.specs.Chunks.{ChunkParts}
 use Rattle.df_catalogue.specs.Desks.{DeskParts, desk_after}
 use Rattle.df_catalogue.specs.declared.change.Change.TheVariants.{Append}
 use Rattle.df_store.specs.Halls.{having_accepted}
-use Rattle.df_store.specs.Workers.{without_accepted}
+use Rattle.df_store.specs.Workers.{chunk_of, without_accepted}
 use Rattle.df_store.proofs.CountFacts.{one-committed}
 use Rattle.df_store.proofs.WorkerFacts.{keys-set}
 use Rattle.df_store.proofs.worker.enter_chunk.Goals as goal
@@ -18,11 +18,11 @@ returns-in-Ok g c =
     let desks = c.args.desks.now.items in
     let was = c.index_mut.result.now in
     let now = c.append.new.desk in
-    let rows = length c.args.chunk.now.rows in
+    let rows = length (chunk_of c.args.chunk).rows in
     let lent = c.as_slice.ensures.value in
     let within = c.in-Some.ensures.within in
     let as_long = ap length lent in
-    let share : now ≡ having_accepted rows was = c.in-Ok.ensures.desk ∙ appended was was.frame c.args.chunk.now in
+    let share : now ≡ having_accepted rows was = c.in-Ok.ensures.desk ∙ appended was was.frame (chunk_of c.args.chunk) in
     let of_frame = ap (λ (ds : List DeskParts). (get_or ds at was).frame) (sym lent) ∙ c.in-Some.ensures.found was in record {
       desks = keys-set without_accepted desks at now was (omega (arith, within, as_long)) (ap without_accepted share ∙ ap without_accepted c.index_mut.ensures.value);
       accepted = one-committed desks at was now c.args.frame rows (omega (arith, within, as_long)) of_frame (share ∙ ap (having_accepted rows) c.index_mut.ensures.value);

@@ -4,7 +4,9 @@ use Rattle.std.proofs.lemmas.Result.{err_from_is_err_and}
 use Rattle.df_catalogue.specs.declared.staging.StagedFrame.{StagedFrame}
 use Rattle.df_catalogue.specs.declared.staging.Staging.TheVariants.{Rows}
 use Rattle.df_catalogue.specs.declared.state.State.{State}
-use Rattle.df_catalogue.specs.FrameChanges.{change_of}
+use Rattle.df_delta.specs.Differences.{IsDiff}
+use Rattle.df_catalogue.specs.FrameChanges.{change_of, frame_after}
+use Rattle.df_catalogue.specs.FrameTables.{tagged_rows_of}
 use Rattle.df_catalogue.specs.FrameParts.{schemas_of, states_of}
 use Rattle.df_catalogue.specs.LiveViews.{tagged_frames, AreStaged}
 use Rattle.df_catalogue.specs.Staging.{staged_parts}
@@ -85,7 +87,9 @@ invariant_of-self-2 g c =
       schema = c.in_ok-changed.ensures.schema;
       state = c.in_ok-changed.ensures.state;
     } in
-    let led = rows-led parts.frames.items parts.views.items c.args.change c.index.result.now rows c.in_ok-changed.delta is c.in_ok-changed.ensures.diff in
+    let x = c.index.result.now.state in
+    let diff = subst (IsDiff (tagged_rows_of x) (tagged_rows_of (frame_after x c.args.change))) (sym c.get.ensures) c.in_ok-changed.ensures.diff in
+    let led = rows-led parts.frames.items parts.views.items c.args.change c.index.result.now rows c.get.result.now is diff in
     let same_views = ap (λ (s : State). s.views) kept.0 in
     let leads = subst (AreStaged c.prepare_all.new.views.items c.in_ok-views.views.items) led.1 (c.in_ok-views.ensures.staged (tagged_frames (states_of parts.frames.items)) c.self.invariant.parts.live led.0) in
     let sound = rows-sound parts.frames.items parts.views.items c.prepare_all.new.views.items c.args.change c.index.result.now rows is same_views
@@ -133,13 +137,15 @@ returns-clause-staged g c =
       schema = c.in_ok-changed.ensures.schema;
       state = c.in_ok-changed.ensures.state;
     } in
-    let led = rows-led parts.frames.items parts.views.items c.args.change c.index.result.now rows c.in_ok-changed.delta is c.in_ok-changed.ensures.diff in
+    let x = c.index.result.now.state in
+    let diff = subst (IsDiff (tagged_rows_of x) (tagged_rows_of (frame_after x c.args.change))) (sym c.get.ensures) c.in_ok-changed.ensures.diff in
+    let led = rows-led parts.frames.items parts.views.items c.args.change c.index.result.now rows c.get.result.now is diff in
     let same_views = ap (λ (s : State). s.views) kept.0 in
     let leads = subst (AreStaged c.prepare_all.new.views.items c.in_ok-views.views.items) led.1 (c.in_ok-views.ensures.staged (tagged_frames (states_of parts.frames.items)) c.self.invariant.parts.live led.0) in
     let sound = rows-sound parts.frames.items parts.views.items c.prepare_all.new.views.items c.args.change c.index.result.now rows is same_views
     (c.accepted_rows-accepted.ensures.value c.args.frame) (c.deleted_rows-deleted.ensures c.args.frame) c.in_ok-views.ensures.count leads c.in_ok-views.ensures.room in
     let after = rows-after parts.frames.items parts.views.items c.prepare_all.new.views.items c.args.change c.index.result.now rows is same_views in
-    let counted = rows-work parts.frames.items parts.views.items c.prepare_all.new.views.items c.args.change c.index.result.now rows c.in_ok-changed.delta c.prepare_all.new.meter is same_views led.1
+    let counted = rows-work parts.frames.items parts.views.items c.prepare_all.new.views.items c.args.change c.index.result.now rows c.get.result.now c.prepare_all.new.meter is same_views led.1
     (c.in_ok-views.ensures.work (tagged_frames (states_of parts.frames.items)) c.self.invariant.parts.live led.0) in
     staged-some parts.frames.items c.prepare_all.new.views.items parts.work _ (Rows rows) c.args.self.now (change_of c.args.frame c.args.change) c.stage.ensures
     (rows-for parts.frames.items parts.views.items c.prepare_all.new.views.items parts.work rows c.args.self.now c.args.change (state-of c.self.view_is) after sound.legal counted

@@ -1,0 +1,92 @@
+//! Chunks whose rows stand in blocks already.
+ghost use Rattle.std.specs.Prelude.{◌≡◌, IfOk};
+ghost use Rattle.std.specs.FinMap as finite;
+ghost use Rattle.df_value.specs.Chunks.{IsChunk};
+ghost use Rattle.df_column.specs.Changes.{applied};
+ghost use Rattle.df_catalogue.specs.FrameChanges.{delta_of_chunk};
+ghost use Rattle.df_catalogue.specs.Prepared.{delta_in};
+
+use crate::deltas::delta_of_rows;
+use df_column::Table;
+use df_delta::{Delta, apply};
+use df_value::{Chunk, Duplicate};
+use std::alloc::{AllocError, Global};
+use std::marker::Model;
+
+/// A chunk, with the delta that it makes, and its rows in the blocks of a table. The frame that it enters can share these
+/// blocks, so that they are made before the frame is locked. Contracts see the chunk.
+#[derive(Drop)]
+pub struct PreparedChunk {
+    chunk: Chunk,
+    delta: Delta,
+    table: Table,
+}
+
+impl Model for PreparedChunk {
+    ghost use Rattle.df_value.specs.Chunks.{ChunkParts};
+    ghost use Rattle.df_catalogue.specs.Prepared.{IsPrepared};
+
+    ghost Value = { ChunkParts };
+
+    ghost view = { λ p. p.chunk };
+
+    ghost invariant = { λ p. IsPrepared p.chunk p.delta p.table.rows };
+}
+
+/// The delta of a change of a frame: made for it, or that of a prepared chunk.
+#[derive(Drop)]
+pub(crate) enum FrameDelta<'a> {
+    Made(Delta),
+    Lent(&'a Delta),
+}
+
+impl FrameDelta<'_> {
+    /// The delta.
+    pub(crate) fn get(&self) -> &Delta
+        ensures { result.now ≡ delta_in self.now }
+    {
+        match self {
+            FrameDelta::Made(delta) => delta,
+            FrameDelta::Lent(delta) => delta,
+        }
+    }
+}
+
+impl PreparedChunk {
+    /// The chunk, with its rows in blocks.
+    pub fn new(alloc: Global, chunk: Chunk) -> Result<PreparedChunk, AllocError>
+        ensures { IfOk result (λ prepared. prepared ≡ chunk) }
+    {
+        let rows = chunk.rows().as_slice();
+        let delta = delta_of_rows(alloc, chunk.first(), rows)?;
+        let none = Table::new(alloc, chunk.schema().copy(alloc)?)?;
+        let table = apply(alloc, &none, &delta)?;
+        Ok(PreparedChunk {
+            chunk,
+            delta,
+            table,
+        })
+    }
+
+    /// The chunk.
+    pub fn chunk(&self) -> &Chunk
+        ensures { result.now ≡ self.now }
+    {
+        &self.chunk
+    }
+
+    /// The delta by which its rows come.
+    pub(crate) fn delta(&self) -> &Delta
+        ensures value { result.now ≡ delta_of_chunk self.now }
+        ensures sound { IsChunk self.now.schema self.now.first self.now.rows }
+    {
+        &self.delta
+    }
+
+    /// Its rows, each at the tag of its number.
+    pub(crate) fn table(&self) -> &Table
+        ensures { result.now.rows ≡ applied finite.empty (delta_of_chunk self.now) }
+    {
+        &self.table
+    }
+}
