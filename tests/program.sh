@@ -159,6 +159,45 @@ for workers in 1 2 16; do
   ended "many chunks, $workers workers" 1 "$sums" ""
 done
 
+# A file of three segments and more, each of which another thread may read: as it is, with other line ends, with a first
+# byte of a byte order mark at the start of each line, with a segment of blank lines before the header, with a quote in
+# the last record, and with a record that is too short. Two other columns are passed over.
+cat > long.toml << 'END'
+[[frame]]
+name = "t"
+columns = [["g", "Text"], ["x", "Int"]]
+path = "long.csv"
+[[view]]
+name = "sums"
+from = "t"
+steps = [["group_by", ["g"], ["n", "len"], ["total", "sum", "x"]]]
+END
+{ echo k,g,x,y; seq -f 'a,b,%.0f,' 30000; } > lines
+printf -v sums '%s\n' "sums (1 x 3)" "g      n      total" "b  30000  450015000"
+long_file() {
+  case $1 in
+    lines) cat lines ;;
+    "carriage returns") sed 's/$/\r/' lines ;;
+    marks) sed 's/^a/\xef\xbc\xa1/' lines ;;
+    "blank lines") yes '' | head -n 70000 && cat lines ;;
+    quote) sed '$s/b/"b"/' lines ;;
+    "short record") sed '20001s/,$//' lines ;;
+  esac
+}
+for kind in lines "carriage returns" marks "blank lines" quote; do
+  long_file "$kind" > long.csv
+  for workers in 1 2 16; do
+    with long.toml --workers "$workers"
+    ended "a long file, $kind, $workers workers" 0 "$sums" ""
+  done
+done
+long_file "short record" > long.csv
+for workers in 1 2 16; do
+  with long.toml --workers "$workers"
+  ended "a long file with a short record, $workers workers" 2 "" "dfviews: t: F4 20000
+"
+done
+
 # Words that are refused.
 for words in "--workers 17" "--workers 0" "--workers" "--chunk 0" "--chunk 65537" "--chunk x" "--chunk -1" \
   "listed.toml t.csv" "--threads 2" "--chunk 1 --chunk 1" "-x"; do

@@ -16,6 +16,7 @@ use df_text::{
 use df_value::{Duplicate, List, Piece, Schema};
 use std::alloc::{AllocError, Global};
 use std::io::Read;
+use std::thread::Threads;
 
 /// The most bytes of a view document.
 pub const MOST_BYTES_OF_DOCUMENT: usize = 1_048_576;
@@ -41,13 +42,15 @@ pub(crate) struct SourcedDocument {
 /// Reads a view document and the files that it names.
 ///
 /// The document is read whole, at most 1,048,576 bytes; its plans are checked in the order of the
-/// views; its frames are read in their order, and then typed in pieces of `chunk` records, 1 to 65,536. A
-/// file that cannot be opened, or of which a read fails, is a `ReadFault` of its frame. No file is
-/// opened before all plans are checked.
-pub fn open_document<V: Read, F: Files>(
+/// views; its frames are read in their order, each by at most `threads` threads and no more than 16, and then typed in
+/// pieces of `chunk` records, 1 to 65,536. A file that cannot be opened, or of which a read fails, is a `ReadFault` of its
+/// frame. No file is opened before all plans are checked.
+pub fn open_document<V: Read, F: Files, R: Threads + Sync>(
+    rt: &R,
     alloc: Global,
     reader: &mut V,
     files: &mut F,
+    threads: usize,
     chunk: usize,
 ) -> Result<OpenedDocument, RunFault>
     requires some { 1 ≤ chunk }
@@ -60,7 +63,7 @@ pub fn open_document<V: Read, F: Files>(
     ensures plans { IfOk result (λ o. length o.plans ≡ length o.document.views) }
     ensures pieces { IfOk result (λ o. length o.pieces ≡ length o.document.frames) }
 {
-    match open_sources(alloc, reader, files, chunk) {
+    match open_sources(rt, alloc, reader, files, threads, chunk) {
         Ok(sourced) => Ok(typed(alloc, sourced)?),
         Err(fault) => Err(fault),
     }
@@ -83,10 +86,12 @@ fn typed(alloc: Global, sourced: SourcedDocument) -> Result<OpenedDocument, Allo
 }
 
 /// Reads a view document and the files that it names, as [`open_document`] does, and types nothing.
-pub(crate) fn open_sources<V: Read, F: Files>(
+pub(crate) fn open_sources<V: Read, F: Files, R: Threads + Sync>(
+    rt: &R,
     alloc: Global,
     reader: &mut V,
     files: &mut F,
+    threads: usize,
     chunk: usize,
 ) -> Result<SourcedDocument, RunFault>
     requires some { 1 ≤ chunk }
@@ -102,17 +107,19 @@ pub(crate) fn open_sources<V: Read, F: Files>(
     ensures each { IfOk result (λ d. All (IsSourceOf chunk) d.sources) }
 {
     match read_limited(alloc, reader, MOST_BYTES_OF_DOCUMENT) {
-        Ok(bytes) => open_bytes(alloc, bytes.as_slice(), files, chunk),
+        Ok(bytes) => open_bytes(rt, alloc, bytes.as_slice(), files, threads, chunk),
         Err(ReadLimitedFault::Failed) => Err(RunFault::ReadFault),
         Err(ReadLimitedFault::TooLarge) => Err(RunFault::TooLarge),
         Err(ReadLimitedFault::Memory) => Err(RunFault::Memory),
     }
 }
 
-fn open_bytes<F: Files>(
+fn open_bytes<F: Files, R: Threads + Sync>(
+    rt: &R,
     alloc: Global,
     bytes: &[u8],
     files: &mut F,
+    threads: usize,
     chunk: usize,
 ) -> Result<SourcedDocument, RunFault>
     requires some { 1 ≤ chunk }
@@ -128,15 +135,17 @@ fn open_bytes<F: Files>(
     ensures each { IfOk result (λ d. All (IsSourceOf chunk) d.sources) }
 {
     match read_document(alloc, bytes) {
-        Ok(document) => open_views(alloc, document, files, chunk),
+        Ok(document) => open_views(rt, alloc, document, files, threads, chunk),
         Err(fault) => Err(fault),
     }
 }
 
-fn open_views<F: Files>(
+fn open_views<F: Files, R: Threads + Sync>(
+    rt: &R,
     alloc: Global,
     document: Views,
     files: &mut F,
+    threads: usize,
     chunk: usize,
 ) -> Result<SourcedDocument, RunFault>
     requires some { 1 ≤ chunk }
@@ -153,14 +162,17 @@ fn open_views<F: Files>(
     ensures each { IfOk result (λ d. All (IsSourceOf chunk) d.sources) }
 {
     match checked_views(alloc, &document) {
-        Ok(plans) => match all_sources(alloc, files, document.frames.as_slice(), chunk) {
-            Ok(sources) => Ok(SourcedDocument {
-                document,
-                plans,
-                sources,
-            }),
-            Err(fault) => Err(fault),
-        },
+        Ok(plans) => {
+            let frames = document.frames.as_slice();
+            match all_sources(rt, alloc, files, frames, threads, chunk) {
+                Ok(sources) => Ok(SourcedDocument {
+                    document,
+                    plans,
+                    sources,
+                }),
+                Err(fault) => Err(fault),
+            }
+        }
         Err(fault) => Err(fault),
     }
 }

@@ -10,15 +10,20 @@ ghost use Rattle.df_app.specs.Output.{AnswersOrFails, AreKnown, ComesFromFrames,
 
 use crate::fault::RunFault;
 use crate::files::Files;
-use df_text::{CsvFault, CsvSource, FrameSource, FrameSpec, Records, parse_records, read_records};
+use df_text::{
+    CsvFault, CsvSource, FrameSource, FrameSpec, Records, parse_records_by, read_records_by,
+};
 use df_value::{Duplicate, List, Piece, Schema, Source};
 use std::alloc::{AllocError, Global};
+use std::thread::Threads;
 
-/// The sources of the frames, in their order.
-pub(crate) fn all_sources<F: Files>(
+/// The sources of the frames, in their order. At most so many threads read the records of each.
+pub(crate) fn all_sources<F: Files, R: Threads + Sync>(
+    rt: &R,
     alloc: Global,
     files: &mut F,
     frames: &[FrameSpec],
+    threads: usize,
     chunk: usize,
 ) -> Result<List<CsvSource>, RunFault>
     requires some { 1 ≤ chunk }
@@ -34,15 +39,17 @@ pub(crate) fn all_sources<F: Files>(
 {
     let mut all = Vec::new(alloc);
     for frame in frames {
-        all.push(read_source(alloc, files, frame, chunk)?)?;
+        all.push(read_source(rt, alloc, files, frame, threads, chunk)?)?;
     }
     Ok(List::from_vec(all))
 }
 
-fn read_source<F: Files>(
+fn read_source<F: Files, R: Threads + Sync>(
+    rt: &R,
     alloc: Global,
     files: &mut F,
     frame: &FrameSpec,
+    threads: usize,
     chunk: usize,
 ) -> Result<CsvSource, RunFault>
     requires some { 1 ≤ chunk }
@@ -56,7 +63,7 @@ fn read_source<F: Files>(
     ensures sound { IfOk result (IsSourceOf chunk) }
     ensures of_frames { IfErr result ComesFromFrames }
 {
-    match read_frame(alloc, files, frame) {
+    match read_frame(rt, alloc, files, frame, threads) {
         Ok(records) => match frame.schema.copy(alloc) {
             Ok(schema) => Ok(CsvSource::new(records, schema, chunk)),
             Err(_) => Err(RunFault::Memory),
@@ -69,10 +76,12 @@ fn read_source<F: Files>(
     }
 }
 
-fn read_frame<F: Files>(
+fn read_frame<F: Files, R: Threads + Sync>(
+    rt: &R,
     alloc: Global,
     files: &mut F,
     frame: &FrameSpec,
+    threads: usize,
 ) -> Result<Records, CsvFault>
     ensures same { F.file_at files.new ≡ F.file_at files.old }
     ensures value { IsKnown (F.file_at files.old) frame.now.source →
@@ -84,16 +93,22 @@ fn read_frame<F: Files>(
         IsRead (F.file_at files.old) frame.now.source) }
 {
     match &frame.source {
-        FrameSource::Path(path) => read_file(alloc, files, path.as_str(), &frame.schema),
-        FrameSource::Text(text) => { parse_records(alloc, text.as_str().as_bytes(), &frame.schema) }
+        FrameSource::Path(path) => {
+            read_file(rt, alloc, files, path.as_str(), &frame.schema, threads)
+        }
+        FrameSource::Text(text) => {
+            parse_records_by(rt, alloc, text.as_str().as_bytes(), &frame.schema, threads)
+        }
     }
 }
 
-fn read_file<F: Files>(
+fn read_file<F: Files, R: Threads + Sync>(
+    rt: &R,
     alloc: Global,
     files: &mut F,
     path: &str,
     schema: &Schema,
+    threads: usize,
 ) -> Result<Records, CsvFault>
     ensures same { F.file_at files.new ≡ F.file_at files.old }
     ensures value { IsKnownState (F.file_at files.old path.now) →
@@ -101,7 +116,7 @@ fn read_file<F: Files>(
     ensures sound { IfOk result (λ records. IsRecords (length schema.now) records) }
 {
     match files.open(path) {
-        Some(mut file) => read_records(alloc, &mut file, schema),
+        Some(mut file) => read_records_by(rt, alloc, &mut file, schema, threads),
         None => Err(CsvFault::ReadFault),
     }
 }

@@ -29,8 +29,8 @@ use std::thread::Threads;
 /// opened before all plans are checked. A chunk with a bad cell does not enter its frame. Only then
 /// is anything written: the tables of the views in the document's order, then a line for each
 /// refused chunk. At a fault other than [`RunFault::Write`] nothing was written, at that one a
-/// prefix of the output. So many workers, 1 to 16, type the chunks, and pass the gate before each; what is
-/// written depends neither on their number nor on the gate.
+/// prefix of the output. So many workers, 1 to 16, type the chunks, and pass the gate before each, and at most as many
+/// threads read the records of a file; what is written depends neither on their number nor on the gate.
 pub fn run<V: Read, F: Files, W: Write, G: Gate + Sync, R: Threads + Wait + Sync>(
     rt: &R,
     alloc: Global,
@@ -83,7 +83,7 @@ fn read_output<V: Read, F: Files, G: Gate + Sync, R: Threads + Wait + Sync>(
         (λ bytes. KnowsFiles (F.file_at files.old) bytes →
         IsOutput bytes (F.file_at files.old) chunk result) }
 {
-    match open_sources(alloc, reader, files, chunk) {
+    match open_sources(rt, alloc, reader, files, workers, chunk) {
         Ok(sourced) => load_output::<Brand, Brand, G, R>(
             rt,
             alloc,

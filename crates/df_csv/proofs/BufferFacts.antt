@@ -49,7 +49,7 @@ field_get [] i = refl
 field_get (f ∷ fs) zero = refl
 field_get (f ∷ fs) (suc i) = field_get fs i
 
-record_get : (rows : FieldRows) (i : ℕ) → record_at rows i ≡ get_or rows i []
+pub record_get : (rows : FieldRows) (i : ℕ) → record_at rows i ≡ get_or rows i []
 record_get rows i = unwrap_or-slice_get rows i []
 
 pub record_length : (w n i : ℕ) (fs : List (List ℕ)) (rows : FieldRows) → rows_of_width w n fs ≡ rows → length fs ≡ n * w → i < length rows → w ≡ length (record_at rows i)

@@ -1,12 +1,17 @@
 pub mod BufferFacts
 pub mod ChunkFacts
 pub mod CsvSteps
+pub mod CutFacts
 pub mod FieldFacts
 pub mod Fuel
 pub mod HeaderFacts
+pub mod OnePass
+pub mod PartFacts
+pub mod PickedFacts
 pub mod PieceFacts
 pub mod RecordFacts
 pub mod RowFacts
+pub mod SegmentFacts
 pub mod SoundFacts
 pub mod TextFields
 pub mod TopFacts

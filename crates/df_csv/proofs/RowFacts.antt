@@ -1,8 +1,7 @@
 -- The rows of a file, one record at a time.
-use Rattle.std.proofs.Common.{◌≡◌, ◌≢◌, ◌+◌, ◌<◌, ◌≤◌, ℕ, true, false, List, [], ◌∷◌, ◌++◌, length, Some, Result, Ok, Err, refl, sym, ap, arith, append_assoc, eq-eqb, ◌∙◌, nat_eq, nat_lt}
+use Rattle.std.proofs.Common.{◌≡◌, ◌≢◌, ◌+◌, ◌<◌, ◌≤◌, ℕ, true, false, List, [], ◌∷◌, ◌++◌, length, Result, Ok, Err, refl, sym, ap, arith, append_assoc, eq-eqb, nat_eq, nat_lt}
 use Rattle.std.proofs.lemmas.Bool.{ne_eqb, lt-ltb}
 use Rattle.std.proofs.lemmas.List.{append-nil}
-use Rattle.std.proofs.lemmas.Option.{same_Some}
 use Rattle.std.proofs.lemmas.Bool.Decides.{nat_tests}
 use Rattle.df_csv.specs.Records.{FieldRows, after_rows, fields_at, checked_records}
 use Rattle.df_csv.specs.declared.fault.CsvFault.{CsvFault}
@@ -16,11 +15,11 @@ pub none_more : (w : ℕ) (ps : List ℕ) (n : ℕ) (xs rows all : FieldRows) �
 unfolding checked_records
 none_more w ps n xs rows all e none = rw (e, none) (ap Ok (append-nil xs))
 
-pub unlike_next : (w : ℕ) (ps : List ℕ) (n m : ℕ) (xs rows rest all : FieldRows) (r : List (List ℕ)) → checked_records w ps 1 all ≡ after_rows xs (checked_records w ps n rows) → rows ≡ r ∷ rest → Some w ≡ Some m → m ≢ length r
+pub unlike_next : (w : ℕ) (ps : List ℕ) (n : ℕ) (xs rows rest all : FieldRows) (r : List (List ℕ)) → checked_records w ps 1 all ≡ after_rows xs (checked_records w ps n rows) → rows ≡ r ∷ rest → length r ≢ w
     → checked_records w ps 1 all ≡ Err (BadRecord n)
 unfolding checked_records
-unlike_next w ps n m xs rows rest all r e next width unlike =
-    let t : nat_eq (length r) w ≡ false = ne_eqb (length r) w (λ q. unlike (sym (same_Some _ _ width) ∙ sym q)) in
+unlike_next w ps n xs rows rest all r e next unlike =
+    let t : nat_eq (length r) w ≡ false = ne_eqb (length r) w unlike in
     rw (e, next, t) refl
 
 pub too_many : (w : ℕ) (ps : List ℕ) (n : ℕ) (xs rows rest all : FieldRows) (r : List (List ℕ)) → checked_records w ps 1 all ≡ after_rows xs (checked_records w ps n rows) → rows ≡ r ∷ rest → w ≡ length r → 1048576 < n

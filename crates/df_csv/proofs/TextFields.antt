@@ -157,3 +157,9 @@ text_at (f ∷ fs) (suc i) h = text_at fs i h.1
 pub texts_next : (all rest : FieldRows) (r : List (List ℕ)) → all ≡ r ∷ rest → EveryText all → AllText r × EveryText rest
 unfolding EveryText
 texts_next all rest r e h = rw e at h
+
+-- all but the first
+pub later_texts : (all : FieldRows) → EveryText all → EveryText (drop 1 all)
+unfolding EveryText
+later_texts [] h = h
+later_texts (r ∷ rest) h = h.1

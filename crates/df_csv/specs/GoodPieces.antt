@@ -1,5 +1,5 @@
 -- Where no cell of a file is bad, the size of its pieces does not matter: facts for the laws of a run.
-use Rattle.std.specs.Prelude.{◌≡◌, ◌+◌, ◌*◌, ◌<◌, ◌≤◌, ◌&&◌, ℕ, zero, suc, Bool, true, false, List, [], ◌∷◌, ◌++◌, length, map, take, drop}
+use Rattle.std.specs.Prelude.{◌≡◌, ◌+◌, ◌*◌, ◌<◌, ◌&&◌, ℕ, zero, suc, Bool, true, false, List, [], ◌∷◌, ◌++◌, length, map, take, drop}
 use Rattle.std.specs.List.{list_all, range_with_len}
 use Rattle.std.proofs.Common.{ap, refl, sym, subst, ◌∙◌, add-one}
 use Rattle.std.proofs.Math.Nat.{suc-mul, zero-mul, add_comm}
@@ -8,7 +8,6 @@ use Rattle.std.proofs.lemmas.List.{drop-drop, take_all}
 use Rattle.std.proofs.lemmas.Grind.{div_ceil_times}
 use Rattle.df_value.specs.declared.cell.Cell.{Cell}
 use Rattle.df_value.specs.declared.chunk.Piece.{Piece}
-use Rattle.df_value.specs.declared.chunk.Piece.TheVariants as made
 use Rattle.df_value.specs.Pieces.{is_good, rows_of_piece, rows_of_pieces}
 use Rattle.df_value.specs.Schemas.{Columns}
 use Rattle.df_csv.specs.declared.typed.TypedRow.{TypedRow}

@@ -6,3 +6,4 @@ pub mod Rows
 pub mod Sources
 pub mod Typed
 pub mod GoodPieces
+pub mod Segments

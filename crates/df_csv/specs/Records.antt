@@ -1,7 +1,7 @@
 -- What a CSV file says under a schema: of each record the fields of the schema's columns, or the first fault.
 -- The records are those that the crate csv defines for commas and double quotes (RFC 4180, and beside its line
 -- ends a lone CR or LF); blank lines are passed over.
-use Rattle.std.specs.Prelude.{◌≡◌, ◌≢◌, ◌+◌, ◌≤◌, ◌==◌, ℕ, zero, suc, not, nat_lt, List, [], ◌∷◌, ◌++◌, length, map, take, drop, Option, Some, None, slice_get, unwrap_or, Result, Ok, Err, All, ⊤, if◌then◌else◌}
+use Rattle.std.specs.Prelude.{◌≡◌, ◌≢◌, ◌+◌, ◌≤◌, ◌==◌, ℕ, zero, suc, not, nat_lt, List, [], ◌∷◌, ◌++◌, length, map, flat_map, take, drop, Option, Some, None, slice_get, unwrap_or, Result, Ok, Err, All, ⊤, if◌then◌else◌}
 use Rattle.df_value.specs.Limits.{most_rows_of_frame}
 use Rattle.std.specs.Str.{is_utf8}
 use Rattle.csv.specs.Reading.{default_config, records}
@@ -70,6 +70,10 @@ GivesRead (Err e) said = e ≢ ReadFault → e ≢ Memory → said ≡ Err e
 abbrev pub rows_of_width : ℕ → ℕ → List (List ℕ) → FieldRows
 rows_of_width width zero fields = []
 rows_of_width width (suc n) fields = take width fields ∷ rows_of_width width n (drop width fields)
+
+-- the records of these parts, one part behind the other
+abbrev pub records_of_parts : List FieldRows → FieldRows
+records_of_parts parts = flat_map (λ part. part) parts
 
 -- the fields of the record at this index, none where there is no such record
 abbrev pub record_at : FieldRows → ℕ → List (List ℕ)

@@ -1,11 +1,11 @@
 -- The records that a reader of CSV has left.
-use Rattle.std.specs.Prelude.{◌≡◌, ◌≢◌, ◌+◌, ℕ, false, List, [], ◌∷◌, length, Option, Some, None, IsSome, IfSome, ⊤}
-use Rattle.csv.specs.Reading.{Ready, default_config, expected_len, is_flexible, reader_config, reader_state, reader_trim, records_from, source_of}
+use Rattle.std.specs.Prelude.{◌≡◌, ◌+◌, ℕ, true, List, [], ◌∷◌, length, Option, Some, None, IsSome, ⊤}
+use Rattle.csv.specs.Reading.{Ready, default_config, is_flexible, reader_config, reader_state, reader_trim, records_from, source_of}
 use Rattle.csv.specs.declared.parser.State.{State}
 use Rattle.csv.specs.declared.reader.Reader.{Reader}
 use Rattle.csv.specs.declared.reader.Trim.TheVariants as trim
 use Rattle.df_csv.specs.declared.rows.NextRow.{NextRow}
-use Rattle.df_csv.specs.declared.rows.NextRow.TheVariants.{Row, End, Unlike, Memory}
+use Rattle.df_csv.specs.declared.rows.NextRow.TheVariants.{Row, End, Memory}
 
 abbrev pub records_at : State → Option (List ℕ) → List (List (List ℕ))
 records_at s None = []
@@ -15,13 +15,12 @@ records_at s (Some xs) = records_from default_config (length xs + 1) s xs
 abbrev pub rows_left : {R : Type 0} → (R → Option (List ℕ)) → Reader R → List (List (List ℕ))
 rows_left rem r = records_at (reader_state r) (source_of rem r)
 
--- a reader as it is made here, between two records
+-- a reader as it is made here, between two records, which takes records of any length
 abbrev pub IsPlain : {R : Type 0} → (R → Option (List ℕ)) → Reader R → Type 0
-IsPlain rem r = (reader_trim r ≡ trim.None) × Ready r × (reader_config r ≡ default_config) × (is_flexible r ≡ false) × IsSome (source_of rem r)
+IsPlain rem r = (reader_trim r ≡ trim.None) × Ready r × (reader_config r ≡ default_config) × (is_flexible r ≡ true) × IsSome (source_of rem r)
 
--- what taking one record gives: one of the length of those before it, the end, or one of another length
+-- what taking one record gives: the record, or that there is none
 abbrev pub IsNextRow : {R : Type 0} → (R → Option (List ℕ)) → Reader R → Reader R → List (List ℕ) → NextRow → Type 0
-IsNextRow rem a b fields Row = IsPlain rem b × (rows_left rem a ≡ fields ∷ rows_left rem b) × (expected_len b ≡ Some (length fields)) × IfSome (expected_len a) (λ n. n ≡ length fields)
+IsNextRow rem a b fields Row = IsPlain rem b × (rows_left rem a ≡ fields ∷ rows_left rem b)
 IsNextRow rem a b fields End = rows_left rem a ≡ []
-IsNextRow rem a b fields Unlike = (f : List (List ℕ)) × (rest : List (List (List ℕ))) × (rows_left rem a ≡ f ∷ rest) × (n : ℕ) × (expected_len a ≡ Some n) × (n ≢ length f)
 IsNextRow rem a b fields Memory = ⊤

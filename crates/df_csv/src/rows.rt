@@ -1,25 +1,35 @@
-//! The records of a CSV file under its header.
+//! The records of a CSV text under its header.
 ghost use Rattle.std.specs.Prelude.{◌≡◌, ◌++◌, OnOk, Some};
-ghost use Rattle.csv.specs.Reading.{expected_len};
+ghost use Rattle.csv.specs.Reading.{default_config, records, strip_bom};
 ghost use Rattle.csv.specs.Records.{AllText, fields_of};
 ghost use Rattle.df_csv.specs.Records.{EveryText, Gives, fields_at, checked_records};
 ghost use Rattle.df_csv.specs.Rows.{IsPlain, IsNextRow, rows_left};
 
 use crate::fault::CsvFault;
 use crate::header::field_in;
-use crate::records::Records;
-use csv::{ByteRecord, ErrorKind, Reader, StringRecord};
+use crate::part::RecordPart;
+use csv::{ByteRecord, ErrorKind, Reader, ReaderBuilder, StringRecord};
 use df_value::MOST_ROWS_OF_FRAME;
 use std::alloc::{AllocError, Global};
 use std::io::Read;
 
-/// What the next record is: a row, none, one of another length than those before it, or not known
-/// for want of memory.
+/// A reader of the records of a text that has no byte order mark at its start. It takes records of any length.
+pub fn reader_of(alloc: Global, text: &[u8]) -> Reader<&[u8]>
+    requires { strip_bom text.now ≡ text.now }
+    ensures plain { IsPlain (λ bytes. Some bytes.now) result }
+    ensures rows { rows_left (λ bytes. Some bytes.now) result ≡ records default_config text.now }
+{
+    ReaderBuilder::new()
+        .has_headers(false)
+        .flexible(true)
+        .from_reader(alloc, text)
+}
+
+/// What the next record is: a row, none, or not known for want of memory.
 #[derive(Debug, Drop)]
 pub enum NextRow {
     Row,
     End,
-    Unlike,
     Memory,
 }
 
@@ -32,9 +42,9 @@ pub fn next_row<R: Read>(reader: &mut Reader<R>, row: &mut ByteRecord) -> NextRo
         Ok(true) => NextRow::Row,
         Ok(false) => NextRow::End,
         Err(e) => match e.kind() {
-            ErrorKind::UnequalLengths { .. } => NextRow::Unlike,
             // A slice is read without a fault, so that an Io error stands for memory alone.
             ErrorKind::OutOfMemory | ErrorKind::Io(_) => NextRow::Memory,
+            ErrorKind::UnequalLengths { .. } => unreachable!(),
             ErrorKind::Utf8 { .. } => unreachable!(),
             ErrorKind::Serialize(_) => unreachable!(),
             ErrorKind::Deserialize { .. } => unreachable!(),
@@ -54,15 +64,15 @@ fn pick(fields: &mut StringRecord, row: &ByteRecord, indices: &[usize]) -> Resul
     Ok(())
 }
 
-/// The records under the header, which has `width` fields; of each the fields at these indices.
-pub fn read_rows<R: Read>(
+/// The records that a reader has left, of `width` fields each; of each the fields at these indices. A fault has the
+/// record's number among these.
+pub(crate) fn read_rows<R: Read>(
     alloc: Global,
     reader: &mut Reader<R>,
     indices: &[usize],
     width: usize,
-) -> Result<Records, CsvFault>
+) -> Result<RecordPart, CsvFault>
     requires plain { IsPlain R.remaining reader.old }
-    requires width { expected_len reader.old ≡ Some width }
     requires texts { EveryText (rows_left R.remaining reader.old) }
     ensures { Gives result
         (checked_records width indices.now 1 (rows_left R.remaining reader.old)) }
@@ -73,9 +83,11 @@ pub fn read_rows<R: Read>(
     'records: loop {
         match next_row(reader, &mut row) {
             NextRow::Row => {}
-            NextRow::End => return Ok(Records::from_fields(fields, indices.len(), count)),
-            NextRow::Unlike => return Err(CsvFault::BadRecord(count as u64 + 1)),
+            NextRow::End => return Ok(RecordPart::from_fields(fields, indices.len(), count)),
             NextRow::Memory => return Err(CsvFault::Memory),
+        }
+        if row.len() != width {
+            return Err(CsvFault::BadRecord(count as u64 + 1));
         }
         if count == MOST_ROWS_OF_FRAME {
             return Err(CsvFault::TooManyRecords);

@@ -19,11 +19,12 @@ use std::io::{BufRead, Read, Write};
 use std::marker::Brand;
 use std::sync::Wait;
 use std::sync::ledger::{Blank, Ledger};
+use std::thread::Threads;
 
 /// Does what [`run_shell`](crate::run_shell) does, through a hall with one reader: each change publishes a version, and
 /// questions are answered from the newest one, which has at least all changes that were answered before. At the end the
 /// hall is closed.
-pub fn run_hall_shell<R: Wait, V: Read, F: Files, I: BufRead, W: Write>(
+pub fn run_hall_shell<R: Threads + Wait + Sync, V: Read, F: Files, I: BufRead, W: Write>(
     rt: &R,
     alloc: Global,
     document: &mut V,
@@ -31,7 +32,7 @@ pub fn run_hall_shell<R: Wait, V: Read, F: Files, I: BufRead, W: Write>(
     input: &mut I,
     output: &mut W,
 ) -> Result<(), ShellFault> {
-    let prepared = prepare(alloc, document, files)?;
+    let prepared = prepare(rt, alloc, document, files)?;
     open::<Brand, Brand, R, I, W>(
         rt,
         alloc,

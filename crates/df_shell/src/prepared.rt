@@ -6,9 +6,13 @@ use df_app::{Files, OpenedDocument, open_document, refused_lines};
 use df_value::{List, Piece};
 use std::alloc::Global;
 use std::io::Read;
+use std::thread::Threads;
 
 /// The records of a chunk of the first rows.
 const RECORDS_OF_CHUNK: usize = 1000;
+
+/// The most threads that read a file.
+const THREADS_OF_FILE: usize = 4;
 
 /// A document that was opened, and all that a session over it needs besides its store.
 #[derive(Drop)]
@@ -21,14 +25,22 @@ pub struct Prepared {
     pub buffers: Buffers,
 }
 
-/// Opens a document, with the first rows of its frames in chunks of 1,000 records.
-pub fn prepare<V: Read, F: Files>(
+/// Opens a document, with the first rows of its frames in chunks of 1,000 records. At most 4 threads read a file.
+pub fn prepare<R: Threads + Sync, V: Read, F: Files>(
+    rt: &R,
     alloc: Global,
     document: &mut V,
     files: &mut F,
 ) -> Result<Prepared, ShellFault> {
     let buffers = Buffers::new(alloc)?;
-    let opened = open_document(alloc, document, files, RECORDS_OF_CHUNK)?;
+    let opened = open_document(
+        rt,
+        alloc,
+        document,
+        files,
+        THREADS_OF_FILE,
+        RECORDS_OF_CHUNK,
+    )?;
     let frames = opened.document.frames.as_slice();
     let refused = refused_lines(alloc, frames, opened.pieces.as_slice(), RECORDS_OF_CHUNK)?;
     let OpenedDocument {

@@ -14,21 +14,23 @@ use std::alloc::Global;
 use std::io::{BufRead, Read, Write};
 use std::marker::Brand;
 use std::sync::ledger::{Blank, Ledger};
+use std::thread::Threads;
 
 /// Opens a document and answers the commands of `input`, each before the next one is read, to its
 /// end.
 ///
 /// Of the document the frames enter with their first rows, in chunks of 1,000 records, and a line
-/// is written for each chunk that is refused; then all views are registered. Where memory is
-/// refused to a command, its answer is `memory`, the store is as before it, and the shell goes on.
-pub fn run_shell<V: Read, F: Files, I: BufRead, W: Write>(
+/// is written for each chunk that is refused; then all views are registered. At most 4 threads read the records of a
+/// file. Where memory is refused to a command, its answer is `memory`, the store is as before it, and the shell goes on.
+pub fn run_shell<R: Threads + Sync, V: Read, F: Files, I: BufRead, W: Write>(
+    rt: &R,
     alloc: Global,
     document: &mut V,
     files: &mut F,
     input: &mut I,
     output: &mut W,
 ) -> Result<(), ShellFault> {
-    let prepared = prepare(alloc, document, files)?;
+    let prepared = prepare(rt, alloc, document, files)?;
     serve::<Brand, Brand, I, W>(
         alloc,
         Blank::new(PARTS_OF_LEDGER),

@@ -33,6 +33,8 @@ mod sources;
 #[cfg(test)]
 mod tables;
 #[cfg(test)]
+mod threads;
+#[cfg(test)]
 mod values;
 #[cfg(test)]
 mod views;

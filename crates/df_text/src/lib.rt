@@ -19,7 +19,8 @@ mod window_steps;
 
 pub use df_csv::{
     CsvFault, CsvSource, MOST_BYTES_OF_FILE, ReadLimitedFault, Records, count_pieces,
-    parse_records, read_limited, read_records, type_chunk, type_piece,
+    parse_records, parse_records_by, read_limited, read_records, read_records_by, type_chunk,
+    type_piece,
 };
 pub use df_print::{WriteFault, column_width, escape, print_table, write_text};
 pub use document::{FrameSource, FrameSpec, Location, ViewSpec, Views};

@@ -9,6 +9,7 @@ use df_shell::{ShellFault, run_hall_shell, run_shell, shell_fault_text};
 use std::io::BufReader;
 use std::process::ExitCode;
 use std::sync::Wait;
+use std::thread::Threads;
 use std::{env, io};
 use system_files::{SystemFiles, open};
 
@@ -22,7 +23,11 @@ fn main(rt: HostRuntime) -> ExitCode {
 }
 
 // The first argument is the program's name. The last one is the document's path, before which `--hall` may stand.
-fn run_arguments<R: Wait>(rt: &HostRuntime, waiting: &R, arguments: env::Args) -> ExitCode {
+fn run_arguments<R: Threads + Wait + Sync>(
+    rt: &HostRuntime,
+    waiting: &R,
+    arguments: env::Args,
+) -> ExitCode {
     let mut words = arguments.skip(1);
     let Some(first) = words.next() else {
         return refuse_words(rt);
@@ -38,7 +43,7 @@ fn run_arguments<R: Wait>(rt: &HostRuntime, waiting: &R, arguments: env::Args) -
     }
 }
 
-fn run_word<R: Wait>(rt: &HostRuntime, waiting: &R, word: &str) -> ExitCode {
+fn run_word<R: Threads + Wait + Sync>(rt: &HostRuntime, waiting: &R, word: &str) -> ExitCode {
     if word == "--help" {
         return print_usage(rt);
     }
@@ -57,7 +62,12 @@ fn print_usage(rt: &HostRuntime) -> ExitCode {
     }
 }
 
-fn run_views<R: Wait>(rt: &HostRuntime, waiting: &R, views: &str, hall: bool) -> ExitCode {
+fn run_views<R: Threads + Wait + Sync>(
+    rt: &HostRuntime,
+    waiting: &R,
+    views: &str,
+    hall: bool,
+) -> ExitCode {
     match answer_commands(rt, waiting, views, hall) {
         Ok(()) => ExitCode::from(0),
         Err(fault) => report(rt, &fault),
@@ -65,8 +75,8 @@ fn run_views<R: Wait>(rt: &HostRuntime, waiting: &R, views: &str, hall: bool) ->
 }
 
 // A view document that cannot be opened is one that cannot be read. `waiting` is the runtime once more, which `main`
-// alone can hand on as what may wait: a hall does, for its lock.
-fn answer_commands<R: Wait>(
+// alone can hand on as what may start threads, which read a file, and may wait: a hall does, for its lock.
+fn answer_commands<R: Threads + Wait + Sync>(
     rt: &HostRuntime,
     waiting: &R,
     views: &str,
@@ -91,7 +101,14 @@ fn answer_commands<R: Wait>(
             &mut output,
         );
     }
-    run_shell(alloc, &mut document, &mut files, &mut input, &mut output)
+    run_shell(
+        waiting,
+        alloc,
+        &mut document,
+        &mut files,
+        &mut input,
+        &mut output,
+    )
 }
 
 // Arguments that are no text, or for which there was no memory.

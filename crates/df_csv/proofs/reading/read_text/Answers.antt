@@ -1,48 +1,41 @@
-use Rattle.std.proofs.Common.{◌∙◌, ap, List, ℕ, Some, Bor}
-use Rattle.csv.specs.Reading.{strip_bom}
-use Rattle.csv.specs.Records.{fields_of}
-use Rattle.df_csv.specs.Rows.{rows_left}
-use Rattle.df_csv.proofs.TextFields.{texts_next}
-use Rattle.df_csv.proofs.TopFacts.{every_text, opened, row_gives, top_row_fault, top_end, top_end_fault}
+use Rattle.std.proofs.Common.{◌∙◌, ap, sym, Ok}
+use Rattle.df_csv.proofs.TextFields.{all_texts, texts_next}
+use Rattle.df_csv.proofs.TopFacts.{text_says, text_unmarked, under_header}
 use Rattle.df_csv.proofs.reading.read_text.Goals as goal
 
-pub names_of-requires : goal.names_of-requires
-names_of-requires c =
-    let all = opened (λ (s : Bor (List ℕ)). Some s.now) c.from_reader-reader.result c.args.bytes.now c.from_reader-reader.ensures.state (c.from_reader-reader.ensures.source ∙ ap (λ t. Some (strip_bom t)) c.requires.marks) in
-    let utf8 = rw c.requires.marks at c.requires.utf8 in
-    (texts_next _ _ _ c.in-Row.ensures.1 (every_text c.args.bytes.now _ utf8 all)).0
+pub reader_of-reader-requires : goal.reader_of-reader-requires
+reader_of-reader-requires c = text_unmarked c.args.bytes.now c.args.text.now c.requires.marks
+
+pub read_layout-requires-clause-texts : goal.read_layout-requires-clause-texts
+read_layout-requires-clause-texts c = rw c.reader_of-reader.ensures.rows (all_texts c.args.text.now c.requires.utf8)
+
+pub returns-in-Ok-None : goal.returns-in-Ok-None
+returns-in-Ok-None c =
+    text_says c.args.bytes.now c.args.text.now c.args.columns.now c.requires.marks c.requires.utf8
+    ∙ rw (c.in-Ok-None.field-0-is, c.reader_of-reader.ensures.rows) at c.in-Ok-None.ensures
+    ∙ ap Ok (sym c.new.ensures)
+
+pub returns-in-Err : goal.returns-in-Err
+returns-in-Err c small =
+    text_says c.args.bytes.now c.args.text.now c.args.columns.now c.requires.marks c.requires.utf8
+    ∙ rw c.reader_of-reader.ensures.rows at (c.in-Err.ensures small)
 
 pub read_rows-requires-clause-texts : goal.read_rows-requires-clause-texts
 read_rows-requires-clause-texts c =
-    let all = opened (λ (s : Bor (List ℕ)). Some s.now) c.from_reader-reader.result c.args.bytes.now c.from_reader-reader.ensures.state (c.from_reader-reader.ensures.source ∙ ap (λ t. Some (strip_bom t)) c.requires.marks) in
-    let utf8 = rw c.requires.marks at c.requires.utf8 in
-    (texts_next _ _ _ c.in-Row.ensures.1 (every_text c.args.bytes.now _ utf8 all)).1
+    let (plain, (names, e, lays)) = rw c.in-Ok-Some.field-0-is at c.in-Ok-Some.ensures in
+    (texts_next _ _ _ e (rw c.reader_of-reader.ensures.rows (all_texts c.args.text.now c.requires.utf8))).1
 
-pub returns-in-Ok-header_indices : goal.returns-in-Ok-header_indices
-returns-in-Ok-header_indices c =
-    let all = opened (λ (s : Bor (List ℕ)). Some s.now) c.from_reader-reader.result c.args.bytes.now c.from_reader-reader.ensures.state (c.from_reader-reader.ensures.source ∙ ap (λ t. Some (strip_bom t)) c.requires.marks) in
-    let utf8 = rw c.requires.marks at c.requires.utf8 in
-    row_gives c.read_rows.result c.args.bytes.now c.args.columns.now (fields_of c.next_row.new.row) c.as_slice.result.now
-    (rows_left (λ (s : Bor (List ℕ)). Some s.now) c.next_row.new.reader) _ c.in-Ok-header_indices.indices.items c.as_slice-in-Ok-header_indices.result.now c.len.result
-    utf8 all c.in-Row.ensures.1 (c.as_slice.ensures.value ∙ c.in-Ok.ensures)
-    c.in-Ok-header_indices.ensures.0 c.in-Ok-header_indices.ensures.1 c.as_slice-in-Ok-header_indices.ensures.value c.len.ensures c.read_rows.ensures
+pub returns-in-Ok : goal.returns-in-Ok
+returns-in-Ok c =
+    let (plain, (names, e, lays)) = rw c.in-Ok-Some.field-0-is at c.in-Ok-Some.ensures in
+    text_says c.args.bytes.now c.args.text.now c.args.columns.now c.requires.marks c.requires.utf8
+    ∙ under_header c.args.columns.now names _ _ c.in-Ok-Some.layout (sym c.reader_of-reader.ensures.rows ∙ e) lays
+    ∙ rw c.as_slice.ensures.value at c.in-Ok.ensures
+    ∙ ap Ok (sym c.in_ok-from_part-in-Ok.ensures)
 
-pub returns-in-Row : goal.returns-in-Row
-returns-in-Row c =
-    let all = opened (λ (s : Bor (List ℕ)). Some s.now) c.from_reader-reader.result c.args.bytes.now c.from_reader-reader.ensures.state (c.from_reader-reader.ensures.source ∙ ap (λ t. Some (strip_bom t)) c.requires.marks) in
-    let utf8 = rw c.requires.marks at c.requires.utf8 in
-    let names = c.as_slice.ensures.value ∙ c.in-Ok.ensures in
-    λ small. top_row_fault c.args.bytes.now c.args.columns.now (fields_of c.next_row.new.row) _ _ c.in-Err.e utf8 all c.in-Row.ensures.1 (rw names at (c.in-Err.ensures small))
-
-pub returns-in-Ok-header_indices-2 : goal.returns-in-Ok-header_indices-2
-returns-in-Ok-header_indices-2 c =
-    let all = opened (λ (s : Bor (List ℕ)). Some s.now) c.from_reader-reader.result c.args.bytes.now c.from_reader-reader.ensures.state (c.from_reader-reader.ensures.source ∙ ap (λ t. Some (strip_bom t)) c.requires.marks) in
-    let utf8 = rw c.requires.marks at c.requires.utf8 in
-    let h = c.in-Ok-header_indices-2.ensures in
-    rw c.new-in-Ok-header_indices-2.ensures (top_end c.args.bytes.now c.args.columns.now _ utf8 all c.in-End.ensures h.0)
-
-pub returns-in-End : goal.returns-in-End
-returns-in-End c =
-    let all = opened (λ (s : Bor (List ℕ)). Some s.now) c.from_reader-reader.result c.args.bytes.now c.from_reader-reader.ensures.state (c.from_reader-reader.ensures.source ∙ ap (λ t. Some (strip_bom t)) c.requires.marks) in
-    let utf8 = rw c.requires.marks at c.requires.utf8 in
-    λ small. top_end_fault c.args.bytes.now c.args.columns.now _ c.in-Err-header_indices.e utf8 all c.in-End.ensures (c.in-Err-header_indices.ensures small)
+pub returns : goal.returns
+returns c small =
+    let (plain, (names, e, lays)) = rw c.in-Ok-Some.field-0-is at c.in-Ok-Some.ensures in
+    text_says c.args.bytes.now c.args.text.now c.args.columns.now c.requires.marks c.requires.utf8
+    ∙ under_header c.args.columns.now names _ _ c.in-Ok-Some.layout (sym c.reader_of-reader.ensures.rows ∙ e) lays
+    ∙ rw c.as_slice.ensures.value at (c.in-Err-read_rows.ensures small)

@@ -1,7 +1,6 @@
 use Rattle.std.proofs.Common.{sym, ◌∙◌}
 use Rattle.std.proofs.lemmas.Bool.{false≢true}
-use Rattle.csv.specs.Records.{fields_of}
-use Rattle.df_csv.proofs.CsvSteps.{found_row, no_row, unlike_row}
+use Rattle.df_csv.proofs.CsvSteps.{all_like, found_row, no_row}
 use Rattle.df_csv.proofs.rows.next_row.Goals as goal
 
 pub returns-in-Ok-true : goal.returns-in-Ok-true
@@ -15,13 +14,14 @@ returns-in-Ok-false g c =
     let reads = c.in-Ok-false.ensures.reads c.requires.0 c.requires.1 in
     no_row g.R.Read.remaining c.args.reader.now c.read_byte_record.new.self _ c.requires (rw c.in-Ok-false.field-0-test at reads)
 
-pub returns-in-UnequalLengths : goal.returns-in-UnequalLengths
-returns-in-UnequalLengths g c =
-    let why = c.in-Err.ensures.why c.requires.1 in
-    unlike_row g.R.Read.remaining c.args.reader.now c.read_byte_record.new.self c.in-UnequalLengths.pos c.in-UnequalLengths.expected_len c.in-UnequalLengths.len (fields_of c.read_byte_record.new.row) c.requires (rw (sym c.kind.ensures ∙ c.in-UnequalLengths.is) at why)
-
 pub unreachable-requires : goal.unreachable-requires
 unreachable-requires g c =
+    let why = c.in-Err.ensures.why c.requires.1 in
+    all_like g.R.Read.remaining c.args.reader.now c.read_byte_record.new.self c.in-UnequalLengths.pos c.in-UnequalLengths.expected_len c.in-UnequalLengths.len c.requires
+    (rw (sym c.kind.ensures ∙ c.in-UnequalLengths.is) at why)
+
+pub unreachable-requires-in-Utf8 : goal.unreachable-requires-in-Utf8
+unreachable-requires-in-Utf8 g c =
     let why = c.in-Err.ensures.why c.requires.1 in
     let at = rw (sym c.kind.ensures ∙ c.in-Utf8.is) at why in
     false≢true at.0

@@ -1,4 +1,4 @@
-use Rattle.std.proofs.Common.{◌≡◌, ◌∙◌, Some, ap, sym, arith, rules, true}
+use Rattle.std.proofs.Common.{◌≡◌, ◌∙◌, sym, arith, rules, true}
 use Rattle.std.specs.Result.{is_ok}
 use Rattle.df_csv.proofs.TextFields.{texts_next}
 use Rattle.df_csv.proofs.BufferFacts.{more_fields, more_records, on_ok}
@@ -10,10 +10,10 @@ returns-in-End g c =
     let h = c.in-End.ensures in
     rw c.from_fields.ensures (none_more _ _ _ _ _ _ c.records.invariant.so_far h)
 
-pub returns-in-Unlike : goal.returns-in-Unlike
-returns-in-Unlike g c _ =
-    let (f, rest, next, m, expected, unlike) = c.in-Unlike.ensures in
-    unlike_next _ _ _ m _ _ rest _ f c.records.invariant.so_far next (sym c.records.invariant.width ∙ expected) unlike
+pub returns-then-len-width : goal.returns-then-len-width
+returns-then-len-width g c _ =
+    let h = c.in-Row.ensures in
+    unlike_next _ _ _ _ _ _ _ _ c.records.invariant.so_far h.1 (λ e. c.if-len-width.true (c.len.ensures ∙ e))
 
 pub pick-requires : goal.pick-requires
 pick-requires g c =
@@ -23,17 +23,17 @@ pick-requires g c =
 pub returns-then-count-eq-MOST_ROWS_OF_FRAME : goal.returns-then-count-eq-MOST_ROWS_OF_FRAME
 returns-then-count-eq-MOST_ROWS_OF_FRAME g c _ =
     let h = c.in-Row.ensures in
-    too_many _ _ _ _ _ _ _ _ c.records.invariant.so_far h.1 (rw c.records.invariant.width at h.3) (omega (arith, c.if-count-eq-MOST_ROWS_OF_FRAME.true))
+    let w = sym c.if-len-width.false ∙ c.len.ensures in
+    too_many _ _ _ _ _ _ _ _ c.records.invariant.so_far h.1 w (omega (arith, c.if-count-eq-MOST_ROWS_OF_FRAME.true))
 
 pub records-preserved : goal.records-preserved
 records-preserved g c =
     let h = c.in-Row.ensures in
-    let w = rw c.records.invariant.width at h.3 in
+    let w = sym c.if-len-width.false ∙ c.len.ensures in
     let good : is_ok c.pick.result ≡ true = search rules in
     let picked = on_ok c.pick.result c.pick.ensures good in
     record {
       plain = h.0;
-      width = h.2 ∙ ap Some (sym w);
       below = omega (arith, c.records.invariant.below, c.if-count-eq-MOST_ROWS_OF_FRAME.false);
       texts = (texts_next _ _ _ h.1 c.records.invariant.texts).1;
       even = more_fields _ _ _ _ _ c.records.invariant.even picked;

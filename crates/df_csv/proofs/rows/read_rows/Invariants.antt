@@ -1,5 +1,4 @@
-use Rattle.std.proofs.Common.{◌≡◌, ◌+◌, ◌*◌, ◌-◌, ◌≤◌, Some, length}
-use Rattle.csv.specs.Reading.{expected_len}
+use Rattle.std.proofs.Common.{◌≡◌, ◌+◌, ◌*◌, ◌-◌, ◌≤◌, length}
 use Rattle.csv.specs.Records.{fields_of}
 use Rattle.df_csv.specs.Rows.{IsPlain, rows_left}
 use Rattle.df_csv.specs.Records.{EveryText, after_rows, checked_records, rows_of_width}
@@ -8,7 +7,6 @@ use Rattle.df_csv.proofs.rows.read_rows.Given as goal
 abbrev pub invariant-records : goal.invariant-records
 invariant-records g l = record {
   plain : IsPlain g.R.Read.remaining l.reader;
-  width : expected_len l.reader ≡ Some l.width;
   below : l.count ≤ 1048576;
   texts : EveryText (rows_left g.R.Read.remaining l.reader);
   even : length (fields_of l.fields) ≡ l.count * length l.indices;

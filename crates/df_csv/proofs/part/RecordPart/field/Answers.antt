@@ -1,6 +1,6 @@
 use Rattle.std.proofs.Common.{◌∙◌, arith, sym}
 use Rattle.df_csv.proofs.BufferFacts.{field_found, missing, place_within}
-use Rattle.df_csv.proofs.records.Records.field.Goals as goal
+use Rattle.df_csv.proofs.part.RecordPart.field.Goals as goal
 
 pub overflow_mul-index : goal.overflow_mul-index
 overflow_mul-index c =
