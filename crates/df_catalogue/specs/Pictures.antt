@@ -1,5 +1,5 @@
 -- What readers see of a state: the rows of its frames behind their numbers, and its views by name with their rows.
-use Rattle.std.specs.Prelude.{◌≡◌, ℕ, List, length, map, Option, option_map, unwrap_or, ok_or, find, slice_get, bytes_eq, Result}
+use Rattle.std.specs.Prelude.{◌≡◌, ◌+◌, ℕ, List, length, map, Option, Some, option_and_then, option_map, unwrap_or, ok_or, find, slice_get, bytes_eq, Result}
 use Rattle.df_value.specs.declared.cell.Cell.{Cell}
 use Rattle.df_catalogue.specs.declared.fault.CatalogueFault.{CatalogueFault}
 use Rattle.df_catalogue.specs.declared.fault.CatalogueFault.TheVariants as fault
@@ -66,6 +66,14 @@ frame_numbers_in p f = ok_or (option_map (map (λ r. r.0)) (slice_get p.frames f
 
 abbrev pub frame_len_in : PictureParts → ℕ → Option ℕ
 frame_len_in p f = option_map length (slice_get p.frames f)
+
+-- the row at a place of a frame, behind its number
+abbrev pub row_in : PictureParts → ℕ → ℕ → Option (ℕ × List Cell)
+row_in p f place = option_and_then (λ rows. slice_get rows place) (slice_get p.frames f)
+
+-- these rows stand in a frame from a place on, the first under this number, each further one under the next
+pub record AreRowsIn (p : PictureParts) (f place n : ℕ) (rows : List (List Cell)) : Type 0 where
+  pub at : (k : ℕ) (row : List Cell) → slice_get rows k ≡ Some row → row_in p f (place + k) ≡ Some (n + k, row)
 
 -- the rows of the view of a name
 abbrev pub view_rows_in : PictureParts → List ℕ → Result (List (List Cell)) CatalogueFault

@@ -1,5 +1,5 @@
 -- What is read of a state: the rows and numbers of frames, and views by name.
-use Rattle.std.specs.Prelude.{◌≡◌, ◌+◌, ℕ, Bool, false, true, List, length, map, Option, Some, Result, option_map, unwrap_or, ok_or, find, slice_get, bytes_eq}
+use Rattle.std.specs.Prelude.{ℕ, Bool, false, List, length, map, Option, Result, option_map, unwrap_or, ok_or, find, slice_get, bytes_eq}
 use Rattle.df_value.specs.declared.cell.Cell.{Cell}
 use Rattle.df_value.specs.declared.cell.CellType.{CellType}
 use Rattle.df_plan.specs.CheckedParts.{CheckedParts}
@@ -19,10 +19,6 @@ frame_numbers_of s f = ok_or (option_map numbers_of (slice_get s.frames f)) faul
 -- whether the row of a frame at this place has this number and these cells
 abbrev pub is_row_of : State → ℕ → ℕ → ℕ → List Cell → Bool
 is_row_of s f place n row = unwrap_or (option_map (λ x. is_row_at x place n row) (slice_get s.frames f)) false
-
--- these rows stand in a frame from a place on, the first under this number, each further one under the next
-pub record AreRowsOf (s : State) (f place n : ℕ) (rows : List (List Cell)) : Type 0 where
-  pub at : (k : ℕ) (row : List Cell) → slice_get rows k ≡ Some row → is_row_of s f (place + k) (n + k) row ≡ true
 
 -- how many numbers a frame accepted, how many of them were deleted, and how many rows it has
 abbrev pub accepted_of : State → ℕ → Option ℕ

@@ -1,5 +1,5 @@
 //! One frame: its rows under their numbers, and the numbers that it accepted.
-ghost use Rattle.std.specs.Prelude.{◌≡◌, ◌≤◌, ◌<◌, ◌+◌, IfOk, IfSome, IsTrue, true, length, map, slice_index};
+ghost use Rattle.std.specs.Prelude.{◌≡◌, ◌≤◌, ◌<◌, IfOk, IfSome, IsTrue, length, map, slice_index};
 ghost use Rattle.df_catalogue.specs.FrameChanges as frame_changes;
 ghost use Rattle.df_catalogue.specs.FrameParts.{empty_parts};
 ghost use Rattle.df_catalogue.specs.FrameTables.{table_parts, tagged_rows_of};
@@ -132,15 +132,6 @@ impl Frame {
             return false;
         }
         self.number_at(place) == number && self.table.is_row(place, row)
-    }
-
-    /// Whether these rows stand from this place on, under numbers that rise by one from this one. Each block of rows is
-    /// looked for once.
-    pub fn are_rows(&self, place: usize, number: u32, rows: &[Row]) -> bool
-        requires { number + length rows.now ≤ limits.row_numbers }
-        ensures { result ≡ true → frames.AreRowsAt self.now.state place number rows.now }
-    {
-        self.table.are_rows(place, row_tag(number).first, rows)
     }
 
     /// The least number of the chunk that was accepted before.

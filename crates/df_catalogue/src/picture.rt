@@ -1,11 +1,13 @@
 //! Pictures: the tables of a catalogue at one moment.
-ghost use Rattle.std.specs.Prelude.{◌≡◌, ◌<◌, IfOk, IfSome, bytes_eq, find, length, map, option_map, position, slice_get};
+ghost use Rattle.std.specs.Prelude.{◌≡◌, ◌<◌, ◌≤◌, ◌+◌, true, IfOk, IfSome, bytes_eq, find, length, map, option_map, position, slice_get};
 ghost use Rattle.std.specs.Option.{option_copied};
 ghost use Rattle.df_catalogue.specs.Answers.{AnswersMemoryLast};
 ghost use Rattle.df_catalogue.specs.FrameTables.{IsNumberedTable};
 ghost use Rattle.df_catalogue.specs.LiveViews.{view_state};
 ghost use Rattle.df_catalogue.specs.Pictures as pictures;
+ghost use Rattle.df_value.specs.Limits as limits;
 
+use crate::deltas::row_tag;
 use crate::fault::CatalogueFault;
 use crate::row_numbers::row_numbers;
 use crate::views::View;
@@ -73,6 +75,18 @@ impl Picture {
         match self.frame_table(frame) {
             Some(table) => Ok(row_numbers(alloc, table)?),
             None => Err(CatalogueFault::NoFrame),
+        }
+    }
+
+    /// Whether these rows stand in a frame from this place on, by rising number, under numbers that rise by one from this
+    /// one, all below 2^32. It copies nothing and takes no memory, and looks for each block of rows once.
+    pub fn are_rows(&self, frame: usize, place: usize, number: u32, rows: &[Row]) -> bool
+        requires { number + length rows.now ≤ limits.row_numbers }
+        ensures { result ≡ true → pictures.AreRowsIn self.now frame place number rows.now }
+    {
+        match self.frame_table(frame) {
+            Some(table) => table.are_rows(place, row_tag(number).first, rows),
+            None => false,
         }
     }
 

@@ -14,7 +14,8 @@ use Rattle.df_store.specs.Jobs.{job_of}
 use Rattle.df_store.specs.Joined.{IsGoodOf, IsJoined}
 use Rattle.df_store.specs.Loaded.{job_rows, made_rows}
 use Rattle.df_store.specs.Workers.{AreCounted, HaveAccepted, entered_at, rows_of}
-use Rattle.df_store.proofs.RowFacts.{length-enumerate, rows_at}
+use Rattle.df_store.specs.Expected.{rows_at}
+use Rattle.df_store.proofs.RowFacts.{length-enumerate}
 
 pub enumerate-append : {X : Type 0} (a : ℕ) (xs ys : List X) → enumerate_from a (xs ++ ys) ≡ enumerate_from a xs ++ enumerate_from (a + length xs) ys
 enumerate-append a [] ys = let e : a ≡ a + 0 = omega arith in ap (λ n. enumerate_from n ys) e

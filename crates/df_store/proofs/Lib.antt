@@ -7,6 +7,7 @@ pub mod TotalsFacts
 pub mod JobFacts
 pub mod OutcomeFacts
 pub mod RowFacts
+pub mod ExpectedFacts
 pub mod JoinedFacts
 pub mod LostFacts
 pub mod ViewFacts
@@ -15,3 +16,4 @@ pub mod CrossingTrees
 pub mod CrossingNodes
 pub mod CrossingViews
 pub mod Crosses
+pub mod CrossingPictures

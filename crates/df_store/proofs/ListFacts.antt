@@ -92,3 +92,12 @@ last-or-before (suc k) (suc at) h = elim (last-or-before k at (omega (arith, h))
   | inl e ↦ inl (omega (arith, e))
   | inr l ↦ inr (omega (arith, l))
 ]
+
+-- a list that was lent whole, put back
+pub put-back : {X : Type 0} (n : ℕ) (now was : List X) → length now ≡ n → length was ≡ n → take n (now ++ drop (length now) was) ≡ now
+put-back zero [] [] h k = refl
+put-back (suc n) [] [] h k = refl
+put-back n [] (y ∷ ys) h k = absurd (omega (arith, h, k))
+put-back n (x ∷ xs) [] h k = absurd (omega (arith, h, k))
+put-back zero (x ∷ xs) (y ∷ ys) h k = absurd (omega (arith, h))
+put-back (suc n) (x ∷ xs) (y ∷ ys) h k = ap (λ zs. x ∷ zs) (put-back n xs ys (omega (arith, h)) (omega (arith, k)))

@@ -46,14 +46,6 @@ by-job chunks before os n perm all e many =
     let moved = All-permutation (λ (x : Outcome). IsOutcome chunks x) before os perm all in
     same-items (map job_of os) (jobs_of chunks) (λ k. agree os (jobs_of chunks) n k (slice_get os k) moved e many refl)
 
--- each outcome is of one of so many jobs
-pub jobs-below :
-    (chunks : List (List (ℕ × Piece))) (os : List Outcome) (n : ℕ) → AreOutcomes chunks os → n ≡ length (jobs_of chunks) → All (λ x. x.job < n) os
-jobs-below chunks os n all many k d h =
-    let f = found (jobs_of chunks) (get_or os k d).job (job_of (get_or os k d)) (all k d h) in
-    let low = f.0 in
-    omega (arith, low, many)
-
 -- where outcomes are by job, they are the jobs
 pub in-order :
     (chunks : List (List (ℕ × Piece))) (os : List Outcome) (n : ℕ) → AreOutcomes chunks os → map (λ x. x.job) os ≡ range_with_len 0 n →

@@ -1,23 +1,19 @@
 -- The rows of chunks that stand in a frame, one chunk after another.
-use Rattle.std.proofs.Common.{◌≡◌, true, false, ℕ, zero, suc, ◌+◌, ◌<◌, ◌≤◌, ◌∙◌, List, [], ◌∷◌, ◌++◌, map, length, take, get_or, refl, ap, sym, subst, arith, length-append}
-use Rattle.std.specs.Prelude.{Option, Some, None, option_map, option_and_then, slice_get, unwrap_or, flat_map, ◌⊎◌, ◌==◌}
+use Rattle.std.proofs.Common.{◌≡◌, true, false, Bool, ℕ, zero, suc, ◌+◌, ◌<◌, ◌≤◌, ◌∙◌, List, [], ◌∷◌, ◌++◌, map, length, take, get_or, refl, ap, sym, subst, arith}
+use Rattle.std.specs.Prelude.{Option, Some, None, option_map, option_and_then, slice_get, unwrap_or, flat_map, if◌then◌else◌, ◌⊎◌, ◌==◌}
 use Rattle.std.specs.List.{enumerate_from}
+use Rattle.std.specs.List.Sorted.{IsPermutation}
 use mathlib.Core.Logic.{inl, inr}
+use Rattle.std.proofs.lemmas.Bool.{eqb-true}
+use Rattle.std.proofs.lemmas.List.Sorted.{IsPermutation-map}
 use Rattle.df_value.specs.declared.cell.Cell.{Cell}
 use Rattle.df_value.specs.Chunks.{ChunkParts}
-use Rattle.df_value.specs.RowEq.{row_eq-Decides}
-use Rattle.df_value.specs.Rows.{row_eq}
-use Rattle.df_catalogue.specs.Frames.{is_numbered_row, is_row_at}
-use Rattle.df_catalogue.specs.Reads.{is_row_of}
-use Rattle.df_catalogue.specs.declared.state.State.{State}
-use Rattle.df_catalogue.specs.declared.state.FrameState.{FrameState}
+use Rattle.df_catalogue.specs.Pictures.{AreRowsIn, PictureParts, row_in}
 use Rattle.df_store.specs.declared.jobs.Outcome.{Outcome}
+use Rattle.df_store.specs.Expected.{rows_at}
 use Rattle.df_store.specs.Jobs.{job_of}
-use Rattle.df_store.specs.Loaded.{HasChunk, HasRows, IsLoaded, chunk_rows, job_rows, row_at}
-use Rattle.std.specs.List.Sorted.{IsPermutation}
-use Rattle.std.proofs.lemmas.Bool.{and_parts, eqb-true}
-use Rattle.std.proofs.lemmas.List.Sorted.{IsPermutation-map}
-use Rattle.df_store.proofs.ListFacts.{none-past, past, same-items, take-all, take-more}
+use Rattle.df_store.specs.Loaded.{HasRows, IsLoaded, chunk_rows, job_rows, made_rows}
+use Rattle.df_store.proofs.ListFacts.{found, item-at, none-past, past, same-items, take-all, take-more}
 
 nothing-behind : {X : Type 0} (xs : List X) → xs ++ [] ≡ xs
 nothing-behind [] = refl
@@ -55,31 +51,33 @@ map-some : {X Y : Type 0} (f : X → Y) (o : Option X) (y : Y) → option_map f 
 map-some f None y h = absurd (cc)
 map-some f (Some x) y h = (x, refl, ap (λ o. unwrap_or o y) h)
 
--- the rows of the chunks so far stand in the frame
-abbrev pub Stand : State → ℕ → List (ℕ × List Cell) → Type 0
-Stand s frame rows = (k : ℕ) (r : ℕ × List Cell) → slice_get rows k ≡ Some r → row_at s frame k ≡ Some r
-
-pub chunk-stands : (s : State) (frame place : ℕ) (c : ChunkParts) → HasChunk s frame place c → HasRows s frame place (chunk_rows c)
-chunk-stands s frame place c has = record {
+-- the rows of a chunk that stand under numbers which rise from its first one are the chunk's behind their numbers
+pub chunk-stands : (p : PictureParts) (frame place : ℕ) (c : ChunkParts) → AreRowsIn p frame place c.first c.rows → HasRows p frame place (chunk_rows c)
+chunk-stands p frame place c are = record {
   at = λ k r h.
       let there = map-some (λ x. (c.first + k, x)) (slice_get c.rows k) r (sym (enumerate-at c.first c.rows k) ∙ h) in
-      has.at k there.0 there.1 ∙ ap Some there.2;
+      are.at k there.0 there.1 ∙ ap Some there.2;
 }
 
+-- no rows stand anywhere
+pub none-stand : (p : PictureParts) (frame place : ℕ) (rows : List (ℕ × List Cell)) → rows ≡ [] → HasRows p frame place rows
+none-stand p frame place rows none = record { at = λ k r h. absurd (let e = ap (λ xs. slice_get xs k) (sym none) ∙ h in cc) }
+
+-- these rows are the first ones of a frame
+abbrev pub Stand : PictureParts → ℕ → List (ℕ × List Cell) → Type 0
+Stand p frame rows = (k : ℕ) (r : ℕ × List Cell) → slice_get rows k ≡ Some r → row_in p frame k ≡ Some r
+
 stand-behind :
-    (s : State) (frame place : ℕ) (rows more : List (ℕ × List Cell)) → place ≡ length rows → HasRows s frame place more → Stand s frame rows →
-    Stand s frame (rows ++ more)
-stand-behind s frame place rows more many has was k r h =
+    (p : PictureParts) (frame place : ℕ) (rows more : List (ℕ × List Cell)) → place ≡ length rows → HasRows p frame place more → Stand p frame rows →
+    Stand p frame (rows ++ more)
+stand-behind p frame place rows more many has was k r h =
     elim (append-cases rows more k r h) [
       | inl e ↦ was k r e
       | inr e ↦ (
           let shift = e.1 in
           let at : place + e.0 ≡ k = omega (arith, shift, many) in
-          ap (row_at s frame) (sym at) ∙ has.at e.0 r e.2)
+          ap (row_in p frame) (sym at) ∙ has.at e.0 r e.2)
     ]
-
-abbrev pub rows_at : ℕ → List Outcome → List (ℕ × List Cell)
-rows_at frame os = flat_map (λ o. job_rows frame (job_of o)) os
 
 pub rows-more :
     (frame : ℕ) (os : List Outcome) (i : ℕ) (o : Outcome) → i < length os → o ≡ get_or os i o →
@@ -89,38 +87,51 @@ rows-more frame os i o h is =
     ∙ (flat-more (λ o. job_rows frame (job_of o)) (take i os) (get_or os i o)
     ∙ ap (λ d. rows_at frame (take i os) ++ job_rows frame (job_of d)) (sym is))
 
-pub one-more :
-    (s : State) (frame place next : ℕ) (os : List Outcome) (i : ℕ) (o : Outcome) → i < length os → o ≡ get_or os i o → next ≡ place + length (job_rows frame (job_of o)) →
-    HasRows s frame place (job_rows frame (job_of o)) → (place ≡ length (rows_at frame (take i os))) × Stand s frame (rows_at frame (take i os)) →
-    (next ≡ length (rows_at frame (take (i + 1) os))) × Stand s frame (rows_at frame (take (i + 1) os))
-one-more s frame place next os i o h is sum has was =
-    let more = rows-more frame os i o h is in
-    let many = was.0 in
-    let a = ap length more in
-    let b = length-append (rows_at frame (take i os)) (job_rows frame (job_of o)) in (
-      omega (arith, a, b, sum, many),
-      subst (Stand s frame) (sym more) (stand-behind s frame place (rows_at frame (take i os)) (job_rows frame (job_of o)) was.0 has was.1),
-    )
+-- the rows of an outcome stand behind those before it, if it is of the frame
+abbrev pub StandsBehind : PictureParts → ℕ → List Outcome → ℕ → Outcome → Type 0
+StandsBehind p frame os at o = o.frame ≡ frame → HasRows p frame (length (rows_at frame (take at os))) (job_rows frame (job_of o))
+
+stands-there :
+    (p : PictureParts) (frame place : ℕ) (o : Outcome) (b : Bool) → (o.frame == frame) ≡ b →
+    (o.frame ≡ frame → HasRows p frame place (job_rows frame (job_of o))) → HasRows p frame place (job_rows frame (job_of o))
+stands-there p frame place o true e has = has (eqb-true o.frame frame e)
+stands-there p frame place o false e has = none-stand p frame place (job_rows frame (job_of o)) (ap (λ b. if b then made_rows o.made else []) e)
+
+-- if they do so of each outcome, the rows of all are the first ones of the frame
+all-stand :
+    (p : PictureParts) (frame : ℕ) (os : List Outcome) → ((at : ℕ) (d : Outcome) → at < length os → StandsBehind p frame os at (get_or os at d)) →
+    (i : ℕ) → i ≤ length os → Stand p frame (rows_at frame (take i os))
+all-stand p frame os each zero h = λ k r e. absurd (cc)
+all-stand p frame os each (suc i) h =
+    let low : i < length os = omega (arith, h) in
+    let there = item-at os i low in
+    let o = there.0 in
+    let is : get_or os i o ≡ o = (found os i o there.1).1 in
+    let n : i + 1 ≡ suc i = omega arith in
+    let has = subst (StandsBehind p frame os i) is (each i o low) in
+    let place = length (rows_at frame (take i os)) in
+    subst (λ m. Stand p frame (rows_at frame (take m os))) n
+    (subst (Stand p frame) (sym (rows-more frame os i o low (sym is)))
+    (stand-behind p frame place (rows_at frame (take i os)) (job_rows frame (job_of o)) refl (stands-there p frame place o (o.frame == frame) refl has)
+    (all-stand p frame os each i (omega (arith, h)))))
 
 at-each :
-    (s : State) (frame : ℕ) (f : FrameState) (rows : List (ℕ × List Cell)) (k : ℕ) (o : Option (ℕ × List Cell)) → slice_get s.frames frame ≡ Some f → length f.rows ≡ length rows →
-    Stand s frame rows → slice_get rows k ≡ o → slice_get f.rows k ≡ slice_get rows k
-at-each s frame f rows k None e many stand is =
-    let far = past rows k is in
-    none-past f.rows k (omega (arith, far, many)) ∙ sym is
-at-each s frame f rows k (Some r) e many stand is =
-    ap (λ o. option_and_then (λ x. slice_get x.rows k) o) (sym e) ∙ (stand k r is ∙ sym is)
+    (p : PictureParts) (frame : ℕ) (rows first : List (ℕ × List Cell)) (k : ℕ) (o : Option (ℕ × List Cell)) → slice_get p.frames frame ≡ Some rows → length rows ≡ length first →
+    Stand p frame first → slice_get first k ≡ o → slice_get rows k ≡ slice_get first k
+at-each p frame rows first k None e many stand is =
+    let far = past first k is in
+    none-past rows k (omega (arith, far, many)) ∙ sym is
+at-each p frame rows first k (Some r) e many stand is =
+    ap (λ o. option_and_then (λ x. slice_get x k) o) (sym e) ∙ (stand k r is ∙ sym is)
 
 -- as many rows, each of which stands in the frame, are the frame's
 pub all-rows :
-    (s : State) (frame place : ℕ) (f : FrameState) (os : List Outcome) (i : ℕ) → slice_get s.frames frame ≡ Some f → place ≡ length f.rows → length os ≤ i →
-    (place ≡ length (rows_at frame (take i os))) × Stand s frame (rows_at frame (take i os)) → f.rows ≡ rows_at frame os
-all-rows s frame place f os i e live ended was =
-    let whole = take-all os i ended in
-    let many = was.0 in
-    let rows = rows_at frame (take i os) in
-    same-items f.rows rows (λ k. at-each s frame f rows k (slice_get rows k) e (omega (arith, many, live)) was.1 refl)
-    ∙ ap (rows_at frame) whole
+    (p : PictureParts) (frame : ℕ) (rows : List (ℕ × List Cell)) (os : List Outcome) → slice_get p.frames frame ≡ Some rows → length rows ≡ length (rows_at frame os) →
+    ((at : ℕ) (d : Outcome) → at < length os → StandsBehind p frame os at (get_or os at d)) → rows ≡ rows_at frame os
+all-rows p frame rows os e many each =
+    let whole = take-all os (length os) (omega arith) in
+    let stand = subst (λ xs. Stand p frame (rows_at frame xs)) whole (all-stand p frame os each (length os) (omega arith)) in
+    same-items rows (rows_at frame os) (λ k. at-each p frame rows (rows_at frame os) k (slice_get (rows_at frame os) k) e many stand refl)
 
 flat-mapped : {X Y Z : Type 0} (f : Y → List Z) (h : X → Y) (xs : List X) → flat_map (λ x. f (h x)) xs ≡ flat_map f (map h xs)
 flat-mapped f h [] = refl
@@ -135,22 +146,3 @@ loaded frame before after rows same is = record {
   same = IsPermutation-map job_of before after same;
   is = is ∙ flat-mapped (job_rows frame) job_of after;
 }
-
-is-true-at :
-    (o : Option (ℕ × List Cell)) (n : ℕ) (row : List Cell) → unwrap_or (option_map (is_numbered_row n row) o) false ≡ true → o ≡ Some (n, row)
-is-true-at None n row h = absurd (cc)
-is-true-at (Some r) n row h =
-    let parts = and_parts (r.0 == n) (row_eq r.1 row) h in
-    let number = eqb-true r.0 n parts.0 in
-    let cells = (row_eq-Decides r.1 row).0 parts.1 in
-    ap (λ m. Some (m, r.1)) number ∙ ap (λ cs. Some (n, cs)) cells
-
-is-true-in :
-    (o : Option FrameState) (place n : ℕ) (row : List Cell) → unwrap_or (option_map (λ f. is_row_at f place n row) o) false ≡ true →
-    option_and_then (λ f. slice_get f.rows place) o ≡ Some (n, row)
-is-true-in None place n row h = absurd (cc)
-is-true-in (Some f) place n row h = is-true-at (slice_get f.rows place) n row h
-
--- where the test of a row holds, the row stands there
-pub row-there : (s : State) (frame place n : ℕ) (row : List Cell) → is_row_of s frame place n row ≡ true → row_at s frame place ≡ Some (n, row)
-row-there s frame place n row h = is-true-in (slice_get s.frames frame) place n row h

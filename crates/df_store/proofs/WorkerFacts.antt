@@ -15,15 +15,6 @@ use Rattle.df_store.specs.Jobs.{AreOutcomes, IsOutcome}
 use Rattle.df_store.specs.Workers.{HasNotBegun, IsIdle, IsWorker, all_without_accepted, desks_of, outcomes_in, without_accepted}
 use Rattle.df_store.proofs.ListFacts.{take-more}
 
--- a list that was lent whole, put back
-pub put-back : {X : Type 0} (n : ℕ) (now was : List X) → length now ≡ n → length was ≡ n → take n (now ++ drop (length now) was) ≡ now
-put-back zero [] [] h k = refl
-put-back (suc n) [] [] h k = refl
-put-back n [] (y ∷ ys) h k = absurd (omega (arith, h, k))
-put-back n (x ∷ xs) [] h k = absurd (omega (arith, h, k))
-put-back zero (x ∷ xs) (y ∷ ys) h k = absurd (omega (arith, h))
-put-back (suc n) (x ∷ xs) (y ∷ ys) h k = ap (λ zs. x ∷ zs) (put-back n xs ys (omega (arith, h)) (omega (arith, k)))
-
 -- so many workers have at most so many desks each
 pub few-desks :
     {A D : Type 0} (most : ℕ) (ws : List (Worker A D)) → All (λ w. length w.desks.items ≤ most) ws → length (desks_of ws) ≤ length ws * most

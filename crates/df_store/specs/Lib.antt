@@ -4,6 +4,7 @@ pub mod Halls
 pub mod Jobs
 pub mod Workers
 pub mod Loaded
+pub mod Expected
 pub mod Joined
 pub mod Refused
 pub mod Lost

@@ -1,11 +1,12 @@
 -- What the loaders leave: the rows of good chunks at their numbers.
-use Rattle.std.specs.Prelude.{◌≡◌, ◌+◌, ◌==◌, ℕ, List, [], flat_map, Option, Some, option_and_then, slice_get, if◌then◌else◌}
+use Rattle.std.specs.Prelude.{◌≡◌, ◌+◌, ◌==◌, ℕ, List, [], flat_map, Some, slice_get, if◌then◌else◌}
 use Rattle.std.specs.List.{enumerate_from}
 use Rattle.std.specs.List.Sorted.{IsPermutation}
 use Rattle.df_value.specs.declared.cell.Cell.{Cell}
 use Rattle.df_value.specs.Chunks.{ChunkParts}
 use Rattle.df_value.specs.declared.chunk.Piece.{Piece}
 use Rattle.df_value.specs.declared.chunk.Piece.TheVariants.{Good, Bad}
+use Rattle.df_catalogue.specs.Pictures.{PictureParts, row_in}
 use Rattle.df_catalogue.specs.declared.state.State.{State}
 use Rattle.df_catalogue.specs.declared.state.FrameState.{FrameState}
 
@@ -21,17 +22,9 @@ made_rows (Bad b) = []
 abbrev pub job_rows : ℕ → ℕ × (ℕ × Piece) → List (ℕ × List Cell)
 job_rows frame j = if j.0 == frame then made_rows j.1.1 else []
 
--- the row at a place of a frame, behind its number
-abbrev pub row_at : State → ℕ → ℕ → Option (ℕ × List Cell)
-row_at s frame place = option_and_then (λ f. slice_get f.rows place) (slice_get s.frames frame)
-
--- the rows of a chunk stand in a frame from a place on
-pub record HasChunk (s : State) (frame place : ℕ) (c : ChunkParts) : Type 0 where
-  pub at : (k : ℕ) (x : List Cell) → slice_get c.rows k ≡ Some x → row_at s frame (place + k) ≡ Some (c.first + k, x)
-
--- these rows stand in a frame from a place on
-pub record HasRows (s : State) (frame place : ℕ) (rows : List (ℕ × List Cell)) : Type 0 where
-  pub at : (k : ℕ) (r : ℕ × List Cell) → slice_get rows k ≡ Some r → row_at s frame (place + k) ≡ Some r
+-- these rows stand in a frame of a picture from a place on
+pub record HasRows (p : PictureParts) (frame place : ℕ) (rows : List (ℕ × List Cell)) : Type 0 where
+  pub at : (k : ℕ) (r : ℕ × List Cell) → slice_get rows k ≡ Some r → row_in p frame (place + k) ≡ Some r
 
 -- the rows are those that these jobs give to the frame, in some order of the jobs; of a frame, whose numbers rise, this is the
 -- order of the first numbers
@@ -40,6 +33,10 @@ pub record IsLoaded (frame : ℕ) (jobs : List (ℕ × (ℕ × Piece))) (rows : 
   pub same : IsPermutation jobs order
   pub is : rows ≡ flat_map (job_rows frame) order
 
--- each frame is loaded
+-- each frame of a picture is loaded
+abbrev pub AreLoadedIn : List (ℕ × (ℕ × Piece)) → PictureParts → Type 0
+AreLoadedIn jobs p = (frame : ℕ) (rows : List (ℕ × List Cell)) → slice_get p.frames frame ≡ Some rows → IsLoaded frame jobs rows
+
+-- each frame of a state is
 abbrev pub AreLoaded : List (ℕ × (ℕ × Piece)) → State → Type 0
 AreLoaded jobs s = (frame : ℕ) (f : FrameState) → slice_get s.frames frame ≡ Some f → IsLoaded frame jobs f.rows

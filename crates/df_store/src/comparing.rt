@@ -1,95 +1,114 @@
-//! Whether a frame has the rows of its good chunks. Nothing is copied.
-ghost use Rattle.std.specs.Prelude.{◌≡◌, ◌+◌, ◌<◌, Some, true, IfNone, IfSome, flat_map, length, map, slice_get};
+//! Whether the frames of a picture have the rows of the good chunks. Threads look for them side by side, and free each
+//! chunk as soon as its rows are found. No row is copied.
+ghost use Rattle.std.specs.Prelude.{◌≡◌, ◌≢◌, ◌<◌, ℕ, false, true, All, IfNone, IfOk, IfSome, get_or, length, map, slice_index_or};
+ghost use Rattle.df_store.specs.Expected.{HasAll, IsFound};
 ghost use Rattle.df_store.specs.Jobs.{job_of};
-ghost use Rattle.df_catalogue.specs.declared.state.FrameState.{FrameState};
-ghost use Rattle.df_store.specs.Loaded.{AreLoaded, HasChunk, HasRows, chunk_rows, job_rows};
+ghost use Rattle.df_store.specs.Loaded.{AreLoadedIn, HasRows, chunk_rows, job_rows};
 
+use crate::expected::{Expected, expect_all};
 use crate::jobs::Outcome;
-use crate::totals::frame_count;
-use df_catalogue::Catalogue;
+use df_catalogue::Picture;
 use df_value::{Chunk, Piece};
-use std::sync::ledger::Ledger;
+use std::alloc::{AllocError, Global};
+use std::thread;
+use std::thread::Threads;
 
-/// The least frame whose rows are not those of its good chunks at their numbers. The outcomes are one for each
-/// job, in order.
-pub(crate) fn first_unlike<Acc: Ledger, Del: Ledger>(
-    catalogue: &Catalogue<Acc, Del>,
+/// The least frame of the picture, which has `frames` of them, whose rows are not those of the good chunks of these
+/// outcomes at their numbers. At most `threads` threads look for the rows.
+pub(crate) fn first_unlike<R: Threads + Sync>(
+    rt: &R,
+    alloc: Global,
+    picture: &Picture,
+    frames: usize,
     outcomes: Vec<Outcome>,
-) -> Option<usize>
-    ensures loaded { IfNone result (AreLoaded (map job_of outcomes.items) catalogue.now.state) }
-    ensures within { IfSome result (λ frame. frame < length catalogue.now.state.frames) }
+    threads: usize,
+) -> Result<Option<usize>, AllocError>
+    requires frames { frames ≡ length picture.now.frames }
+    requires threads { 0 < threads }
+    ensures loaded { IfOk result (λ unlike. IfNone unlike
+        (AreLoadedIn (map job_of outcomes.items) picture.now)) }
+    ensures within { IfOk result (λ unlike. IfSome unlike
+        (λ frame. frame < length picture.now.frames)) }
 {
     let mut outcomes = outcomes;
     outcomes.sort_unstable_by_key(|outcome| outcome.first);
-    for frame in 0..frame_count(catalogue) {
-        if !has_rows(catalogue, frame, outcomes.as_slice()) {
+    let (all, counts) = expect_all(alloc, frames, outcomes)?;
+    let mut all = all;
+    find_all(rt, picture, all.as_mut_slice(), threads);
+    Ok(first_not_found(picture, all.as_slice(), counts.as_slice()))
+}
+
+// Looks for the rows of all outcomes, by so many threads.
+fn find_all<R: Threads + Sync>(rt: &R, picture: &Picture, all: &mut [Expected], threads: usize)
+    requires { 0 < threads }
+    ensures count { length all.new ≡ length all.old }
+    ensures each { (at : ℕ) (d : Expected) → at < length all.old →
+        IsFound picture.now (slice_index_or all.old at d) (slice_index_or all.new at d) }
+{
+    thread::for_each_mut(rt, all, threads, &|_, expected| find(picture, expected));
+}
+
+// Looks for the rows of an outcome, and drops it where they stand in its frame.
+fn find(picture: &Picture, expected: &mut Expected)
+    ensures { IsFound picture.now expected.old expected.new }
+{
+    let Some(outcome) = expected.outcome.take() else {
+        return;
+    };
+    if !has_rows(picture, expected.place, &outcome) {
+        expected.outcome = Some(outcome);
+    }
+}
+
+// Whether the rows of an outcome stand in its frame from a place on.
+fn has_rows(picture: &Picture, place: usize, outcome: &Outcome) -> bool
+    ensures { result ≡ true → HasRows picture.now outcome.now.frame place
+        (job_rows outcome.now.frame (job_of outcome.now)) }
+{
+    match &outcome.made {
+        Piece::Good(chunk) => has_chunk(picture, outcome.frame, place, chunk),
+        Piece::Bad(_) => true,
+    }
+}
+
+fn has_chunk(picture: &Picture, frame: usize, place: usize, chunk: &Chunk) -> bool
+    ensures { result ≡ true → HasRows picture.now frame place (chunk_rows chunk.now) }
+{
+    picture.are_rows(frame, place, chunk.first(), chunk.rows().as_slice())
+}
+
+// The least frame that has not as many rows as its count says, or of which an outcome is left.
+fn first_not_found(picture: &Picture, all: &[Expected], counts: &[usize]) -> Option<usize>
+    ensures none { IfNone result ((frame : ℕ) → frame < length counts.now →
+        HasAll picture.now frame all.now (get_or counts.now frame 0)) }
+    ensures some { IfSome result (λ frame. frame < length counts.now) }
+{
+    for frame in 0..counts.len() {
+        if !has_all(picture, frame, all, counts[frame]) {
             return Some(frame);
         }
     }
     None
 }
 
-// Whether the rows of a frame are those that the jobs of these outcomes give it, one job after another.
-fn has_rows<Acc: Ledger, Del: Ledger>(
-    catalogue: &Catalogue<Acc, Del>,
-    frame: usize,
-    outcomes: &[Outcome],
-) -> bool
-    ensures { result ≡ true → (f : FrameState) → slice_get catalogue.now.state.frames frame ≡ Some f → f.rows ≡ flat_map (λ o. job_rows frame (job_of o)) outcomes.now }
+// Whether a frame has so many rows, and no outcome of it is left. The greatest count may be less than the sum.
+fn has_all(picture: &Picture, frame: usize, all: &[Expected], count: usize) -> bool
+    ensures { result ≡ true → HasAll picture.now frame all.now count }
 {
-    let mut place: u64 = 0;
-    for outcome in outcomes {
-        match behind(catalogue, frame, place, outcome) {
-            Some(next) => place = next,
-            None => return false,
+    count < usize::MAX && picture.frame_len(frame) == Some(count as u64) && !is_left(frame, all)
+}
+
+// Whether an outcome of a frame is left.
+fn is_left(frame: usize, all: &[Expected]) -> bool
+    ensures { result ≡ false →
+        All (λ e. IfSome e.outcome (λ outcome. outcome.frame ≢ frame)) all.now }
+{
+    for expected in all {
+        if let Some(outcome) = &expected.outcome {
+            if outcome.frame == frame {
+                return true;
+            }
         }
     }
-    catalogue.live(frame) == Some(place)
-}
-
-// The place behind the rows that a job gives to a frame, if they stand there from a place on.
-fn behind<Acc: Ledger, Del: Ledger>(
-    catalogue: &Catalogue<Acc, Del>,
-    frame: usize,
-    place: u64,
-    outcome: &Outcome,
-) -> Option<u64>
-    ensures next { IfSome result (λ next. next ≡ place + length (job_rows frame (job_of outcome.now))) }
-    ensures rows { IfSome result (λ _. HasRows catalogue.now.state frame place (job_rows frame (job_of outcome.now))) }
-{
-    if outcome.frame != frame {
-        return Some(place);
-    }
-    match &outcome.made {
-        Piece::Good(chunk) => behind_chunk(catalogue, frame, place, chunk),
-        Piece::Bad(_) => Some(place),
-    }
-}
-
-fn behind_chunk<Acc: Ledger, Del: Ledger>(
-    catalogue: &Catalogue<Acc, Del>,
-    frame: usize,
-    place: u64,
-    chunk: &Chunk,
-) -> Option<u64>
-    ensures next { IfSome result (λ next. next ≡ place + length (chunk_rows chunk.now)) }
-    ensures rows { IfSome result (λ _. HasRows catalogue.now.state frame place (chunk_rows chunk.now)) }
-{
-    if !has_chunk(catalogue, frame, place, chunk) {
-        return None;
-    }
-    place.checked_add(chunk.rows().len() as u64)
-}
-
-// Whether the rows of a chunk stand in a frame from a place on.
-fn has_chunk<Acc: Ledger, Del: Ledger>(
-    catalogue: &Catalogue<Acc, Del>,
-    frame: usize,
-    place: u64,
-    chunk: &Chunk,
-) -> bool
-    ensures { result ≡ true → HasChunk catalogue.now.state frame place chunk.now }
-{
-    let rows = chunk.rows();
-    catalogue.are_rows(frame, place as usize, chunk.first(), rows.as_slice())
+    false
 }

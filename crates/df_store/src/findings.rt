@@ -1,54 +1,86 @@
 //! What a load left, compared once with its sources and with the views that were given.
-ghost use Rattle.std.specs.Prelude.{◌≡◌, IfErr, IfOk, filter_map, length};
-ghost use Rattle.df_store.specs.Jobs.{AreOutcomes, chunks_of, jobs_of};
+ghost use Rattle.std.specs.Prelude.{◌≡◌, ◌<◌, IfErr, IfNone, IfOk, IfSome, filter_map, length, map};
+ghost use Rattle.df_store.specs.Jobs.{AreOutcomes, chunks_of, job_of, jobs_of};
 ghost use Rattle.df_store.specs.Loaded.{AreLoaded};
 ghost use Rattle.df_store.specs.Loads as loads;
 ghost use Rattle.df_store.specs.Refused.{refusal};
 
 use crate::comparing::first_unlike;
 use crate::fault::LoadCause;
+use crate::gate::Gate;
 use crate::jobs::Outcome;
 use crate::outcomes::{first_lost, in_order};
 use crate::refused::{Refused, refused_in};
+use crate::totals::frame_count;
 use crate::views::are_views;
+use crate::worker::Work;
 use df_catalogue::Catalogue;
 use df_plan::CheckedPlan;
 use df_value::{List, Source, Text};
-use std::alloc::Global;
+use std::alloc::{AllocError, Global};
 use std::sync::ledger::Ledger;
+use std::thread::Threads;
 
 /// The chunks that were refused, by job, where each job has exactly one outcome, each frame has the
 /// rows of its good chunks, and the views are those that were given. All that takes memory comes
-/// first.
-pub(crate) fn compare<Acc: Ledger, Del: Ledger, S: Source>(
-    alloc: Global,
+/// first. At most as many threads as there were workers look for the rows.
+pub(crate) fn compare<Acc: Ledger, Del: Ledger, S: Source, G: Gate, R: Threads + Sync>(
+    rt: &R,
     catalogue: &Catalogue<Acc, Del>,
-    sources: &[S],
+    work: &Work<S, G>,
     views: &[(Text, CheckedPlan)],
-    jobs: u64,
     outcomes: Vec<Outcome>,
 ) -> Result<List<Refused>, LoadCause>
-    requires jobs { jobs ≡ length (jobs_of (chunks_of S.made S.start_of sources.now)) }
-    requires outcomes { AreOutcomes (chunks_of S.made S.start_of sources.now) outcomes.items }
+    requires workers { 0 < work.now.workers }
+    requires jobs { work.now.jobs
+        ≡ length (jobs_of (chunks_of S.made S.start_of work.now.sources.now)) }
+    requires outcomes { AreOutcomes (chunks_of S.made S.start_of work.now.sources.now) outcomes.items }
     ensures loaded { IfOk result (λ _.
-        AreLoaded (jobs_of (chunks_of S.made S.start_of sources.now)) catalogue.now.state) }
+        AreLoaded (jobs_of (chunks_of S.made S.start_of work.now.sources.now)) catalogue.now.state) }
     ensures refused { IfOk result (λ refused.
-        refused ≡ filter_map refusal (jobs_of (chunks_of S.made S.start_of sources.now))) }
+        refused ≡ filter_map refusal (jobs_of (chunks_of S.made S.start_of work.now.sources.now))) }
     ensures views { IfOk result (λ _. loads.headings_of catalogue.now.state ≡ views.now) }
     ensures difference { IfErr result (λ cause.
-        loads.IsDifference jobs outcomes.items views.now catalogue.now.state cause) }
+        loads.IsDifference work.now.jobs outcomes.items views.now catalogue.now.state cause) }
 {
-    let outcomes = in_order(sources, outcomes);
-    let refused = refused_in(alloc, outcomes.as_slice())?;
-    let names = catalogue.view_names(alloc)?;
-    if let Some(job) = first_lost(outcomes.as_slice(), jobs) {
+    let outcomes = in_order(work.sources, outcomes);
+    let refused = refused_in(work.alloc, outcomes.as_slice())?;
+    let names = catalogue.view_names(work.alloc)?;
+    let lost = first_lost(outcomes.as_slice(), work.jobs);
+    let unlike = unlike_frame(rt, work.alloc, catalogue, outcomes, work.workers)?;
+    if let Some(job) = lost {
         return Err(LoadCause::Lost(job));
     }
-    if let Some(frame) = first_unlike(catalogue, outcomes) {
+    if let Some(frame) = unlike {
         return Err(LoadCause::Unlike(frame));
     }
     if !are_views(catalogue, &names, views) {
         return Err(LoadCause::ViewsUnlike);
     }
     Ok(List::from_vec(refused))
+}
+
+// The least frame whose rows are not those of its good chunks. Threads share a picture of the catalogue.
+fn unlike_frame<Acc: Ledger, Del: Ledger, R: Threads + Sync>(
+    rt: &R,
+    alloc: Global,
+    catalogue: &Catalogue<Acc, Del>,
+    outcomes: Vec<Outcome>,
+    threads: usize,
+) -> Result<Option<usize>, AllocError>
+    requires { 0 < threads }
+    ensures loaded { IfOk result (λ unlike. IfNone unlike
+        (AreLoaded (map job_of outcomes.items) catalogue.now.state)) }
+    ensures within { IfOk result (λ unlike. IfSome unlike
+        (λ frame. frame < length catalogue.now.state.frames)) }
+{
+    let picture = catalogue.picture(alloc)?;
+    first_unlike(
+        rt,
+        alloc,
+        &picture,
+        frame_count(catalogue),
+        outcomes,
+        threads,
+    )
 }

@@ -8,6 +8,7 @@
 
 mod closing;
 mod comparing;
+mod expected;
 mod fault;
 mod findings;
 mod gate;

@@ -1,6 +1,6 @@
 //! Loading: workers bring the chunks of sources into a hall, and what they left is compared with the
 //! sources once.
-ghost use Rattle.std.specs.Prelude.{◌≡◌, ◌≤◌, Err, IfErr, IfNone, IfOk, IfSome, Ok, filter_map, length, option_map};
+ghost use Rattle.std.specs.Prelude.{◌≡◌, ◌<◌, ◌≤◌, Err, IfErr, IfNone, IfOk, IfSome, Ok, filter_map, length, option_map};
 ghost use Rattle.df_catalogue.specs.States.{IsLegal};
 ghost use Rattle.df_store.specs.Closing as closing;
 ghost use Rattle.df_store.specs.Faults.{IsCauseOfRegister};
@@ -61,8 +61,8 @@ pub struct LoadFault<Acc: Ledger, Del: Ledger> {
 /// Each worker draws the next jobs, again and again, until none is left. It passes the gate with each, makes the job's
 /// chunk, and commits the good ones through its own desk of the frame; only the commits hold the hall's lock. Where all
 /// chunks of a draw and a frame follow one another, they enter in one change, with blocks that were made before. After
-/// all workers have ended, what came of the jobs is compared with the sources and the views, once. Readers of the hall get
-/// no version from then on.
+/// all workers have ended, what came of the jobs is compared with the sources and the views, once; at most as many threads
+/// look for the rows. Readers of the hall get no version from then on.
 ///
 /// The causes of a fault are looked for in the order of [`LoadCause`]. A worker that is refused memory, or a further
 /// version, stops, and the others go on: what has entered is then in [`LoadFault::left`]. A desk of few parts
@@ -105,7 +105,8 @@ pub fn load_all<
         return Err(given_up(rt, hall, desks, cause));
     }
     let jobs = job_count(sources);
-    let Ok((claims, seats)) = Claims::new(alloc, jobs, workers.clamp(1, MOST_WORKERS)) else {
+    let workers = workers.clamp(1, MOST_WORKERS);
+    let Ok((claims, seats)) = Claims::new(alloc, jobs, workers) else {
         return Err(given_up(rt, hall, desks, LoadCause::Memory));
     };
     let work = Work {
@@ -114,6 +115,7 @@ pub fn load_all<
         gate,
         jobs,
         claims: &claims,
+        workers,
         desks: desks.len(),
         at_once: jobs_at_once(jobs, workers),
     };
@@ -183,7 +185,7 @@ fn given_up<Acc: Ledger, Del: Ledger, J: Naming, R: Wait>(
 }
 
 // Compares what the load left, and closes the hall.
-fn finish<Acc: Ledger, Del: Ledger, J: Naming, S: Source, G: Gate, R: Wait>(
+fn finish<Acc: Ledger, Del: Ledger, J: Naming, S: Source, G: Gate, R: Threads + Wait + Sync>(
     rt: &R,
     hall: Hall<Acc, Del, J>,
     desks: Vec<Desk<Acc, Del>>,
@@ -191,6 +193,7 @@ fn finish<Acc: Ledger, Del: Ledger, J: Naming, S: Source, G: Gate, R: Wait>(
     views: &[(Text, CheckedPlan)],
     entered: Result<Vec<Outcome>, Stop>,
 ) -> Result<Loaded<Acc, Del>, LoadFault<Acc, Del>>
+    requires workers { 0 < work.now.workers }
     requires jobs { work.now.jobs
         ≡ length (jobs_of (chunks_of S.made S.start_of work.now.sources.now)) }
     requires entered { IfOk entered (λ os.
@@ -213,14 +216,7 @@ fn finish<Acc: Ledger, Del: Ledger, J: Naming, S: Source, G: Gate, R: Wait>(
 {
     let (catalogue, room) = hall.into_catalogue(rt);
     let findings = match entered {
-        Ok(outcomes) => compare(
-            work.alloc,
-            &catalogue,
-            work.sources,
-            views,
-            work.jobs,
-            outcomes,
-        ),
+        Ok(outcomes) => compare(rt, &catalogue, work, views, outcomes),
         Err(stop) => Err(LoadCause::from(stop)),
     };
     conclude(settle(catalogue, desks, room), findings)

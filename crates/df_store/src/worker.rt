@@ -42,6 +42,8 @@ pub(crate) struct Work<'a, S, G> {
     pub(crate) jobs: u64,
     /// The numbers of the jobs, each of which one worker draws.
     pub(crate) claims: &'a Claims,
+    /// How many workers there are.
+    pub(crate) workers: usize,
     /// The most desks that a worker may have.
     pub(crate) desks: usize,
     /// How many jobs a worker draws at once.

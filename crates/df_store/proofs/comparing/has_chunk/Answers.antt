@@ -1,18 +1,11 @@
-use Rattle.std.proofs.Common.{◌≡◌, ◌∙◌, ◌+◌, ap, arith, length}
-use Rattle.std.specs.Prelude.{Some, slice_get}
-use Rattle.df_store.proofs.RowFacts.{row-there}
+use Rattle.std.proofs.Common.{◌∙◌, subst}
+use Rattle.df_catalogue.specs.Pictures.{AreRowsIn}
+use Rattle.df_store.proofs.RowFacts.{chunk-stands}
 use Rattle.df_store.proofs.comparing.has_chunk.Goals as goal
 
-pub are_rows-requires : goal.are_rows-requires
-are_rows-requires g c =
-    let rows = ap length (c.as_slice.ensures ∙ c.rows-rows.ensures.value) in
-    omega (arith, rows, c.first.ensures, c.rows-rows.ensures.sound.numbered)
-
 pub returns : goal.returns
-returns g c = λ h. record {
-  at = λ k row is.
-      let rows = c.as_slice.ensures ∙ c.rows-rows.ensures.value in
-      row-there c.args.catalogue.now.state c.args.frame (c.args.place + k) (c.first.result + k) row
-      ((c.are_rows.ensures.rows h).at k row (ap (λ xs. slice_get xs k) rows ∙ is))
-      ∙ ap (λ n. Some (n + k, row)) c.first.ensures;
-}
+returns c = λ h.
+    let p = c.args.picture.now in
+    let first = subst (λ n. AreRowsIn p c.args.frame c.args.place n c.as_slice.result.now) c.first.ensures (c.are_rows.ensures h) in
+    chunk-stands p c.args.frame c.args.place c.args.chunk.now
+    (subst (AreRowsIn p c.args.frame c.args.place c.args.chunk.now.first) (c.as_slice.ensures ∙ c.rows.ensures.value) first)

@@ -2,7 +2,7 @@ use Rattle.std.proofs.Common.{◌≡◌, take}
 use Rattle.std.specs.Prelude.{All}
 use Rattle.std.specs.List.{enumerate_from}
 use Rattle.df_store.specs.Joined.{IsGoodOf}
-use Rattle.df_store.proofs.RowFacts.{rows_at}
+use Rattle.df_store.specs.Expected.{rows_at}
 use Rattle.df_store.proofs.joining.joined_rows.Given as goal
 
 abbrev pub invariant-loop-outcome : goal.invariant-loop-outcome

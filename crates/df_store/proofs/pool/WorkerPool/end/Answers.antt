@@ -5,7 +5,8 @@ use Rattle.df_store.specs.declared.fault.Stop.{Stop}
 use Rattle.df_store.specs.declared.worker.Worker.{Worker}
 use Rattle.df_store.specs.Jobs.{AreOutcomes, chunks_of}
 use Rattle.df_store.specs.Workers.{desks_of, outcomes_in}
-use Rattle.df_store.proofs.WorkerFacts.{all-outcomes, all-running, few-desks, put-back}
+use Rattle.df_store.proofs.ListFacts.{put-back}
+use Rattle.df_store.proofs.WorkerFacts.{all-outcomes, all-running, few-desks}
 use Rattle.df_store.proofs.pool.WorkerPool.end.Goals as goal
 
 pub take_desks-requires : goal.take_desks-requires

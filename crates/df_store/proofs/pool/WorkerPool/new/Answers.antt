@@ -4,7 +4,8 @@ use Rattle.df_store.specs.declared.worker.Worker.{Worker}
 use Rattle.df_store.specs.Jobs.{chunks_of}
 use Rattle.df_store.specs.Closing.{HaveSameSums}
 use Rattle.df_store.specs.Workers.{IsIdle, desks_of, outcomes_in}
-use Rattle.df_store.proofs.WorkerFacts.{nothing-done, put-back, ready-workers, rest-idle, shared-out}
+use Rattle.df_store.proofs.ListFacts.{put-back}
+use Rattle.df_store.proofs.WorkerFacts.{nothing-done, ready-workers, rest-idle, shared-out}
 use Rattle.df_store.proofs.pool.WorkerPool.new.Goals as goal
 
 pub share_desks-requires-clause-idle : goal.share_desks-requires-clause-idle

@@ -1,0 +1,6 @@
+use denote.Param.Send.{sendable}
+use Rattle.df_store.proofs.CrossingPictures.{picture_sync}
+use Rattle.df_store.proofs.comparing.find_all.Goals as goal
+
+pub for_each_mut-requires-sync-F : goal.for_each_mut-requires-sync-F
+for_each_mut-requires-sync-F g c κs within = let p = picture_sync in let b = c.type_bounds in search sendable depth 20

@@ -1,0 +1,44 @@
+-- Where the rows of outcomes are to stand in their frames, and that they were found there.
+use Rattle.std.specs.Prelude.{◌≡◌, ◌≢◌, ◌⊎◌, ◌^◌, ◌-◌, ◌<◌, ℕ, All, IfSome, List, length, Some, flat_map, get_or, slice_get, slice_index_or, take}
+use Rattle.df_value.specs.declared.cell.Cell.{Cell}
+use Rattle.df_catalogue.specs.Pictures.{PictureParts, frame_len_in}
+use Rattle.df_store.specs.declared.expected.Expected.{Expected}
+use Rattle.df_store.specs.declared.jobs.Outcome.{Outcome}
+use Rattle.df_store.specs.Jobs.{job_of}
+use Rattle.df_store.specs.Loaded.{HasRows, job_rows}
+
+-- the rows that these outcomes give to a frame, one after another
+abbrev pub rows_at : ℕ → List Outcome → List (ℕ × List Cell)
+rows_at frame os = flat_map (λ o. job_rows frame (job_of o)) os
+
+-- an outcome is expected behind the rows of those before it
+pub record IsExpected (before : List Outcome) (o : Outcome) (e : Expected) : Type 0 where
+  pub outcome : e.outcome ≡ Some o
+  pub place : e.place ≡ length (rows_at o.frame before)
+
+-- the greatest usize
+abbrev pub most_of_usize : ℕ
+most_of_usize = 2 ^ 64 - 1
+
+-- so many rows are given to a frame, and each of its outcomes is expected behind those before it; of the greatest count nothing
+-- is said
+pub record IsCounted (frame : ℕ) (os : List Outcome) (es : List Expected) (count : ℕ) : Type 0 where
+  pub rows : count < most_of_usize → count ≡ length (rows_at frame os)
+  pub each : count < most_of_usize → (at : ℕ) (d : Outcome) (e : Expected) → at < length os → (slice_index_or os at d).frame ≡ frame →
+      IsExpected (take at os) (slice_index_or os at d) (slice_index_or es at e)
+
+-- the same of each of so many frames
+pub record AreExpected (frames : ℕ) (os : List Outcome) (es : List Expected) (counts : List ℕ) : Type 0 where
+  pub len : length es ≡ length os
+  pub many : length counts ≡ frames
+  pub counted : (frame : ℕ) → frame < frames → IsCounted frame os es (get_or counts frame 0)
+
+-- where an outcome is left no more, its rows stand in its frame from the place on
+abbrev pub IsFound : PictureParts → Expected → Expected → Type 0
+IsFound p old new = IfSome old.outcome (λ o. (new.outcome ≡ Some o) ⊎ HasRows p o.frame old.place (job_rows o.frame (job_of o)))
+
+-- a frame has so many rows, fewer than the greatest usize, and no outcome of it is left
+pub record HasAll (p : PictureParts) (frame : ℕ) (es : List Expected) (count : ℕ) : Type 0 where
+  pub less : count < most_of_usize
+  pub rows : frame_len_in p frame ≡ Some count
+  pub none : All (λ e. IfSome e.outcome (λ o. o.frame ≢ frame)) es
