@@ -31,12 +31,14 @@ from = "rows"
 steps = [["group_by", ["key"], ["n", "len"], ["total", "sum", "amount"]]]
 """
 
-REGIONS = """[[frame]]
+SALES = """[[frame]]
 name = "sales"
 columns = [["region", "Text"], ["qty", "Int"], ["ref", "Int"]]
 path = "regions.csv"
 
-[[view]]
+"""
+
+BY_REGION = """[[view]]
 name = "by_region"
 from = "sales"
 steps = [["group_by", ["region"], ["n", "len"], ["total", "sum", "qty"], ["least", "min", "qty"], ["most", "max", "qty"]]]
@@ -67,7 +69,8 @@ def main():
     (folder / "filtered.toml").write_text(FRAME + FILTERED)
     (folder / "grouped.toml").write_text(FRAME + GROUPED)
     write_sales(folder / "regions.csv", source, count)
-    (folder / "regions.toml").write_text(REGIONS)
+    (folder / "regions.toml").write_text(SALES + BY_REGION)
+    (folder / "sales.toml").write_text(SALES)
     for part in range(8):
         write_sales(folder / f"part{part}.csv", source, count * (10 if part == 0 else 1) // 17)
     (folder / "parts.toml").write_text("".join(PART.format(part) for part in range(8)))

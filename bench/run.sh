@@ -18,6 +18,7 @@ measure "dfviews grouped" "$program" grouped.toml
 for workers in 1 2 4; do
   measure "dfviews by region, $workers workers" "$program" regions.toml --workers "$workers"
   measure "dfviews eight files, $workers workers" "$program" parts.toml --workers "$workers"
+  measure "dfviews one file, $workers workers" "$program" sales.toml --workers "$workers"
 done
 
 filtered='SELECT key, amount, open, amount * 2 FROM rows WHERE open = "true" AND CAST(amount AS INTEGER) > 999000'
