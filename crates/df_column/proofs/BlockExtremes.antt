@@ -1,67 +1,43 @@
--- Where the least and the greatest cell of a column stand, one cell more, and those of more columns.
-use Rattle.std.proofs.Common.{◌≡◌, ℕ, zero, suc, ◌+◌, ◌<◌, ◌≤◌, Bool, true, false, cond, List, [], ◌∷◌, ◌++◌, length, map, take, get_or, Some, None, refl, sym, ap, subst, ◌∙◌, arith, length-take}
-use Rattle.std.specs.Prelude.{T, ◌==◌, Option, IfSome}
+-- Where the least and the greatest cell of a column stand, one cell more, those of more columns, and those known of a splice.
+use Rattle.std.proofs.Common.{◌≡◌, ℕ, zero, suc, ◌+◌, ◌<◌, ◌≤◌, Bool, true, false, cond, List, [], ◌∷◌, ◌++◌, length, map, take, drop, get_or, Some, refl, sym, ap, subst, ◌∙◌, arith}
+use Rattle.std.specs.Prelude.{T, ◌==◌, Option}
 use Rattle.std.proofs.lemmas.Bool.{eqb-true}
-use Rattle.std.proofs.lemmas.List.{get_or-take, take_all, take_more}
+use Rattle.std.proofs.lemmas.List.{take-append-drop, take_more}
 use Rattle.df_value.specs.declared.cell.Cell.{Cell}
 use Rattle.df_value.specs.declared.cell.Cell.TheVariants as cell
-use Rattle.df_column.specs.BlockExtremes.{AreExtremes, AreExtremesOf, AreKnown, AreStarts, IsExtremeAt, cell_there, no_extremes}
+use Rattle.df_column.specs.BlockExtremes.{AreExtremes, AreExtremesOf, AreKnown, AreSplicedFrom, IsExtremeAt, IsExtremeBeside, IsSplicedFrom, cell_there, no_extremes}
 use Rattle.df_column.specs.Columns.{column_cells}
 use Rattle.df_column.specs.Extremes.{extreme_of, further, is_better}
-use Rattle.df_column.specs.Picks.{all_or_none, picked_cells}
-use Rattle.df_column.specs.Rows.{are_even, picked_columns}
+use Rattle.df_column.specs.Picks.{origin_cell, picked_cells}
+use Rattle.df_column.specs.Rows.{are_even, spliced_columns}
 use Rattle.df_column.specs.declared.column.Column.{Column}
 use Rattle.df_column.specs.declared.extremes.Extreme.{Extreme}
 use Rattle.df_column.specs.declared.extremes.Extremes.{Extremes}
 use Rattle.df_column.specs.declared.picks.Pick.{Pick}
-use Rattle.df_column.specs.declared.tag.Tag.{Tag}
 use Rattle.df_column.proofs.Bools.{T-first, T-second, true_from_T}
 use Rattle.df_column.proofs.ExtremeLemmas.{better_is}
-use Rattle.df_column.proofs.Furthest.{extreme-append}
 use Rattle.df_column.proofs.Places.{mapped_at, mapped_length}
+use Rattle.df_column.proofs.SplicedExtremes.{extreme_among}
 
-pub there : (cells : List Cell) (n : ℕ) (at : Option ℕ) → IfSome at (λ i. i < n) → cell_there (take n cells) at ≡ cell_there cells at
-there cells n None h = refl
-there cells n (Some i) h = ap Some (get_or-take n cells i cell.Null h)
-
-pub within_more : (m n : ℕ) (at : Option ℕ) → m ≤ n → IfSome at (λ i. i < m) → IfSome at (λ i. i < n)
-within_more m n None le h = tt
-within_more m n (Some i) le h = omega arith
-
-pub better_step : (e : Extreme) (cells : List Cell) (best : Option ℕ) (at : ℕ) (b : Bool) → at < length cells → IsExtremeAt e (take at cells) best
-    → b ≡ is_better e (cell_there cells best) (get_or cells at cell.Null) → IsExtremeAt e (take (at + 1) cells) (cond b (Some at) best)
-better_step e cells best at b lt h is = either b made where
-  long : length (take at cells) ≡ at
-  long = let l = length-take at cells in omega (arith, l, lt)
-
-  longer : length (take (at + 1) cells) ≡ at + 1
-  longer = let l = length-take (at + 1) cells in omega (arith, l, lt)
-
-  old : IfSome best (λ i. i < at)
-  old = subst (λ n. IfSome best (λ i. i < n)) long h.within
-
-  made : extreme_of e (take (at + 1) cells) ≡ cond b (Some (get_or cells at cell.Null)) (cell_there cells best)
+-- one cell more is looked at
+pub beside_step : (e : Extreme) (cells : List Cell) (high : ℕ) (best : Option ℕ) (at : ℕ) (b : Bool) → at < length cells → IsExtremeBeside e cells at high best
+    → b ≡ is_better e (cell_there cells best) (get_or cells at cell.Null) → IsExtremeBeside e cells (at + 1) high (cond b (Some at) best)
+beside_step e cells high best at b lt h is = either b made where
+  made : extreme_of e (take (at + 1) cells ++ drop high cells) ≡ cond b (Some (get_or cells at cell.Null)) (cell_there cells best)
   made =
-      ap (extreme_of e) (take_more cells at cell.Null lt)
-      ∙ extreme-append e (take at cells) (get_or cells at cell.Null ∷ [])
-      ∙ ap (λ o. further e o (extreme_of e (get_or cells at cell.Null ∷ []))) (sym h.here ∙ there cells at best old)
+      ap (λ cs. extreme_of e (cs ++ drop high cells)) (take_more cells at cell.Null lt)
+      ∙ extreme_among e (take at cells) (drop high cells) (get_or cells at cell.Null ∷ [])
+      ∙ ap (λ o. further e o (extreme_of e (get_or cells at cell.Null ∷ []))) (sym h.here)
       ∙ better_is e (cell_there cells best) (get_or cells at cell.Null) b (sym is)
 
-  either : (b : Bool) → extreme_of e (take (at + 1) cells) ≡ cond b (Some (get_or cells at cell.Null)) (cell_there cells best) → IsExtremeAt e (take (at + 1) cells) (cond b (Some at) best)
-  either true m = record {
-    within = omega (arith, longer);
-    here = ap Some (get_or-take (at + 1) cells at cell.Null (omega arith)) ∙ sym m;
-  }
-  either false m = record {
-    within = subst (λ n. IfSome best (λ i. i < n)) (sym longer) (within_more at (at + 1) best (omega arith) old);
-    here = there cells (at + 1) best (within_more at (at + 1) best (omega arith) old) ∙ sym m;
-  }
+  either : (b : Bool) → extreme_of e (take (at + 1) cells ++ drop high cells) ≡ cond b (Some (get_or cells at cell.Null)) (cell_there cells best)
+      → IsExtremeBeside e cells (at + 1) high (cond b (Some at) best)
+  either true m = record { within = lt; here = sym m }
+  either false m = record { within = h.within; here = sym m }
 
-pub better_end : (e : Extreme) (cells : List Cell) (best : Option ℕ) (at : ℕ) → length cells ≤ at → IsExtremeAt e (take at cells) best → IsExtremeAt e cells best
-better_end e cells best at le h = subst (λ cs. IsExtremeAt e cs best) (take_all at cells le) h
-
-pub within_whole : (e : Extreme) (cells : List Cell) (best : Option ℕ) (at : ℕ) → IsExtremeAt e (take at cells) best → IfSome best (λ i. i < length cells)
-within_whole e cells best at h = let l = length-take at cells in within_more (length (take at cells)) (length cells) best (omega (arith, l)) h.within
+pub beside_end : (e : Extreme) (cells : List Cell) (high : ℕ) (best : Option ℕ) (at : ℕ) → at ≡ high → IsExtremeBeside e cells at high best → IsExtremeAt e cells best
+beside_end e cells high best at same h =
+    record { within = h.within; here = h.here ∙ ap (λ n. extreme_of e (take n cells ++ drop high cells)) same ∙ ap (extreme_of e) (take-append-drop high cells) }
 
 -- one column more
 pub extremes_last : (cs : List (List Cell)) (xs : List Extremes) (c : List Cell) (x : Extremes) → AreExtremes cs xs → AreExtremesOf c x → AreExtremes (cs ++ c ∷ []) (xs ++ x ∷ [])
@@ -79,29 +55,6 @@ columns_more columns at c lt e =
     mapped_last [] = refl
     mapped_last (d ∷ cs) = ap (λ r. column_cells d ∷ r) (mapped_last cs)
 
--- what is known of columns that are made along picks
-none_yet : AreExtremesOf [] no_extremes
-none_yet = record { least = record { within = tt; here = refl }; greatest = record { within = tt; here = refl } }
-
-starts_grown : (n j : ℕ) (columns : List (List Cell)) (picks : List Pick) (known : List Extremes) → T (are_even n columns) → AreExtremes columns known → AreStarts n (picked_columns true j columns picks) known
-starts_grown n j [] picks known even h i lt = absurd (omega arith)
-starts_grown n j (c ∷ cs) picks [] even h i lt = absurd h
-starts_grown n j (c ∷ cs) picks (x ∷ xs) even h zero lt =
-    let same : length c ≡ n = eqb-true (length c) n (true_from_T _ (T-first (length c == n) _ even)) in
-    subst (λ z. AreExtremesOf z x) (sym (ap (λ m. take m (c ++ picked_cells c j picks)) (sym same) ∙ front c (picked_cells c j picks))) h.0
-  where
-    front : (xs ys : List Cell) → take (length xs) (xs ++ ys) ≡ xs
-    front [] ys = refl
-    front (z ∷ zs) ys = ap (λ r. z ∷ r) (front zs ys)
-starts_grown n j (c ∷ cs) picks (x ∷ xs) even h (suc i) lt = starts_grown n (j + 1) cs picks xs (T-second (length c == n) _ even) h.1 i (omega arith)
-
-pub starts : (whole : Bool) (ts : List Tag) (columns : List (List Cell)) (picks : List Pick) (known : List Extremes) (from : ℕ) → from ≡ length (all_or_none whole ts) → T (are_even (length ts) columns) → AreKnown whole columns known
-    → AreStarts from (picked_columns whole 0 columns picks) known
-starts true ts columns picks known from e even h = subst (λ n. AreStarts n (picked_columns true 0 columns picks) known) (sym e) (starts_grown (length ts) 0 columns picks known even h)
-starts false ts columns picks known from e even h = λ i lt.
-    subst (λ n. AreExtremesOf (take n (get_or (picked_columns false 0 columns picks) i [])) (get_or known i no_extremes)) (sym e)
-    (subst (λ xs. AreExtremesOf [] (get_or xs i no_extremes)) (sym h) none_yet)
-
 -- those of one column
 pub extremes_at : (cs : List (List Cell)) (xs : List Extremes) (i : ℕ) → AreExtremes cs xs → i < length cs → record { within : i < length xs; are : (d : List Cell) (x : Extremes) → AreExtremesOf (get_or cs i d) (get_or xs i x) }
 extremes_at [] xs i h lt = absurd (omega arith)
@@ -109,6 +62,48 @@ extremes_at (c ∷ cs) [] i h lt = absurd h
 extremes_at (c ∷ cs) (x ∷ xs) zero h lt = record { within = omega arith; are = λ d y. h.0 }
 extremes_at (c ∷ cs) (x ∷ xs) (suc i) h lt = let r = extremes_at cs xs i h.1 (omega arith) in record { within = omega (arith, r.within); are = r.are }
 
+-- what is known of each of some columns: of all; of those of no cells
+pub known_of : (columns : List (List Cell)) (known : List Extremes) → AreExtremes columns known → AreKnown columns known
+known_of columns known h = λ i lt. (extremes_at columns known i h lt).are [] no_extremes
+
+no_cells : (columns : List (List Cell)) (i : ℕ) → T (are_even 0 columns) → get_or columns i [] ≡ []
+no_cells [] i h = refl
+no_cells (c ∷ cs) zero h = empty c (eqb-true (length c) 0 (true_from_T _ (T-first (length c == 0) _ h))) where
+  empty : (c : List Cell) → length c ≡ 0 → c ≡ []
+  empty [] h = refl
+  empty (x ∷ xs) h = absurd (omega (arith, h))
+no_cells (c ∷ cs) (suc i) h = no_cells cs i (T-second (length c == 0) _ h)
+
+pub no_known : (columns : List (List Cell)) → T (are_even 0 columns) → AreKnown columns []
+no_known columns h = λ i lt.
+    subst (λ c. AreExtremesOf c no_extremes) (sym (no_cells columns i h))
+    (record { least = record { within = tt; here = refl }; greatest = record { within = tt; here = refl } })
+
+-- then those of a splice come from them
+column_splice : (low high n at : ℕ) (columns : List (List Cell)) (picks : List Pick) (known : Extremes) (i : ℕ) → i < length (spliced_columns low high at columns picks)
+    → T (are_even n columns) → low ≤ high → high ≤ n → (i < length columns → AreExtremesOf (get_or columns i []) known)
+    → IsSplicedFrom (record { low = low; high = high; count = length picks }) (get_or (spliced_columns low high at columns picks) i []) known
+column_splice low high n at [] picks known i lt even le within h = absurd (omega arith)
+column_splice low high n at (c ∷ cs) picks known zero lt even le within h =
+    let same : length c ≡ n = eqb-true (length c) n (true_from_T _ (T-first (length c == n) _ even)) in
+    record {
+      old = c;
+      more = picked_cells c at picks;
+      is = refl;
+      count = mapped_length (λ p. origin_cell c at p.origin) picks;
+      ordered = le;
+      in_range = omega (arith, same);
+      known_are = h (omega arith);
+    }
+column_splice low high n at (c ∷ cs) picks known (suc i) lt even le within h =
+    column_splice low high n (at + 1) cs picks known i (omega arith) (T-second (length c == n) _ even) le within (λ l. h (omega (arith, l)))
+
+pub splice_from : (low high n : ℕ) (columns : List (List Cell)) (picks : List Pick) (known : List Extremes) → AreKnown columns known → T (are_even n columns) → low ≤ high → high ≤ n
+    → AreSplicedFrom (record { low = low; high = high; count = length picks }) (spliced_columns low high 0 columns picks) known
+splice_from low high n columns picks known h even le within = λ i lt.
+    column_splice low high n 0 columns picks (get_or known i no_extremes) i lt even le within (h i)
+
+-- what is kept of a column
 pub kept_at : (columns : List Column) (xs : List Extremes) (i : ℕ) (d : Column) (x : Extremes) → AreExtremes (map column_cells columns) xs → i < length columns → x ≡ get_or xs i no_extremes → AreExtremesOf (column_cells (get_or columns i d)) x
 kept_at columns xs i d x h lt e =
     let l = mapped_length column_cells columns in

@@ -1,5 +1,5 @@
 -- Blocks that are made along picks, column by column.
-use Rattle.std.proofs.Common.{◌≡◌, ℕ, zero, suc, ◌+◌, ◌<◌, ◌≤◌, Bool, true, false, List, [], ◌∷◌, ◌++◌, length, map, drop, get_or, refl, sym, ap, subst, ◌∙◌, arith, append_assoc, length-append, eq-eqb}
+use Rattle.std.proofs.Common.{◌≡◌, ℕ, zero, suc, ◌+◌, ◌-◌, ◌<◌, ◌≤◌, List, [], ◌∷◌, ◌++◌, length, map, drop, get_or, refl, sym, ap, subst, ◌∙◌, arith, append_assoc, eq-eqb}
 use Rattle.std.specs.Prelude.{T, ◌==◌}
 use Rattle.std.proofs.lemmas.Bool.{eqb-true}
 use Rattle.df_value.specs.Cells.{fits_dtype}
@@ -8,8 +8,8 @@ use Rattle.df_value.specs.declared.cell.Cell.TheVariants as cell
 use Rattle.df_value.specs.declared.cell.CellType.{CellType}
 use Rattle.df_column.specs.Blocks.{IsBlock}
 use Rattle.df_column.specs.Columns.{column_cells, dtype_of_column}
-use Rattle.df_column.specs.Picks.{AreFit, is_fit, origin_cell, picked_cells, all_or_none}
-use Rattle.df_column.specs.Rows.{AreRows, are_even, is_new_row, is_row, picked_columns, tagged_rows, picked_rows}
+use Rattle.df_column.specs.Picks.{AreFit, is_fit, origin_cell, picked_cells, spliced}
+use Rattle.df_column.specs.Rows.{AreRows, are_even, is_new_row, is_row, spliced_columns, tagged_rows, picked_rows}
 use Rattle.df_column.specs.Sizes.{most_rows}
 use Rattle.df_column.specs.declared.column.Column.{Column}
 use Rattle.df_column.specs.declared.picks.Origin.{Origin}
@@ -19,6 +19,7 @@ use Rattle.df_column.specs.declared.tag.Tag.{Tag}
 use Rattle.df_column.proofs.Bools.{T-both, T-first, T-second, true_from_T}
 use Rattle.df_column.proofs.Places.{mapped_at, mapped_length}
 use Rattle.df_column.proofs.RowLemmas.{rows_made}
+use Rattle.df_column.proofs.SpliceLemmas.{spliced_length}
 
 -- one of the columns
 pub even_at : (n : ℕ) (columns : List Column) (at : ℕ) (d : Column) → T (are_even n (map column_cells columns)) → at < length columns → length (column_cells (get_or columns at d)) ≡ n
@@ -45,10 +46,6 @@ fit_at columns picks at d h lt =
     let l = mapped_length dtype_of_column columns in
     subst (λ t. AreFit t at picks) (mapped_at dtype_of_column columns at (dtype_of_column d) d lt) (fit_types (map dtype_of_column columns) picks at (dtype_of_column d) h (omega (arith, l, lt)))
 
-pub start_length : {X Y : Type 0} (whole : Bool) (xs : List X) (ys : List Y) → length xs ≡ length ys → length (all_or_none whole xs) ≡ length (all_or_none whole ys)
-start_length true xs ys e = e
-start_length false xs ys e = refl
-
 -- one column more
 drop_column : (columns : List Column) (at : ℕ) (d : Column) → at < length columns → drop at columns ≡ get_or columns at d ∷ drop (at + 1) columns
 drop_column [] at d h = absurd (omega arith)
@@ -61,21 +58,21 @@ map_push : {X Y : Type 0} (f : X → Y) (xs : List X) (x : X) → map f (xs ++ x
 map_push f [] x = refl
 map_push f (y ∷ xs) x = ap (λ r. f y ∷ r) (map_push f xs x)
 
-pub column_step : (whole : Bool) (columns out : List Column) (picks : List Pick) (at : ℕ) (c : Column) → at < length columns
-    → ((d : Column) → column_cells c ≡ all_or_none whole (column_cells (get_or columns at d)) ++ picked_cells (column_cells (get_or columns at d)) at picks)
+pub column_step : (low high : ℕ) (columns out : List Column) (picks : List Pick) (at : ℕ) (c : Column) → at < length columns
+    → ((d : Column) → column_cells c ≡ spliced low high (picked_cells (column_cells (get_or columns at d)) at picks) (column_cells (get_or columns at d)))
     → ((d : Column) → dtype_of_column c ≡ dtype_of_column (get_or columns at d))
     → record {
-      cells : map column_cells (out ++ c ∷ []) ++ picked_columns whole (at + 1) (map column_cells (drop (at + 1) columns)) picks ≡ map column_cells out ++ picked_columns whole at (map column_cells (drop at columns)) picks;
+      cells : map column_cells (out ++ c ∷ []) ++ spliced_columns low high (at + 1) (map column_cells (drop (at + 1) columns)) picks ≡ map column_cells out ++ spliced_columns low high at (map column_cells (drop at columns)) picks;
       dtypes : map dtype_of_column (out ++ c ∷ []) ++ map dtype_of_column (drop (at + 1) columns) ≡ map dtype_of_column out ++ map dtype_of_column (drop at columns);
     }
-column_step whole columns out picks at c lt cells dtype =
+column_step low high columns out picks at c lt cells dtype =
     let cut = drop_column columns at c lt in
-    let later = picked_columns whole (at + 1) (map column_cells (drop (at + 1) columns)) picks in
+    let later = spliced_columns low high (at + 1) (map column_cells (drop (at + 1) columns)) picks in
     record {
       cells = ap (λ r. r ++ later) (map_push column_cells out c)
           ∙ append_assoc (map column_cells out) (column_cells c ∷ []) later
           ∙ ap (λ r. map column_cells out ++ r ∷ later) (cells c)
-          ∙ ap (λ cs. map column_cells out ++ picked_columns whole at (map column_cells cs) picks) (sym cut);
+          ∙ ap (λ cs. map column_cells out ++ spliced_columns low high at (map column_cells cs) picks) (sym cut);
       dtypes = ap (λ r. r ++ map dtype_of_column (drop (at + 1) columns)) (map_push dtype_of_column out c)
           ∙ append_assoc (map dtype_of_column out) (dtype_of_column c ∷ []) (map dtype_of_column (drop (at + 1) columns))
           ∙ ap (λ t. map dtype_of_column out ++ t ∷ map dtype_of_column (drop (at + 1) columns)) (dtype c)
@@ -83,23 +80,25 @@ column_step whole columns out picks at c lt cells dtype =
     }
 
 -- the block of all of them
-picked_even : (whole : Bool) (n at : ℕ) (columns : List (List Cell)) (picks : List Pick) (ts : List Tag) → length ts ≡ n → T (are_even n columns) → T (are_even (length (all_or_none whole ts ++ map (λ p. p.tag) picks)) (picked_columns whole at columns picks))
-picked_even whole n at [] picks ts e h = tt
-picked_even whole n at (c ∷ cs) picks ts e h =
-    let same = eqb-true (length c) n (true_from_T _ (T-first (length c == n) _ h)) in
-    let starts = start_length whole c ts (same ∙ sym e) in
-    let a = length-append (all_or_none whole c) (picked_cells c at picks) in
-    let b = length-append (all_or_none whole ts) (map (λ p. p.tag) picks) in
+spliced_even : (low high at : ℕ) (columns : List (List Cell)) (picks : List Pick) (ts : List Tag) → low ≤ high → high ≤ length ts → T (are_even (length ts) columns)
+    → T (are_even (length (spliced low high (map (λ p. p.tag) picks) ts)) (spliced_columns low high at columns picks))
+spliced_even low high at [] picks ts p q h = tt
+spliced_even low high at (c ∷ cs) picks ts p q h =
+    let same = eqb-true (length c) (length ts) (true_from_T _ (T-first (length c == length ts) _ h)) in
+    let a = spliced_length low high (picked_cells c at picks) c p (omega (arith, same, q)) in
+    let b = spliced_length low high (map (λ p. p.tag) picks) ts p q in
     let k = mapped_length (λ p. p.tag) picks in
     let m = mapped_length (λ p. origin_cell c at p.origin) picks in
-    let all : length (all_or_none whole c ++ picked_cells c at picks) ≡ length (all_or_none whole ts ++ map (λ p. p.tag) picks) = omega (arith, starts, a, b, k, m) in
-    T-both _ _ (subst T (sym (eq-eqb _ _ all)) tt) (picked_even whole n (at + 1) cs picks ts e (T-second (length c == n) _ h))
+    let all : length (spliced low high (picked_cells c at picks) c) ≡ length (spliced low high (map (λ p. p.tag) picks) ts) = omega (arith, same, a, b, k, m) in
+    T-both _ _ (subst T (sym (eq-eqb _ _ all)) tt) (spliced_even low high (at + 1) cs picks ts p q (T-second (length c == length ts) _ h))
 
-pub block_made : (whole : Bool) (ts made_tags : List Tag) (columns made : List Column) (picks : List Pick) → T (are_even (length ts) (map column_cells columns)) → AreRows (map dtype_of_column columns) picks → 0 < length picks → length (all_or_none whole ts) + length picks ≤ most_rows
-    → made_tags ≡ all_or_none whole ts ++ map (λ p. p.tag) picks → map column_cells made ≡ picked_columns whole 0 (map column_cells columns) picks
-    → record { sound : IsBlock made_tags made; rows : tagged_rows made_tags (map column_cells made) ≡ all_or_none whole (tagged_rows ts (map column_cells columns)) ++ picked_rows (map column_cells columns) picks }
-block_made whole ts made_tags columns made picks even rows some few tags cells =
-    let b = length-append (all_or_none whole ts) (map (λ p. p.tag) picks) in
+pub block_made : (low high : ℕ) (ts made_tags : List Tag) (columns made : List Column) (picks : List Pick) → low ≤ high → high ≤ length ts → T (are_even (length ts) (map column_cells columns)) → AreRows (map dtype_of_column columns) picks
+    → 0 < low + length picks + (length ts - high) → low + length picks + (length ts - high) ≤ most_rows
+    → made_tags ≡ spliced low high (map (λ p. p.tag) picks) ts → map column_cells made ≡ spliced_columns low high 0 (map column_cells columns) picks
+    → record { sound : IsBlock made_tags made; rows : tagged_rows made_tags (map column_cells made) ≡ spliced low high (picked_rows (map column_cells columns) picks) (tagged_rows ts (map column_cells columns)) }
+block_made low high ts made_tags columns made picks p q even rows some few tags cells =
+    let new_tags = spliced low high (map (λ p. p.tag) picks) ts in
+    let b = spliced_length low high (map (λ p. p.tag) picks) ts p q in
     let k = mapped_length (λ p. p.tag) picks in
     let n = ap length tags in
     let types = mapped_length dtype_of_column columns ∙ sym (mapped_length column_cells columns) in
@@ -107,9 +106,9 @@ block_made whole ts made_tags columns made picks even rows some few tags cells =
       sound = record {
         some = omega (arith, b, k, n, some);
         few = omega (arith, b, k, n, few);
-        even = subst (λ ts. T (are_even (length ts) (map column_cells made))) (sym tags) (subst (λ cs. T (are_even (length (all_or_none whole ts ++ map (λ p. p.tag) picks)) cs)) (sym cells) (picked_even whole (length ts) 0 (map column_cells columns) picks ts refl even));
+        even = subst (λ ts. T (are_even (length ts) (map column_cells made))) (sym tags) (subst (λ cs. T (are_even (length new_tags) cs)) (sym cells) (spliced_even low high 0 (map column_cells columns) picks ts p q even));
       };
       rows = ap (λ ts. tagged_rows ts (map column_cells made)) tags
-          ∙ ap (tagged_rows (all_or_none whole ts ++ map (λ p. p.tag) picks)) cells
-          ∙ rows_made whole ts (map column_cells columns) (map dtype_of_column columns) picks even types rows;
+          ∙ ap (tagged_rows new_tags) cells
+          ∙ rows_made low high ts (map column_cells columns) (map dtype_of_column columns) picks even types rows;
     }

@@ -1,17 +1,19 @@
 -- The rows and types of a tree of which both sides and what stands between them are known.
-use Rattle.std.proofs.Common.{◌≡◌, List, [], ◌∷◌, ◌++◌, length, map, refl, sym, ap, subst, ◌∙◌, arith}
+use Rattle.std.proofs.Common.{◌≡◌, ℕ, ◌≤◌, List, [], ◌∷◌, ◌++◌, append-nil, append_assoc, length, map, drop, take, refl, sym, ap, subst, ◌∙◌, arith}
+use Rattle.std.specs.Prelude.{T}
 use Rattle.df_value.specs.declared.cell.Cell.{Cell}
 use Rattle.df_value.specs.declared.cell.CellType.{CellType}
 use Rattle.df_column.specs.BlockLists.{blocks_of_leaves}
+use Rattle.df_column.specs.BlockRows.{AddsRows}
 use Rattle.df_column.specs.Blocks.{AreOfDtypes, BlockParts, rows_of_blocks}
-use Rattle.df_column.specs.Changes.{after_changes}
+use Rattle.df_column.specs.Changes.{after_changes, apart}
 use Rattle.df_column.specs.Tables.{entry_change}
 use Rattle.df_column.specs.Tags.{tag_cmp}
 use Rattle.df_column.specs.declared.entry.Entry.{Entry}
 use Rattle.df_column.specs.declared.tag.Tag.{Tag}
 use Rattle.df_column.proofs.BlockListLemmas.{leaves_append}
 use Rattle.df_column.proofs.LeafTreeLemmas.{node_blocks}
-use Rattle.df_column.proofs.SharedLemmas.{rows_append, types_append}
+use Rattle.df_column.proofs.SharedLemmas.{changed_between, rows_append, types_append, types_front, types_rest}
 
 pub nothing_changed : (rows : List (Tag × List Cell)) (es : List Entry) → length es ≡ 0 → after_changes tag_cmp rows (map entry_change es) ≡ rows
 nothing_changed rows [] h = refl
@@ -51,6 +53,32 @@ types_cut_rest dtypes all a b e h = types_second dtypes a b (subst (AreOfDtypes 
 
 pub rows_cut : (all a b d : List BlockParts) → all ≡ a ++ (b ++ d) → rows_of_blocks all ≡ rows_of_blocks a ++ (rows_of_blocks b ++ rows_of_blocks d)
 rows_cut all a b d e = ap rows_of_blocks e ∙ rows_parts a b d
+
+-- the blocks that changes make, in the place of those that they reach
+pub rows_replaced : (bs made new : List BlockParts) (low high : ℕ) (es : List Entry) → low ≤ high → T (apart tag_cmp (rows_of_blocks (take low bs)) (map entry_change es)) → T (apart tag_cmp (map entry_change es) (rows_of_blocks (drop high bs)))
+    → rows_of_blocks made ≡ after_changes tag_cmp (rows_of_blocks (drop low (take high bs))) (map entry_change es) → new ≡ take low bs ++ (made ++ drop high bs)
+    → rows_of_blocks new ≡ after_changes tag_cmp (rows_of_blocks bs) (map entry_change es)
+rows_replaced bs made new low high es le p q rows is =
+    let front = rows_of_blocks (take low bs) in
+    let back = rows_of_blocks (drop high bs) in
+    rows_cut new (take low bs) made (drop high bs) is ∙ ap (λ rs. front ++ (rs ++ back)) rows
+    ∙ sym (append_assoc front (after_changes tag_cmp (rows_of_blocks (drop low (take high bs))) (map entry_change es)) back)
+    ∙ changed_between bs low high es le p q
+
+pub types_replaced : (dtypes : List CellType) (bs made new : List BlockParts) (low high : ℕ) → AreOfDtypes dtypes bs → AreOfDtypes dtypes made → new ≡ take low bs ++ (made ++ drop high bs) → AreOfDtypes dtypes new
+types_replaced dtypes bs made new low high own others is =
+    subst (AreOfDtypes dtypes) (sym is) (types_parts dtypes (take low bs) made (drop high bs) (types_front dtypes low bs own) others (types_rest dtypes high bs own))
+
+-- the blocks of a list that gained rows, where it had none
+pub only_rows : (dtypes : List CellType) (added : List (Tag × List Cell)) (none made : List BlockParts) → none ≡ [] → AddsRows dtypes added none made → rows_of_blocks made ≡ added
+only_rows dtypes added none made e h = h.rows ∙ ap (λ bs. rows_of_blocks bs ++ added) e
+
+pub only_types : (dtypes : List CellType) (added : List (Tag × List Cell)) (none made : List BlockParts) → none ≡ [] → AddsRows dtypes added none made → AreOfDtypes dtypes made
+only_types dtypes added none made e h = h.types (subst (AreOfDtypes dtypes) (sym e) tt)
+
+-- a tree of one leaf
+pub only_blocks : (leaves : List (List BlockParts)) (leaf new : List BlockParts) → leaves ≡ leaf ∷ [] → leaf ≡ new → blocks_of_leaves leaves ≡ new
+only_blocks leaves leaf new is e = ap blocks_of_leaves is ∙ append-nil leaf ∙ e
 
 -- one leaf between both sides
 module _ (ls ms all : List (List BlockParts)) (l : List BlockParts) (is : all ≡ ls ++ l ∷ ms) where

@@ -1,12 +1,10 @@
 -- Texts that are looked up by their hashes, in a set whose keys are the texts of a pool.
-use Rattle.std.proofs.Common.{◌≡◌, ℕ, zero, suc, ◌+◌, ◌<◌, ◌≤◌, Bool, true, false, not, cond, List, [], ◌∷◌, ◌++◌, length, map, take, get_or, Option, Some, None, refl, sym, ap, ◌∙◌, arith}
+use Rattle.std.proofs.Common.{◌≡◌, ℕ, zero, suc, ◌+◌, ◌<◌, Bool, true, false, not, cond, List, [], ◌∷◌, ◌++◌, length, map, take, get_or, Option, Some, None, refl, sym, ap, ◌∙◌, arith}
 use Rattle.std.specs.Prelude.{◌==◌, ◌||◌}
 use Rattle.std.specs.Borrow.{Bor}
 use Rattle.std.specs.List.{list_any, position_or_len}
 use Rattle.std.specs.Option.{is_some, option_map}
 use Rattle.std.specs.Cmp.Lexicographic.{pointwise, nat_list_eq_equiv}
-use Rattle.std.proofs.Math.Seq.{take-length}
-use Rattle.df_column.specs.Picks.{all_or_none}
 use Rattle.df_column.specs.Pools.{place_of, place_or_end, with_text}
 
 module _ (eq : Bor (List ℕ) → Bor (List ℕ) → Bool) (is : (a b : Bor (List ℕ)) → eq a b ≡ pointwise ◌==◌ a.now b.now) where
@@ -66,12 +64,3 @@ take_next (x ∷ xs) zero d h = refl
 take_next (x ∷ xs) (suc n) d h =
     let e : suc n + 1 ≡ suc (n + 1) = omega arith in
     ap (λ m. take m (x ∷ xs)) e ∙ ap (λ ys. x ∷ ys) (take_next xs n d (omega arith))
-
--- the items that stand at the start of all or none
-pub taken_or_none : {X : Type 0} (whole : Bool) (xs : List X) → take (length (all_or_none whole xs)) xs ≡ all_or_none whole xs
-taken_or_none true xs = take-length xs
-taken_or_none false xs = refl
-
-pub within_or_none : {X : Type 0} (whole : Bool) (xs : List X) → length (all_or_none whole xs) ≤ length xs
-within_or_none true xs = omega arith
-within_or_none false xs = omega arith

@@ -1,5 +1,5 @@
 -- The least and the greatest cell of blocks one behind the other.
-use Rattle.std.proofs.Common.{◌≡◌, ℕ, ◌+◌, ◌<◌, List, ◌++◌, length, map, take, get_or, sym, ap, ◌∙◌}
+use Rattle.std.proofs.Common.{◌≡◌, ℕ, ◌+◌, ◌<◌, ◌≤◌, List, [], ◌∷◌, ◌++◌, append-nil, length, map, drop, take, get_or, sym, ap, ◌∙◌}
 use Rattle.std.specs.Prelude.{Option, Some}
 use Rattle.df_value.specs.declared.cell.Cell.{Cell}
 use Rattle.df_column.specs.BlockLists.{extreme_cell}
@@ -7,8 +7,9 @@ use Rattle.df_column.specs.Blocks.{BlockParts, block_rows, rows_of_blocks}
 use Rattle.df_column.specs.Extremes.{cells_at, extreme_of, further}
 use Rattle.df_column.specs.declared.extremes.Extreme.{Extreme}
 use Rattle.df_column.proofs.Furthest.{extreme-append, further_of_three}
+use Rattle.df_column.proofs.ListParts.{part_more}
 use Rattle.df_column.proofs.SharedLemmas.{rows_append}
-use Rattle.df_column.proofs.ZoneLemmas.{cells-append, rows_more}
+use Rattle.df_column.proofs.ZoneLemmas.{cells-append}
 
 pub extreme_both : (e : Extreme) (bs cs : List BlockParts) (i : ℕ) → extreme_cell e (bs ++ cs) i ≡ further e (extreme_cell e bs i) (extreme_cell e cs i)
 extreme_both e bs cs i =
@@ -16,19 +17,19 @@ extreme_both e bs cs i =
     ∙ ap (extreme_of e) (cells-append (Some i) (rows_of_blocks bs) (rows_of_blocks cs))
     ∙ extreme-append e (cells_at (Some i) (map (λ r. r.1) (rows_of_blocks bs))) (cells_at (Some i) (map (λ r. r.1) (rows_of_blocks cs)))
 
--- one block more
-pub block_further : (e : Extreme) (bs : List BlockParts) (k i : ℕ) (b : BlockParts) (first best next : Option Cell) → k < length bs → b ≡ get_or bs k b
-    → best ≡ further e first (extreme_cell e (take k bs) i)
+-- one block more of those between two indexes
+pub block_further : (e : Extreme) (bs : List BlockParts) (low k i : ℕ) (b : BlockParts) (first best next : Option Cell) → low ≤ k → k < length bs → b ≡ get_or bs k b
+    → best ≡ further e first (extreme_cell e (drop low (take k bs)) i)
     → next ≡ further e best (extreme_of e (cells_at (Some i) (map (λ r. r.1) (block_rows b))))
-    → next ≡ further e first (extreme_cell e (take (k + 1) bs) i)
-block_further e bs k i b first best next lt is so_far made =
-    let old = rows_of_blocks (take k bs) in
+    → next ≡ further e first (extreme_cell e (drop low (take (k + 1) bs)) i)
+block_further e bs low k i b first best next le lt is so_far made =
+    let old = extreme_cell e (drop low (take k bs)) i in
     let own = extreme_of e (cells_at (Some i) (map (λ r. r.1) (block_rows b))) in
-    let more : extreme_cell e (take (k + 1) bs) i ≡ further e (extreme_cell e (take k bs) i) own =
-    ap (λ rs. extreme_of e (cells_at (Some i) (map (λ r. r.1) rs))) (rows_more bs k b lt is)
-    ∙ ap (extreme_of e) (cells-append (Some i) old (block_rows b))
-    ∙ extreme-append e (cells_at (Some i) (map (λ r. r.1) old)) (cells_at (Some i) (map (λ r. r.1) (block_rows b))) in
-    made ∙ ap (λ o. further e o own) so_far ∙ further_of_three e first (extreme_cell e (take k bs) i) own ∙ ap (further e first) (sym more)
+    let more : extreme_cell e (drop low (take (k + 1) bs)) i ≡ further e old own =
+    ap (λ cs. extreme_cell e cs i) (part_more bs low k b le lt is)
+    ∙ extreme_both e (drop low (take k bs)) (b ∷ []) i
+    ∙ ap (λ rs. further e old (extreme_of e (cells_at (Some i) (map (λ r. r.1) rs)))) (append-nil (block_rows b)) in
+    made ∙ ap (λ o. further e o own) so_far ∙ further_of_three e first old own ∙ ap (further e first) (sym more)
 
 -- those of three runs
 pub extreme_of_three : (e : Extreme) (all a b d : List BlockParts) (i : ℕ) (first x y z : Option Cell) → all ≡ a ++ (b ++ d) → x ≡ further e first (extreme_cell e a i) → y ≡ further e x (extreme_cell e b i) → z ≡ further e y (extreme_cell e d i)

@@ -16,6 +16,7 @@ pub mod TableLemmas
 pub mod CellTests
 pub mod Furthest
 pub mod ExtremeLemmas
+pub mod SplicedExtremes
 pub mod BlockExtremes
 mod BestValues
 mod OldRuns
@@ -41,3 +42,6 @@ mod ChangedNodes
 pub mod MergeLemmas
 pub mod TextPlaces
 mod KnownLemmas
+pub mod SpliceLemmas
+pub mod TextSplices
+mod KeptExtremes

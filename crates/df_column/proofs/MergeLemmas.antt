@@ -1,7 +1,7 @@
 -- Old rows along picks, and the merge of changes into them.
-use Rattle.std.proofs.Common.{◌≡◌, ℕ, zero, suc, ◌+◌, ◌-◌, ◌<◌, ◌≤◌, Bool, true, false, cond, List, [], ◌∷◌, ◌++◌, length, map, take, drop, get_or, refl, sym, ap, subst, ◌∙◌, arith, append_assoc}
+use Rattle.std.proofs.Common.{◌≡◌, ℕ, zero, suc, ◌+◌, ◌-◌, ◌<◌, ◌≤◌, Bool, true, false, cond, List, [], ◌∷◌, ◌++◌, length, map, take, drop, get_or, Some, refl, sym, ap, subst, ◌∙◌, arith, append_assoc}
 use Rattle.std.specs.Prelude.{T, ◌&&◌}
-use Rattle.std.specs.List.{list_all, prefix_len}
+use Rattle.std.specs.List.{list_all, prefix_len, slice_get}
 use Rattle.std.proofs.lemmas.List.{take-append-drop}
 use Rattle.std.specs.Ordering.{eq_by_cmp, is_eq, is_lt}
 use Rattle.std.specs.Cmp.{tied_itself}
@@ -11,17 +11,17 @@ use Rattle.df_value.specs.declared.cell.Cell.{Cell}
 use Rattle.df_value.specs.declared.cell.CellType.{CellType}
 use Rattle.df_column.specs.Tags.{tag_cmp}
 use Rattle.df_column.specs.Changes.{Change, after_changes, rest_after, one_at, all_under, all_from}
-use Rattle.df_column.specs.Picks.{AreWithin, is_within}
+use Rattle.df_column.specs.Picks.{AreWithin, is_within, spliced}
 use Rattle.df_column.specs.Rows.{tagged_rows, row_at, origin_row, picked_rows, AreRows, is_new_row, AreRisingTags}
 use Rattle.df_column.specs.declared.picks.Origin.TheVariants.{Old}
 use Rattle.df_column.specs.declared.picks.Pick.{Pick}
-use Rattle.df_column.specs.Tables.{entry_change}
+use Rattle.df_column.specs.Tables.{AreRising, entry_change}
 use Rattle.df_column.specs.declared.entry.Entry.{Entry}
 use Rattle.df_column.specs.declared.tag.Tag.{Tag}
 use Rattle.df_column.proofs.Bools.{T-both, T-first, T-second, true_from_T, equal_from_is_eq}
 use Rattle.df_column.proofs.Pools.{lt_to}
 use Rattle.df_column.specs.TagOrder.{tag_total, tag_same}
-use Rattle.df_column.proofs.ChangeRuns.{merged_one, under_prefix, from_rest, sorted_second}
+use Rattle.df_column.proofs.ChangeRuns.{after_changes-right, apart_at, merged_one, under_prefix, from_rest, sorted_from, sorted_second}
 use Rattle.df_column.proofs.RowLemmas.{tags_of_rows, row_in_rows, length_rows}
 
 -- what holds of rows by their tags alone
@@ -226,3 +226,23 @@ merge_end columns ts picks after at n entries le h e f =
 -- a slice from an index on
 pub rest_of : {X : Type 0} (xs : List X) (at : ℕ) → take (length xs - at) (drop at xs) ≡ drop at xs
 rest_of xs at = let l = length_drop at xs in take_all (length xs - at) (drop at xs) (omega (arith, l))
+
+-- the rows before the first change stay
+pub before_first : (ts : List Tag) (columns : List (List Cell)) (entries : List Entry) (e : Entry) (n : ℕ) → AreRisingTags ts → AreRising entries → Some e ≡ slice_get entries 0 → n ≡ prefix_len (λ t. is_lt (tag_cmp t e.tag)) ts
+    → take n (tagged_rows ts columns) ++ after_changes tag_cmp (drop n (tagged_rows ts columns)) (map entry_change entries) ≡ after_changes tag_cmp (tagged_rows ts columns) (map entry_change entries)
+before_first ts columns [] e n rising order is count = absurd (cc is)
+before_first ts columns (f ∷ es) e n rising order is count =
+    let rows = tagged_rows ts columns in
+    let same : e ≡ f = cc is in
+    let long : n ≡ prefix_len (λ x. is_lt (tag_cmp x.0 f.tag)) rows = count ∙ ap (λ g. prefix_len (λ t. is_lt (tag_cmp t g.tag)) ts) same ∙ sym (rows_before ts columns f.tag 0) in
+    let under : T (all_under tag_cmp f.tag (take n rows)) = subst (λ n. T (all_under tag_cmp f.tag (take n rows))) (sym long) (under_prefix tag_total f.tag rows) in
+    let from : T (all_from tag_cmp f.tag (map entry_change (f ∷ es))) = sorted_from tag_total f.tag (entry_change f) (map entry_change es) refl order in
+    sym (after_changes-right tag_total (take n rows) (drop n rows) (map entry_change (f ∷ es)) (apart_at tag_total f.tag (take n rows) (map entry_change (f ∷ es)) under from))
+    ∙ ap (λ r. after_changes tag_cmp r (map entry_change (f ∷ es))) (take-append-drop n rows)
+
+-- after the last one the rows behind it stay
+pub change_end : (columns : List (List Cell)) (ts : List Tag) (picks : List Pick) (low high n : ℕ) (entries : List Entry) → length entries ≤ n
+    → take low (tagged_rows ts columns) ++ (picked_rows columns picks ++ after_changes tag_cmp (drop high (tagged_rows ts columns)) (map entry_change (drop n entries))) ≡ after_changes tag_cmp (tagged_rows ts columns) (map entry_change entries)
+    → spliced low high (picked_rows columns picks) (tagged_rows ts columns) ≡ after_changes tag_cmp (tagged_rows ts columns) (map entry_change entries)
+change_end columns ts picks low high n entries h e =
+    ap (λ es. take low (tagged_rows ts columns) ++ (picked_rows columns picks ++ after_changes tag_cmp (drop high (tagged_rows ts columns)) (map entry_change es))) (sym (drop_past entries n h)) ∙ e

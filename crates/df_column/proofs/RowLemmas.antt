@@ -1,19 +1,21 @@
 -- The rows of columns that are made along picks.
-use Rattle.std.proofs.Common.{◌≡◌, ℕ, zero, suc, ◌+◌, ◌<◌, ◌≤◌, Bool, true, false, List, [], ◌∷◌, ◌++◌, length, map, drop, get_or, refl, sym, ap, subst, ◌∙◌, arith, eq-eqb}
+use Rattle.std.proofs.Common.{◌≡◌, ℕ, zero, suc, ◌+◌, ◌<◌, ◌≤◌, List, [], ◌∷◌, ◌++◌, length, map, take, drop, get_or, refl, sym, ap, subst, ◌∙◌, arith, eq-eqb, length-take}
 use Rattle.std.specs.Prelude.{T, ◌==◌}
+use Rattle.std.proofs.Math.Seq.{drop-nil, take-nil}
 use Rattle.std.proofs.lemmas.Bool.{eqb-true}
 use Rattle.std.specs.Borrow.{Bor}
 use Rattle.df_value.specs.Cells.{fits_dtype}
 use Rattle.df_value.specs.declared.cell.Cell.{Cell}
 use Rattle.df_value.specs.declared.cell.Cell.TheVariants as cell
 use Rattle.df_value.specs.declared.cell.CellType.{CellType}
-use Rattle.df_column.specs.Picks.{origin_cell, picked_cells, all_or_none}
-use Rattle.df_column.specs.Rows.{head_cell, later_cells, tagged_rows, row_at, are_even, origin_row, picked_rows, is_row, is_new_row, AreRows, picked_columns}
+use Rattle.df_column.specs.Picks.{origin_cell, picked_cells, spliced}
+use Rattle.df_column.specs.Rows.{head_cell, later_cells, tagged_rows, row_at, are_even, origin_row, picked_rows, is_row, is_new_row, AreRows, spliced_columns}
 use Rattle.df_column.specs.declared.picks.Origin.{Origin}
 use Rattle.df_column.specs.declared.picks.Origin.TheVariants.{Old, New}
 use Rattle.df_column.specs.declared.picks.Pick.{Pick}
 use Rattle.df_column.specs.declared.tag.Tag.{Tag}
 use Rattle.df_column.proofs.Bools.{T-first, T-second, T-both, true_from_T}
+use Rattle.df_column.proofs.Places.{mapped_length}
 
 -- the tags of rows
 pub tags_of_rows : (ts : List Tag) (columns : List (List Cell)) → map (λ e. e.0) (tagged_rows ts columns) ≡ ts
@@ -46,11 +48,15 @@ picked_from j [] p = []
 picked_from j (c ∷ cs) p = origin_cell c j p.origin ∷ picked_from (j + 1) cs p
 
 -- columns that are made along picks alone
-picked_firsts : (j : ℕ) (columns : List (List Cell)) (p : Pick) (picks : List Pick) → map head_cell (picked_columns false j columns (p ∷ picks)) ≡ picked_from j columns p
+abbrev picked_alone : ℕ → List (List Cell) → List Pick → List (List Cell)
+picked_alone j [] picks = []
+picked_alone j (c ∷ cs) picks = picked_cells c j picks ∷ picked_alone (j + 1) cs picks
+
+picked_firsts : (j : ℕ) (columns : List (List Cell)) (p : Pick) (picks : List Pick) → map head_cell (picked_alone j columns (p ∷ picks)) ≡ picked_from j columns p
 picked_firsts j [] p picks = refl
 picked_firsts j (c ∷ cs) p picks = ap (λ r. origin_cell c j p.origin ∷ r) (picked_firsts (j + 1) cs p picks)
 
-picked_laters : (j : ℕ) (columns : List (List Cell)) (p : Pick) (picks : List Pick) → map later_cells (picked_columns false j columns (p ∷ picks)) ≡ picked_columns false j columns picks
+picked_laters : (j : ℕ) (columns : List (List Cell)) (p : Pick) (picks : List Pick) → map later_cells (picked_alone j columns (p ∷ picks)) ≡ picked_alone j columns picks
 picked_laters j [] p picks = refl
 picked_laters j (c ∷ cs) p picks = ap (λ r. picked_cells c j picks ∷ r) (picked_laters (j + 1) cs p picks)
 
@@ -89,26 +95,31 @@ picked_row columns dtypes p e h = step p.origin refl h where
   step (Old i) is h = from_old 0 columns p i is
   step (New row) is h = let l = length_is_row dtypes row.now h in from_new 0 columns p row is (omega (arith, l, e))
 
-pub rows_of_picks : (columns : List (List Cell)) (dtypes : List CellType) (picks : List Pick) → length dtypes ≡ length columns → AreRows dtypes picks → tagged_rows (map (λ p. p.tag) picks) (picked_columns false 0 columns picks) ≡ picked_rows columns picks
+rows_of_picks : (columns : List (List Cell)) (dtypes : List CellType) (picks : List Pick) → length dtypes ≡ length columns → AreRows dtypes picks → tagged_rows (map (λ p. p.tag) picks) (picked_alone 0 columns picks) ≡ picked_rows columns picks
 rows_of_picks columns dtypes [] e h = refl
 rows_of_picks columns dtypes (p ∷ picks) e h =
     let first = picked_firsts 0 columns p picks ∙ picked_row columns dtypes p e (T-first _ _ h) in
     let rest = rows_of_picks columns dtypes picks e (T-second (is_new_row dtypes p.origin) _ h) in
     λ k. (p.tag, first k) ∷ (ap (tagged_rows (map (λ p. p.tag) picks)) (picked_laters 0 columns p picks) ∙ rest) k
 
--- columns that go on behind all old cells
+-- columns whose cells stand one behind the other
 abbrev beside : List (List Cell) → List (List Cell) → List (List Cell)
 beside [] ds = []
 beside (c ∷ cs) [] = []
 beside (c ∷ cs) (d ∷ ds) = (c ++ d) ∷ beside cs ds
 
-grown_columns : (j : ℕ) (columns : List (List Cell)) (picks : List Pick) → picked_columns true j columns picks ≡ beside columns (picked_columns false j columns picks)
-grown_columns j [] picks = refl
-grown_columns j (c ∷ cs) picks = ap (λ r. (c ++ picked_cells c j picks) ∷ r) (grown_columns (j + 1) cs picks)
+spliced_beside : (low high j : ℕ) (columns : List (List Cell)) (picks : List Pick) → spliced_columns low high j columns picks ≡ beside (map (take low) columns) (beside (picked_alone j columns picks) (map (drop high) columns))
+spliced_beside low high j [] picks = refl
+spliced_beside low high j (c ∷ cs) picks = ap (λ r. spliced low high (picked_cells c j picks) c ∷ r) (spliced_beside low high (j + 1) cs picks)
 
-pub length_columns : (whole : Bool) (j : ℕ) (columns : List (List Cell)) (picks : List Pick) → length (picked_columns whole j columns picks) ≡ length columns
-length_columns whole j [] picks = refl
-length_columns whole j (c ∷ cs) picks = ap suc (length_columns whole (j + 1) cs picks)
+alone_length : (j : ℕ) (columns : List (List Cell)) (picks : List Pick) → length (picked_alone j columns picks) ≡ length columns
+alone_length j [] picks = refl
+alone_length j (c ∷ cs) picks = ap suc (alone_length (j + 1) cs picks)
+
+beside_length : (cs ds : List (List Cell)) → length ds ≡ length cs → length (beside cs ds) ≡ length cs
+beside_length [] ds h = refl
+beside_length (c ∷ cs) [] h = absurd (omega arith)
+beside_length (c ∷ cs) (d ∷ ds) h = ap suc (beside_length cs ds (omega arith))
 
 not_even : (n : ℕ) → T (0 == suc n) → ⊥
 not_even n h = let e : 0 ≡ suc n = eqb-true 0 (suc n) (true_from_T _ h) in omega arith
@@ -157,12 +168,66 @@ beside_rows (t ∷ ts) us cs ds h e =
     let rest = ap (tagged_rows (ts ++ us)) (beside_laters (length ts) cs ds h e) ∙ beside_rows ts us (map later_cells cs) ds (even_laters (length ts) cs h) (omega (arith, l, e)) in
     λ k. (t, first k) ∷ rest k
 
--- the rows of a block that is made along picks, behind all old rows or alone
-pub rows_made : (whole : Bool) (ts : List Tag) (columns : List (List Cell)) (dtypes : List CellType) (picks : List Pick) → T (are_even (length ts) columns) → length dtypes ≡ length columns → AreRows dtypes picks
-    → tagged_rows (all_or_none whole ts ++ map (λ p. p.tag) picks) (picked_columns whole 0 columns picks) ≡ all_or_none whole (tagged_rows ts columns) ++ picked_rows columns picks
-rows_made false ts columns dtypes picks h e rows = rows_of_picks columns dtypes picks e rows
-rows_made true ts columns dtypes picks h e rows =
-    let l = length_columns false 0 columns picks in
-    ap (tagged_rows (ts ++ map (λ p. p.tag) picks)) (grown_columns 0 columns picks)
-    ∙ beside_rows ts (map (λ p. p.tag) picks) columns (picked_columns false 0 columns picks) h l
-    ∙ ap (λ r. tagged_rows ts columns ++ r) (rows_of_picks columns dtypes picks e rows)
+-- parts of columns of the same length, and their rows
+alone_even : (j : ℕ) (columns : List (List Cell)) (picks : List Pick) → T (are_even (length (map (λ p. p.tag) picks)) (picked_alone j columns picks))
+alone_even j [] picks = tt
+alone_even j (c ∷ cs) picks =
+    let k = mapped_length (λ p. p.tag) picks in
+    let m = mapped_length (λ p. origin_cell c j p.origin) picks in
+    let same : length (picked_cells c j picks) ≡ length (map (λ p. p.tag) picks) = omega (arith, k, m) in
+    T-both _ _ (subst T (sym (eq-eqb _ _ same)) tt) (alone_even (j + 1) cs picks)
+
+taken_even : (n : ℕ) (ts : List Tag) (columns : List (List Cell)) → T (are_even (length ts) columns) → T (are_even (length (take n ts)) (map (take n) columns))
+taken_even n ts [] h = tt
+taken_even n ts (c ∷ cs) h =
+    let long = eqb-true (length c) (length ts) (true_from_T _ (T-first (length c == length ts) _ h)) in
+    let k = length-take n ts in
+    let m = length-take n c in
+    let same : length (take n c) ≡ length (take n ts) = omega (arith, k, m, long) in
+    T-both _ _ (subst T (sym (eq-eqb _ _ same)) tt) (taken_even n ts cs (T-second (length c == length ts) _ h))
+
+taken_rows : (n : ℕ) (ts : List Tag) (columns : List (List Cell)) → tagged_rows (take n ts) (map (take n) columns) ≡ take n (tagged_rows ts columns)
+taken_rows zero ts columns = refl
+taken_rows (suc n) [] columns = refl
+taken_rows (suc n) (t ∷ ts) columns =
+    let rest = ap (tagged_rows (take n ts)) (laters columns) ∙ taken_rows n ts (map later_cells columns) in
+    λ k. (t, (firsts columns) k) ∷ rest k
+  where
+    firsts : (cs : List (List Cell)) → map head_cell (map (take (suc n)) cs) ≡ map head_cell cs
+    firsts [] = refl
+    firsts ([] ∷ cs) = ap (λ r. cell.Null ∷ r) (firsts cs)
+    firsts ((c ∷ c') ∷ cs) = ap (λ r. c ∷ r) (firsts cs)
+
+    laters : (cs : List (List Cell)) → map later_cells (map (take (suc n)) cs) ≡ map (take n) (map later_cells cs)
+    laters [] = refl
+    laters ([] ∷ cs) = λ k. (sym (take-nil n)) k ∷ (laters cs) k
+    laters ((c ∷ c') ∷ cs) = ap (λ r. take n c' ∷ r) (laters cs)
+
+dropped_rows : (n : ℕ) (ts : List Tag) (columns : List (List Cell)) → tagged_rows (drop n ts) (map (drop n) columns) ≡ drop n (tagged_rows ts columns)
+dropped_rows zero ts columns = ap (tagged_rows ts) (all columns) where
+  all : (cs : List (List Cell)) → map (drop 0) cs ≡ cs
+  all [] = refl
+  all (c ∷ cs) = ap (λ r. c ∷ r) (all cs)
+dropped_rows (suc n) [] columns = refl
+dropped_rows (suc n) (t ∷ ts) columns = ap (tagged_rows (drop n ts)) (laters columns) ∙ dropped_rows n ts (map later_cells columns) where
+  laters : (cs : List (List Cell)) → map (drop (suc n)) cs ≡ map (drop n) (map later_cells cs)
+  laters [] = refl
+  laters ([] ∷ cs) = λ k. (sym (drop-nil n)) k ∷ (laters cs) k
+  laters ((c ∷ c') ∷ cs) = ap (λ r. drop n c' ∷ r) (laters cs)
+
+-- the rows of a block with picked rows in place of some
+pub rows_made : (low high : ℕ) (ts : List Tag) (columns : List (List Cell)) (dtypes : List CellType) (picks : List Pick) → T (are_even (length ts) columns) → length dtypes ≡ length columns → AreRows dtypes picks
+    → tagged_rows (spliced low high (map (λ p. p.tag) picks) ts) (spliced_columns low high 0 columns picks) ≡ spliced low high (picked_rows columns picks) (tagged_rows ts columns)
+rows_made low high ts columns dtypes picks h e rows =
+    let tags = map (λ p. p.tag) picks in
+    let front = map (take low) columns in
+    let alone = picked_alone 0 columns picks in
+    let back = map (drop high) columns in
+    let f = mapped_length (take low) columns in
+    let a = alone_length 0 columns picks in
+    let b = mapped_length (drop high) columns in
+    let l = beside_length alone back (omega (arith, a, b)) in
+    ap (tagged_rows (spliced low high tags ts)) (spliced_beside low high 0 columns picks)
+    ∙ beside_rows (take low ts) (tags ++ drop high ts) front (beside alone back) (taken_even low ts columns h) (omega (arith, l, a, f))
+    ∙ (λ k. (taken_rows low ts columns) k ++ (beside_rows tags (drop high ts) alone back (alone_even 0 columns picks) (omega (arith, a, b))) k)
+    ∙ ap (λ r. take low (tagged_rows ts columns) ++ r) (λ k. (rows_of_picks columns dtypes picks e rows) k ++ (dropped_rows high ts columns) k)

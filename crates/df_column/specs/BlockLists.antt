@@ -1,9 +1,10 @@
 -- Runs of blocks, where a block stands in one, and what a leaf keeps of its blocks.
-use Rattle.std.specs.Prelude.{◌≡◌, ℕ, ◌+◌, ◌<◌, List, [], ◌∷◌, ◌++◌, ◌-◌, Option, Some, None, length, map, slice_index_or}
+use Rattle.std.specs.Prelude.{◌≡◌, ℕ, ◌+◌, ◌<◌, List, [], ◌∷◌, ◌++◌, ◌-◌, ◌≤◌, Option, Some, None, length, map, slice_index_or}
 use Rattle.df_value.specs.declared.cell.Cell.{Cell}
 use Rattle.df_column.specs.Blocks.{BlockParts, ends_of, rows_of_blocks}
 use Rattle.df_column.specs.Changes.{IsHead}
 use Rattle.df_column.specs.Extremes.{cells_at, extreme_of}
+use Rattle.df_column.specs.Picks.{spliced}
 use Rattle.df_column.specs.declared.extremes.Extreme.{Extreme}
 use Rattle.df_column.specs.declared.extremes.Extreme.TheVariants as extreme
 use Rattle.df_column.specs.declared.tag.Tag.{Tag}
@@ -52,3 +53,10 @@ pub record IsRunAt (blocks : List BlockParts) (at : ℕ) (run : List BlockParts)
 -- the last of these ends, 0 where there is none
 abbrev pub last_of : List ℕ → ℕ
 last_of ends = slice_index_or ends (length ends - 1) 0
+
+-- the new blocks are the old ones, but for those from one index up to another, in whose place stand others
+pub record IsSpliceOf (old : List BlockParts) (low high : ℕ) (new : List BlockParts) : Type 0 where
+  pub ordered : low ≤ high
+  pub in_range : high ≤ length old
+  pub others : List BlockParts
+  pub is : new ≡ spliced low high others old

@@ -1,5 +1,5 @@
 -- Rows picked from an old block and from new rows.
-use Rattle.std.specs.Prelude.{ℕ, ◌+◌, ◌==◌, Bool, true, false, nat_lt, T, List, [], ◌∷◌, map, slice_index_or}
+use Rattle.std.specs.Prelude.{ℕ, ◌+◌, ◌==◌, Bool, true, false, nat_lt, T, List, [], ◌∷◌, ◌++◌, map, slice_index_or, take, drop}
 use Rattle.std.specs.List.{list_all}
 use Rattle.df_value.specs.Cells.{fits_dtype}
 use Rattle.df_value.specs.declared.cell.Cell.{Cell}
@@ -18,10 +18,9 @@ origin_cell cells at (New row) = slice_index_or row.now at cell.Null
 abbrev pub picked_cells : List Cell → ℕ → List Pick → List Cell
 picked_cells cells at picks = map (λ p. origin_cell cells at p.origin) picks
 
--- all of the items, or none of them
-abbrev pub all_or_none : {X : Type 0} → Bool → List X → List X
-all_or_none true xs = xs
-all_or_none false xs = []
+-- the items up to one index, others, and the items from another index on
+abbrev pub spliced : {X : Type 0} → ℕ → ℕ → List X → List X → List X
+spliced low high more xs = take low xs ++ (more ++ drop high xs)
 
 -- whether an old row is one of the first n
 abbrev pub is_within : ℕ → Origin → Bool

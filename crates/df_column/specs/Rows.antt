@@ -1,5 +1,5 @@
 -- The rows of a block: a tag and, in each column, a cell for each of them.
-use Rattle.std.specs.Prelude.{ℕ, Bool, true, T, List, [], ◌∷◌, ◌++◌, ◌+◌, map, length, slice_index_or, ◌==◌, Option, Some, None}
+use Rattle.std.specs.Prelude.{ℕ, Bool, true, T, List, [], ◌∷◌, ◌+◌, map, length, slice_index_or, ◌==◌, Option, Some, None}
 use Rattle.std.specs.Cmp.Lexicographic.{pointwise}
 use Rattle.std.specs.List.{list_all}
 use Rattle.std.specs.FinMap.{is_sorted}
@@ -7,7 +7,7 @@ use Rattle.df_value.specs.Cells.{fits_dtype}
 use Rattle.df_value.specs.declared.cell.Cell.{Cell}
 use Rattle.df_value.specs.declared.cell.Cell.TheVariants as cell
 use Rattle.df_value.specs.declared.cell.CellType.{CellType}
-use Rattle.df_column.specs.Picks.{picked_cells, all_or_none}
+use Rattle.df_column.specs.Picks.{picked_cells, spliced}
 use Rattle.df_column.specs.declared.picks.Origin.{Origin}
 use Rattle.df_column.specs.declared.picks.Origin.TheVariants.{Old, New}
 use Rattle.df_column.specs.declared.picks.Pick.{Pick}
@@ -59,11 +59,11 @@ is_new_row dtypes (New row) = is_row dtypes row.now
 abbrev pub AreRows : List CellType → List Pick → Type 0
 AreRows dtypes picks = T (list_all (λ p. is_new_row dtypes p.origin) picks)
 
--- the columns of the picked rows, from the column at this index on
-abbrev pub picked_columns : Bool → ℕ → List (List Cell) → List Pick → List (List Cell)
-picked_columns whole at [] picks = []
-picked_columns whole at (c ∷ cs) picks =
-    (all_or_none whole c ++ picked_cells c at picks) ∷ picked_columns whole (at + 1) cs picks
+-- the columns with the picked rows in place of those from one index up to another, from the column at this index on
+abbrev pub spliced_columns : ℕ → ℕ → ℕ → List (List Cell) → List Pick → List (List Cell)
+spliced_columns low high at [] picks = []
+spliced_columns low high at (c ∷ cs) picks =
+    spliced low high (picked_cells c at picks) c ∷ spliced_columns low high (at + 1) cs picks
 
 -- the tags rise
 abbrev pub AreRisingTags : List Tag → Type 0

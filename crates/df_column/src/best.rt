@@ -1,7 +1,7 @@
 //! The least or the greatest cell of a column, looked for among its values.
-ghost use Rattle.std.specs.Prelude.{◌≡◌, ◌+◌, ◌<◌, Some, cond, length, map, slice_index_or, take, IfSome};
+ghost use Rattle.std.specs.Prelude.{◌≡◌, ◌<◌, Some, cond, length, map, slice_index_or, IfSome};
 ghost use Rattle.df_value.specs.declared.cell.Cell.TheVariants as cell_as;
-ghost use Rattle.df_column.specs.BlockExtremes.{IsExtremeAt, cell_there, some_cell};
+ghost use Rattle.df_column.specs.BlockExtremes.{IsExtremeAt, IsSearch, cell_there, some_cell};
 ghost use Rattle.df_column.specs.Extremes as extremes;
 ghost use Rattle.df_column.specs.ValueCells.{text_cell};
 
@@ -9,6 +9,14 @@ use crate::extremes::{Extreme, is_beyond};
 use crate::masked::Masked;
 use crate::texts::Texts;
 use crate::values::CellValue;
+
+/// The cells that are looked at, from one index up to another, and where the best of all others stands.
+#[derive(Clone, Copy)]
+pub(crate) struct Search {
+    pub known: Option<usize>,
+    pub low: usize,
+    pub high: usize,
+}
 
 /// The best value so far and its index; both are none where all values so far are null.
 #[derive(Clone, Copy)]
@@ -47,21 +55,16 @@ fn better_value<T: CellValue>(
     best
 }
 
-/// The best of the first values, whose index is known.
-fn known_best<T: CellValue>(
-    extreme: Extreme,
-    values: &Masked<T>,
-    known: Option<usize>,
-    from: usize,
-) -> Best<T>
-    requires { IsExtremeAt extreme (take from (map T.cell_of values.now)) known }
-    ensures at { result.at ≡ known }
+/// The best of the values that are not looked at.
+fn known_best<T: CellValue>(extreme: Extreme, values: &Masked<T>, search: Search) -> Best<T>
+    requires { IsSearch extreme (map T.cell_of values.now) search }
+    ensures at { result.at ≡ search.known }
     ensures value { some_cell T.cell_of result.value ≡
-        cell_there (take from (map T.cell_of values.now)) known }
+        cell_there (map T.cell_of values.now) search.known }
 {
-    match known {
+    match search.known {
         Some(at) => Best {
-            at: known,
+            at: search.known,
             value: values.get(at),
         },
         None => Best {
@@ -71,18 +74,17 @@ fn known_best<T: CellValue>(
     }
 }
 
-/// The index of the best of all values, where that of the first `from` is known.
-pub(crate) fn best_value_from<T: CellValue>(
+/// The index of the best of all values.
+pub(crate) fn best_value_in<T: CellValue>(
     extreme: Extreme,
     values: &Masked<T>,
-    known: Option<usize>,
-    from: usize,
+    search: Search,
 ) -> Option<usize>
-    requires { IsExtremeAt extreme (take from (map T.cell_of values.now)) known }
+    requires { IsSearch extreme (map T.cell_of values.now) search }
     ensures { IsExtremeAt extreme (map T.cell_of values.now) result }
 {
-    let mut best = known_best(extreme, values, known, from);
-    for at in from..values.len() {
+    let mut best = known_best(extreme, values, search);
+    for at in search.low..search.high {
         best = better_value(extreme, best, at, values.get(at));
     }
     best.at
@@ -107,8 +109,9 @@ fn is_better_text(extreme: Extreme, texts: &Texts, best: Option<usize>, at: usiz
 /// The index of the better of the best text so far and the one at this index.
 fn better_text(extreme: Extreme, texts: &Texts, best: Option<usize>, at: usize) -> Option<usize>
     requires at { at < length (map text_cell texts.now) }
-    requires best { IsExtremeAt extreme (take at (map text_cell texts.now)) best }
-    ensures { IsExtremeAt extreme (take (at + 1) (map text_cell texts.now)) result }
+    requires best { IfSome best (λ i. i < length (map text_cell texts.now)) }
+    ensures { result ≡ cond (extremes.is_better extreme (cell_there (map text_cell texts.now) best)
+        (slice_index_or (map text_cell texts.now) at cell_as.Null)) (Some at) best }
 {
     if is_better_text(extreme, texts, best, at) {
         return Some(at);
@@ -116,18 +119,13 @@ fn better_text(extreme: Extreme, texts: &Texts, best: Option<usize>, at: usize) 
     best
 }
 
-/// The index of the best of all texts, where that of the first `from` is known.
-pub(crate) fn best_text_from(
-    extreme: Extreme,
-    texts: &Texts,
-    known: Option<usize>,
-    from: usize,
-) -> Option<usize>
-    requires { IsExtremeAt extreme (take from (map text_cell texts.now)) known }
+/// The index of the best of all texts.
+pub(crate) fn best_text_in(extreme: Extreme, texts: &Texts, search: Search) -> Option<usize>
+    requires { IsSearch extreme (map text_cell texts.now) search }
     ensures { IsExtremeAt extreme (map text_cell texts.now) result }
 {
-    let mut best = known;
-    for at in from..texts.len() {
+    let mut best = search.known;
+    for at in search.low..search.high {
         best = better_text(extreme, texts, best, at);
     }
     best

@@ -1,19 +1,19 @@
 //! Blocks of at most 256 tagged rows.
-ghost use Rattle.std.specs.Prelude.{◌≡◌, ◌<◌, ◌≤◌, ◌+◌, ◌++◌, T, List, IfOk, map, length, slice_index_or};
+ghost use Rattle.std.specs.Prelude.{◌≡◌, ◌<◌, ◌≤◌, ◌+◌, ◌-◌, T, IfOk, map, length, slice_index_or};
 ghost use Rattle.df_value.specs.Rows.{row_eq};
 ghost use Rattle.df_value.specs.declared.cell.Cell.{Cell};
 ghost use Rattle.df_column.specs.BlockExtremes.{AreExtremes, AreKnown, IsExtremeAt};
 ghost use Rattle.df_column.specs.Blocks.{block_rows};
 ghost use Rattle.df_column.specs.Changes.{IsHead};
 ghost use Rattle.df_column.specs.Columns.{column_cells, dtype_of_column};
-ghost use Rattle.df_column.specs.Picks.{AreWithin, picked_cells, all_or_none};
+ghost use Rattle.df_column.specs.Picks.{AreWithin, picked_cells, spliced};
 ghost use Rattle.df_column.specs.Rows as rows;
 ghost use Rattle.df_column.specs.Rows.{AreRows, are_even, row_at};
 ghost use Rattle.df_column.specs.Sizes.{most_rows};
 ghost use Rattle.df_column.specs.declared.column.Column.{Column};
 
 use crate::column::Column;
-use crate::extremes::{Extreme, Extremes, extremes_of, known_at};
+use crate::extremes::{Extreme, Extremes, Splice, extremes_of, known_at};
 use crate::picks::Pick;
 use crate::tag::Tag;
 use df_value::{Cell, Row, both};
@@ -43,82 +43,79 @@ impl Model for Block {
     ghost invariant = { λ b. IsKeptBlock b.tags.items b.columns.items b.extremes.items };
 }
 
-/// The column at this index for the picked rows, behind all its cells if `whole` says so.
-fn picked_column(
+/// The column at this index, with the picked rows in place of those from `low` up to `high`.
+fn spliced_column(
     alloc: Global,
     tags: &[Tag],
     columns: &[Column],
     at: usize,
-    whole: bool,
+    low: usize,
+    high: usize,
     picks: &[Pick<'_>],
 ) -> Result<Column, AllocError>
     requires at { at < length columns.now }
     requires even { T (are_even (length tags.now) (map column_cells columns.now)) }
+    requires ordered { low ≤ high }
+    requires in_range { high ≤ length tags.now }
     requires within { AreWithin (length tags.now) picks.now }
     requires rows { AreRows (map dtype_of_column columns.now) picks.now }
-    requires few { length (all_or_none whole tags.now) + length picks.now ≤ most_rows }
+    requires few { low + length picks.now + (length tags.now - high) ≤ most_rows }
     ensures cells { IfOk result (λ c. (d : Column) → column_cells c ≡
-        all_or_none whole (column_cells (slice_index_or columns.now at d))
-        ++ picked_cells (column_cells (slice_index_or columns.now at d)) at picks.now) }
+        spliced low high (picked_cells (column_cells (slice_index_or columns.now at d)) at picks.now)
+        (column_cells (slice_index_or columns.now at d))) }
     ensures dtype { IfOk result (λ c. (d : Column) → dtype_of_column c ≡
         dtype_of_column (slice_index_or columns.now at d)) }
 {
-    columns[at].picked(alloc, whole, at, picks)
+    columns[at].spliced(alloc, low, high, at, picks)
 }
 
-/// The columns for the picked rows, behind all their cells if `whole` says so.
-fn picked_columns(
+/// The columns, with the picked rows in place of those from `low` up to `high`.
+fn spliced_columns(
     alloc: Global,
     tags: &[Tag],
     columns: &[Column],
-    whole: bool,
+    low: usize,
+    high: usize,
     picks: &[Pick<'_>],
 ) -> Result<Vec<Column>, AllocError>
     requires even { T (are_even (length tags.now) (map column_cells columns.now)) }
+    requires ordered { low ≤ high }
+    requires in_range { high ≤ length tags.now }
     requires within { AreWithin (length tags.now) picks.now }
     requires rows { AreRows (map dtype_of_column columns.now) picks.now }
-    requires few { length (all_or_none whole tags.now) + length picks.now ≤ most_rows }
+    requires few { low + length picks.now + (length tags.now - high) ≤ most_rows }
     ensures cells { IfOk result (λ v. map column_cells v.items ≡
-        rows.picked_columns whole 0 (map column_cells columns.now) picks.now) }
+        rows.spliced_columns low high 0 (map column_cells columns.now) picks.now) }
     ensures dtypes { IfOk result (λ v. map dtype_of_column v.items ≡ map dtype_of_column columns.now) }
 {
     let mut out = Vec::with_capacity(alloc, columns.len())?;
     for at in 0..columns.len() {
-        let column = picked_column(alloc, tags, columns, at, whole, picks)?;
+        let column = spliced_column(alloc, tags, columns, at, low, high, picks)?;
         out.push(column)?;
     }
     Ok(out)
 }
 
-/// The tags of the picked rows, behind all these tags if `whole` says so.
-fn picked_tags(
+/// The tags, with those of the picked rows in place of those from `low` up to `high`.
+fn spliced_tags(
     alloc: Global,
     tags: &[Tag],
-    whole: bool,
+    low: usize,
+    high: usize,
     picks: &[Pick<'_>],
 ) -> Result<Vec<Tag>, AllocError>
-    requires { length (all_or_none whole tags.now) + length picks.now ≤ most_rows }
-    ensures { IfOk result (λ v. v.items ≡ all_or_none whole tags.now ++ map (λ p. p.tag) picks.now) }
+    requires ordered { low ≤ high }
+    requires in_range { high ≤ length tags.now }
+    requires few { low + length picks.now + (length tags.now - high) ≤ most_rows }
+    ensures { IfOk result (λ v. v.items ≡ spliced low high (map (λ p. p.tag) picks.now) tags.now) }
 {
-    let mut out = start_tags(alloc, tags, whole, picks.len())?;
+    let mut out = Vec::with_capacity(alloc, low + picks.len() + (tags.len() - high))?;
+    out.extend_from_slice(&tags[..low])?;
     for pick in picks {
         out.push(pick.tag)?;
     }
+    out.extend_from_slice(&tags[high..])?;
     Ok(out)
-}
-
-/// These tags or none, with room for more.
-fn start_tags(alloc: Global, tags: &[Tag], whole: bool, more: usize) -> Result<Vec<Tag>, AllocError>
-    requires { length (all_or_none whole tags.now) + more ≤ most_rows }
-    ensures { IfOk result (λ v. v.items ≡ all_or_none whole tags.now) }
-{
-    if whole {
-        let mut out = Vec::with_capacity(alloc, tags.len() + more)?;
-        out.extend_from_slice(tags)?;
-        Ok(out)
-    } else {
-        Ok(Vec::with_capacity(alloc, more)?)
-    }
 }
 
 /// Whether the columns have these cells at this index.
@@ -139,30 +136,34 @@ fn are_cells(tags: &[Tag], columns: &[Column], at: usize, cells: &[Cell]) -> boo
 }
 
 impl Block {
-    /// The picked rows of the block of these tags and columns, behind all its rows if `whole` says so. Then the ends of its
-    /// columns are known, and only the picked rows are looked at for those of the new columns.
-    pub fn picked(
+    /// A block of the rows of these tags and columns up to one index, the picked rows, and the rows from another index on.
+    /// Where the row of an extreme stays, only the picked rows are looked at for it.
+    pub fn spliced(
         alloc: Global,
         tags: &[Tag],
         columns: &[Column],
         known: &[Extremes],
-        whole: bool,
+        low: usize,
+        high: usize,
         picks: &[Pick<'_>],
     ) -> Result<Block, AllocError>
         requires even { T (are_even (length tags.now) (map column_cells columns.now)) }
-        requires known { AreKnown whole (map column_cells columns.now) known.now }
+        requires known { AreKnown (map column_cells columns.now) known.now }
+        requires ordered { low ≤ high }
+        requires in_range { high ≤ length tags.now }
         requires within { AreWithin (length tags.now) picks.now }
         requires rows { AreRows (map dtype_of_column columns.now) picks.now }
-        requires some { 0 < length picks.now }
-        requires few { length (all_or_none whole tags.now) + length picks.now ≤ most_rows }
+        requires some { 0 < low + length picks.now + (length tags.now - high) }
+        requires few { low + length picks.now + (length tags.now - high) ≤ most_rows }
         ensures rows { IfOk result (λ b. block_rows b ≡
-            all_or_none whole (rows.tagged_rows tags.now (map column_cells columns.now))
-            ++ rows.picked_rows (map column_cells columns.now) picks.now) }
+            spliced low high (rows.picked_rows (map column_cells columns.now) picks.now)
+            (rows.tagged_rows tags.now (map column_cells columns.now))) }
         ensures dtypes { IfOk result (λ b. map dtype_of_column b.columns ≡ map dtype_of_column columns.now) }
     {
-        let made = picked_columns(alloc, tags, columns, whole, picks);
-        let (tags, columns) = both(picked_tags(alloc, tags, whole, picks), made)?;
-        let extremes = extremes_of(alloc, &columns, known, tags.as_slice().len() - picks.len())?;
+        let made = spliced_columns(alloc, tags, columns, low, high, picks);
+        let (tags, columns) = both(spliced_tags(alloc, tags, low, high, picks), made)?;
+        let count = picks.len();
+        let extremes = extremes_of(alloc, &columns, known, Splice { low, high, count })?;
         Ok(Block {
             tags,
             columns,

@@ -29,9 +29,11 @@ use std::marker::Model;
 use std::sync::Arc;
 
 /// The most blocks of a leaf.
-const LEAF: usize = 8;
+pub const LEAF: usize = 8;
+/// So many blocks behind the leaves are too many: the first of them become a leaf.
+const TOO_MANY_BEHIND: usize = 10;
 
-/// Blocks in order: leaves of up to 8 blocks, which several lists share, and up to 15 blocks behind them. So a list that
+/// Blocks in order: leaves of up to 8 blocks, which several lists share, and up to 9 blocks behind them. So a list that
 /// differs from another in one place shares all but one leaf with it. Contracts see the blocks.
 #[derive(Drop)]
 pub struct BlockList {
@@ -175,7 +177,7 @@ impl BlockList {
         let BlockList { leaves, tail } = self;
         end_behind(leaves.rows() + tail.rows(), block.tags().len())?;
         let tail = tail.pushed(block)?;
-        if tail.len() < 2 * LEAF {
+        if tail.len() < TOO_MANY_BEHIND {
             return Ok(BlockList { leaves, tail });
         }
         let list = with_first_leaf(alloc, leaves, tail)?;
@@ -261,7 +263,7 @@ impl BlockList {
         ensures some { IfOk result (λ v. 0 < v.1) }
         ensures within { IfOk result (λ v. low + v.1 ≤ high) }
     {
-        if self.tail.len().saturating_add(high - low) < 2 * LEAF {
+        if self.tail.len().saturating_add(high - low) < TOO_MANY_BEHIND {
             let list = self.with_part(run, low, high)?;
             return Ok((list, high - low));
         }

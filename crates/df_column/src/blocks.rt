@@ -9,7 +9,7 @@ ghost use Rattle.df_column.specs.BlockRows.{AddsFirst, AddsRows};
 ghost use Rattle.df_column.specs.Blocks.{AreOfDtypes, block_rows, rows_of_blocks};
 ghost use Rattle.df_column.specs.Changes.{IsNext, after_changes};
 ghost use Rattle.df_column.specs.Columns.{column_cells, dtype_of_column};
-ghost use Rattle.df_column.specs.Picks.{AreWithin, all_or_none};
+ghost use Rattle.df_column.specs.Picks.{AreWithin, spliced};
 ghost use Rattle.df_column.specs.Rows as rows;
 ghost use Rattle.df_column.specs.Rows.{AreNewRows, AreRows, are_even};
 ghost use Rattle.df_column.specs.Sizes.{most_rows};
@@ -24,7 +24,7 @@ use crate::block_list::BlockList;
 use crate::column::Column;
 use crate::entry::Entry;
 use crate::extremes::Extremes;
-use crate::merge::merge;
+use crate::merge::{Merged, merge, merge_changed};
 use crate::picks::Pick;
 use crate::tag::Tag;
 use std::alloc::{AllocError, Global};
@@ -41,28 +41,31 @@ fn with_shared(alloc: Global, out: BlockList, block: &Arc<Block>) -> Result<Bloc
     Ok(made)
 }
 
-/// The list with one block behind it: of the picked rows, after all rows of these tags and columns if `whole` says so, as
-/// [`Block::picked`] makes it.
-pub fn with_picked(
+/// The list with one block behind it: of the rows of these tags and columns, with the picked rows in place of those from
+/// `low` up to `high`, as [`Block::spliced`] makes it.
+pub fn with_spliced(
     alloc: Global,
     out: BlockList,
     tags: &[Tag],
     columns: &[Column],
     known: &[Extremes],
-    whole: bool,
+    low: usize,
+    high: usize,
     picks: &[Pick<'_>],
 ) -> Result<BlockList, AllocError>
     requires even { T (are_even (length tags.now) (map column_cells columns.now)) }
-    requires known { AreKnown whole (map column_cells columns.now) known.now }
+    requires known { AreKnown (map column_cells columns.now) known.now }
+    requires ordered { low ≤ high }
+    requires in_range { high ≤ length tags.now }
     requires within { AreWithin (length tags.now) picks.now }
     requires rows { AreRows (map dtype_of_column columns.now) picks.now }
-    requires some { 0 < length picks.now }
-    requires few { length (all_or_none whole tags.now) + length picks.now ≤ most_rows }
+    requires some { 0 < low + length picks.now + (length tags.now - high) }
+    requires few { low + length picks.now + (length tags.now - high) ≤ most_rows }
     ensures { IfOk result (AddsRows (map dtype_of_column columns.now)
-        (all_or_none whole (rows.tagged_rows tags.now (map column_cells columns.now))
-        ++ rows.picked_rows (map column_cells columns.now) picks.now) out) }
+        (spliced low high (rows.picked_rows (map column_cells columns.now) picks.now)
+        (rows.tagged_rows tags.now (map column_cells columns.now))) out) }
 {
-    let block = Block::picked(alloc, tags, columns, known, whole, picks)?;
+    let block = Block::spliced(alloc, tags, columns, known, low, high, picks)?;
     let block = Arc::new(alloc, block)?;
     let made = out.pushed(alloc, block)?;
     Ok(made)
@@ -74,10 +77,12 @@ pub fn with_parts(
     out: BlockList,
     tags: &[Tag],
     columns: &[Column],
+    known: &[Extremes],
     picks: &[Pick<'_>],
     size: usize,
 ) -> Result<BlockList, AllocError>
     requires even { T (are_even (length tags.now) (map column_cells columns.now)) }
+    requires known { AreKnown (map column_cells columns.now) known.now }
     requires within { AreWithin (length tags.now) picks.now }
     requires rows { AreRows (map dtype_of_column columns.now) picks.now }
     requires some { 0 < size }
@@ -89,7 +94,8 @@ pub fn with_parts(
     let mut from = 0;
     while from < picks.len() {
         let to = from + size.min(picks.len() - from);
-        made = with_picked(alloc, made, tags, columns, &[], false, &picks[from..to])?;
+        let part = &picks[from..to];
+        made = with_spliced(alloc, made, tags, columns, known, 0, tags.len(), part)?;
         from = to;
     }
     Ok(made)
@@ -137,28 +143,24 @@ fn with_grown(
     if picks.is_empty() {
         return with_shared(alloc, out, block);
     }
+    let tags = block.tags();
+    let columns = block.columns();
     let known = block.extremes();
-    with_picked(
-        alloc,
-        out,
-        block.tags(),
-        block.columns(),
-        known,
-        true,
-        picks,
-    )
+    let rows = tags.len();
+    let made = with_spliced(alloc, out, tags, columns, known, rows, rows, picks)?;
+    Ok(made)
 }
 
 /// A last block that has so many rows is closed: further rows go into a new one, since each row that comes into a block
 /// makes it anew.
 const CLOSED_ROWS: usize = 64;
 
-/// At most how many rows may be put behind those of the block.
-fn room_in(block: &Block, is_last: bool) -> usize
+/// At most how many rows may be put behind those of a last block.
+fn room_in(block: &Block) -> usize
     ensures { length block.now.tags + result ≤ most_rows }
 {
     let rows = block.tags().len();
-    if is_last && rows >= CLOSED_ROWS {
+    if rows >= CLOSED_ROWS {
         return 0;
     }
     MOST_ROWS - rows
@@ -182,16 +184,18 @@ fn with_filled(
 {
     let (first, rest) = picks.split_at(room.min(picks.len()));
     let grown = with_grown(alloc, out, block, first)?;
-    let made = with_parts(alloc, grown, block.tags(), block.columns(), rest, MOST_ROWS)?;
+    let tags = block.tags();
+    let columns = block.columns();
+    let known = block.extremes();
+    let made = with_parts(alloc, grown, tags, columns, known, rest, MOST_ROWS)?;
     Ok(made)
 }
 
-/// The list with the block's rows and then the new rows of these entries behind it.
+/// The list with the rows of a last block and then the new rows of these entries behind it.
 fn with_behind(
     alloc: Global,
     out: BlockList,
     block: &Arc<Block>,
-    is_last: bool,
     entries: &[Entry],
 ) -> Result<BlockList, AllocError>
     requires entries { AreRising entries.now }
@@ -201,12 +205,40 @@ fn with_behind(
         ++ after_changes tag_cmp [] (map entry_change entries.now)) out) }
 {
     let picks = merge(alloc, &[], entries)?;
-    with_filled(alloc, out, block, room_in(block, is_last), &picks)
+    with_filled(alloc, out, block, room_in(block), &picks)
+}
+
+/// The list with the block's rows after these changes behind it, in one block if all fit. Else they are cut evenly.
+fn with_merged(
+    alloc: Global,
+    out: BlockList,
+    block: &Arc<Block>,
+    entries: &[Entry],
+) -> Result<BlockList, AllocError>
+    requires rows { T (finite.is_sorted tag_cmp (block_rows (arc_value block.now))) }
+    requires entries { AreRising entries.now }
+    requires fits { AreNewRows (map dtype_of_column (arc_value block.now).columns) entries.now }
+    ensures { IfOk result (AddsRows (map dtype_of_column (arc_value block.now).columns)
+        (after_changes tag_cmp (block_rows (arc_value block.now)) (map entry_change entries.now))
+        out) }
+{
+    let tags = block.tags();
+    let columns = block.columns();
+    let known = block.extremes();
+    let Merged { low, high, picks } = merge_changed(alloc, tags, entries)?;
+    let rows = (low + (tags.len() - high)).saturating_add(picks.len());
+    if 0 < rows && rows <= MOST_ROWS {
+        let made = with_spliced(alloc, out, tags, columns, known, low, high, &picks)?;
+        return Ok(made);
+    }
+    let picks = merge(alloc, tags, entries)?;
+    let size = part_size(picks.len());
+    let made = with_parts(alloc, out, tags, columns, known, &picks, size)?;
+    Ok(made)
 }
 
 /// The list with the block's rows after these changes behind it: the block itself where there is none. New rows behind
-/// all of a last block go into it until it is closed, and then into new ones; those behind another block go into it if
-/// all fit. Else the rows are cut evenly.
+/// all of a last block go into it until it is closed, and then into new ones.
 fn with_changed(
     alloc: Global,
     out: BlockList,
@@ -224,15 +256,11 @@ fn with_changed(
     if entries.is_empty() {
         return with_shared(alloc, out, block);
     }
-    let tags = block.tags();
-    let has_room = tags.len().saturating_add(entries.len()) <= MOST_ROWS;
-    if (is_last || has_room) && is_behind(tags, entries) {
-        let made = with_behind(alloc, out, block, is_last, entries)?;
+    if is_last && is_behind(block.tags(), entries) {
+        let made = with_behind(alloc, out, block, entries)?;
         return Ok(made);
     }
-    let picks = merge(alloc, tags, entries)?;
-    let size = part_size(picks.len());
-    with_parts(alloc, out, tags, block.columns(), &picks, size)
+    with_merged(alloc, out, block, entries)
 }
 
 /// How many of the entries stand before the tag.
@@ -334,6 +362,6 @@ pub fn with_changes(
         at += 1;
     }
     let picks = merge(alloc, &[], rest)?;
-    let list = with_parts(alloc, made, &[], columns, &picks, MOST_ROWS)?;
+    let list = with_parts(alloc, made, &[], columns, &[], &picks, MOST_ROWS)?;
     Ok(list)
 }

@@ -1,9 +1,9 @@
 //! Columns of cells.
-ghost use Rattle.std.specs.Prelude.{◌≡◌, ◌<◌, ◌≤◌, ◌+◌, ◌++◌, [], IfOk, length, slice_index_or};
+ghost use Rattle.std.specs.Prelude.{◌≡◌, ◌<◌, ◌≤◌, ◌+◌, ◌-◌, [], IfOk, length, slice_index_or};
 ghost use Rattle.df_value.specs.CellEq.{cell_eq};
 ghost use Rattle.df_value.specs.declared.cell.Cell.{Cell};
 ghost use Rattle.df_column.specs.Columns.{column_cells, dtype_of_column};
-ghost use Rattle.df_column.specs.Picks.{AreFit, AreWithin, picked_cells, all_or_none};
+ghost use Rattle.df_column.specs.Picks.{AreFit, AreWithin, picked_cells, spliced};
 ghost use Rattle.df_column.specs.Sizes.{most_rows};
 
 use crate::masked::Masked;
@@ -78,28 +78,31 @@ impl Column {
         }
     }
 
-    /// The cells of the picked rows, in this column or at this index of a new row; behind all cells of this
-    /// column, if `whole` says so.
-    pub(crate) fn picked(
+    /// The cells up to one index, those of the picked rows, and the cells from another index on. A picked row is an old one,
+    /// or a new one whose cell stands at the column's index.
+    pub(crate) fn spliced(
         &self,
         alloc: Global,
-        whole: bool,
+        low: usize,
+        high: usize,
         at: usize,
         picks: &[Pick<'_>],
     ) -> Result<Column, AllocError>
+        requires ordered { low ≤ high }
+        requires in_range { high ≤ length (column_cells self.now) }
         requires within { AreWithin (length (column_cells self.now)) picks.now }
         requires fits { AreFit (dtype_of_column self.now) at picks.now }
-        requires few { length (all_or_none whole (column_cells self.now)) + length picks.now ≤ most_rows }
+        requires few { low + length picks.now + (length (column_cells self.now) - high) ≤ most_rows }
         ensures cells { IfOk result (λ c. column_cells c ≡
-            all_or_none whole (column_cells self.now) ++ picked_cells (column_cells self.now) at picks.now) }
+            spliced low high (picked_cells (column_cells self.now) at picks.now) (column_cells self.now)) }
         ensures dtype { IfOk result (λ c. dtype_of_column c ≡ dtype_of_column self.now) }
     {
         match self {
-            Column::Int(values) => Ok(Column::Int(values.picked(alloc, whole, at, picks)?)),
-            Column::Wide(values) => Ok(Column::Wide(values.picked(alloc, whole, at, picks)?)),
-            Column::Text(texts) => Ok(Column::Text(texts.picked(alloc, whole, at, picks)?)),
-            Column::Bool(values) => Ok(Column::Bool(values.picked(alloc, whole, at, picks)?)),
-            Column::Frac(values) => Ok(Column::Frac(values.picked(alloc, whole, at, picks)?)),
+            Column::Int(values) => Ok(Column::Int(values.spliced(alloc, low, high, at, picks)?)),
+            Column::Wide(values) => Ok(Column::Wide(values.spliced(alloc, low, high, at, picks)?)),
+            Column::Text(texts) => Ok(Column::Text(texts.spliced(alloc, low, high, at, picks)?)),
+            Column::Bool(values) => Ok(Column::Bool(values.spliced(alloc, low, high, at, picks)?)),
+            Column::Frac(values) => Ok(Column::Frac(values.spliced(alloc, low, high, at, picks)?)),
         }
     }
 }

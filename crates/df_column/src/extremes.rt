@@ -1,13 +1,13 @@
 //! The least and the greatest cell of a column, and where they stand.
-ghost use Rattle.std.specs.Prelude.{◌≡◌, IfOk, map, slice_index_or, take};
+ghost use Rattle.std.specs.Prelude.{◌≡◌, ◌≤◌, ◌+◌, ◌-◌, List, IfOk, IfSome, length, map, slice_index_or};
 ghost use Rattle.df_value.specs.CellOrder.{cell_cmp};
 ghost use Rattle.df_value.specs.declared.cell.Cell.{Cell};
-ghost use Rattle.df_column.specs.BlockExtremes.{AreExtremes, AreExtremesOf, AreStarts, no_extremes};
+ghost use Rattle.df_column.specs.BlockExtremes.{AreExtremes, AreExtremesOf, AreSplicedFrom, IsExtremeAt, IsKnownBefore, IsSearch, IsSplicedFrom, no_extremes};
 ghost use Rattle.df_column.specs.Columns.{column_cells};
 ghost use Rattle.df_column.specs.Extremes as extremes;
 ghost use Rattle.df_column.specs.ValueCells.{text_cell};
 
-use crate::best::{best_text_from, best_value_from};
+use crate::best::{Search, best_text_in, best_value_in};
 use crate::column::Column;
 use crate::masked::Masked;
 use crate::texts::Texts;
@@ -29,6 +29,14 @@ pub struct Extremes {
     pub greatest: Option<usize>,
 }
 
+/// Rows of a block from one index up to another, which so many others replace.
+#[derive(Clone, Copy)]
+pub struct Splice {
+    pub low: usize,
+    pub high: usize,
+    pub count: usize,
+}
+
 /// Whether one cell that compares so with another lies beyond it.
 pub fn is_beyond(extreme: Extreme, ordering: Ordering) -> bool
     ensures { (a b : Cell) → ordering ≡ cell_cmp a b → result ≡ extremes.is_beyond extreme a b }
@@ -39,39 +47,98 @@ pub fn is_beyond(extreme: Extreme, ordering: Ordering) -> bool
     }
 }
 
-/// Where both stand among values, where those of the first `from` are known.
-fn value_extremes<T: CellValue>(values: &Masked<T>, known: Extremes, from: usize) -> Extremes
-    requires { AreExtremesOf (take from (map T.cell_of values.now)) known }
+/// What to look at for an extreme of this many cells after a splice, where that of the old cells is known: the new
+/// cells, or all if the known one was replaced.
+fn search_after(known: Option<usize>, splice: Splice, len: usize) -> Search
+    requires new { splice.low + splice.count ≤ len }
+    requires old { IfSome known (λ i. splice.low + splice.count + (i - splice.high) ≤ len) }
+    ensures { (e : Extreme) (cells : List Cell) → IsKnownBefore e splice cells known → len ≡ length cells →
+        IsSearch e cells result }
+{
+    let low = splice.low;
+    let high = splice.low + splice.count;
+    match known {
+        Some(at) => {
+            if at < splice.low {
+                return Search { known, low, high };
+            }
+            if at >= splice.high {
+                let known = Some(high + (at - splice.high));
+                return Search { known, low, high };
+            }
+            Search {
+                known: None,
+                low: 0,
+                high: len,
+            }
+        }
+        None => Search {
+            known: None,
+            low,
+            high,
+        },
+    }
+}
+
+/// Where one extreme stands among values after a splice.
+fn value_extreme<T: CellValue>(
+    extreme: Extreme,
+    values: &Masked<T>,
+    known: Option<usize>,
+    splice: Splice,
+) -> Option<usize>
+    requires { IsKnownBefore extreme splice (map T.cell_of values.now) known }
+    ensures { IsExtremeAt extreme (map T.cell_of values.now) result }
+{
+    best_value_in(extreme, values, search_after(known, splice, values.len()))
+}
+
+/// Where both extremes stand among values after a splice.
+fn value_extremes<T: CellValue>(values: &Masked<T>, known: Extremes, splice: Splice) -> Extremes
+    requires { IsSplicedFrom splice (map T.cell_of values.now) known }
     ensures { AreExtremesOf (map T.cell_of values.now) result }
 {
     Extremes {
-        least: best_value_from(Extreme::Least, values, known.least, from),
-        greatest: best_value_from(Extreme::Greatest, values, known.greatest, from),
+        least: value_extreme(Extreme::Least, values, known.least, splice),
+        greatest: value_extreme(Extreme::Greatest, values, known.greatest, splice),
     }
 }
 
-/// Where both stand among texts, where those of the first `from` are known.
-fn text_extremes(texts: &Texts, known: Extremes, from: usize) -> Extremes
-    requires { AreExtremesOf (take from (map text_cell texts.now)) known }
+/// Where one extreme stands among texts after a splice.
+fn text_extreme(
+    extreme: Extreme,
+    texts: &Texts,
+    known: Option<usize>,
+    splice: Splice,
+) -> Option<usize>
+    requires { IsKnownBefore extreme splice (map text_cell texts.now) known }
+    ensures { IsExtremeAt extreme (map text_cell texts.now) result }
+{
+    best_text_in(extreme, texts, search_after(known, splice, texts.len()))
+}
+
+/// Where both extremes stand among texts after a splice.
+fn text_extremes(texts: &Texts, known: Extremes, splice: Splice) -> Extremes
+    requires { IsSplicedFrom splice (map text_cell texts.now) known }
     ensures { AreExtremesOf (map text_cell texts.now) result }
 {
     Extremes {
-        least: best_text_from(Extreme::Least, texts, known.least, from),
-        greatest: best_text_from(Extreme::Greatest, texts, known.greatest, from),
+        least: text_extreme(Extreme::Least, texts, known.least, splice),
+        greatest: text_extreme(Extreme::Greatest, texts, known.greatest, splice),
     }
 }
 
-/// Where both stand in a column, where those of its first `from` cells are known.
-fn extremes_from(column: &Column, known: Extremes, from: usize) -> Extremes
-    requires { AreExtremesOf (take from (column_cells column.now)) known }
+/// Where both extremes stand in a column after a splice.
+fn extremes_from(column: &Column, known: Extremes, splice: Splice) -> Extremes
+    requires { IsSplicedFrom splice (column_cells column.now) known }
     ensures { AreExtremesOf (column_cells column.now) result }
 {
     match column {
-        Column::Int(values) => value_extremes(values, known, from),
-        Column::Wide(values) => value_extremes(values, known, from),
-        Column::Text(texts) => text_extremes(texts, known, from),
-        Column::Bool(values) => value_extremes(values, known, from),
-        Column::Frac(values) => value_extremes(values, known, from),
+        Column::Int(values) => value_extremes(values, known, splice),
+        Column::Wide(values) => value_extremes(values, known, splice),
+        Column::Text(texts) => text_extremes(texts, known, splice),
+        Column::Bool(values) => value_extremes(values, known, splice),
+        Column::Frac(values) => value_extremes(values, known, splice),
     }
 }
 
@@ -88,19 +155,20 @@ pub fn known_at(known: &[Extremes], at: usize) -> Extremes
     }
 }
 
-/// Where both stand in each column. Those of the first cells are known; only the cells from there on are looked at.
+/// Where both extremes stand in each column after a splice. Where the known one is still there, or all old cells are null,
+/// only the new cells are looked at.
 pub fn extremes_of(
     alloc: Global,
     columns: &[Column],
     known: &[Extremes],
-    from: usize,
+    splice: Splice,
 ) -> Result<Vec<Extremes>, AllocError>
-    requires { AreStarts from (map column_cells columns.now) known.now }
+    requires { AreSplicedFrom splice (map column_cells columns.now) known.now }
     ensures { IfOk result (λ v. AreExtremes (map column_cells columns.now) v.items) }
 {
     let mut out = Vec::with_capacity(alloc, columns.len())?;
     for at in 0..columns.len() {
-        out.push(extremes_from(&columns[at], known_at(known, at), from))?;
+        out.push(extremes_from(&columns[at], known_at(known, at), splice))?;
     }
     Ok(out)
 }

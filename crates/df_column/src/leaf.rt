@@ -1,8 +1,8 @@
 //! Leaves of lists of blocks.
-ghost use Rattle.std.specs.Prelude.{◌≡◌, ◌<◌, [], IfOk, List, Some, T, length, not};
+ghost use Rattle.std.specs.Prelude.{◌≡◌, ◌<◌, ◌≤◌, [], IfNone, IfOk, IfSome, List, Some, T, drop, length, not, take, true};
 ghost use Rattle.std.specs.List.{list_all};
 ghost use Rattle.df_value.specs.declared.cell.Cell.{Cell};
-ghost use Rattle.df_column.specs.BlockLists.{AreExtremeCells, extreme_cell};
+ghost use Rattle.df_column.specs.BlockLists.{AreExtremeCells, IsSpliceOf, extreme_cell};
 ghost use Rattle.df_column.specs.Blocks.{rows_of_blocks};
 ghost use Rattle.df_column.specs.Changes.{IsHead};
 ghost use Rattle.df_column.specs.Extremes as extremes;
@@ -85,6 +85,28 @@ fn is_none_above(greatest: &Option<Cell>, value: &Cell) -> bool
     }
 }
 
+/// Whether the cell, if there is one, lies beyond all those of the blocks from one index up to another in a column. So it is
+/// where there is no cell.
+fn is_kept_beyond(
+    extreme: Extreme,
+    cell: &Option<Cell>,
+    run: &Run,
+    low: usize,
+    high: usize,
+    column: usize,
+) -> bool
+    requires ordered { low ≤ high }
+    requires in_range { high ≤ length run.now }
+    ensures some { IfSome cell.now (λ c. result ≡ extremes.is_further extreme
+        (extreme_cell extreme (drop low (take high run.now)) column) c) }
+    ensures none { IfNone cell.now (result ≡ true) }
+{
+    match cell {
+        Some(cell) => run.is_beyond_part(extreme, cell, low, high, column),
+        None => true,
+    }
+}
+
 impl Leaf {
     /// The leaf of this run. One cell of each block is read for an end of a column.
     pub fn new(alloc: Global, run: Run) -> Result<Leaf, AllocError>
@@ -100,6 +122,101 @@ impl Leaf {
             least,
             greatest,
         })
+    }
+
+    /// The leaf of a run that has the blocks of this leaf, but for those from one index up to another. Blocks that stay are
+    /// read only for a column whose extreme may have stood in one that goes.
+    pub fn spliced(
+        &self,
+        alloc: Global,
+        run: Run,
+        low: usize,
+        high: usize,
+    ) -> Result<Leaf, AllocError>
+        requires some { 0 < length run }
+        requires splice { IsSpliceOf self.now low high run }
+        ensures { IfOk result (λ l. l ≡ run) }
+    {
+        let first = self.first_of_splice(&run, low, high);
+        let least = self.renewed_cells(alloc, Extreme::Least, &run, low, high)?;
+        let greatest = self.renewed_cells(alloc, Extreme::Greatest, &run, low, high)?;
+        Ok(Leaf {
+            run,
+            first,
+            least,
+            greatest,
+        })
+    }
+
+    /// The tag of the first row of a run that has other blocks from one index up to another.
+    fn first_of_splice(&self, run: &Run, low: usize, high: usize) -> Tag
+        requires some { 0 < length run.now }
+        requires splice { IsSpliceOf self.now low high run.now }
+        ensures { IsHead (rows_of_blocks run.now) result }
+    {
+        // Which is `low`; so a run says that its blocks have rows.
+        let staying = low.min(self.run.len());
+        if staying > 0 {
+            return self.first;
+        }
+        run.get(0).first()
+    }
+
+    /// For the columns of which an extreme is kept, the one of a run that has other blocks from one index up to another.
+    fn renewed_cells(
+        &self,
+        alloc: Global,
+        extreme: Extreme,
+        run: &Run,
+        low: usize,
+        high: usize,
+    ) -> Result<Vec<Option<Cell>>, AllocError>
+        requires { IsSpliceOf self.now low high run.now }
+        ensures { IfOk result (λ v. AreExtremeCells extreme run.now v.items) }
+    {
+        let kept = self.kept(extreme);
+        let mut cells = Vec::with_capacity(alloc, kept.len())?;
+        for column in 0..kept.len() {
+            let cell = self.renewed(alloc, extreme, run, low, high, column)?;
+            cells.push(cell)?;
+        }
+        Ok(cells)
+    }
+
+    /// The extreme of a column of a run that has other blocks from one index up to another. The blocks that stay are read
+    /// only where the kept cell does not lie beyond all that go, and lies beyond all that come.
+    fn renewed(
+        &self,
+        alloc: Global,
+        extreme: Extreme,
+        run: &Run,
+        low: usize,
+        high: usize,
+        column: usize,
+    ) -> Result<Option<Cell>, AllocError>
+        requires { IsSpliceOf self.now low high run.now }
+        ensures { IfOk result (λ v. v ≡ extreme_cell extreme run.now column) }
+    {
+        let Some(kept) = self.kept(extreme).get(column) else {
+            return run.furthest(alloc, extreme, None, column);
+        };
+        let end = run.len() - (self.run.len() - high);
+        let stays = is_kept_beyond(extreme, kept, &self.run, low, high, column);
+        if !stays && is_kept_beyond(extreme, kept, run, low, end, column) {
+            return run.furthest(alloc, extreme, None, column);
+        }
+        let best = further_cell(alloc, extreme, None, kept)?;
+        run.furthest_between(alloc, extreme, best, low, end, column)
+    }
+
+    /// What is kept of an extreme.
+    fn kept(&self, extreme: Extreme) -> &[Option<Cell>]
+        ensures { AreExtremeCells extreme self.now result.now }
+    {
+        match extreme {
+            Extreme::Least => &self.least,
+            Extreme::Greatest => &self.greatest,
+        }
     }
 
     /// The blocks.
@@ -137,11 +254,6 @@ impl Leaf {
         ensures { IfOk result (λ v. v ≡ extremes.further extreme best
             (extreme_cell extreme self.now index)) }
     {
-        match extreme {
-            Extreme::Least => { furthest_kept(alloc, extreme, best, &self.run, &self.least, index) }
-            Extreme::Greatest => {
-                furthest_kept(alloc, extreme, best, &self.run, &self.greatest, index)
-            }
-        }
+        furthest_kept(alloc, extreme, best, &self.run, self.kept(extreme), index)
     }
 }

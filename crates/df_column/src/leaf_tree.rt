@@ -211,7 +211,7 @@ fn linked(
 }
 
 /// The tree of these leaves, of three trees of any heights.
-fn spliced(
+fn joined_three(
     alloc: Global,
     left: &LeafTree,
     middle: &LeafTree,

@@ -4,7 +4,7 @@ ghost use Rattle.df_value.specs.Cells.{fits_dtype};
 ghost use Rattle.df_value.specs.declared.cell.Cell.{Cell};
 ghost use Rattle.df_value.specs.declared.cell.Cell.TheVariants as cell_as;
 ghost use Rattle.df_column.specs.Masks.{filled_mask, joined_mask, masked_values};
-ghost use Rattle.df_column.specs.Picks.{AreFit, AreWithin, picked_cells, all_or_none};
+ghost use Rattle.df_column.specs.Picks.{AreFit, AreWithin, picked_cells, spliced};
 
 use crate::picks::{Origin, Pick, old_rows};
 use crate::values::CellValue;
@@ -125,27 +125,6 @@ impl<T: Copy> Masked<T> {
         })
     }
 
-    /// These values, with room for more.
-    pub(crate) fn copy(&self, alloc: Global, more: usize) -> Result<Self, AllocError>
-        ensures { IfOk result (λ m. m ≡ self.now) }
-    {
-        let nulls = Vec::from_slice(alloc, &self.nulls)?;
-        let mut values = Vec::with_capacity(alloc, self.values.len().saturating_add(more))?;
-        values.extend_from_slice(&self.values)?;
-        Ok(Masked { nulls, values })
-    }
-
-    /// These values or none, with room for more.
-    pub(crate) fn start(&self, alloc: Global, whole: bool, more: usize) -> Result<Self, AllocError>
-        ensures { IfOk result (λ m. m ≡ all_or_none whole self.now) }
-    {
-        if whole {
-            Ok(self.copy(alloc, more)?)
-        } else {
-            Ok(Masked::with_capacity(alloc, more)?)
-        }
-    }
-
     /// The number of values and nulls.
     pub fn len(&self) -> usize
         ensures { result ≡ length self.now }
@@ -179,7 +158,12 @@ impl<T: Copy> Masked<T> {
     }
 
     /// Adds this many values of another list, from an index on. After a refusal other values may be there.
-    fn push_values(&mut self, old: &Masked<T>, from: usize, count: usize) -> Result<(), AllocError>
+    pub(crate) fn push_values(
+        &mut self,
+        old: &Masked<T>,
+        from: usize,
+        count: usize,
+    ) -> Result<(), AllocError>
         requires { from + count ≤ length old.now }
         ensures { OnOk result (self.new ≡ self.old ++ take count (drop from old.now)) }
     {
@@ -200,23 +184,29 @@ impl<T: CellValue> Masked<T> {
         T::to_cell(self.get(at))
     }
 
-    /// The cells of the picked rows, as [`Masked::push_picked`] has them; behind all cells of this column, if `whole`
-    /// says so.
-    pub(crate) fn picked(
+    /// The cells up to one index, those of the picked rows, as [`Masked::push_picked`] has them, and the cells from
+    /// another index on.
+    pub(crate) fn spliced(
         &self,
         alloc: Global,
-        whole: bool,
+        low: usize,
+        high: usize,
         column: usize,
         picks: &[Pick<'_>],
     ) -> Result<Masked<T>, AllocError>
+        requires ordered { low ≤ high }
+        requires in_range { high ≤ length (map T.cell_of self.now) }
         requires within { AreWithin (length (map T.cell_of self.now)) picks.now }
         requires fits { AreFit T.dtype column picks.now }
         ensures { IfOk result (λ m. map T.cell_of m ≡
-            all_or_none whole (map T.cell_of self.now)
-            ++ picked_cells (map T.cell_of self.now) column picks.now) }
+            spliced low high (picked_cells (map T.cell_of self.now) column picks.now) (map T.cell_of self.now)) }
     {
-        let mut values = self.start(alloc, whole, picks.len())?;
+        let behind = self.len() - high;
+        let room = (low + behind).saturating_add(picks.len());
+        let mut values = Masked::with_capacity(alloc, room)?;
+        values.push_values(self, 0, low)?;
         values.push_picked(self, column, picks)?;
+        values.push_values(self, high, behind)?;
         Ok(values)
     }
 

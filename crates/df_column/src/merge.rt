@@ -1,15 +1,16 @@
 //! The rows of a block after changes, as picks.
-ghost use Rattle.std.specs.Prelude.{◌≡◌, ℕ, ◌≤◌, ◌-◌, ◌++◌, ◌∷◌, List, T, IfOk, OnOk, map, length, take, drop};
+ghost use Rattle.std.specs.Prelude.{◌≡◌, ℕ, ◌<◌, ◌≤◌, ◌-◌, ◌++◌, ◌∷◌, List, T, IfOk, OnOk, map, length, slice_index_or, take, drop};
 ghost use Rattle.std.specs.List.{prefix_len};
 ghost use Rattle.std.specs.Ordering.{is_lt};
 ghost use Rattle.std.specs.FinMap.Entries.{below_all};
 ghost use Rattle.df_value.specs.declared.cell.Cell.{Cell};
 ghost use Rattle.df_value.specs.declared.cell.CellType.{CellType};
 ghost use Rattle.df_column.specs.Changes.{Change, after_changes, one_at, rest_after};
-ghost use Rattle.df_column.specs.Picks.{AreWithin};
+ghost use Rattle.df_column.specs.Picks.{AreWithin, spliced};
 ghost use Rattle.df_column.specs.Rows.{AreNewRows, AreRisingTags, AreRows, is_row_if_any, picked_rows, tagged_rows};
 ghost use Rattle.df_column.specs.Tables.{AreRising, entry_change};
 ghost use Rattle.df_column.specs.Tags.{tag_cmp};
+ghost use Rattle.df_column.specs.declared.entry.Entry.{Entry};
 ghost use Rattle.df_column.specs.declared.tag.Tag.{Tag};
 
 use crate::entry::Entry;
@@ -32,6 +33,7 @@ fn index_after(tags: &[Tag], at: usize, tag: Tag) -> usize
     ensures rest { (columns : List (List Cell)) →
         rest_after tag_cmp tag (drop at (tagged_rows tags.now columns)) ≡
         drop result (tagged_rows tags.now columns) }
+    ensures ordered { at ≤ result }
     ensures within { result ≤ length tags.now }
 {
     if at == tags.len() {
@@ -93,6 +95,7 @@ fn merge_entry<'a>(
     requires rising { AreRisingTags tags.now }
     requires at { at ≤ length tags.now }
     requires sound { AreWithin (length tags.now) out.old.items }
+    ensures ordered { IfOk result (λ next. at ≤ next) }
     ensures at { IfOk result (λ next. next ≤ length tags.now) }
     ensures within { OnOk result (AreWithin (length tags.now) out.new.items) }
     ensures rows { IfOk result (λ next.
@@ -136,4 +139,57 @@ pub fn merge<'a>(
     }
     push_old(&mut picks, tags, at, tags.len())?;
     Ok(picks)
+}
+
+/// Rows of a block from one index up to another, in whose place the picked rows stand.
+#[derive(Drop)]
+pub struct Merged<'a> {
+    pub low: usize,
+    pub high: usize,
+    pub picks: Vec<Pick<'a>>,
+}
+
+/// How many of the tags stand before the first entry's; 0 where there is no entry.
+fn rows_before(tags: &[Tag], entries: &[Entry]) -> usize
+    requires tags { AreRisingTags tags.now }
+    requires entries { AreRising entries.now }
+    ensures count { (e : Entry) → 0 < length entries.now → result ≡
+        prefix_len (λ t. is_lt (tag_cmp t (slice_index_or entries.now 0 e).tag)) tags.now }
+    ensures none { length entries.now ≡ 0 → result ≡ 0 }
+    ensures within { result ≤ length tags.now }
+    ensures rows { (columns : List (List Cell)) →
+        take result (tagged_rows tags.now columns) ++
+        after_changes tag_cmp (drop result (tagged_rows tags.now columns)) (map entry_change entries.now) ≡
+        after_changes tag_cmp (tagged_rows tags.now columns) (map entry_change entries.now) }
+{
+    match entries.first() {
+        Some(entry) => tags_before(tags, entry.tag),
+        None => 0,
+    }
+}
+
+/// The change that the entries make in a block of these tags, from the first row that they reach to the last.
+pub fn merge_changed<'a>(
+    alloc: Global,
+    tags: &[Tag],
+    entries: &'a [Entry],
+) -> Result<Merged<'a>, AllocError>
+    requires tags { AreRisingTags tags.now }
+    requires entries { AreRising entries.now }
+    ensures ordered { IfOk result (λ m. m.low ≤ m.high) }
+    ensures in_range { IfOk result (λ m. m.high ≤ length tags.now) }
+    ensures within { IfOk result (λ m. AreWithin (length tags.now) m.picks.items) }
+    ensures rows { IfOk result (λ m. (columns : List (List Cell)) →
+        spliced m.low m.high (picked_rows columns m.picks.items) (tagged_rows tags.now columns) ≡
+        after_changes tag_cmp (tagged_rows tags.now columns) (map entry_change entries.now)) }
+    ensures fits { IfOk result (λ m. (dtypes : List CellType) →
+        AreNewRows dtypes entries.now → AreRows dtypes m.picks.items) }
+{
+    let low = rows_before(tags, entries);
+    let mut picks = Vec::with_capacity(alloc, entries.len())?;
+    let mut high = low;
+    for entry in entries {
+        high = merge_entry(&mut picks, tags, high, entry)?;
+    }
+    Ok(Merged { low, high, picks })
 }

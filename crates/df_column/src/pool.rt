@@ -6,7 +6,7 @@ ghost use Rattle.df_column.specs.Pools.{IsRising, parts, place_of};
 use std::alloc::{AllocError, Global};
 use std::marker::Model;
 
-/// The dictionary of one column of texts: each distinct text once, in order of first appearance.
+/// The dictionary of one column of texts: each distinct text once, in the order in which they came.
 /// Contracts see it as the list of its texts.
 #[derive(Drop)]
 pub struct TextPool {

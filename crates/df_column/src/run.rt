@@ -1,16 +1,18 @@
 //! Runs of blocks.
-ghost use Rattle.std.specs.Prelude.{◌≡◌, ◌<◌, ◌≤◌, ◌+◌, ◌-◌, ◌++◌, ◌∷◌, ◌^◌, [], IfOk, drop, length, slice_index_or, take};
+ghost use Rattle.std.specs.Prelude.{◌≡◌, ◌<◌, ◌≤◌, ◌+◌, ◌-◌, ◌++◌, ◌∷◌, ◌^◌, [], IfOk, Some, drop, length, map, slice_index_or, take};
 ghost use Rattle.std.specs.Arc.{arc_value};
 ghost use Rattle.std.specs.List.Sorted.{IsNonDecreasing};
 ghost use Rattle.df_column.specs.BlockLists.{HaveRows, extreme_cell, last_of};
-ghost use Rattle.df_column.specs.Blocks.{BlockParts, ends_of, rows_of_blocks};
+ghost use Rattle.df_column.specs.Blocks.{BlockParts, block_rows, ends_of, rows_of_blocks};
 ghost use Rattle.df_column.specs.Changes.{IsNext};
 ghost use Rattle.df_column.specs.Extremes as extremes;
+ghost use Rattle.df_column.specs.Extremes.{cells_at, extreme_of};
+ghost use Rattle.df_column.specs.Picks.{spliced};
 ghost use Rattle.df_column.specs.Pools.{start_at};
 ghost use Rattle.df_column.specs.TableBlocks.{IsEndCount};
 
 use crate::block::Block;
-use crate::extremes::Extreme;
+use crate::extremes::{Extreme, is_beyond};
 use crate::further::furthest_in_block;
 use crate::pool::start_of_part;
 use crate::tag::Tag;
@@ -78,6 +80,21 @@ pub fn end_behind(end: usize, rows: usize) -> Result<usize, AllocError>
         return Err(AllocError);
     }
     Ok(end + rows)
+}
+
+/// Whether the cell lies beyond all those of a block in the column at an index. Of the block one cell is read.
+fn is_beyond_block(extreme: Extreme, cell: &Cell, block: &Block, index: usize) -> bool
+    ensures { result ≡ extremes.is_further extreme
+        (extreme_of extreme (cells_at (Some index) (map (λ r. r.1) (block_rows block.now)))) cell.now }
+{
+    let columns = block.columns();
+    if index >= columns.len() {
+        return true;
+    }
+    match block.extreme_at(extreme, index) {
+        Some(at) => is_beyond(extreme, columns[index].compare_with(at, cell).reverse()),
+        None => true,
+    }
 }
 
 impl Run {
@@ -173,7 +190,8 @@ impl Run {
         requires ordered { low ≤ high }
         requires in_range { high ≤ length other.now }
         requires few { length (rows_of_blocks self) ≤ 2 ^ 60 }
-        ensures { IfOk result (λ r. r ≡ self ++ drop low (take high other.now)) }
+        ensures blocks { IfOk result (λ r. r ≡ self ++ drop low (take high other.now)) }
+        ensures few { IfOk result (λ r. length (rows_of_blocks r) ≤ 2 ^ 60) }
     {
         let mut out = self.with_room((high - low).saturating_add(1))?;
         for at in low..high {
@@ -192,6 +210,27 @@ impl Run {
     {
         let part = Run::new(alloc).joined(self, low, high)?;
         Ok(part)
+    }
+
+    /// The blocks up to one index, those of another run, and the blocks from another index on, shared.
+    pub fn spliced(
+        &self,
+        alloc: Global,
+        low: usize,
+        high: usize,
+        other: &Run,
+    ) -> Result<Run, AllocError>
+        requires ordered { low ≤ high }
+        requires in_range { high ≤ length self.now }
+        ensures { IfOk result (λ r. r ≡ spliced low high other.now self.now) }
+    {
+        let many = other.len();
+        let room = low.saturating_add(many).saturating_add(self.len() - high);
+        let none = Run::new(alloc).with_room(room.saturating_add(1))?;
+        let front = none.joined(self, 0, low)?;
+        let both = front.joined(other, 0, many)?;
+        let made = both.joined(self, high, self.len())?;
+        Ok(made)
     }
 
     /// Where the row at this index of all rows stands. Behind the last row, the index behind the last block.
@@ -216,10 +255,50 @@ impl Run {
         ensures { IfOk result (λ v. v ≡ extremes.further extreme best
             (extreme_cell extreme self.now index)) }
     {
+        self.furthest_between(alloc, extreme, best, 0, self.len(), index)
+    }
+
+    /// The same of the blocks from one index up to another.
+    pub fn furthest_between(
+        &self,
+        alloc: Global,
+        extreme: Extreme,
+        best: Option<Cell>,
+        low: usize,
+        high: usize,
+        index: usize,
+    ) -> Result<Option<Cell>, AllocError>
+        requires ordered { low ≤ high }
+        requires in_range { high ≤ length self.now }
+        ensures { IfOk result (λ v. v ≡ extremes.further extreme best
+            (extreme_cell extreme (drop low (take high self.now)) index)) }
+    {
         let mut best = best;
-        for at in 0..self.len() {
+        for at in low..high {
             best = furthest_in_block(alloc, extreme, best, self.get(at), index)?;
         }
         Ok(best)
+    }
+
+    /// Whether the cell lies beyond all those of the blocks from one index up to another in the column at an index.
+    pub fn is_beyond_part(
+        &self,
+        extreme: Extreme,
+        cell: &Cell,
+        low: usize,
+        high: usize,
+        index: usize,
+    ) -> bool
+        requires ordered { low ≤ high }
+        requires in_range { high ≤ length self.now }
+        ensures { result ≡ extremes.is_further extreme
+            (extreme_cell extreme (drop low (take high self.now)) index) cell.now }
+    {
+        for at in low..high {
+            if !is_beyond_block(extreme, cell, self.get(at), index) {
+                return false;
+            }
+        }
+        true
     }
 }

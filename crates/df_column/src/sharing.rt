@@ -25,7 +25,7 @@ pub fn shared_blocks(alloc: Global, blocks: &BlockList) -> Result<BlockList, All
 
 /// How many of the first blocks end before the first change: all where there is none. Else the last block is not one of
 /// them, so that new rows can fill it up.
-fn untouched(blocks: &BlockList, entries: &[Entry]) -> usize
+pub fn untouched(blocks: &BlockList, entries: &[Entry]) -> usize
     requires rows { T (finite.is_sorted tag_cmp (rows_of_blocks blocks.now)) }
     requires entries { AreRising entries.now }
     ensures within { result ≤ length blocks.now }
@@ -42,7 +42,7 @@ fn untouched(blocks: &BlockList, entries: &[Entry]) -> usize
 
 /// How many of the first blocks stand before those that begin behind the last change. The block at an index is one of
 /// them, if there is a change.
-fn reached(blocks: &BlockList, at: usize, entries: &[Entry]) -> usize
+pub fn reached(blocks: &BlockList, at: usize, entries: &[Entry]) -> usize
     requires rows { T (finite.is_sorted tag_cmp (rows_of_blocks blocks.now)) }
     requires at { at ≤ length blocks.now }
     requires entries { AreRising entries.now }

@@ -361,7 +361,7 @@ fn blocks_of(alloc: Global, schema: &Schema, rows: &[(Tag, Row)]) -> Result<Bloc
     let columns = empty_columns(alloc, schema)?;
     let picks = new_picks(alloc, rows)?;
     let out = BlockList::new(alloc);
-    with_parts(alloc, out, &[], &columns, &picks, MOST_ROWS)
+    with_parts(alloc, out, &[], &columns, &[], &picks, MOST_ROWS)
 }
 
 /// The rows as new rows of a block.

@@ -1,13 +1,11 @@
 //! The texts of one column of a block.
-ghost use Rattle.std.specs.Prelude.{◌≡◌, ◌<◌, ◌≤◌, ◌+◌, ◌++◌, ◌∷◌, [], T, List, ℕ, true, length, map, slice_index_or, take, IfOk, IsTrue, OnOk, Option};
+ghost use Rattle.std.specs.Prelude.{◌≡◌, ◌<◌, ◌≤◌, ◌+◌, ◌-◌, ◌++◌, ◌∷◌, [], T, List, ℕ, true, drop, length, map, slice_index_or, take, IfOk, IfSome, IsTrue, OnOk, Option};
 ghost use Rattle.df_value.specs.CellEq.{cell_eq};
 ghost use Rattle.df_value.specs.Cells.{fits_dtype};
 ghost use Rattle.df_value.specs.declared.cell.Cell.{Cell};
 ghost use Rattle.df_value.specs.declared.cell.CellType.TheVariants as dtype_as;
 ghost use Rattle.df_column.specs.Extremes as extremes;
-ghost use Rattle.df_column.specs.Picks.{AreFit, AreWithin, is_fit, is_within, origin_cell, picked_cells, all_or_none};
-ghost use Rattle.df_column.specs.Pools as pools;
-ghost use Rattle.df_column.specs.Pools.{place_of};
+ghost use Rattle.df_column.specs.Picks.{AreFit, AreWithin, is_fit, is_within, origin_cell, picked_cells, spliced};
 ghost use Rattle.df_column.specs.Sizes.{most_rows};
 ghost use Rattle.df_column.specs.Texts.{ArePlaces, pool_text, text_now};
 ghost use Rattle.df_column.specs.ValueCells.{text_cell};
@@ -15,18 +13,23 @@ ghost use Rattle.df_column.specs.ValueCells.{text_cell};
 use crate::masked::Masked;
 use crate::picks::{Origin, Pick};
 use crate::pool::TextPool;
-use df_value::{Cell, Text, both};
-use indexmap::IndexSet;
+use df_value::{Cell, Text};
 use std::alloc::{AllocError, Global};
 use std::marker::Model;
 
-/// Up to so many rows, each text is looked for along the pool. For more of them the hashes of all texts are made.
+mod by_hash;
+
+use by_hash::spliced_by_hash;
+
+/// The texts of up to so many picked rows are looked for along a pool that stays, and those of a block of up to so many rows
+/// along a new one. For more of them the hashes of all texts of the block are made.
 const FEW_ROWS: usize = 16;
 
-/// So many texts of a pool are few: then that is done for up to as many rows behind it as follow.
+/// A pool of up to so many texts has few.
 const FEW_TEXTS: usize = 16;
 
-const FEW_ROWS_BEHIND_FEW_TEXTS: usize = 64;
+/// The texts of up to so many picked rows are looked for along a pool that stays and has few texts.
+const MORE_ROWS: usize = 64;
 
 /// Texts or nulls: the places of the texts in a pool. Contracts see a list of options.
 #[derive(Drop)]
@@ -72,135 +75,6 @@ fn push_text(
     }
 }
 
-/// Adds the text to the pool if it is none of the known ones, which are those of the pool, and gives its place.
-fn put_known<'a>(
-    pool: &mut TextPool,
-    known: &mut IndexSet<&'a str>,
-    text: &'a str,
-) -> Result<u32, AllocError>
-    requires few { length pool.old < most_rows }
-    requires known { map (λ t. t.now) known.old.keys ≡ pool.old }
-    ensures place { IfOk result (λ p. p ≡ pools.place_or_end (place_of text.now pool.old) pool.old) }
-    ensures texts { OnOk result (pool.new ≡
-        pools.with_text (place_of text.now pool.old) pool.old text.now) }
-    ensures known { OnOk result (map (λ t. t.now) known.new.keys ≡ pool.new) }
-{
-    let (place, is_new) = known.insert_full(text)?;
-    if !is_new {
-        return Ok(place as u32);
-    }
-    let place = pool.push(text)?;
-    Ok(place)
-}
-
-/// Adds the text or a null to the places, and a new text to the pool, whose texts are the known ones.
-fn push_known<'a>(
-    places: &mut Masked<u16>,
-    pool: &mut TextPool,
-    known: &mut IndexSet<&'a str>,
-    text: Option<&'a str>,
-) -> Result<(), AllocError>
-    requires sound { ArePlaces pool.old places.old }
-    requires few { length places.old < most_rows }
-    requires known { map (λ t. t.now) known.old.keys ≡ pool.old }
-    ensures sound { OnOk result (ArePlaces pool.new places.new) }
-    ensures len { OnOk result (length places.new ≡ length places.old + 1) }
-    ensures texts { OnOk result (map (pool_text pool.new) places.new ≡
-        map (pool_text pool.old) places.old ++ text_now text.entry ∷ []) }
-    ensures known { OnOk result (map (λ t. t.now) known.new.keys ≡ pool.new) }
-{
-    match text {
-        Some(text) => {
-            let place = put_known(pool, known, text)?;
-            places.push(Some(place as u16), 0)?;
-            Ok(())
-        }
-        None => {
-            places.push(None, 0)?;
-            Ok(())
-        }
-    }
-}
-
-/// The number of these texts and nulls, or 0.
-fn len_if(whole: bool, texts: &Texts) -> usize
-    ensures { result ≡ length (all_or_none whole texts.now) }
-{
-    if whole { texts.len() } else { 0 }
-}
-
-/// Adds the first texts of a column, as [`push_known`] does each.
-fn push_column<'a>(
-    places: &mut Masked<u16>,
-    pool: &mut TextPool,
-    known: &mut IndexSet<&'a str>,
-    old: &'a Texts,
-    count: usize,
-) -> Result<(), AllocError>
-    requires sound { ArePlaces pool.old places.old }
-    requires within { count ≤ length old.now }
-    requires few { length places.old + count ≤ most_rows }
-    requires known { map (λ t. t.now) known.old.keys ≡ pool.old }
-    ensures sound { OnOk result (ArePlaces pool.new places.new) }
-    ensures texts { OnOk result (map (pool_text pool.new) places.new ≡
-        map (pool_text pool.old) places.old ++ take count old.now) }
-    ensures known { OnOk result (map (λ t. t.now) known.new.keys ≡ pool.new) }
-{
-    for at in 0..count {
-        push_known(places, pool, known, old.get(at))?;
-    }
-    Ok(())
-}
-
-/// Adds the texts of the picked rows, in the old column or at this index of a new row, as [`push_known`] does each.
-fn push_rows<'a>(
-    places: &mut Masked<u16>,
-    pool: &mut TextPool,
-    known: &mut IndexSet<&'a str>,
-    old: &'a Texts,
-    column: usize,
-    picks: &[Pick<'a>],
-) -> Result<(), AllocError>
-    requires sound { ArePlaces pool.old places.old }
-    requires known { map (λ t. t.now) known.old.keys ≡ pool.old }
-    requires within { AreWithin (length old.now) picks.now }
-    requires fits { AreFit dtype_as.Text column picks.now }
-    requires few { length places.old + length picks.now ≤ most_rows }
-    ensures sound { OnOk result (ArePlaces pool.new places.new) }
-    ensures texts { OnOk result (map text_cell (map (pool_text pool.new) places.new) ≡
-        map text_cell (map (pool_text pool.old) places.old)
-        ++ picked_cells (map text_cell old.now) column picks.now) }
-{
-    for pick in picks {
-        push_known(places, pool, known, text_from(old, column, pick.origin))?;
-    }
-    Ok(())
-}
-
-/// The texts of the picked rows, behind all texts of the column if `whole` says so. Each is looked up by its hash.
-fn picked_by_hash<'a>(
-    alloc: Global,
-    old: &'a Texts,
-    whole: bool,
-    column: usize,
-    picks: &[Pick<'a>],
-) -> Result<Texts, AllocError>
-    requires within { AreWithin (length old.now) picks.now }
-    requires fits { AreFit dtype_as.Text column picks.now }
-    requires few { length (all_or_none whole old.now) + length picks.now ≤ most_rows }
-    ensures { IfOk result (λ t. map text_cell t ≡ map text_cell (all_or_none whole old.now)
-        ++ picked_cells (map text_cell old.now) column picks.now) }
-{
-    let first = len_if(whole, old);
-    let room = first + picks.len();
-    let mut known = IndexSet::with_capacity(alloc, room)?;
-    let mut places = Masked::with_capacity(alloc, room)?;
-    let mut pool = TextPool::new(alloc);
-    push_column(&mut places, &mut pool, &mut known, old, first)?;
-    push_rows(&mut places, &mut pool, &mut known, old, column, picks)?;
-    Ok(Texts { places, pool })
-}
-
 /// The text of the cell, none for a null.
 fn text_of(cell: &Cell) -> Option<&str>
     ensures { IsTrue (fits_dtype dtype_as.Text cell.now) → text_cell (text_now result) ≡ cell.now }
@@ -227,11 +101,11 @@ fn text_from<'a>(old: &'a Texts, column: usize, origin: Origin<'a>) -> Option<&'
     }
 }
 
-/// Whether the texts of so many rows are looked for along the pool, which has so many texts if all rows of it stay. By
-/// hashes, the texts of these rows too would be hashed.
-fn searches_pool(whole: bool, texts: usize, rows: usize) -> bool {
-    if whole && texts <= FEW_TEXTS {
-        rows <= FEW_ROWS_BEHIND_FEW_TEXTS
+/// Whether the texts of so many picked rows are looked for along a pool that stays and has so many texts. By hashes, the
+/// texts of the rows that stay would be hashed too.
+fn are_few(texts: usize, rows: usize) -> bool {
+    if 0 < texts && texts <= FEW_TEXTS {
+        rows <= MORE_ROWS
     } else {
         rows <= FEW_ROWS
     }
@@ -317,51 +191,129 @@ impl Texts {
         self.places.get(at).is_none()
     }
 
-    /// These texts, with room for more places.
-    pub(crate) fn copy(&self, alloc: Global, more: usize) -> Result<Texts, AllocError>
-        ensures { IfOk result (λ t. t ≡ self.now) }
+    /// No texts, with room for this many places.
+    fn with_capacity(alloc: Global, capacity: usize) -> Result<Texts, AllocError>
+        ensures { IfOk result (λ t. t ≡ []) }
     {
-        let (places, pool) = both(self.places.copy(alloc, more), self.pool.copy(alloc))?;
-        Ok(Texts { places, pool })
+        Ok(Texts {
+            places: Masked::with_capacity(alloc, capacity)?,
+            pool: TextPool::new(alloc),
+        })
     }
 
-    /// These texts or none, with room for more places.
-    pub(crate) fn start(&self, alloc: Global, whole: bool, more: usize) -> Result<Texts, AllocError>
-        ensures { IfOk result (λ t. t ≡ all_or_none whole self.now) }
-    {
-        if whole {
-            Ok(self.copy(alloc, more)?)
-        } else {
-            Ok(Texts {
-                places: Masked::with_capacity(alloc, more)?,
-                pool: TextPool::new(alloc),
-            })
-        }
-    }
-
-    /// The cells of the picked rows, as [`Texts::with_picked`] has them; behind all cells of this column, if `whole`
-    /// says so. Without them the pool has the texts that stay.
-    pub(crate) fn picked(
+    /// The cells up to one index, those of the picked rows, and the cells from another index on. A picked row is an old one,
+    /// or a new one whose cell stands at the column's index. Where few rows are picked, the pool stays, with the new texts;
+    /// texts that no row has any more stay in it, unless it has more texts than rows stay.
+    pub(crate) fn spliced(
         &self,
         alloc: Global,
-        whole: bool,
+        low: usize,
+        high: usize,
         column: usize,
         picks: &[Pick<'_>],
     ) -> Result<Texts, AllocError>
+        requires ordered { low ≤ high }
+        requires in_range { high ≤ length (map text_cell self.now) }
         requires within { AreWithin (length (map text_cell self.now)) picks.now }
         requires fits { AreFit dtype_as.Text column picks.now }
-        requires few { length (all_or_none whole (map text_cell self.now)) + length picks.now ≤ most_rows }
+        requires few { low + length picks.now + (length (map text_cell self.now) - high) ≤ most_rows }
         ensures { IfOk result (λ t. map text_cell t ≡
-            all_or_none whole (map text_cell self.now)
-            ++ picked_cells (map text_cell self.now) column picks.now) }
+            spliced low high (picked_cells (map text_cell self.now) column picks.now) (map text_cell self.now)) }
     {
-        if !searches_pool(whole, self.pool.len(), picks.len()) {
-            let texts = picked_by_hash(alloc, self, whole, column, picks)?;
+        let kept = self.without(alloc, low, high, picks.len())?;
+        if let Some(kept) = kept {
+            let all = kept.with_picked(self, column, picks)?;
+            let texts = all.rotated(alloc, low, low + (self.len() - high))?;
             return Ok(texts);
         }
-        let start = self.start(alloc, whole, picks.len())?;
-        let texts = start.with_picked(self, column, picks)?;
+        if low + picks.len() + (self.len() - high) <= FEW_ROWS {
+            return self.spliced_along_pool(alloc, low, high, column, picks);
+        }
+        let texts = spliced_by_hash(alloc, self, low, high, column, picks)?;
         Ok(texts)
+    }
+
+    /// The texts up to one index and those from another index on, over this pool, with room for so many places more. None
+    /// where so many picked rows are not few, or the pool has more texts than rows stay.
+    fn without(
+        &self,
+        alloc: Global,
+        low: usize,
+        high: usize,
+        more: usize,
+    ) -> Result<Option<Texts>, AllocError>
+        requires ordered { low ≤ high }
+        requires in_range { high ≤ length self.now }
+        ensures { IfOk result (λ o. IfSome o (λ t. t ≡ take low self.now ++ drop high self.now)) }
+    {
+        let behind = self.len() - high;
+        let texts = self.pool.len();
+        if texts > low + behind || !are_few(texts, more) {
+            return Ok(None);
+        }
+        let mut places = Masked::with_capacity(alloc, (low + behind).saturating_add(more))?;
+        places.push_values(&self.places, 0, low)?;
+        places.push_values(&self.places, high, behind)?;
+        let pool = self.pool.copy(alloc)?;
+        Ok(Some(Texts { places, pool }))
+    }
+
+    /// The texts up to one index, those from another index on, and those between.
+    fn rotated(self, alloc: Global, low: usize, middle: usize) -> Result<Texts, AllocError>
+        requires ordered { low ≤ middle }
+        requires in_range { middle ≤ length self }
+        ensures { IfOk result (λ t. t ≡ take low self ++ (drop middle self ++ drop low (take middle self))) }
+    {
+        if low == middle || middle == self.len() {
+            return Ok(self);
+        }
+        let Texts { places: old, pool } = self;
+        let mut places = Masked::with_capacity(alloc, old.len())?;
+        places.push_values(&old, 0, low)?;
+        places.push_values(&old, middle, old.len() - middle)?;
+        places.push_values(&old, low, middle - low)?;
+        Ok(Texts { places, pool })
+    }
+
+    /// The cells as [`Texts::spliced`] has them. Each text may be compared with each of the pool.
+    fn spliced_along_pool(
+        &self,
+        alloc: Global,
+        low: usize,
+        high: usize,
+        column: usize,
+        picks: &[Pick<'_>],
+    ) -> Result<Texts, AllocError>
+        requires ordered { low ≤ high }
+        requires in_range { high ≤ length self.now }
+        requires within { AreWithin (length self.now) picks.now }
+        requires fits { AreFit dtype_as.Text column picks.now }
+        requires few { low + length picks.now + (length self.now - high) ≤ most_rows }
+        ensures { IfOk result (λ t. map text_cell t ≡
+            spliced low high (picked_cells (map text_cell self.now) column picks.now) (map text_cell self.now)) }
+    {
+        let none = Texts::with_capacity(alloc, low + picks.len() + (self.len() - high))?;
+        let front = none.with_range(self, 0, low)?;
+        let middle = front.with_picked(self, column, picks)?;
+        let all = middle.with_range(self, high, self.len())?;
+        Ok(all)
+    }
+
+    /// These texts, and then those of another column from one index up to another.
+    fn with_range(self, old: &Texts, low: usize, high: usize) -> Result<Texts, AllocError>
+        requires ordered { low ≤ high }
+        requires in_range { high ≤ length old.now }
+        requires few { length self + (high - low) ≤ most_rows }
+        ensures { IfOk result (λ t. t ≡ self ++ drop low (take high old.now)) }
+    {
+        let Texts {
+            mut places,
+            mut pool,
+        } = self;
+        for at in low..high {
+            push_text(&mut places, &mut pool, old.get(at))?;
+        }
+        Ok(Texts { places, pool })
     }
 
     /// These texts, and then those of the picked rows, in the old column or at this index of a new row.

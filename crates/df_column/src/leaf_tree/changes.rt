@@ -1,26 +1,74 @@
 //! Changes of a tree of leaves, from its root down.
-ghost use Rattle.std.specs.Prelude.{◌≡◌, ◌++◌, IfOk, T, map};
+ghost use Rattle.std.specs.Prelude.{◌≡◌, ◌≤◌, ◌++◌, IfOk, IfSome, T, length, map};
 ghost use Rattle.std.specs.Arc.{arc_value};
 ghost use Rattle.std.specs.FinMap as finite;
 ghost use Rattle.df_column.specs.Blocks.{AreOfDtypes, rows_of_blocks};
 ghost use Rattle.df_column.specs.Changes.{after_changes};
 ghost use Rattle.df_column.specs.Columns.{column_cells, dtype_of_column};
 ghost use Rattle.df_column.specs.LeafTrees.{blocks_in};
+ghost use Rattle.df_column.specs.Picks.{spliced};
 ghost use Rattle.df_column.specs.Rows.{AreNewRows, are_even};
 ghost use Rattle.df_column.specs.Tables.{AreRising, entry_change};
 ghost use Rattle.df_column.specs.Tags.{tag_cmp};
 ghost use Rattle.df_column.specs.TreeChanges.{AreChangedFrom};
 
-use crate::block_list::BlockList;
+use crate::block_list::{BlockList, LEAF};
 use crate::blocks::{entries_before, with_changes};
 use crate::column::Column;
 use crate::entry::Entry;
 use crate::leaf::Leaf;
-use crate::leaf_tree::{LeafTree, Node, linked, spliced};
+use crate::leaf_tree::{LeafTree, Node, joined_three, linked};
+use crate::sharing::{reached, untouched};
 use std::alloc::{AllocError, Global};
 use std::sync::Arc;
 
-/// The leaves that the blocks of a leaf make after the changes.
+/// The leaf with the blocks of a list in place of its own from one index up to another; none where one leaf cannot hold
+/// them, or where there are no blocks.
+fn spliced_leaf(
+    alloc: Global,
+    leaf: &Leaf,
+    low: usize,
+    high: usize,
+    made: &BlockList,
+) -> Result<Option<Leaf>, AllocError>
+    requires ordered { low ≤ high }
+    requires in_range { high ≤ length leaf.now }
+    ensures { IfOk result (λ o. IfSome o (λ l. l ≡ spliced low high made.now leaf.now)) }
+{
+    let (leaves, added) = made.parts();
+    let old = leaf.run();
+    let many = low
+        .saturating_add(added.len())
+        .saturating_add(old.len() - high);
+    if leaves.blocks() > 0 || many == 0 || many > LEAF {
+        return Ok(None);
+    }
+    let run = old.spliced(alloc, low, high, added)?;
+    let made = leaf.spliced(alloc, run, low, high)?;
+    Ok(Some(made))
+}
+
+/// The leaves of these blocks, with the blocks of another list in place of the ones from one index up to another.
+fn leaves_with(
+    alloc: Global,
+    blocks: &BlockList,
+    low: usize,
+    high: usize,
+    made: &BlockList,
+) -> Result<LeafTree, AllocError>
+    requires ordered { low ≤ high }
+    requires in_range { high ≤ length blocks.now }
+    ensures { IfOk result (λ t. blocks_in t ≡ spliced low high made.now blocks.now) }
+{
+    let before = BlockList::new(alloc).joined(alloc, blocks, 0, low)?;
+    let both = before.joined(alloc, made, 0, made.len())?;
+    let all = both.joined(alloc, blocks, high, blocks.len())?;
+    let leaves = all.into_leaves(alloc)?;
+    Ok(leaves.into_tree())
+}
+
+/// The leaves that the blocks of a leaf make after the changes. Blocks before the first change and behind the last one are
+/// shared, but for one that new rows go into, and where all fit in one leaf they are read only as [`Leaf::spliced`] says.
 fn changed_leaf(
     alloc: Global,
     leaf: &Leaf,
@@ -37,11 +85,17 @@ fn changed_leaf(
     ensures types { IfOk result (λ t. AreOfDtypes (map dtype_of_column columns.now) (blocks_in t)) }
 {
     let blocks = BlockList::of_run(alloc, leaf.run())?;
-    let all = 0..blocks.len();
+    let low = untouched(&blocks, entries);
+    let high = reached(&blocks, low, entries);
     let none = BlockList::new(alloc);
-    let changed = with_changes(alloc, none, &blocks, all, false, columns, entries)?;
-    let leaves = changed.into_leaves(alloc)?;
-    Ok(leaves.into_tree())
+    let made = with_changes(alloc, none, &blocks, low..high, false, columns, entries)?;
+    if let Some(edited) = spliced_leaf(alloc, leaf, low, high, &made)? {
+        let edited = Arc::new(alloc, edited)?;
+        let tree = LeafTree::Empty.pushed(alloc, &edited)?;
+        return Ok(tree);
+    }
+    let tree = leaves_with(alloc, &blocks, low, high, &made)?;
+    Ok(tree)
 }
 
 /// The tree of both sides and of what stands between them: the leaf after the changes, itself where there are no changes.
@@ -70,7 +124,7 @@ fn with_changed_leaf(
         return Ok(tree);
     }
     let middle = changed_leaf(alloc, leaf, columns, entries)?;
-    let tree = spliced(alloc, left, &middle, right)?;
+    let tree = joined_three(alloc, left, &middle, right)?;
     Ok(tree)
 }
 

@@ -9,6 +9,7 @@ use Rattle.df_column.specs.Rows.{AreNewRows, AreRows, picked_rows}
 use Rattle.df_column.specs.Tables.{entry_change}
 use Rattle.df_column.specs.Tags.{tag_cmp}
 use Rattle.df_column.specs.TagOrder.{tag_total}
+use Rattle.df_column.proofs.BlockExtremes.{no_known}
 use Rattle.df_column.proofs.ListParts.{none_between}
 use Rattle.df_column.proofs.ChangeRuns.{sorted_second}
 use Rattle.df_column.proofs.TableLemmas.{cut_between, types_at}
@@ -61,6 +62,9 @@ loop-at-preserved c =
 
 pub merge-requires-clause-entries : goal.merge-requires-clause-entries
 merge-requires-clause-entries c = c.loop-at.invariant.rising
+
+pub with_parts-requires-clause-known : goal.with_parts-requires-clause-known
+with_parts-requires-clause-known c = no_known (map column_cells c.args.columns.now) c.requires.empty
 
 pub with_parts-requires-clause-rows : goal.with_parts-requires-clause-rows
 with_parts-requires-clause-rows c =

@@ -3,8 +3,8 @@ use Rattle.std.specs.Arc.{arc_value}
 use Rattle.df_column.proofs.ListParts.{one_between}
 use Rattle.df_column.proofs.block_list.BlockList.with_next_blocks.Goals as goal
 
-pub returns-then-saturating_add-clause-list : goal.returns-then-saturating_add-clause-list
-returns-then-saturating_add-clause-list c =
+pub returns-then-saturating_add-lt-TOO_MANY_BEHIND-clause-list : goal.returns-then-saturating_add-lt-TOO_MANY_BEHIND-clause-list
+returns-then-saturating_add-lt-TOO_MANY_BEHIND-clause-list c =
     let e : c.args.high ≡ c.args.low + (c.args.high - c.args.low) = omega (arith, c.requires.some) in
     c.in_ok-list.ensures ∙ ap (λ n. c.args.self ++ drop c.args.low (take n c.args.run.now)) e
 

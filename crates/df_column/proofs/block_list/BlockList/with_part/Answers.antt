@@ -13,4 +13,4 @@ invariant_of-result c =
     omega (arith, both, c.rows.ensures.value, c.rows-2.ensures.value, c.in_ok-end_behind.ensures.value, c.in_ok-end_behind.ensures.few)
 
 pub returns : goal.returns
-returns c = ap (λ t. c.self.inside.leaves ++ t) c.in_ok-tail.ensures ∙ sym (append_assoc c.self.inside.leaves c.self.inside.tail _) ∙ ap (λ bs. bs ++ drop c.args.low (take c.args.high c.args.run.now)) c.self.view_is
+returns c = ap (λ t. c.self.inside.leaves ++ t) c.in_ok-tail.ensures.blocks ∙ sym (append_assoc c.self.inside.leaves c.self.inside.tail _) ∙ ap (λ bs. bs ++ drop c.args.low (take c.args.high c.args.run.now)) c.self.view_is

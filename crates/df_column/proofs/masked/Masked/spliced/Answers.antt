@@ -1,0 +1,13 @@
+use Rattle.df_column.specs.Picks.{picked_cells}
+use Rattle.std.proofs.Common.{◌-◌, arith, map}
+use Rattle.df_column.proofs.Places.{mapped_length}
+use Rattle.df_column.proofs.SpliceLemmas.{spliced_made}
+use Rattle.df_column.proofs.masked.Masked.spliced.Goals as goal
+
+pub returns : goal.returns
+returns g c =
+    let cell_of = g.T.CellValue.cell_of in
+    let xs = c.args.self.now in
+    spliced_made cell_of c.args.low c.args.high (c.len.result - c.args.high) xs c.in_ok-values.values c.push_values.new.self c.push_picked.new.self c.push_values-2.new.self
+    (picked_cells (map cell_of xs) c.args.column c.args.picks.now)
+    c.in_ok-values.ensures c.in_ok-push_values.ensures c.in_ok-push_picked.ensures (let n = c.len.ensures in let l = mapped_length cell_of xs in omega (arith, n, l)) c.in_ok-push_values-2.ensures

@@ -1,7 +1,0 @@
-use Rattle.std.proofs.Common.{◌≡◌, take}
-use Rattle.df_column.specs.BlockLists.{extreme_cell}
-use Rattle.df_column.specs.Extremes.{further}
-use Rattle.df_column.proofs.run.Run.furthest.Given as goal
-
-abbrev pub invariant-loop-at : goal.invariant-loop-at
-invariant-loop-at l = l.best ≡ further l.extreme l.initial.best (extreme_cell l.extreme (take l.at l.self) l.index)
