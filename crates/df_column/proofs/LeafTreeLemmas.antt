@@ -2,7 +2,7 @@
 use Rattle.std.proofs.Common.{◌≡◌, ℕ, zero, suc, ◌+◌, ◌<◌, ◌≤◌, ◌%◌, ◌^◌, List, [], ◌∷◌, ◌++◌, length, take, drop, refl, sym, ap, subst, ◌∙◌, arith, append_assoc, length-append}
 use Rattle.std.proofs.Math.Seq.{take-append-add, take-nil}
 use Rattle.std.proofs.lemmas.List.{take-append-drop, take-append-le}
-use Rattle.df_column.specs.BlockLists.{HaveRows, IsRunAt, blocks_of_leaves, rows_in}
+use Rattle.df_column.specs.BlockLists.{IsRunAt, blocks_of_leaves, rows_in}
 use Rattle.df_column.specs.Blocks.{BlockParts}
 use Rattle.df_column.specs.LeafTotals.{AreTotals, IsRunOfRow}
 use Rattle.df_column.specs.declared.leaf_totals.Totals.{Totals}
@@ -13,9 +13,9 @@ use Rattle.df_column.proofs.ListParts.{drop_front}
 pub node_blocks : (ls ms : List (List BlockParts)) (l : List BlockParts) (all : List (List BlockParts)) → ls ++ l ∷ ms ≡ all → blocks_of_leaves all ≡ blocks_of_leaves ls ++ (l ++ blocks_of_leaves ms)
 node_blocks ls ms l all is = ap blocks_of_leaves (sym is) ∙ leaves_append ls (l ∷ ms)
 
--- the sum of three numbers of which the outer ones are known modulo 2^64
-three : (a b c x y t : ℕ) → x ≡ a % 2 ^ 64 → y ≡ c % 2 ^ 64 → t ≡ (x + b + y) % 2 ^ 64 → t ≡ (a + (b + c)) % 2 ^ 64
-three a b c x y t p q r = omega arith
+-- the sum of three numbers that are known modulo 2^64
+three : (a b c x y z t : ℕ) → x ≡ a % 2 ^ 64 → y ≡ b % 2 ^ 64 → z ≡ c % 2 ^ 64 → t ≡ (x + y + z) % 2 ^ 64 → t ≡ (a + (b + c)) % 2 ^ 64
+three a b c x y z t p q r s = omega arith
 
 length_parted : (a b d : List BlockParts) → length (a ++ (b ++ d)) ≡ length a + (length b + length d)
 length_parted a b d = let x = length-append a (b ++ d) in let y = length-append b d in omega (arith, x, y)
@@ -24,15 +24,15 @@ rows_parted : (a b d : List BlockParts) → rows_in (a ++ (b ++ d)) ≡ rows_in 
 rows_parted a b d = let x = rows_both a (b ++ d) in let y = rows_both b d in omega (arith, x, y)
 
 -- what is counted in a leaf and in both sides of it
-pub totals_are : (ls ms : List (List BlockParts)) (l : List BlockParts) (s t r : Totals) (blocks rows : ℕ) → AreTotals (blocks_of_leaves ls) s → AreTotals (blocks_of_leaves ms) t → HaveRows l → blocks ≡ length l → rows ≡ rows_in l
-    → r.blocks ≡ (s.blocks + blocks + t.blocks) % 2 ^ 64 → r.rows ≡ (s.rows + rows + t.rows) % 2 ^ 64 → AreTotals (blocks_of_leaves (ls ++ l ∷ ms)) r
-totals_are ls ms l s t r blocks rows left right some n m bs rs =
+pub totals_are : (ls ms : List (List BlockParts)) (l : List BlockParts) (s own t r : Totals) → AreTotals (blocks_of_leaves ls) s → AreTotals l own → AreTotals (blocks_of_leaves ms) t
+    → r.blocks ≡ (s.blocks + own.blocks + t.blocks) % 2 ^ 64 → r.rows ≡ (s.rows + own.rows + t.rows) % 2 ^ 64 → AreTotals (blocks_of_leaves (ls ++ l ∷ ms)) r
+totals_are ls ms l s own t r left middle right bs rs =
     let a = blocks_of_leaves ls in
     let d = blocks_of_leaves ms in
     subst (λ all. AreTotals all r) (sym (leaves_append ls (l ∷ ms))) record {
-      some = some_append a (l ++ d) left.some (some_append l d some right.some);
-      blocks_are = three (length a) (length l) (length d) s.blocks t.blocks r.blocks left.blocks_are right.blocks_are (bs ∙ ap (λ k. (s.blocks + k + t.blocks) % 2 ^ 64) n) ∙ ap (λ k. k % 2 ^ 64) (sym (length_parted a l d));
-      rows_are = three (rows_in a) (rows_in l) (rows_in d) s.rows t.rows r.rows left.rows_are right.rows_are (rs ∙ ap (λ k. (s.rows + k + t.rows) % 2 ^ 64) m) ∙ ap (λ k. k % 2 ^ 64) (sym (rows_parted a l d));
+      some = some_append a (l ++ d) left.some (some_append l d middle.some right.some);
+      blocks_are = three (length a) (length l) (length d) s.blocks own.blocks t.blocks r.blocks left.blocks_are middle.blocks_are right.blocks_are bs ∙ ap (λ k. k % 2 ^ 64) (sym (length_parted a l d));
+      rows_are = three (rows_in a) (rows_in l) (rows_in d) s.rows own.rows t.rows r.rows left.rows_are middle.rows_are right.rows_are rs ∙ ap (λ k. k % 2 ^ 64) (sym (rows_parted a l d));
     }
 
 -- few rows are counted exactly

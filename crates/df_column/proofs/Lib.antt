@@ -27,6 +27,9 @@ mod TagRuns
 pub mod ListParts
 pub mod BlockListLemmas
 pub mod LeafEnds
+mod TagBlocks
+mod TagPlaces
+mod RowTagLemmas
 pub mod LeafTreeLemmas
 pub mod Crossing
 pub mod LeafExtremes

@@ -50,7 +50,7 @@ module _ {X Y : Type 0} where
 pub rising_rows : (ts : List Tag) (columns : List (List Cell)) → AreRisingTags ts → T (is_sorted tag_cmp (tagged_rows ts columns))
 rising_rows ts columns h = subst T (sorted_keys (tagged_rows ts []) (tagged_rows ts columns) (tags_of_rows ts [] ∙ sym (tags_of_rows ts columns))) h
 
-drop_keys : {X : Type 0} (n : ℕ) (xs : List (Tag × X)) → map (λ e. e.0) (drop n xs) ≡ drop n (map (λ e. e.0) xs)
+pub drop_keys : {X : Type 0} (n : ℕ) (xs : List (Tag × X)) → map (λ e. e.0) (drop n xs) ≡ drop n (map (λ e. e.0) xs)
 drop_keys zero xs = refl
 drop_keys (suc n) [] = refl
 drop_keys (suc n) (x ∷ xs) = drop_keys n xs
@@ -165,7 +165,7 @@ pub fits_more : (dtypes : List CellType) (out : List Pick) (at : ℕ) (p : Pick)
 fits_more dtypes out at p is h = all_last (λ p. is_new_row dtypes p.origin) out p h (subst (λ o. T (is_new_row dtypes o)) (sym is) tt)
 
 -- entries in order, cut at a key
-sorted_drop : {X : Type 0} (n : ℕ) (es : List (Tag × X)) → T (is_sorted tag_cmp es) → T (is_sorted tag_cmp (drop n es))
+pub sorted_drop : {X : Type 0} (n : ℕ) (es : List (Tag × X)) → T (is_sorted tag_cmp es) → T (is_sorted tag_cmp (drop n es))
 sorted_drop n es h = sorted_second tag_total (take n es) (drop n es) (subst (λ es. T (is_sorted tag_cmp es)) (sym (take-append-drop n es)) h)
 
 drop_drop : {X : Type 0} (m n : ℕ) (xs : List X) → drop n (drop m xs) ≡ drop (m + n) xs

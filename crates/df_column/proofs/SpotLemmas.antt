@@ -1,28 +1,17 @@
--- Where a row of a list of blocks stands, and the search for a tag.
+-- Where a row of a list of blocks stands.
 use Rattle.std.proofs.Common.{◌≡◌, ℕ, zero, suc, ◌+◌, ◌-◌, ◌<◌, ◌≤◌, true, false, List, [], ◌∷◌, ◌++◌, Some, None, length, map, get_or, nat_le, refl, sym, ap, subst, ◌∙◌, arith, length-append}
-use Rattle.std.specs.Prelude.{T, IfOk}
-use Rattle.std.specs.declared.result.Result.{Result}
-use Rattle.std.specs.declared.result.Result.TheVariants.{Ok, Err}
 use Rattle.std.specs.List.{slice_get}
 use Rattle.std.specs.List.Sorted.{IsNonDecreasing, IsPartitionPoint, IsPartitionedBy}
 use Rattle.std.proofs.lemmas.Bool.{leb-true, leb-false, le-leb}
 use Rattle.std.proofs.lemmas.Option.{get_or_from_slice_get, slice_get-get_or}
-use Rattle.std.specs.Ordering.{ordering_index}
-use Rattle.std.specs.declared.cmp.Ordering.{Ordering}
-use Rattle.std.specs.declared.cmp.Ordering.TheVariants.{Less, Equal, Greater}
-use Rattle.std.specs.FinMap as finite
 use Rattle.df_value.specs.declared.cell.Cell.{Cell}
 use Rattle.df_column.specs.Blocks.{BlockParts, block_rows, ends_of, rows_of_blocks}
 use Rattle.df_column.specs.Columns.{column_cells}
-use Rattle.df_column.specs.Places.{IsGap, IsPlace}
 use Rattle.df_column.specs.Pools.{start_at}
 use Rattle.df_column.specs.Rows.{row_at}
-use Rattle.df_column.specs.TableBlocks.{IsEndCount, IsSpot, IsWindow}
-use Rattle.df_column.specs.Tags.{tag_cmp}
+use Rattle.df_column.specs.TableBlocks.{IsEndCount, IsSpot}
 use Rattle.df_column.specs.declared.tag.Tag.{Tag}
-use Rattle.df_column.proofs.Places.{rises_along}
 use Rattle.df_column.proofs.RowLemmas.{length_rows, row_in_rows}
-use Rattle.df_column.specs.TagOrder.{tag_total, tag_same}
 
 pub get_front : {X : Type 0} (xs ys : List X) (i : ℕ) (d : X) → i < length xs → get_or (xs ++ ys) i d ≡ get_or xs i d
 get_front [] ys i d h = absurd (omega arith)
@@ -165,52 +154,3 @@ end_count ends at k h parts = record {
 
 pub ends_parted : (ends : List ℕ) (at : ℕ) → IsNonDecreasing ends → IsPartitionedBy (λ y. nat_le y at) ends
 ends_parted ends at rise i j d le lt h = le-leb _ _ (let a = rise i j d le lt in let b = leb-true _ _ h in omega (arith, a, b))
-
--- a narrower window
-module _ (rows : List (Tag × List Cell)) (tag : Tag) where
-  index_low : (r : Ordering) → ordering_index r ≤ 0 → r ≡ Less
-  index_low Less h = refl
-  index_low Equal h = absurd (omega arith)
-  index_low Greater h = absurd (omega arith)
-
-  index_high : (r : Ordering) → 2 ≤ ordering_index r → r ≡ Greater
-  index_high Less h = absurd (omega arith)
-  index_high Equal h = absurd (omega arith)
-  index_high Greater h = refl
-
-  pub window_above : (low high middle : ℕ) (t : Tag) → T (finite.is_sorted tag_cmp rows) → IsWindow rows tag low high → low ≤ middle → middle < high → ((d : Tag × List Cell) → t ≡ (get_or rows middle d).0) → tag_cmp t tag ≡ Less → IsWindow rows tag (middle + 1) high
-  window_above low high middle t sorted w le lt is h = record {
-    ordered = omega arith;
-    in_range = w.in_range;
-    before = λ j d below.
-        let risen = rises_along tag_total tag_same rows tag sorted j middle d (omega arith) (omega (arith, w.in_range)) in
-        let here : ordering_index (tag_cmp (get_or rows middle d).0 tag) ≡ 0 = ap (λ s. ordering_index (tag_cmp s tag)) (sym (is d)) ∙ ap ordering_index h in
-        index_low _ (omega (arith, risen, here));
-    after = w.after;
-  }
-
-  pub window_below : (low high middle : ℕ) (t : Tag) → T (finite.is_sorted tag_cmp rows) → IsWindow rows tag low high → low ≤ middle → middle < high → ((d : Tag × List Cell) → t ≡ (get_or rows middle d).0) → tag_cmp t tag ≡ Greater → IsWindow rows tag low middle
-  window_below low high middle t sorted w le lt is h = record {
-    ordered = le;
-    in_range = omega (arith, w.in_range);
-    before = w.before;
-    after = λ j d from in_range.
-        let risen = rises_along tag_total tag_same rows tag sorted middle j d from in_range in
-        let here : ordering_index (tag_cmp (get_or rows middle d).0 tag) ≡ 2 = ap (λ s. ordering_index (tag_cmp s tag)) (sym (is d)) ∙ ap ordering_index h in
-        index_high _ (omega (arith, risen, here));
-  }
-
-  pub window_closed : (low high : ℕ) → IsWindow rows tag low high → high ≤ low → IsGap tag_cmp rows tag low
-  window_closed low high w h = record {
-    in_range = omega (arith, w.in_range, w.ordered);
-    before = w.before;
-    after = λ j d from in_range. w.after j d (omega (arith, h)) in_range;
-  }
-
-  pub window_place : (low high middle : ℕ) (t : Tag) → IsWindow rows tag low high → middle < high → ((d : Tag × List Cell) → t ≡ (get_or rows middle d).0) → tag_cmp t tag ≡ Equal → IsPlace tag_cmp rows tag middle
-  window_place low high middle t w lt is h = record { in_range = omega (arith, w.in_range); here = λ d. ap (λ s. tag_cmp s tag) (sym (is d)) ∙ h }
-
--- a place among few rows
-pub place_below : (rows : List (Tag × List Cell)) (tag : Tag) (r : Result ℕ ℕ) (most : ℕ) → length rows ≤ most → IfOk r (IsPlace tag_cmp rows tag) → IfOk r (λ i. i < most)
-place_below rows tag (Ok i) most le h = let p = h.in_range in omega (arith, le, p)
-place_below rows tag (Err i) most le h = tt

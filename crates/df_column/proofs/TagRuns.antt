@@ -29,7 +29,7 @@ greater Less h = cc
 greater Equal h = cc
 greater Greater h = refl
 
-reached_below : (a b c : Tag) → tag_cmp a b ≡ Less → T (not (is_gt (tag_cmp b c))) → tag_cmp a c ≡ Less
+pub reached_below : (a b c : Tag) → tag_cmp a b ≡ Less → T (not (is_gt (tag_cmp b c))) → tag_cmp a c ≡ Less
 reached_below a b c h k = step (tag_cmp b c) refl k where
   step : (r : Ordering) → tag_cmp b c ≡ r → T (not (is_gt r)) → tag_cmp a c ≡ Less
   step Less e k = tag_total.trans a b c h e
@@ -61,7 +61,7 @@ pub below_both : (k : Tag) (xs ys : List (Tag × List Cell)) → T (below_all ta
 below_both k [] ys p q = q
 below_both k (x ∷ xs) ys p q = T-both _ _ (T-first (is_lt (tag_cmp k x.0)) _ p) (below_both k xs ys (T-second (is_lt (tag_cmp k x.0)) _ p) q)
 
-head_front : (xs ys : List (Tag × List Cell)) (k : Tag) → IsHead xs k → IsHead (xs ++ ys) k
+pub head_front : (xs ys : List (Tag × List Cell)) (k : Tag) → IsHead xs k → IsHead (xs ++ ys) k
 head_front [] ys k h = absurd h
 head_front (x ∷ xs) ys k h = h
 

@@ -7,6 +7,7 @@ pub mod Pools
 pub mod Texts
 pub mod ValueCells
 pub mod Picks
+pub mod RowTags
 pub mod Columns
 pub mod Sizes
 pub mod Rows
@@ -19,6 +20,7 @@ pub mod TableBlocks
 pub mod RowRuns
 pub mod Extremes
 pub mod LeafTotals
+pub mod SharedLeaves
 pub mod LeafTrees
 pub mod TreeChanges
 pub mod BlockExtremes

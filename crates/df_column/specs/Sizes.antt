@@ -3,4 +3,4 @@ use Rattle.std.specs.Prelude.{ℕ}
 
 -- the most rows of a block
 abbrev pub most_rows : ℕ
-most_rows = 256
+most_rows = 128

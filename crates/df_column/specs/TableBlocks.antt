@@ -1,13 +1,13 @@
 -- The blocks of a table, and where its rows stand in them.
-use Rattle.std.specs.Prelude.{◌≡◌, ℕ, ◌+◌, ◌<◌, ◌≤◌, ◌++◌, T, List, length, not, slice_index_or}
+use Rattle.std.specs.Prelude.{◌≡◌, ℕ, ◌+◌, ◌<◌, ◌≤◌, ◌++◌, ◌∷◌, [], T, List, length, not, slice_index_or}
 use Rattle.std.specs.FinMap.{is_sorted}
 use Rattle.std.specs.FinMap.Entries.{below_all}
 use Rattle.std.specs.Ordering.{is_gt}
-use Rattle.std.specs.declared.cmp.Ordering.TheVariants.{Less, Greater}
 use Rattle.df_value.specs.declared.cell.Cell.{Cell}
 use Rattle.df_value.specs.declared.cell.CellType.{CellType}
-use Rattle.df_column.specs.Blocks.{AreOfDtypes, BlockParts, block_rows, rows_of_blocks}
+use Rattle.df_column.specs.Blocks.{AreOfDtypes, BlockParts, block_rows, ends_of, rows_of_blocks}
 use Rattle.df_column.specs.Changes.{IsHead, all_under}
+use Rattle.df_column.specs.Pools.{start_at}
 use Rattle.df_column.specs.Tables.{dtypes_of}
 use Rattle.df_column.specs.Tags.{tag_cmp}
 use Rattle.df_column.specs.declared.tag.Tag.{Tag}
@@ -26,14 +26,6 @@ pub record IsSpot (blocks : List BlockParts) (at block row : ℕ) : Type 0 where
   -- and so with the rows behind it, as far as the block goes
   pub along : (b : BlockParts) (d : Tag × List Cell) (i : ℕ) → row + i < length (slice_index_or blocks block b).tags →
       slice_index_or (rows_of_blocks blocks) (at + i) d ≡ slice_index_or (block_rows (slice_index_or blocks block b)) (row + i) d
-
--- rows before the first of these indexes have lesser tags, and those from the second on greater ones
-pub record IsWindow (rows : List (Tag × List Cell)) (tag : Tag) (low high : ℕ) : Type 0 where
-  pub ordered : low ≤ high
-  pub in_range : high ≤ length rows
-  pub before : (j : ℕ) (d : Tag × List Cell) → j < low → tag_cmp (slice_index_or rows j d).0 tag ≡ Less
-  pub after : (j : ℕ) (d : Tag × List Cell) →
-      high ≤ j → j < length rows → tag_cmp (slice_index_or rows j d).0 tag ≡ Greater
 
 -- so many of the ends are at most this number
 pub record IsEndCount (ends : List ℕ) (at count : ℕ) : Type 0 where
@@ -54,3 +46,10 @@ pub record IsRunOfTag (blocks : List BlockParts) (tag : Tag) (run : List BlockPa
   pub first : Tag
   pub head : IsHead (rows_of_blocks run) first
   pub reached : T (not (is_gt (tag_cmp first tag)))
+
+-- a row with this tag can stand only in the block at this index, which is a run of its own: rows before it have lesser
+-- tags, rows behind it greater ones
+pub record IsBlockOfTag (blocks : List BlockParts) (tag : Tag) (block : ℕ) : Type 0 where
+  pub in_blocks : block < length blocks
+  pub run : (d : BlockParts) →
+      IsRunOfTag blocks tag (slice_index_or blocks block d ∷ []) (start_at 0 (ends_of 0 blocks) block)

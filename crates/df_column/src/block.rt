@@ -1,4 +1,4 @@
-//! Blocks of at most 256 tagged rows.
+//! Blocks of at most 128 tagged rows.
 ghost use Rattle.std.specs.Prelude.{◌≡◌, ◌<◌, ◌≤◌, ◌+◌, ◌-◌, T, IfOk, map, length, slice_index_or};
 ghost use Rattle.df_value.specs.Rows.{row_eq};
 ghost use Rattle.df_value.specs.declared.cell.Cell.{Cell};
@@ -15,19 +15,20 @@ ghost use Rattle.df_column.specs.declared.column.Column.{Column};
 use crate::column::Column;
 use crate::extremes::{Extreme, Extremes, Splice, extremes_of, known_at};
 use crate::picks::Pick;
+use crate::row_tags::RowTags;
 use crate::tag::Tag;
 use df_value::{Cell, Row, both};
 use std::alloc::{AllocError, Global};
 use std::marker::Model;
 
 /// The most rows of a block.
-pub const MOST_ROWS: usize = 256;
+pub const MOST_ROWS: usize = 128;
 
 /// Some rows: a tag for each, and a cell in each column. Of each column it is kept where the least and the greatest cell
 /// stand.
 #[derive(Drop)]
 pub struct Block {
-    tags: Vec<Tag>,
+    tags: RowTags,
     columns: Vec<Column>,
     extremes: Vec<Extremes>,
 }
@@ -38,15 +39,15 @@ impl Model for Block {
 
     ghost Value = { BlockParts };
 
-    ghost view = { λ b. record { tags = b.tags.items; columns = b.columns.items } };
+    ghost view = { λ b. record { tags = b.tags; columns = b.columns.items } };
 
-    ghost invariant = { λ b. IsKeptBlock b.tags.items b.columns.items b.extremes.items };
+    ghost invariant = { λ b. IsKeptBlock b.tags b.columns.items b.extremes.items };
 }
 
 /// The column at this index, with the picked rows in place of those from `low` up to `high`.
 fn spliced_column(
     alloc: Global,
-    tags: &[Tag],
+    tags: &RowTags,
     columns: &[Column],
     at: usize,
     low: usize,
@@ -72,7 +73,7 @@ fn spliced_column(
 /// The columns, with the picked rows in place of those from `low` up to `high`.
 fn spliced_columns(
     alloc: Global,
-    tags: &[Tag],
+    tags: &RowTags,
     columns: &[Column],
     low: usize,
     high: usize,
@@ -96,30 +97,8 @@ fn spliced_columns(
     Ok(out)
 }
 
-/// The tags, with those of the picked rows in place of those from `low` up to `high`.
-fn spliced_tags(
-    alloc: Global,
-    tags: &[Tag],
-    low: usize,
-    high: usize,
-    picks: &[Pick<'_>],
-) -> Result<Vec<Tag>, AllocError>
-    requires ordered { low ≤ high }
-    requires in_range { high ≤ length tags.now }
-    requires few { low + length picks.now + (length tags.now - high) ≤ most_rows }
-    ensures { IfOk result (λ v. v.items ≡ spliced low high (map (λ p. p.tag) picks.now) tags.now) }
-{
-    let mut out = Vec::with_capacity(alloc, low + picks.len() + (tags.len() - high))?;
-    out.extend_from_slice(&tags[..low])?;
-    for pick in picks {
-        out.push(pick.tag)?;
-    }
-    out.extend_from_slice(&tags[high..])?;
-    Ok(out)
-}
-
 /// Whether the columns have these cells at this index.
-fn are_cells(tags: &[Tag], columns: &[Column], at: usize, cells: &[Cell]) -> bool
+fn are_cells(tags: &RowTags, columns: &[Column], at: usize, cells: &[Cell]) -> bool
     requires at { at < length tags.now }
     requires even { T (are_even (length tags.now) (map column_cells columns.now)) }
     ensures { result ≡ row_eq (row_at (map column_cells columns.now) at) cells.now }
@@ -140,7 +119,7 @@ impl Block {
     /// Where the row of an extreme stays, only the picked rows are looked at for it.
     pub fn spliced(
         alloc: Global,
-        tags: &[Tag],
+        tags: &RowTags,
         columns: &[Column],
         known: &[Extremes],
         low: usize,
@@ -161,7 +140,7 @@ impl Block {
         ensures dtypes { IfOk result (λ b. map dtype_of_column b.columns ≡ map dtype_of_column columns.now) }
     {
         let made = spliced_columns(alloc, tags, columns, low, high, picks);
-        let (tags, columns) = both(spliced_tags(alloc, tags, low, high, picks), made)?;
+        let (tags, columns) = both(tags.spliced(alloc, low, high, picks), made)?;
         let count = picks.len();
         let extremes = extremes_of(alloc, &columns, known, Splice { low, high, count })?;
         Ok(Block {
@@ -172,7 +151,7 @@ impl Block {
     }
 
     /// The tags of the rows.
-    pub fn tags(&self) -> &[Tag]
+    pub fn tags(&self) -> &RowTags
         ensures tags { result.now ≡ self.now.tags }
         ensures some { 0 < length self.now.tags }
         ensures few { length self.now.tags ≤ most_rows }
@@ -212,7 +191,7 @@ impl Block {
     pub fn first(&self) -> Tag
         ensures { IsHead (block_rows self.now) result }
     {
-        self.tags()[0]
+        self.tags().get(0)
     }
 
     /// A copy of the row at this index.

@@ -22,6 +22,7 @@ use crate::extremes::Extreme;
 use crate::leaf::Leaf;
 use crate::leaves::{Leaves, Stretch};
 use crate::run::{Run, Spot, end_behind};
+use crate::shared_leaf::SharedLeaf;
 use crate::tag::{Tag, begins_behind};
 use df_value::Cell;
 use std::alloc::{AllocError, Global};
@@ -392,8 +393,7 @@ fn with_leaf(alloc: Global, leaves: Leaves, run: Run) -> Result<Leaves, AllocErr
     requires some { 0 < length run }
     ensures { IfOk result (λ l. l ≡ leaves ++ run) }
 {
-    let leaf = Leaf::new(alloc, run)?;
-    let leaf = Arc::new(alloc, leaf)?;
+    let leaf = SharedLeaf::new(alloc, Leaf::new(alloc, run)?)?;
     let made = leaves.pushed(alloc, &leaf)?;
     Ok(made)
 }

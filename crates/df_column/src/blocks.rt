@@ -26,6 +26,7 @@ use crate::entry::Entry;
 use crate::extremes::Extremes;
 use crate::merge::{Merged, merge, merge_changed};
 use crate::picks::Pick;
+use crate::row_tags::RowTags;
 use crate::tag::Tag;
 use std::alloc::{AllocError, Global};
 use std::ops::Range;
@@ -46,7 +47,7 @@ fn with_shared(alloc: Global, out: BlockList, block: &Arc<Block>) -> Result<Bloc
 pub fn with_spliced(
     alloc: Global,
     out: BlockList,
-    tags: &[Tag],
+    tags: &RowTags,
     columns: &[Column],
     known: &[Extremes],
     low: usize,
@@ -75,7 +76,7 @@ pub fn with_spliced(
 pub fn with_parts(
     alloc: Global,
     out: BlockList,
-    tags: &[Tag],
+    tags: &RowTags,
     columns: &[Column],
     known: &[Extremes],
     picks: &[Pick<'_>],
@@ -114,7 +115,7 @@ fn part_size(rows: usize) -> usize
 }
 
 /// Whether the first entry stands behind all of these tags.
-fn is_behind(tags: &[Tag], entries: &[Entry]) -> bool
+fn is_behind(tags: &RowTags, entries: &[Entry]) -> bool
     requires tags { 0 < length tags.now }
     requires entries { 0 < length entries.now }
     ensures { (t : Tag) (e : Entry) → result ≡
@@ -122,7 +123,7 @@ fn is_behind(tags: &[Tag], entries: &[Entry]) -> bool
         (slice_index_or entries.now 0 e).tag) }
 {
     let first = &entries[0];
-    tags[tags.len() - 1] < first.tag
+    tags.get(tags.len() - 1) < first.tag
 }
 
 /// The list with the block's rows and the picked rows behind it in one block: the block itself where there are none.
@@ -204,7 +205,7 @@ fn with_behind(
         (block_rows (arc_value block.now)
         ++ after_changes tag_cmp [] (map entry_change entries.now)) out) }
 {
-    let picks = merge(alloc, &[], entries)?;
+    let picks = merge(alloc, &RowTags::new(alloc), entries)?;
     with_filled(alloc, out, block, room_in(block), &picks)
 }
 
@@ -361,7 +362,8 @@ pub fn with_changes(
         rest = others;
         at += 1;
     }
-    let picks = merge(alloc, &[], rest)?;
-    let list = with_parts(alloc, made, &[], columns, &[], &picks, MOST_ROWS)?;
+    let tags = RowTags::new(alloc);
+    let picks = merge(alloc, &tags, rest)?;
+    let list = with_parts(alloc, made, &tags, columns, &[], &picks, MOST_ROWS)?;
     Ok(list)
 }

@@ -1,12 +1,11 @@
 //! A tree of leaves, which is balanced by heights.
 ghost use Rattle.std.specs.Prelude.{◌≡◌, ◌≤◌, ◌++◌, ◌∷◌, ◌^◌, [], IfOk, IfSome, drop, length, take};
-ghost use Rattle.std.specs.Arc.{arc_value};
 ghost use Rattle.df_column.specs.BlockLists.{rows_in};
 ghost use Rattle.df_column.specs.LeafTotals.{AreTotals};
 ghost use Rattle.df_column.specs.LeafTrees.{blocks_in, leaves_of};
 
-use crate::leaf::Leaf;
 use crate::leaf_totals::Totals;
+use crate::shared_leaf::SharedLeaf;
 use std::alloc::{AllocError, Global};
 use std::marker::Model;
 use std::sync::Arc;
@@ -28,7 +27,7 @@ pub enum LeafTree {
 #[derive(Drop)]
 pub struct Node {
     left: LeafTree,
-    leaf: Arc<Leaf>,
+    leaf: SharedLeaf,
     right: LeafTree,
     height: u8,
     totals: Totals,
@@ -36,7 +35,6 @@ pub struct Node {
 
 impl Model for Node {
     ghost use Rattle.std.specs.Prelude.{List, ◌++◌, ◌∷◌, length};
-    ghost use Rattle.std.specs.Arc.{arc_value};
     ghost use Rattle.df_column.specs.Blocks.{BlockParts};
     ghost use Rattle.std.proofs.Common.{arith, length-append};
 
@@ -46,9 +44,9 @@ impl Model for Node {
     ghost use Rattle.df_column.specs.LeafTotals.{AreTotals};
     ghost use Rattle.df_column.specs.LeafTrees.{leaves_of};
 
-    ghost view = { λ n. leaves_of n.left ++ arc_value n.leaf ∷ leaves_of n.right };
+    ghost view = { λ n. leaves_of n.left ++ n.leaf ∷ leaves_of n.right };
 
-    ghost invariant = { λ n. AreTotals (blocks_of_leaves (leaves_of n.left ++ arc_value n.leaf ∷ leaves_of n.right)) n.totals };
+    ghost invariant = { λ n. AreTotals (blocks_of_leaves (leaves_of n.left ++ n.leaf ∷ leaves_of n.right)) n.totals };
 
     ghost size = { length };
 
@@ -58,7 +56,7 @@ impl Model for Node {
 /// The first leaf of a tree, and the others.
 #[derive(Drop)]
 struct Parted {
-    leaf: Arc<Leaf>,
+    leaf: SharedLeaf,
     rest: LeafTree,
 }
 
@@ -66,18 +64,18 @@ struct Parted {
 fn fork(
     alloc: Global,
     left: &LeafTree,
-    leaf: &Arc<Leaf>,
+    leaf: &SharedLeaf,
     right: &LeafTree,
 ) -> Result<LeafTree, AllocError>
-    ensures { IfOk result (λ t. leaves_of t ≡ leaves_of left.now ++ arc_value leaf.now ∷ leaves_of right.now) }
+    ensures { IfOk result (λ t. leaves_of t ≡ leaves_of left.now ++ leaf.now ∷ leaves_of right.now) }
 {
     // No tree that fits in memory is as high as a `u8` can say.
     let height = left.height().max(right.height()).saturating_add(1);
-    let run = leaf.run();
-    let totals = left.totals().with(run.len(), run.rows(), right.totals());
+    let own = leaf.totals();
+    let totals = left.totals().with(own.blocks, own.rows, right.totals());
     let node = Node {
         left: left.share()?,
-        leaf: Arc::try_clone(leaf)?,
+        leaf: leaf.share()?,
         right: right.share()?,
         height,
         totals,
@@ -89,10 +87,10 @@ fn fork(
 fn lean_right(
     alloc: Global,
     left: &Node,
-    leaf: &Arc<Leaf>,
+    leaf: &SharedLeaf,
     right: &LeafTree,
 ) -> Result<LeafTree, AllocError>
-    ensures { IfOk result (λ t. leaves_of t ≡ left.now ++ arc_value leaf.now ∷ leaves_of right.now) }
+    ensures { IfOk result (λ t. leaves_of t ≡ left.now ++ leaf.now ∷ leaves_of right.now) }
 {
     match &left.right {
         LeafTree::Fork(middle) if left.left.height() < left.right.height() => {
@@ -112,10 +110,10 @@ fn lean_right(
 fn lean_left(
     alloc: Global,
     left: &LeafTree,
-    leaf: &Arc<Leaf>,
+    leaf: &SharedLeaf,
     right: &Node,
 ) -> Result<LeafTree, AllocError>
-    ensures { IfOk result (λ t. leaves_of t ≡ leaves_of left.now ++ arc_value leaf.now ∷ right.now) }
+    ensures { IfOk result (λ t. leaves_of t ≡ leaves_of left.now ++ leaf.now ∷ right.now) }
 {
     match &right.left {
         LeafTree::Fork(middle) if right.right.height() < right.left.height() => {
@@ -140,10 +138,10 @@ fn is_too_high(tree: &LeafTree, other: &LeafTree) -> bool {
 fn balanced(
     alloc: Global,
     left: &LeafTree,
-    leaf: &Arc<Leaf>,
+    leaf: &SharedLeaf,
     right: &LeafTree,
 ) -> Result<LeafTree, AllocError>
-    ensures { IfOk result (λ t. leaves_of t ≡ leaves_of left.now ++ arc_value leaf.now ∷ leaves_of right.now) }
+    ensures { IfOk result (λ t. leaves_of t ≡ leaves_of left.now ++ leaf.now ∷ leaves_of right.now) }
 {
     match (left, right) {
         (LeafTree::Fork(node), _) if is_too_high(left, right) => lean_right(
@@ -159,10 +157,10 @@ fn balanced(
 fn linked_below_left(
     alloc: Global,
     left: &LeafTree,
-    leaf: &Arc<Leaf>,
+    leaf: &SharedLeaf,
     right: &LeafTree,
 ) -> Result<LeafTree, AllocError>
-    ensures { IfOk result (λ t. leaves_of t ≡ leaves_of left.now ++ arc_value leaf.now ∷ leaves_of right.now) }
+    ensures { IfOk result (λ t. leaves_of t ≡ leaves_of left.now ++ leaf.now ∷ leaves_of right.now) }
 {
     match left {
         LeafTree::Fork(node) if is_too_high(left, right) => {
@@ -179,10 +177,10 @@ fn linked_below_left(
 fn linked_below_right(
     alloc: Global,
     left: &LeafTree,
-    leaf: &Arc<Leaf>,
+    leaf: &SharedLeaf,
     right: &LeafTree,
 ) -> Result<LeafTree, AllocError>
-    ensures { IfOk result (λ t. leaves_of t ≡ leaves_of left.now ++ arc_value leaf.now ∷ leaves_of right.now) }
+    ensures { IfOk result (λ t. leaves_of t ≡ leaves_of left.now ++ leaf.now ∷ leaves_of right.now) }
 {
     match right {
         LeafTree::Fork(node) if is_too_high(right, left) => {
@@ -198,10 +196,10 @@ fn linked_below_right(
 fn linked(
     alloc: Global,
     left: &LeafTree,
-    leaf: &Arc<Leaf>,
+    leaf: &SharedLeaf,
     right: &LeafTree,
 ) -> Result<LeafTree, AllocError>
-    ensures { IfOk result (λ t. leaves_of t ≡ leaves_of left.now ++ arc_value leaf.now ∷ leaves_of right.now) }
+    ensures { IfOk result (λ t. leaves_of t ≡ leaves_of left.now ++ leaf.now ∷ leaves_of right.now) }
 {
     if left.height() < right.height() {
         linked_below_right(alloc, left, leaf, right)
@@ -230,11 +228,11 @@ fn joined_three(
 
 /// The first of the leaves of a node, and the others.
 fn split_first(alloc: Global, node: &Node) -> Result<Parted, AllocError>
-    ensures { IfOk result (λ p. arc_value p.leaf ∷ leaves_of p.rest ≡ node.now) }
+    ensures { IfOk result (λ p. p.leaf ∷ leaves_of p.rest ≡ node.now) }
 {
     match &node.left {
         LeafTree::Empty => Ok(Parted {
-            leaf: Arc::try_clone(&node.leaf)?,
+            leaf: node.leaf.share()?,
             rest: node.right.share()?,
         }),
         LeafTree::Fork(left) => {
@@ -261,8 +259,8 @@ impl LeafTree {
     }
 
     /// The leaf, if there is just one.
-    fn only_leaf(&self) -> Option<&Arc<Leaf>>
-        ensures { IfSome result (λ l. leaves_of self.now ≡ arc_value l.now ∷ []) }
+    fn only_leaf(&self) -> Option<&SharedLeaf>
+        ensures { IfSome result (λ l. leaves_of self.now ≡ l.now ∷ []) }
     {
         let LeafTree::Fork(node) = self else {
             return None;
@@ -298,8 +296,8 @@ impl LeafTree {
     }
 
     /// The tree with this leaf behind it.
-    pub fn pushed(&self, alloc: Global, leaf: &Arc<Leaf>) -> Result<LeafTree, AllocError>
-        ensures { IfOk result (λ t. leaves_of t ≡ leaves_of self.now ++ arc_value leaf.now ∷ []) }
+    pub fn pushed(&self, alloc: Global, leaf: &SharedLeaf) -> Result<LeafTree, AllocError>
+        ensures { IfOk result (λ t. leaves_of t ≡ leaves_of self.now ++ leaf.now ∷ []) }
     {
         linked(alloc, self, leaf, &LeafTree::Empty)
     }
@@ -333,7 +331,7 @@ impl LeafTree {
             return Ok((self.share()?, node.totals.blocks));
         }
         let before = node.left.totals().blocks;
-        let end = before + node.leaf.run().len();
+        let end = before + node.leaf.totals().blocks;
         if most < end {
             let (front, many) = node.left.first(alloc, most)?;
             return Ok((front, many));
@@ -364,7 +362,7 @@ impl LeafTree {
             let tree = linked(alloc, &rest, &node.leaf, &node.right)?;
             return Ok((tree, start));
         }
-        let end = before + node.leaf.run().len();
+        let end = before + node.leaf.totals().blocks;
         let (others, more) = node.right.behind(alloc, least.saturating_sub(end))?;
         Ok((others, end + more))
     }

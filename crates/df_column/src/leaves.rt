@@ -1,6 +1,5 @@
 //! Leaves that several lists of blocks share.
 ghost use Rattle.std.specs.Prelude.{◌≡◌, ◌<◌, ◌≤◌, ◌+◌, ◌-◌, ◌++◌, ◌^◌, [], IfNone, IfOk, IfSome, List, T, drop, length, map, take};
-ghost use Rattle.std.specs.Arc.{arc_value};
 ghost use Rattle.std.specs.FinMap as finite;
 ghost use Rattle.std.specs.FinMap.Entries.{below_all};
 ghost use Rattle.df_column.specs.BlockLists.{HaveRows, IsRunAt, extreme_cell, rows_in};
@@ -18,14 +17,13 @@ ghost use Rattle.df_column.specs.TreeChanges.{AreChangedFrom};
 use crate::column::Column;
 use crate::entry::Entry;
 use crate::extremes::Extreme;
-use crate::leaf::Leaf;
 use crate::leaf_tree::LeafTree;
 use crate::run::{Run, Spot, end_behind};
+use crate::shared_leaf::SharedLeaf;
 use crate::tag::Tag;
 use df_value::Cell;
 use std::alloc::{AllocError, Global};
 use std::marker::Model;
-use std::sync::Arc;
 
 /// Leaves in order. Contracts see their blocks.
 #[derive(Drop)]
@@ -165,9 +163,9 @@ impl Leaves {
     }
 
     /// The leaves with this one behind them.
-    pub fn pushed(&self, alloc: Global, leaf: &Arc<Leaf>) -> Result<Leaves, AllocError>
-        requires { rows_in self.now + rows_in (arc_value leaf.now) ≤ 2 ^ 60 }
-        ensures { IfOk result (λ l. l ≡ self.now ++ arc_value leaf.now) }
+    pub fn pushed(&self, alloc: Global, leaf: &SharedLeaf) -> Result<Leaves, AllocError>
+        requires { rows_in self.now + rows_in leaf.now ≤ 2 ^ 60 }
+        ensures { IfOk result (λ l. l ≡ self.now ++ leaf.now) }
     {
         let tree = self.tree.pushed(alloc, leaf)?;
         Ok(Leaves { tree })

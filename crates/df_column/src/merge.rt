@@ -15,20 +15,13 @@ ghost use Rattle.df_column.specs.declared.tag.Tag.{Tag};
 
 use crate::entry::Entry;
 use crate::picks::{Origin, Pick};
+use crate::row_tags::RowTags;
 use crate::tag::Tag;
 use df_value::{Row, same};
 use std::alloc::{AllocError, Global};
 
-/// How many of the tags stand before this one.
-fn tags_before(tags: &[Tag], tag: Tag) -> usize
-    ensures count { result ≡ prefix_len (λ t. is_lt (tag_cmp t tag)) tags.now }
-    ensures within { result ≤ length tags.now }
-{
-    tags.iter().take_while(|t| **t < tag).count()
-}
-
 /// The index behind this one where the tag stands here, else this index.
-fn index_after(tags: &[Tag], at: usize, tag: Tag) -> usize
+fn index_after(tags: &RowTags, at: usize, tag: Tag) -> usize
     requires { at ≤ length tags.now }
     ensures rest { (columns : List (List Cell)) →
         rest_after tag_cmp tag (drop at (tagged_rows tags.now columns)) ≡
@@ -39,11 +32,20 @@ fn index_after(tags: &[Tag], at: usize, tag: Tag) -> usize
     if at == tags.len() {
         return at;
     }
-    if same(&tags[at], &tag) { at + 1 } else { at }
+    if same(&tags.get(at), &tag) {
+        at + 1
+    } else {
+        at
+    }
 }
 
 /// Adds the old rows from this index up to that one.
-fn push_old(out: &mut Vec<Pick<'_>>, tags: &[Tag], from: usize, to: usize) -> Result<(), AllocError>
+fn push_old(
+    out: &mut Vec<Pick<'_>>,
+    tags: &RowTags,
+    from: usize,
+    to: usize,
+) -> Result<(), AllocError>
     requires ordered { from ≤ to }
     requires within { to ≤ length tags.now }
     requires sound { AreWithin (length tags.now) out.old.items }
@@ -56,7 +58,7 @@ fn push_old(out: &mut Vec<Pick<'_>>, tags: &[Tag], from: usize, to: usize) -> Re
 {
     for at in from..to {
         let pick = Pick {
-            tag: tags[at],
+            tag: tags.get(at),
             origin: Origin::Old(at),
         };
         out.push(pick)?;
@@ -88,7 +90,7 @@ fn push_new<'a>(out: &mut Vec<Pick<'a>>, entry: &'a Entry) -> Result<(), AllocEr
 /// Adds the rows from this index on that stand before the entry's tag, and the new row there. Gives the index behind.
 fn merge_entry<'a>(
     out: &mut Vec<Pick<'a>>,
-    tags: &[Tag],
+    tags: &RowTags,
     at: usize,
     entry: &'a Entry,
 ) -> Result<usize, AllocError>
@@ -109,8 +111,7 @@ fn merge_entry<'a>(
     ensures fits { OnOk result ((dtypes : List CellType) → T (is_row_if_any dtypes entry.now.new) →
         AreRows dtypes out.old.items → AreRows dtypes out.new.items) }
 {
-    let rest = &tags[at..];
-    let next = at + tags_before(rest, entry.tag);
+    let next = at + tags.count_below(at, entry.tag);
     push_old(out, tags, at, next)?;
     push_new(out, entry)?;
     Ok(index_after(tags, next, entry.tag))
@@ -119,7 +120,7 @@ fn merge_entry<'a>(
 /// The rows at these tags after the changes.
 pub fn merge<'a>(
     alloc: Global,
-    tags: &[Tag],
+    tags: &RowTags,
     entries: &'a [Entry],
 ) -> Result<Vec<Pick<'a>>, AllocError>
     requires tags { AreRisingTags tags.now }
@@ -150,7 +151,7 @@ pub struct Merged<'a> {
 }
 
 /// How many of the tags stand before the first entry's; 0 where there is no entry.
-fn rows_before(tags: &[Tag], entries: &[Entry]) -> usize
+fn rows_before(tags: &RowTags, entries: &[Entry]) -> usize
     requires tags { AreRisingTags tags.now }
     requires entries { AreRising entries.now }
     ensures count { (e : Entry) → 0 < length entries.now → result ≡
@@ -163,7 +164,7 @@ fn rows_before(tags: &[Tag], entries: &[Entry]) -> usize
         after_changes tag_cmp (tagged_rows tags.now columns) (map entry_change entries.now) }
 {
     match entries.first() {
-        Some(entry) => tags_before(tags, entry.tag),
+        Some(entry) => tags.count_below(0, entry.tag),
         None => 0,
     }
 }
@@ -171,7 +172,7 @@ fn rows_before(tags: &[Tag], entries: &[Entry]) -> usize
 /// The change that the entries make in a block of these tags, from the first row that they reach to the last.
 pub fn merge_changed<'a>(
     alloc: Global,
-    tags: &[Tag],
+    tags: &RowTags,
     entries: &'a [Entry],
 ) -> Result<Merged<'a>, AllocError>
     requires tags { AreRisingTags tags.now }

@@ -29,7 +29,7 @@ pub fn push_tagged_rows(
     let tags = block.tags();
     for at in 0..tags.len() {
         let row = block.row(alloc, at)?;
-        out.push((tags[at], row))?;
+        out.push((tags.get(at), row))?;
     }
     Ok(())
 }

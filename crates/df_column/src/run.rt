@@ -1,6 +1,8 @@
 //! Runs of blocks.
-ghost use Rattle.std.specs.Prelude.{◌≡◌, ◌<◌, ◌≤◌, ◌+◌, ◌-◌, ◌++◌, ◌∷◌, ◌^◌, [], IfOk, Some, drop, length, map, slice_index_or, take};
+ghost use Rattle.std.specs.Prelude.{◌≡◌, ◌<◌, ◌≤◌, ◌+◌, ◌-◌, ◌++◌, ◌∷◌, ◌^◌, [], IfNone, IfOk, IfSome, Some, T, drop, length, map, slice_index_or, take};
 ghost use Rattle.std.specs.Arc.{arc_value};
+ghost use Rattle.std.specs.FinMap as finite;
+ghost use Rattle.std.specs.FinMap.Entries.{below_all};
 ghost use Rattle.std.specs.List.Sorted.{IsNonDecreasing};
 ghost use Rattle.df_column.specs.BlockLists.{HaveRows, extreme_cell, last_of};
 ghost use Rattle.df_column.specs.Blocks.{BlockParts, block_rows, ends_of, rows_of_blocks};
@@ -9,7 +11,8 @@ ghost use Rattle.df_column.specs.Extremes as extremes;
 ghost use Rattle.df_column.specs.Extremes.{cells_at, extreme_of};
 ghost use Rattle.df_column.specs.Picks.{spliced};
 ghost use Rattle.df_column.specs.Pools.{start_at};
-ghost use Rattle.df_column.specs.TableBlocks.{IsEndCount};
+ghost use Rattle.df_column.specs.TableBlocks.{IsBlockOfTag, IsEndCount};
+ghost use Rattle.df_column.specs.Tags.{tag_cmp};
 
 use crate::block::Block;
 use crate::extremes::{Extreme, is_beyond};
@@ -146,7 +149,7 @@ impl Run {
     /// The tag of the last row, none where there are no rows.
     pub fn last_tag(&self) -> Option<Tag> {
         let tags = self.blocks.last()?.tags();
-        tags.last().copied()
+        Some(tags.get(tags.len() - 1))
     }
 
     /// How many columns the first block has; 0 where there is none.
@@ -242,6 +245,27 @@ impl Run {
         let block = ends_up_to(&self.ends, at);
         let row = at - start_of_part(&self.ends, block);
         Spot { block, row }
+    }
+
+    /// How many rows stand before the block at this index.
+    pub fn start(&self, block: usize) -> usize
+        requires { block < length self.now }
+        ensures value { result ≡ start_at 0 (ends_of 0 self.now) block }
+        ensures few { (d : BlockParts) →
+            result + length (slice_index_or self.now block d).tags < 2 ^ 64 }
+    {
+        self.ends[block] - self.get(block).tags().len()
+    }
+
+    /// The index of the only block in which a row with this tag can stand, none where all rows have greater tags.
+    pub fn block_of_tag(&self, tag: Tag) -> Option<usize>
+        requires { T (finite.is_sorted tag_cmp (rows_of_blocks self.now)) }
+        ensures some { IfSome result (IsBlockOfTag self.now tag) }
+        ensures none { IfNone result (T (below_all tag_cmp tag (rows_of_blocks self.now))) }
+    {
+        let blocks: &[Arc<Block>] = &self.blocks;
+        let begun = blocks.partition_point(|block| block.first() <= tag);
+        begun.checked_sub(1)
     }
 
     /// The best cell; where the blocks have one beyond it in the column at an index, a copy of that.

@@ -9,7 +9,7 @@ ghost use Rattle.df_column.specs.Bounds.{IsLowerBound, IsUpperBound};
 ghost use Rattle.df_column.specs.Changes.{all_under};
 ghost use Rattle.df_column.specs.Places.{IsGap, IsPlace};
 ghost use Rattle.df_column.specs.RowRuns.{StandFrom};
-ghost use Rattle.df_column.specs.TableBlocks.{IsSpot, IsWindow};
+ghost use Rattle.df_column.specs.TableBlocks.{IsSpot};
 ghost use Rattle.df_column.specs.Tags.{tag_cmp};
 ghost use Rattle.df_column.specs.declared.tag.Tag.{Tag};
 
@@ -17,9 +17,8 @@ use crate::block::Block;
 use crate::block_list::BlockList;
 use crate::run::{Run, Spot};
 use crate::tag::Tag;
-use df_value::Row;
+use df_value::{Row, same};
 use std::alloc::{AllocError, Global};
-use std::cmp::Ordering;
 
 /// Where the row at this index of all rows stands.
 fn locate(blocks: &BlockList, at: usize) -> Spot
@@ -35,7 +34,7 @@ pub fn tag_at(blocks: &BlockList, at: usize) -> Tag
     ensures { (d : Tag × List Cell) → result ≡ (slice_index_or (rows_of_blocks blocks.now) at d).0 }
 {
     let spot = locate(blocks, at);
-    blocks.get(spot.block).tags()[spot.row]
+    blocks.get(spot.block).tags().get(spot.row)
 }
 
 /// A copy of the row at this index.
@@ -67,7 +66,7 @@ fn are_rows_in(block: &Block, low: usize, first: u64, rows: &[Row]) -> bool
 {
     let tags = block.tags();
     for at in 0..rows.len() {
-        if tags[low + at].first != first + at as u64 || !block.is_row(low + at, &rows[at]) {
+        if tags.get(low + at).first != first + at as u64 || !block.is_row(low + at, &rows[at]) {
             return false;
         }
     }
@@ -95,56 +94,18 @@ pub fn are_rows_at(blocks: &BlockList, at: usize, first: u64, rows: &[Row]) -> b
     true
 }
 
-/// Where the row at this index of a run stands.
-fn locate_in_run(run: &Run, at: usize) -> Spot
-    requires { at < length (rows_of_blocks run.now) }
-    ensures { IsSpot run.now at result.block result.row }
+/// The index of the row at this tag in a block, or where it would stand.
+fn find_in_block(block: &Block, tag: Tag) -> Result<usize, usize>
+    requires { T (finite.is_sorted tag_cmp (block_rows block.now)) }
+    ensures found { IfOk result (IsPlace tag_cmp (block_rows block.now) tag) }
+    ensures absent { IfErr result (IsGap tag_cmp (block_rows block.now) tag) }
 {
-    run.spot(at)
-}
-
-/// The tag of the row at this index of a run.
-fn tag_in_run(run: &Run, at: usize) -> Tag
-    requires { at < length (rows_of_blocks run.now) }
-    ensures { (d : Tag × List Cell) → result ≡ (slice_index_or (rows_of_blocks run.now) at d).0 }
-{
-    let spot = locate_in_run(run, at);
-    run.get(spot.block).tags()[spot.row]
-}
-
-/// The index of the row at this tag in a run, or where it would stand, between these indexes.
-fn search(run: &Run, tag: Tag, low: usize, high: usize) -> Result<usize, usize>
-    requires sorted { T (finite.is_sorted tag_cmp (rows_of_blocks run.now)) }
-    requires window { IsWindow (rows_of_blocks run.now) tag low high }
-    ensures found { IfOk result (IsPlace tag_cmp (rows_of_blocks run.now) tag) }
-    ensures absent { IfErr result (IsGap tag_cmp (rows_of_blocks run.now) tag) }
-{
-    if low >= high {
-        return Err(low);
-    }
-    let middle = low + (high - low) / 2;
-    let found = tag_in_run(run, middle);
-    match found.cmp(&tag) {
-        Ordering::Less => search(run, tag, middle + 1, high),
-        Ordering::Equal => Ok(middle),
-        Ordering::Greater => search(run, tag, low, middle),
-    }
-}
-
-/// Where a search for the tag in a run begins: behind its last row where the tag is above that one's, as the tags of most
-/// new rows are.
-fn search_start(run: &Run, tag: Tag) -> usize
-    requires { T (finite.is_sorted tag_cmp (rows_of_blocks run.now)) }
-    ensures { IsWindow (rows_of_blocks run.now) tag result (length (rows_of_blocks run.now)) }
-{
-    let rows = run.rows();
-    if rows == 0 {
-        return 0;
-    }
-    let last = tag_in_run(run, rows - 1);
-    match last.cmp(&tag) {
-        Ordering::Less => rows,
-        _ => 0,
+    let tags = block.tags();
+    let row = tags.count_below(0, tag);
+    if row < tags.len() && same(&tags.get(row), &tag) {
+        Ok(row)
+    } else {
+        Err(row)
     }
 }
 
@@ -154,7 +115,14 @@ fn find_in_run(run: &Run, tag: Tag) -> Result<usize, usize>
     ensures found { IfOk result (IsPlace tag_cmp (rows_of_blocks run.now) tag) }
     ensures absent { IfErr result (IsGap tag_cmp (rows_of_blocks run.now) tag) }
 {
-    search(run, tag, search_start(run, tag), run.rows())
+    let Some(block) = run.block_of_tag(tag) else {
+        return Err(0);
+    };
+    let start = run.start(block);
+    match find_in_block(run.get(block), tag) {
+        Ok(row) => Ok(start + row),
+        Err(row) => Err(start + row),
+    }
 }
 
 /// The index of the row at this tag, or where it would stand.

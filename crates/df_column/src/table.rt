@@ -25,6 +25,7 @@ use crate::column::Column;
 use crate::entry::{Entry, are_fitting};
 use crate::picks::{Origin, Pick};
 use crate::reads::{push_rows, push_tagged_rows};
+use crate::row_tags::RowTags;
 use crate::sharing::{edited_blocks, joined_blocks, shared_blocks};
 use crate::spots;
 use crate::tag::Tag;
@@ -361,7 +362,15 @@ fn blocks_of(alloc: Global, schema: &Schema, rows: &[(Tag, Row)]) -> Result<Bloc
     let columns = empty_columns(alloc, schema)?;
     let picks = new_picks(alloc, rows)?;
     let out = BlockList::new(alloc);
-    with_parts(alloc, out, &[], &columns, &[], &picks, MOST_ROWS)
+    with_parts(
+        alloc,
+        out,
+        &RowTags::new(alloc),
+        &columns,
+        &[],
+        &picks,
+        MOST_ROWS,
+    )
 }
 
 /// The rows as new rows of a block.

@@ -61,7 +61,7 @@ fn push_tags_above(
     let row_tags = block.tags();
     let column = &block.columns()[index];
     for at in 0..row_tags.len() {
-        push_if_above(tags, row_tags[at], column, at, value)?;
+        push_if_above(tags, row_tags.get(at), column, at, value)?;
     }
     Ok(())
 }

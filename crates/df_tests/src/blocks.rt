@@ -1,4 +1,4 @@
-//! Tables of blocks of at most 256 rows, of which leaves have up to 8: rows across several blocks and leaves, look-ups
+//! Tables of blocks of at most 128 rows, of which leaves have up to 8: rows across several blocks and leaves, look-ups
 //! between tags, changes at the ends of blocks and leaves, and the dictionary of texts.
 use df_column::{Entry, Table, Tag, TextPool};
 use df_delta::{Delta, apply, push_change};
@@ -79,7 +79,7 @@ fn changed(alloc: Global, table: &Table, entries: Vec<Entry>) -> Result<Table, A
 #[test]
 fn tables_give_back_their_rows(rt: HostRuntime) -> Result<(), Fail> {
     let alloc = rt.alloc();
-    for len in [0, 1, 256, 257, 513, 4096, 4097, 8192, 8193] {
+    for len in [0, 1, 128, 129, 257, 1024, 1025, 4096, 4097, 8192, 8193] {
         let rows = rows(alloc, len)?;
         let table = table(alloc, &rows)?;
         let read = table.rows(alloc)?;
@@ -94,11 +94,11 @@ fn a_tag_between_two_is_not_found(rt: HostRuntime) -> Result<(), Fail> {
     let alloc = rt.alloc();
     let table = table(alloc, &rows(alloc, 8194)?)?;
     for n in [
-        0, 255, 256, 511, 512, 2047, 2048, 4095, 4096, 8191, 8192, 8193,
+        0, 127, 128, 255, 256, 1023, 1024, 2047, 2048, 8191, 8192, 8193,
     ] {
         assert!(rt; table.find(tag(n)) == Some(n as usize));
     }
-    for n in [0, 255, 256, 2047, 2048, 4095, 4096, 8191, 8192, 8193] {
+    for n in [0, 127, 128, 1023, 1024, 4095, 4096, 8191, 8192, 8193] {
         assert!(rt; table.find(between(n)) == None);
     }
     Ok(())

@@ -1,6 +1,5 @@
 //! Changes of a tree of leaves, from its root down.
 ghost use Rattle.std.specs.Prelude.{◌≡◌, ◌≤◌, ◌++◌, IfOk, IfSome, T, length, map};
-ghost use Rattle.std.specs.Arc.{arc_value};
 ghost use Rattle.std.specs.FinMap as finite;
 ghost use Rattle.df_column.specs.Blocks.{AreOfDtypes, rows_of_blocks};
 ghost use Rattle.df_column.specs.Changes.{after_changes};
@@ -18,9 +17,9 @@ use crate::column::Column;
 use crate::entry::Entry;
 use crate::leaf::Leaf;
 use crate::leaf_tree::{LeafTree, Node, joined_three, linked};
+use crate::shared_leaf::SharedLeaf;
 use crate::sharing::{reached, untouched};
 use std::alloc::{AllocError, Global};
-use std::sync::Arc;
 
 /// The leaf with the blocks of a list in place of its own from one index up to another; none where one leaf cannot hold
 /// them, or where there are no blocks.
@@ -90,7 +89,7 @@ fn changed_leaf(
     let none = BlockList::new(alloc);
     let made = with_changes(alloc, none, &blocks, low..high, false, columns, entries)?;
     if let Some(edited) = spliced_leaf(alloc, leaf, low, high, &made)? {
-        let edited = Arc::new(alloc, edited)?;
+        let edited = SharedLeaf::new(alloc, edited)?;
         let tree = LeafTree::Empty.pushed(alloc, &edited)?;
         return Ok(tree);
     }
@@ -102,18 +101,18 @@ fn changed_leaf(
 fn with_changed_leaf(
     alloc: Global,
     left: &LeafTree,
-    leaf: &Arc<Leaf>,
+    leaf: &SharedLeaf,
     right: &LeafTree,
     columns: &[Column],
     entries: &[Entry],
 ) -> Result<LeafTree, AllocError>
-    requires rows { T (finite.is_sorted tag_cmp (rows_of_blocks (arc_value leaf.now))) }
-    requires types { AreOfDtypes (map dtype_of_column columns.now) (arc_value leaf.now) }
+    requires rows { T (finite.is_sorted tag_cmp (rows_of_blocks leaf.now)) }
+    requires types { AreOfDtypes (map dtype_of_column columns.now) leaf.now }
     requires empty { T (are_even 0 (map column_cells columns.now)) }
     requires entries { AreRising entries.now }
     requires fits { AreNewRows (map dtype_of_column columns.now) entries.now }
     ensures rows { IfOk result (λ t. rows_of_blocks (blocks_in t) ≡ rows_of_blocks (blocks_in left.now)
-        ++ (after_changes tag_cmp (rows_of_blocks (arc_value leaf.now)) (map entry_change entries.now)
+        ++ (after_changes tag_cmp (rows_of_blocks leaf.now) (map entry_change entries.now)
         ++ rows_of_blocks (blocks_in right.now))) }
     ensures types { IfOk result (λ t. AreOfDtypes (map dtype_of_column columns.now) (blocks_in left.now)
         → AreOfDtypes (map dtype_of_column columns.now) (blocks_in right.now)
@@ -123,7 +122,7 @@ fn with_changed_leaf(
         let tree = linked(alloc, left, leaf, right)?;
         return Ok(tree);
     }
-    let middle = changed_leaf(alloc, leaf, columns, entries)?;
+    let middle = changed_leaf(alloc, leaf.leaf(), columns, entries)?;
     let tree = joined_three(alloc, left, &middle, right)?;
     Ok(tree)
 }

@@ -35,12 +35,12 @@ impl LeafTree {
         if at < before {
             return node.left.run_at(at);
         }
-        let run = node.leaf.run();
+        let own = node.leaf.totals().blocks;
         let place = at - before;
-        if place < run.len() {
-            return (run, place);
+        if place < own {
+            return (node.leaf.run(), place);
         }
-        node.right.run_at(place - run.len())
+        node.right.run_at(place - own)
     }
 
     /// The run that the row at this index of all rows stands in, and how many blocks and rows stand before the run.
@@ -58,13 +58,13 @@ impl LeafTree {
         if row < before.rows {
             return node.left.run_of_row(row);
         }
-        let run = node.leaf.run();
+        let own = node.leaf.totals();
         let place = row - before.rows;
-        if place < run.rows() {
-            return (run, before);
+        if place < own.rows {
+            return (node.leaf.run(), before);
         }
-        let (other, between) = node.right.run_of_row(place - run.rows());
-        (other, before.with(run.len(), run.rows(), between))
+        let (other, between) = node.right.run_of_row(place - own.rows);
+        (other, before.with(own.blocks, own.rows, between))
     }
 
     /// The tag of the last row, none where there are no rows.
@@ -96,7 +96,8 @@ impl LeafTree {
             return node.left.run_of_tag(tag);
         }
         if let Some((other, between)) = node.right.run_of_tag(tag) {
-            let rows = node.left.totals().rows + node.leaf.run().rows();
+            // The root of the right side has just been read, that of the left one has not.
+            let rows = node.totals.rows - node.right.totals().rows;
             return Some((other, rows + between));
         }
         Some((node.leaf.run(), node.left.totals().rows))
@@ -119,7 +120,7 @@ impl LeafTree {
         };
         let node: &Node = node;
         let best = node.left.furthest(alloc, extreme, best, index)?;
-        let best = node.leaf.furthest(alloc, extreme, best, index)?;
+        let best = node.leaf.leaf().furthest(alloc, extreme, best, index)?;
         let best = node.right.furthest(alloc, extreme, best, index)?;
         Ok(best)
     }
@@ -140,7 +141,7 @@ impl LeafTree {
         };
         let node: &Node = node;
         node.left.push_tags_above(tags, index, value)?;
-        push_tags_in_leaf(tags, &node.leaf, index, value)?;
+        push_tags_in_leaf(tags, node.leaf.leaf(), index, value)?;
         node.right.push_tags_above(tags, index, value)?;
         Ok(())
     }

@@ -78,7 +78,7 @@ returns c =
     let e : c.loop-at.at ≡ c.args.range.end = omega (arith, c.loop-at.invariant.within, c.loop-at-test.false) in
     let gone : drop c.loop-at.at (take c.args.range.end c.args.blocks.now) ≡ [] = ap (λ n. drop n (take c.args.range.end c.args.blocks.now)) e ∙ none_between c.args.blocks.now c.args.range.end in
     let made = c.in_ok-list-2.ensures in
-    let picked = ap (picked_rows columns) c.deref.ensures.value ∙ c.in_ok-picks.ensures.rows columns in
+    let picked = ap (picked_rows columns) c.deref.ensures.value ∙ rw c.new-tags.ensures at (c.in_ok-picks.ensures.rows columns) in
     record {
       rows = made.rows ∙ ap (λ rs. rows_of_blocks c.loop-at.made ++ rs) picked
           ∙ ap (λ bs. rows_of_blocks c.loop-at.made ++ after_changes tag_cmp (rows_of_blocks bs) changes) (sym gone) ∙ c.loop-at.invariant.rows;

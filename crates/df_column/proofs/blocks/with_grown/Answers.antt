@@ -19,5 +19,5 @@ pub returns : goal.returns
 returns c =
     let block = arc_value c.args.block.now in
     let long = length_rows block.tags (map column_cells block.columns) in
-    let made = rw (c.tags-tags.ensures.tags, c.deref.ensures, c.columns-columns.ensures.columns, c.deref-2.ensures) at c.in_ok-made.ensures in
+    let made = rw (c.len-rows.ensures, c.tags-tags.ensures.tags, c.deref.ensures, c.columns-columns.ensures.columns, c.deref-2.ensures) at c.in_ok-made.ensures in
     adds_same _ _ _ _ _ _ refl (spliced_behind (length block.tags) _ (block_rows block) (omega (arith, long))) made

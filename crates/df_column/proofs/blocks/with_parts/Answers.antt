@@ -18,7 +18,7 @@ pub loop-from-preserved : goal.loop-from-preserved
 loop-from-preserved c =
     let columns = map column_cells c.args.columns.now in
     let long = length_rows c.args.tags.now columns in
-    let made = adds_same _ _ _ _ _ _ refl (spliced_whole (length c.args.tags.now) _ (tagged_rows c.args.tags.now columns) (omega (arith, long))) c.in_ok-made.ensures in
+    let made = adds_same _ _ _ _ _ _ refl (spliced_whole (length c.args.tags.now) _ (tagged_rows c.args.tags.now columns) (omega (arith, long))) (rw c.len.ensures at c.in_ok-made.ensures) in
     record {
       within = omega arith;
       adds = adds_part (map dtype_of_column c.args.columns.now) columns c.args.picks.now c.loop-from.from c.min.result _ _ _ _ (omega arith) c.loop-from.invariant.adds made;

@@ -8,18 +8,18 @@ use Rattle.df_column.proofs.spots.are_rows_at.Goals as goal
 pub overflow_add-at : goal.overflow_add-at
 overflow_add-at c = omega (arith, c.requires.few, c.loop-done-test.true)
 
-pub overflow_sub-tags : goal.overflow_sub-tags
-overflow_sub-tags c =
+pub overflow_sub-len : goal.overflow_sub-len
+overflow_sub-len c =
     let b = arc_value c.get-block.result.now in
     let inside = subst (λ (p : BlockParts). c.locate-spot.result.row < length p.tags) (sym (c.get-block.ensures b)) (c.locate-spot.ensures.in_block b) in
-    let tags = ap length c.tags.ensures.tags ∙ ap (λ (p : BlockParts). length p.tags) c.deref.ensures in
+    let tags = c.len.ensures ∙ ap length c.tags.ensures.tags ∙ ap (λ (p : BlockParts). length p.tags) c.deref.ensures in
     omega (arith, inside, tags)
 
 pub are_rows_in-requires-clause-within : goal.are_rows_in-requires-clause-within
 are_rows_in-requires-clause-within c =
     let b = arc_value c.get-block.result.now in
     let inside = subst (λ (p : BlockParts). c.locate-spot.result.row < length p.tags) (sym (c.get-block.ensures b)) (c.locate-spot.ensures.in_block b) in
-    let tags = ap length c.tags.ensures.tags ∙ ap (λ (p : BlockParts). length p.tags) c.deref.ensures in
+    let tags = c.len.ensures ∙ ap length c.tags.ensures.tags ∙ ap (λ (p : BlockParts). length p.tags) c.deref.ensures in
     let own = ap (λ (p : BlockParts). length p.tags) c.deref-in-loop-done.ensures in
     let part = length-take (c.loop-done.done + c.min-many.result - c.loop-done.done) (drop c.loop-done.done c.args.rows.now) in
     omega (arith, inside, tags, own, part, c.min-many.ensures)
@@ -28,7 +28,7 @@ pub loop-done-smaller : goal.loop-done-smaller
 loop-done-smaller c =
     let b = arc_value c.get-block.result.now in
     let inside = subst (λ (p : BlockParts). c.locate-spot.result.row < length p.tags) (sym (c.get-block.ensures b)) (c.locate-spot.ensures.in_block b) in
-    let tags = ap length c.tags.ensures.tags ∙ ap (λ (p : BlockParts). length p.tags) c.deref.ensures in
+    let tags = c.len.ensures ∙ ap length c.tags.ensures.tags ∙ ap (λ (p : BlockParts). length p.tags) c.deref.ensures in
     omega (arith, inside, tags, c.min-many.ensures, c.loop-done-test.true)
 
 pub loop-done-preserved : goal.loop-done-preserved
@@ -41,7 +41,7 @@ loop-done-preserved c =
     let row = c.locate-spot.result.row in
     let there : b ≡ get_or bs c.locate-spot.result.block b = c.get-block.ensures b in
     let inside = subst (λ (p : BlockParts). row < length p.tags) (sym there) (c.locate-spot.ensures.in_block b) in
-    let tags = ap length c.tags.ensures.tags ∙ ap (λ (p : BlockParts). length p.tags) c.deref.ensures in
+    let tags = c.len.ensures ∙ ap length c.tags.ensures.tags ∙ ap (λ (p : BlockParts). length p.tags) c.deref.ensures in
     let short : done + many - done ≡ many = omega arith in
     let stands = subst (λ (p : BlockParts). StandFrom (block_rows p) row (c.args.first + done) (take (done + many - done) (drop done rows))) c.deref-in-loop-done.ensures (c.are_rows_in.ensures c.if-not-are_rows_in.false) in
     record {

@@ -19,5 +19,5 @@ loop-at-preserved c =
     let here : (d : Tag × List Cell) → get_or (block_rows b) place d ≡ (get_or b.tags place none, row_at columns place) = λ d. row_in_rows b.tags columns place d none (omega (arith, c.requires.within, c.loop-at-test.true)) in
     let same : row_at columns place ≡ c.index-rows-at.result = (row_eq-Decides (row_at columns place) c.index-rows-at.result).0 (sym c.is_row.ensures ∙ c.if-not-is_row.false) in
     stand_one (block_rows b) c.args.low c.args.first c.args.rows.now c.loop-at.at c.loop-at.invariant c.loop-at-test.true
-    (λ d. ap (λ r. r.0.first) (here d) ∙ ap (λ ts. (get_or ts place none).first) (sym c.tags-tags.ensures.tags) ∙ c.if-tags-low.false)
+    (λ d. ap (λ r. r.0.first) (here d) ∙ ap (λ ts. (get_or ts place none).first) (sym c.tags-tags.ensures.tags) ∙ ap (λ (t : Tag). t.first) (sym (c.get.ensures none)) ∙ c.if-get-first.false)
     (λ d. ap (λ r. r.1) (here d) ∙ same ∙ c.index-rows-at.is ∙ get_or_default c.args.rows.now c.loop-at.at c.index-rows-at.result d.1 c.loop-at-test.true)

@@ -1,6 +1,7 @@
 use Rattle.std.proofs.Common.{◌≡◌, ◌∙◌, [], Some, ap, arith, get_or, length, map, sym}
 use Rattle.df_column.specs.Blocks.{block_rows}
 use Rattle.df_column.specs.Columns.{column_cells}
+use Rattle.df_column.specs.declared.tag.Tag.{Tag}
 use Rattle.df_column.proofs.BlockLemmas.{even_at}
 use Rattle.df_column.proofs.ExtremeLemmas.{above_end}
 use Rattle.df_column.proofs.Places.{mapped_at}
@@ -24,8 +25,9 @@ loop-at-preserved c =
     let tags = ap length c.tags-row_tags.ensures.tags in
     let is : column ≡ get_or b.columns c.args.index column = c.index-columns-index.is ∙ ap (λ cs. get_or cs c.args.index column) c.columns.ensures.columns in
     let cells : get_or (map column_cells b.columns) c.args.index [] ≡ column_cells column = mapped_at column_cells b.columns c.args.index [] column c.requires ∙ ap column_cells (sym is) in
-    let made = rw c.tags-row_tags.ensures.tags at c.in_ok-push_if_above.ensures in
-    block_above_step b c.args.index c.loop-at.at c.args.value.now (column_cells column) _ c.loop-at.tags.items c.push_if_above.new.tags.items _ c.requires (omega (arith, tags, c.loop-at-test.true)) cells made c.loop-at.invariant
+    let none : Tag = record { first = 0; second = 0; third = 0 } in
+    let made = rw (c.get.ensures none, c.tags-row_tags.ensures.tags) at c.in_ok-push_if_above.ensures in
+    block_above_step b c.args.index c.loop-at.at c.args.value.now (column_cells column) none c.loop-at.tags.items c.push_if_above.new.tags.items _ c.requires (omega (arith, tags, c.loop-at-test.true)) cells made c.loop-at.invariant
 
 pub returns : goal.returns
 returns c =

@@ -14,7 +14,7 @@ extremes_of-requires c =
 
 pub invariant_of-result : goal.invariant_of-result
 invariant_of-result c =
-    let tags = rw c.in_ok-tags.ensures.first at c.spliced_tags.ensures in
+    let tags = rw c.in_ok-tags.ensures.first at c.spliced.ensures in
     let cells = rw c.in_ok-tags.ensures.second at c.spliced_columns-made.ensures.cells in
     record {
       block = (block_made c.args.low c.args.high c.args.tags.now _ c.args.columns.now _ c.args.picks.now c.requires.ordered c.requires.in_range c.requires.even c.requires.rows c.requires.some c.requires.few tags cells).sound;
@@ -23,6 +23,6 @@ invariant_of-result c =
 
 pub returns-clause-rows : goal.returns-clause-rows
 returns-clause-rows c =
-    let tags = rw c.in_ok-tags.ensures.first at c.spliced_tags.ensures in
+    let tags = rw c.in_ok-tags.ensures.first at c.spliced.ensures in
     let cells = rw c.in_ok-tags.ensures.second at c.spliced_columns-made.ensures.cells in
     (block_made c.args.low c.args.high c.args.tags.now _ c.args.columns.now _ c.args.picks.now c.requires.ordered c.requires.in_range c.requires.even c.requires.rows c.requires.some c.requires.few tags cells).rows

@@ -1,8 +1,7 @@
 use Rattle.std.proofs.Common.{◌≡◌, ◌∙◌, ◌++◌, ap, arith, map, refl, subst, sym, take}
-use Rattle.std.specs.Arc.{arc_value}
 use Rattle.df_column.specs.BlockLists.{blocks_of_leaves}
 use Rattle.df_column.specs.Blocks.{rows_of_blocks}
-use Rattle.df_column.specs.Changes.{IsHead, after_changes}
+use Rattle.df_column.specs.Changes.{after_changes}
 use Rattle.df_column.specs.Columns.{dtype_of_column}
 use Rattle.df_column.specs.LeafTrees.{blocks_in, leaves_of}
 use Rattle.df_column.specs.Rows.{AreNewRows, is_row_if_any}
@@ -27,7 +26,7 @@ changed-requires t c =
     let is = c.node.view_is ∙ c.deref-node.ensures ∙ sym (ap leaves_of c.in-Fork.is) in
     let all = blocks_in c.args.self.now in
     let left = blocks_in n.left in
-    let leaf = arc_value n.leaf in
+    let leaf = n.leaf in
     let right = blocks_in n.right in
     let cut = node_blocks (leaves_of n.left) (leaves_of n.right) leaf (leaves_of c.args.self.now) is in
     let dtypes = map dtype_of_column c.args.columns.now in
@@ -54,13 +53,12 @@ returns-then-from-entries t c =
     let is = c.node.view_is ∙ c.deref-node.ensures ∙ sym (ap leaves_of c.in-Fork.is) in
     let all = blocks_in c.args.self.now in
     let left = blocks_in n.left in
-    let leaf = arc_value n.leaf in
+    let leaf = n.leaf in
     let right = blocks_in n.right in
     let cut = node_blocks (leaves_of n.left) (leaves_of n.right) leaf (leaves_of c.args.self.now) is in
     let dtypes = map dtype_of_column c.args.columns.now in
-    let head = subst (λ bs. IsHead (rows_of_blocks bs) c.first_tag-first.result) c.deref.ensures c.first_tag-first.ensures in
     let front = subst (λ es. AreChangedFrom dtypes left es (blocks_in c.in_ok-left.left) c.in_ok-left.from) c.split_at.ensures.front c.in_ok-left.ensures in
-    none_changed dtypes all left leaf right cut c.first_tag-first.result c.args.entries.now c.entries_before.result c.in_ok-left.from (blocks_in c.in_ok-left.left) c.requires.rows head c.requires.entries c.entries_before.ensures.count front
+    none_changed dtypes all left leaf right cut c.first_tag-first.result c.args.entries.now c.entries_before.result c.in_ok-left.from (blocks_in c.in_ok-left.left) c.requires.rows c.first_tag-first.ensures c.requires.entries c.entries_before.ensures.count front
     (blocks_in c.in_ok-share-2.field-0) (omega (arith, c.if-from-entries.true)) (ap blocks_of_leaves c.in_ok-share-2.ensures) c.requires.types
 
 pub changed-requires-2 : goal.changed-requires-2
@@ -69,7 +67,7 @@ changed-requires-2 t c =
     let is = c.node.view_is ∙ c.deref-node.ensures ∙ sym (ap leaves_of c.in-Fork.is) in
     let all = blocks_in c.args.self.now in
     let left = blocks_in n.left in
-    let leaf = arc_value n.leaf in
+    let leaf = n.leaf in
     let right = blocks_in n.right in
     let cut = node_blocks (leaves_of n.left) (leaves_of n.right) leaf (leaves_of c.args.self.now) is in
     let dtypes = map dtype_of_column c.args.columns.now in
@@ -96,7 +94,7 @@ with_changed_leaf-requires-clause-rows t c =
     let is = c.node.view_is ∙ c.deref-node.ensures ∙ sym (ap leaves_of c.in-Fork.is) in
     let all = blocks_in c.args.self.now in
     let left = blocks_in n.left in
-    let leaf = arc_value n.leaf in
+    let leaf = n.leaf in
     let right = blocks_in n.right in
     let cut = node_blocks (leaves_of n.left) (leaves_of n.right) leaf (leaves_of c.args.self.now) is in
     sorted_left (leaf ++ right) leaf right refl (sorted_right all left (leaf ++ right) cut c.requires.rows)
@@ -107,7 +105,7 @@ with_changed_leaf-requires-clause-types t c =
     let is = c.node.view_is ∙ c.deref-node.ensures ∙ sym (ap leaves_of c.in-Fork.is) in
     let all = blocks_in c.args.self.now in
     let left = blocks_in n.left in
-    let leaf = arc_value n.leaf in
+    let leaf = n.leaf in
     let right = blocks_in n.right in
     let cut = node_blocks (leaves_of n.left) (leaves_of n.right) leaf (leaves_of c.args.self.now) is in
     (types_cut (map dtype_of_column c.args.columns.now) all left leaf right cut c.requires.types).middle
@@ -129,15 +127,14 @@ returns t c =
     let is = c.node.view_is ∙ c.deref-node.ensures ∙ sym (ap leaves_of c.in-Fork.is) in
     let all = blocks_in c.args.self.now in
     let left = blocks_in n.left in
-    let leaf = arc_value n.leaf in
+    let leaf = n.leaf in
     let right = blocks_in n.right in
     let cut = node_blocks (leaves_of n.left) (leaves_of n.right) leaf (leaves_of c.args.self.now) is in
     let dtypes = map dtype_of_column c.args.columns.now in
     let many = c.entries_before.result in
-    let head = subst (λ bs. IsHead (rows_of_blocks bs) c.first_tag-first.result) c.deref.ensures c.first_tag-first.ensures in
     let front = subst (λ es. AreChangedFrom dtypes left es (blocks_in c.in_ok-left.left) c.in_ok-left.from) c.split_at.ensures.front c.in_ok-left.ensures in
     let back = subst (λ es. AreChangedFrom dtypes right es (blocks_in c.in_ok-right.right) c.in_ok-right.to) c.split_at.ensures.back c.in_ok-right.ensures in
-    node_changed dtypes all left leaf right cut c.first_tag-first.result c.args.entries.now many c.in_ok-left.from (blocks_in c.in_ok-left.left) c.requires.rows head c.requires.entries c.entries_before.ensures.count front
+    node_changed dtypes all left leaf right cut c.first_tag-first.result c.args.entries.now many c.in_ok-left.from (blocks_in c.in_ok-left.left) c.requires.rows c.first_tag-first.ensures c.requires.entries c.entries_before.ensures.count front
     c.in_ok-right.to (blocks_in c.in_ok-right.right) (blocks_in c.in_ok-tree.tree) back
     (subst (λ es. rows_of_blocks (blocks_in c.in_ok-tree.tree) ≡ rows_of_blocks (blocks_in c.in_ok-left.left) ++ (after_changes tag_cmp (rows_of_blocks leaf) (map entry_change (take c.in_ok-right.to es)) ++ rows_of_blocks (blocks_in c.in_ok-right.right))) c.split_at.ensures.back c.in_ok-tree.ensures.rows)
     (c.in_ok-tree.ensures.types front.types back.types)

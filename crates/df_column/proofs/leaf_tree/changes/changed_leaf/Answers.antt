@@ -1,5 +1,4 @@
 use Rattle.std.proofs.Common.{◌≡◌, ◌∙◌, ◌++◌, T, ap, drop, map, subst, sym, take}
-use Rattle.std.specs.Arc.{arc_value}
 use Rattle.std.specs.FinMap.{is_sorted}
 use Rattle.std.specs.Option.{IfSome}
 use Rattle.df_column.specs.Blocks.{AreOfDtypes, rows_of_blocks}
@@ -29,7 +28,7 @@ returns-in-Some-clause-rows c =
     let added = after_changes tag_cmp (rows_of_blocks (drop low (take high old))) (map entry_change c.args.entries.now) in
     let edited = subst (λ o. IfSome o (λ l. l ≡ take low c.args.leaf.now ++ (made ++ drop high c.args.leaf.now))) c.in-Some.is c.in_ok-edited.ensures in
     let is : blocks_in c.in_ok-tree.tree ≡ take low old ++ (made ++ drop high old) =
-    only_blocks (leaves_of c.in_ok-tree.tree) (arc_value c.in_ok-edited-2.edited) _ c.in_ok-tree.ensures (c.in_ok-edited-2.ensures.ok ∙ edited ∙ ap (λ bs. take low bs ++ (made ++ drop high bs)) (sym own)) in
+    only_blocks (leaves_of c.in_ok-tree.tree) c.in_ok-edited-2.edited _ c.in_ok-tree.ensures (c.in_ok-edited-2.ensures ∙ edited ∙ ap (λ bs. take low bs ++ (made ++ drop high bs)) (sym own)) in
     rows_replaced old made (blocks_in c.in_ok-tree.tree) low high c.args.entries.now c.reached-high.ensures.ordered c.untouched-low.ensures.apart c.reached-high.ensures.apart
     (only_rows dtypes added c.new-none.result made c.new-none.ensures c.in_ok-made.ensures) is
     ∙ ap (λ bs. after_changes tag_cmp (rows_of_blocks bs) (map entry_change c.args.entries.now)) own
@@ -45,7 +44,7 @@ returns-in-Some-clause-types c =
     let added = after_changes tag_cmp (rows_of_blocks (drop low (take high old))) (map entry_change c.args.entries.now) in
     let edited = subst (λ o. IfSome o (λ l. l ≡ take low c.args.leaf.now ++ (made ++ drop high c.args.leaf.now))) c.in-Some.is c.in_ok-edited.ensures in
     let is : blocks_in c.in_ok-tree.tree ≡ take low old ++ (made ++ drop high old) =
-    only_blocks (leaves_of c.in_ok-tree.tree) (arc_value c.in_ok-edited-2.edited) _ c.in_ok-tree.ensures (c.in_ok-edited-2.ensures.ok ∙ edited ∙ ap (λ bs. take low bs ++ (made ++ drop high bs)) (sym own)) in
+    only_blocks (leaves_of c.in_ok-tree.tree) c.in_ok-edited-2.edited _ c.in_ok-tree.ensures (c.in_ok-edited-2.ensures ∙ edited ∙ ap (λ bs. take low bs ++ (made ++ drop high bs)) (sym own)) in
     types_replaced dtypes old made (blocks_in c.in_ok-tree.tree) low high (subst (AreOfDtypes dtypes) (sym own) c.requires.types)
     (only_types dtypes added c.new-none.result made c.new-none.ensures c.in_ok-made.ensures) is
 

@@ -1,5 +1,4 @@
 use Rattle.std.proofs.Common.{◌∙◌, ◌++◌, ap, arith}
-use Rattle.std.specs.Arc.{arc_value}
 use Rattle.df_column.specs.BlockLists.{blocks_of_leaves, rows_in}
 use Rattle.df_column.specs.LeafTrees.{blocks_in, leaves_of}
 use Rattle.df_column.proofs.BlockListLemmas.{leaf_behind, rows_both}
@@ -7,12 +6,12 @@ use Rattle.df_column.proofs.leaves.Leaves.pushed.Goals as goal
 
 pub invariant_of-result : goal.invariant_of-result
 invariant_of-result c =
-    let l = arc_value c.args.leaf.now in
+    let l = c.args.leaf.now in
     let made = ap rows_in (ap blocks_of_leaves c.in_ok-tree.ensures ∙ leaf_behind (leaves_of c.self.inside.tree) l) ∙ rows_both (blocks_in c.self.inside.tree) l in
     let v = ap rows_in c.self.view_is in
     omega (arith, made, v, c.requires)
 
 pub returns : goal.returns
 returns c =
-    let l = arc_value c.args.leaf.now in
+    let l = c.args.leaf.now in
     ap blocks_of_leaves c.in_ok-tree.ensures ∙ leaf_behind (leaves_of c.self.inside.tree) l ∙ ap (λ bs. bs ++ l) c.self.view_is
