@@ -16,3 +16,8 @@ pub mod Members
 pub mod Staged
 pub mod Output
 pub mod GroupTags
+pub mod KeptGroups
+pub mod KeptCells
+pub mod KeptColumns
+pub mod KeptSchemas
+pub mod KeptDeltas

@@ -14,23 +14,29 @@ ghost use Rattle.df_delta.specs.Work.{IsBelow, IsWithin, plus};
 ghost use Rattle.df_group.specs.GroupIndex as index_spec;
 ghost use Rattle.df_group.specs.GroupIndex.{HasTagsOf, IsIndexOf, output_of};
 ghost use Rattle.df_group.specs.GroupRows.{group_output};
+ghost use Rattle.df_group.specs.Kept as kept;
+ghost use Rattle.df_group.specs.Kept.{kept_indices, kept_rows};
 ghost use Rattle.df_group.specs.Work.{finishes};
 
 use crate::group::Group;
 use crate::grouping::Grouping;
+use crate::kept::{KeptColumns, kept_columns, projected_delta};
 use crate::notes::note_all;
 use crate::staging::{put_all, stage_all};
 use df_delta::{Delta, LiveNode, keyed_changes};
 use df_expr::Meter;
 use df_ops::Agg;
-use df_value::{Row, Schema, Text};
+use df_value::{List, Row, Schema, Text};
 use indexmap::IndexMap;
 use std::alloc::{AllocError, Global};
 
-/// Groups rows by the cells of key columns: a row for each key, with aggregates of the rows that have it.
+/// Groups rows by the cells of key columns: a row for each key, with aggregates of the rows that have it. Where
+/// the keys and aggregates name at most half of the columns together, only the cells of these are kept of a row.
 #[derive(Drop)]
 pub struct LiveGroup {
     alloc: Global,
+    /// The indices in the input of the columns that are kept; none where all are.
+    kept: Option<List<Option<usize>>>,
     grouping: Grouping,
     index: IndexMap<Row, Group>,
 }
@@ -50,28 +56,40 @@ impl LiveGroup {
         keys: &[Text],
         aggregates: &[(Text, Agg)],
     ) -> Result<LiveGroup, AllocError>
-        ensures output { IfOk result (λ n. (t : TaggedRows) → output_of n.grouping t
+        ensures output { IfOk result (λ n. (t : TaggedRows) → output_of n.grouping (kept_rows n.kept t)
             ≡ group_output schema.now (column_indices schema.now keys.now) aggregates.now t) }
 
         // The rows are those that the operator gives of the rows of the input.
         ensures rows { IfOk result (λ n. (t : TaggedRows) →
-            finite.values (output_of n.grouping t)
+            finite.values (output_of n.grouping (kept_rows n.kept t))
             ≡ (tables.group_by_table (record { columns = schema.now; rows = finite.values t })
             keys.now aggregates.now).rows) }
 
         // A group has its first row's tag: so its tag has what all tags of the input have.
-        ensures tags { IfOk result (λ n. (t : TaggedRows) → HasTagsOf t (output_of n.grouping t)) }
-        ensures over { IfOk result (λ n. IsIndexOf n.grouping n.index finite.empty) }
-        ensures schema { IfOk result (λ n. n.grouping.schema ≡ schema.now) }
+        ensures tags { IfOk result (λ n. (t : TaggedRows) →
+            HasTagsOf t (output_of n.grouping (kept_rows n.kept t))) }
+        ensures over { IfOk result (λ n. IsIndexOf n.grouping n.index (kept_rows n.kept finite.empty)) }
+
+        // It takes rows of the schema.
+        ensures takes { IfOk result (λ n. (t : TaggedRows) → RowsFit schema.now t
+            → RowsFit n.grouping.schema (kept_rows n.kept t)) }
+
+        // Of each row it keeps the columns that a key or an aggregate names, where they are at most half.
+        ensures schema { IfOk result (λ n. n.grouping.schema
+            ≡ kept.kept_columns schema.now keys.now aggregates.now) }
+        ensures kept { IfOk result (λ n. n.kept ≡ kept_indices schema.now keys.now aggregates.now) }
     {
+        let columns = kept_columns(alloc, schema, keys, aggregates)?;
+        let KeptColumns { schema, indices } = columns;
         Ok(LiveGroup {
             alloc,
-            grouping: Grouping::new(alloc, schema, keys, aggregates)?,
+            kept: indices,
+            grouping: Grouping::new(alloc, &schema, keys, aggregates)?,
             index: IndexMap::new(alloc),
         })
     }
 
-    /// The groups after this delta, and the delta of the output. The index gets room for them.
+    /// The groups after this delta of what is kept, and the delta of the output. The index gets room for them.
     fn staged(
         &mut self,
         delta: &Delta,
@@ -83,6 +101,7 @@ impl LiveGroup {
         ensures meter { IsWithin meter.new (plus meter.old (finishes (2 * finite.len delta.now))) }
         ensures contents { IsUnchanged self.old.index self.new.index }
         ensures grouping { self.new.grouping ≡ self.old.grouping }
+        ensures kept { self.new.kept ≡ self.old.kept }
         ensures diff { IfOk result (λ r. (t : TaggedRows) → IsIndexOf self.old.grouping self.old.index t
             → Fits t delta.now → RowsFit self.old.grouping.schema (applied t delta.now)
             → IsDiff (output_of self.old.grouping t)
@@ -107,6 +126,7 @@ impl LiveGroup {
             index_spec.LeadsTo self.old.grouping self.old.index staged.groups t
             → IsIndexOf self.new.grouping self.new.index t }
         ensures grouping { self.new.grouping ≡ self.old.grouping }
+        ensures kept { self.new.kept ≡ self.old.kept }
     {
         let StagedGroups { groups } = staged;
         put_all(&mut self.index, groups);
@@ -116,15 +136,16 @@ impl LiveGroup {
 impl LiveNode for LiveGroup {
     type Staged = StagedGroups;
 
-    ghost Takes = { λ n t. RowsFit n.grouping.schema t };
+    ghost Takes = { λ n t. RowsFit n.grouping.schema (kept_rows n.kept t) };
 
-    ghost IsOver = { λ n t. IsIndexOf n.grouping n.index t };
+    ghost IsOver = { λ n t. IsIndexOf n.grouping n.index (kept_rows n.kept t) };
 
-    ghost output = { λ n t. output_of n.grouping t };
+    ghost output = { λ n t. output_of n.grouping (kept_rows n.kept t) };
 
     ghost HasRoomFor = { λ n s. index_map_len s.groups ≤ spare n.index };
 
-    ghost LeadsTo = { λ n s t. index_spec.LeadsTo n.grouping n.index s.groups t };
+    ghost LeadsTo = { λ n s t.
+        index_spec.LeadsTo n.grouping n.index s.groups (kept_rows n.kept t) };
 
     ghost budget = { λ _. finishes (2 ^ 64) };
 
@@ -135,7 +156,13 @@ impl LiveNode for LiveGroup {
         delta: &Delta,
         meter: &mut Meter,
     ) -> Result<(StagedGroups, Delta), AllocError> {
-        self.staged(delta, meter)
+        match &self.kept {
+            None => self.staged(delta, meter),
+            Some(indices) => {
+                let projected = projected_delta(self.alloc, indices.as_slice(), delta)?;
+                self.staged(&projected, meter)
+            }
+        }
     }
 
     fn commit(&mut self, staged: StagedGroups) {

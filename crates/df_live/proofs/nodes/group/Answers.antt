@@ -1,6 +1,4 @@
-use Rattle.std.proofs.Common.{refl, subst, sym, arith}
-use Rattle.df_value.specs.Schemas.{Columns}
-use Rattle.df_delta.specs.Deltas.{RowsFit}
+use Rattle.std.proofs.Common.{refl, arith}
 use Rattle.df_live.specs.Operators.{is_operator_over, operator_allowed, operator_budget, operator_output, operator_takes}
 use Rattle.df_live.proofs.nodes.group.Goals as goal
 
@@ -9,7 +7,7 @@ unfolding is_operator_over operator_allowed operator_budget operator_output oper
 returns c = record {
   gives = c.in_ok-node.ensures.output;
   work = λ t u. refl;
-  takes = λ t f g. subst (λ (s : Columns). RowsFit s t) (sym c.in_ok-node.ensures.schema) f;
+  takes = λ t f g. c.in_ok-node.ensures.takes t f;
   over = c.in_ok-node.ensures.over;
   budgeted = (omega arith, omega arith, omega arith, omega arith);
 }
