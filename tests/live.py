@@ -1,10 +1,11 @@
 #!/usr/bin/env python3
 """Random views over random changes, each change followed by `check`: live.py PROGRAM [SEED [SESSIONS]]
 
-PROGRAM is dfshell. A session has a random document: three frames, and views of random steps of every kind, with joins
-of up to three scans, also of a frame with itself. It appends, deletes and replaces rows of the frames, registers views
-and drops them. Behind each change `check` has to answer that each view has the rows which its plan gives. Now and then
-a view is shown: where model.py knows its steps, the answer is the model's. Prints what differs, and ends with a count.
+PROGRAM is dfshell. A session has a random document: four frames, one of them wide, and views of random steps of every
+kind, with joins of up to three scans, also of a frame with itself. It appends, deletes and replaces rows of the frames,
+registers views and drops them. Behind each change `check` has to answer that each view has the rows which its plan gives.
+Now and then a view is shown: where model.py knows its steps, the answer is the model's. Prints what differs, and ends
+with a count.
 """
 
 import random
@@ -18,6 +19,7 @@ FRAMES = [
     ("sales", [("k", "Text"), ("v", "Int"), ("o", "Bool")]),
     ("cities", [("k", "Text"), ("w", "Int")]),
     ("prices", [("v", "Int"), ("p", "Int")]),
+    ("orders", [("k", "Text"), ("v", "Int"), ("o", "Bool"), ("a", "Int"), ("b", "Text"), ("c", "Int"), ("d", "Bool")]),
 ]
 BASE = ("Int", "Text", "Bool")
 KEYS = (*BASE, "Wide")
