@@ -10,7 +10,7 @@ use Rattle.df_column.specs.Tags.{tag_cmp}
 use Rattle.df_column.specs.declared.tag.Tag.{Tag}
 use Rattle.df_delta.proofs.Collected.{get-collected}
 use Rattle.df_ops.specs.Groups.{key_of}
-use Rattle.df_group.specs.GroupIndex.{HasTagsOf, output_of, row_of_group}
+use Rattle.df_group.specs.GroupIndex.{HasTagsOf, output_of, row_of_rows}
 use Rattle.df_group.specs.GroupRows.{members_of}
 use Rattle.df_group.specs.Grouped.{at_tag, group_entry}
 use Rattle.df_group.specs.declared.grouping.Grouping.{Grouping}
@@ -26,7 +26,7 @@ only_rows {X = X} {Y = Y} f (Some x) = always (f x) where
 -- each tag of the groups is that of a row
 pub group_tags : (g : Grouping) (t : TaggedRows) → HasTagsOf t (output_of g t)
 group_tags g t q =
-    let result = λ (q : Tag) (row : List Cell). at_tag tag_cmp q (group_entry (row_of_group g) (key_of g.indices row) (finite.entries (members_of g.indices (key_of g.indices row) t))) in
+    let result = λ (q : Tag) (row : List Cell). at_tag tag_cmp q (group_entry (row_of_rows g) (key_of g.key_indices row) (finite.entries (members_of g.key_indices (key_of g.key_indices row) t))) in
     subst (λ o. IfSome o (λ _. is_some (finite.get t q) ≡ true)) (sym (get-collected tag_cmp result tag_same t q)) (only_rows (result q) (finite.get t q))
 
 -- what holds of all tags of some rows holds of the tags that are among them

@@ -16,8 +16,7 @@ pub mod Members
 pub mod Staged
 pub mod Output
 pub mod GroupTags
-pub mod KeptGroups
-pub mod KeptCells
-pub mod KeptColumns
-pub mod KeptSchemas
-pub mod KeptDeltas
+pub mod ProjectedCells
+pub mod ProjectedColumns
+pub mod ProjectedSchemas
+pub mod ProjectedDeltas

@@ -1,35 +1,65 @@
 -- The members of a group, before and after a change.
-use Rattle.std.proofs.Common.{◌≡◌, ℕ, ◌<◌, ◌≤◌, Bool, true, false, cond, List, [], ◌∷◌, map, length, get_or, Option, Some, None, IsTrue, refl, sym, ap, subst, ◌∙◌}
+use Rattle.std.proofs.Common.{◌≡◌, ℕ, ◌<◌, ◌≤◌, Bool, true, false, cond, List, [], ◌∷◌, map, length, get_or, Option, Some, None, refl, sym, ap, subst, ◌∙◌}
 use Rattle.std.specs.Prelude.{◌==◌, T, slice_get, unwrap_or}
-use Rattle.std.specs.Option.{IfSome, option_and_then}
+use Rattle.std.specs.Option.{option_and_then}
 use Rattle.std.proofs.lemmas.Bool.{eqb-true}
 use Rattle.std.proofs.lemmas.List.{get_or-map, length-map, nil_from_length}
 use Rattle.std.proofs.lemmas.Option.{slice_get_past, unwrap_or-slice_get}
 use Rattle.std.specs.FinMap as finite
 use Rattle.df_value.specs.declared.cell.Cell.{Cell}
 use Rattle.df_value.specs.declared.cell.Cell.TheVariants as cell
-use Rattle.df_value.specs.Rows.{cell_at, row_eq, row_fits}
+use Rattle.df_value.specs.Rows.{cell_at, row_eq}
 use Rattle.df_column.specs.Changes.{applied}
 use Rattle.df_column.specs.TagOrder.{tag_total, tag_same}
 use Rattle.df_column.specs.Tables.{TableParts, TaggedRows, after_entries, entry_change, new_rows_fit}
 use Rattle.df_column.specs.Tags.{tag_cmp}
 use Rattle.df_column.specs.declared.entry.Entry.{Entry}
 use Rattle.df_column.specs.declared.tag.Tag.{Tag}
+use Rattle.df_delta.specs.Collected.{collected, collected_list}
 use Rattle.df_delta.specs.Deltas.{Changes, RowsFit}
 use Rattle.df_delta.specs.Keyed.{of_key}
-use Rattle.df_delta.proofs.Collected.{get-collected}
+use Rattle.df_delta.proofs.Collected.{entries-collected, get-collected}
 use Rattle.df_delta.proofs.Fitting.{changes_of, new_rows_of}
 use Rattle.df_ops.specs.Aggregates.{cells_of}
 use Rattle.df_ops.specs.Groups.{key_of}
-use Rattle.df_group.specs.GroupIndex.{edited_table, entry_of, row_of_group, first_entry, group_in, group_with, members_now, non_empty, totals_now, totals_of}
+use Rattle.df_group.specs.GroupIndex.{edited_table, entry_of, row_of_group, row_of_rows, first_entry, group_in, group_with, members_now, non_empty, totals_now, totals_of}
 use Rattle.df_group.specs.GroupRows.{members_of}
 use Rattle.df_group.specs.Grouped.{group_entry}
+use Rattle.df_group.specs.Projections.{member_cells, projected_row, projected_rows}
 use Rattle.df_group.specs.declared.group.Group.{Group}
 use Rattle.df_group.specs.declared.grouping.Grouping.{Grouping}
 
+-- of no rows none are made
+none_made : (make : List Cell → Option (List Cell)) → collected {R = tag_cmp} (λ _. make) finite.empty ≡ finite.empty
+none_made make = finite.same_map tag_total tag_same _ _ (λ q. get-collected tag_cmp (λ _. make) tag_same finite.empty q ∙ ap (option_and_then make) (finite.get-empty tag_cmp q) ∙ sym (finite.get-empty tag_cmp q))
+
+none_projected : (p : Option (List (Option ℕ))) → projected_rows p finite.empty ≡ finite.empty
+none_projected None = refl
+none_projected (Some indices) = none_made (projected_row indices)
+
+-- the entries, each with the cells that its member has
+abbrev with_member_cells : Option (List (Option ℕ)) → List (Tag × List Cell) → List (Tag × List Cell)
+with_member_cells p es = map (λ e. (e.0, member_cells p e.1)) es
+
+all_cells : (es : List (Tag × List Cell)) → es ≡ with_member_cells None es
+all_cells [] = refl
+all_cells (e ∷ es) = ap (λ es. e ∷ es) (all_cells es)
+
+cells_at : (indices : List (Option ℕ)) (es : List (Tag × List Cell)) → collected_list (λ _. projected_row indices) es ≡ with_member_cells (Some indices) es
+cells_at indices [] = refl
+cells_at indices (e ∷ es) = ap (λ es. (e.0, key_of indices e.1) ∷ es) (cells_at indices es)
+
+entries_projected : (p : Option (List (Option ℕ))) (m : TaggedRows) → finite.entries (projected_rows p m) ≡ with_member_cells p (finite.entries m)
+entries_projected None m = all_cells (finite.entries m)
+entries_projected (Some indices) m = entries-collected tag_cmp (λ _. projected_row indices) m ∙ cells_at indices (finite.entries m)
+
+values_projected : (p : Option (List (Option ℕ))) (es : List (Tag × List Cell)) → map (λ e. e.1) (with_member_cells p es) ≡ map (member_cells p) (map (λ e. e.1) es)
+values_projected p [] = refl
+values_projected p (e ∷ es) = ap (λ rows. member_cells p e.1 ∷ rows) (values_projected p es)
+
 module _ (g : Grouping) (k : List Cell) where
   abbrev parts : TaggedRows → TableParts
-  parts m = record { schema = g.schema; rows = m }
+  parts m = record { schema = g.members.schema; rows = m }
 
   pub members_now_is : (m : TaggedRows) → members_now g (non_empty (group_with g k (parts m))) ≡ parts m
   members_now_is m = elim (finite.len m == 0) as (λ b. (finite.len m == 0) ≡ b → members_now g (cond b None (Some (group_with g k (parts m)))) ≡ parts m) [
@@ -45,39 +75,34 @@ module _ (g : Grouping) (k : List Cell) where
   ] refl
 
   -- the table of the members after changes whose rows fit
-  pub edited_members : (m : TaggedRows) (d : Changes) (entries : List Entry) → map entry_change entries ≡ finite.entries d → RowsFit g.schema (applied m d) → edited_table (parts m) entries ≡ parts (applied m d)
+  pub edited_members : (m : TaggedRows) (d : Changes) (entries : List Entry) → map entry_change entries ≡ finite.entries d → RowsFit g.members.schema (applied m d) → edited_table (parts m) entries ≡ parts (applied m d)
   edited_members m d entries e fit =
-      taken (new_rows_fit g.schema entries) (new_rows_of g.schema m d entries e fit)
+      taken (new_rows_fit g.members.schema entries) (new_rows_of g.members.schema m d entries e fit)
       ∙ ap (λ c. parts (applied m c)) (changes_of d entries e)
     where
       taken : (b : Bool) → T b → cond b (after_entries (parts m) entries) (parts m) ≡ after_entries (parts m) entries
       taken true h = refl
       taken false h = absurd h
 
-  get_member : (t : TaggedRows) (q : Tag) → finite.get (members_of g.indices k t) q ≡ option_and_then (of_key (key_of g.indices) row_eq k) (finite.get t q)
-  get_member t q = get-collected tag_cmp (λ _. of_key (key_of g.indices) row_eq k) tag_same t q
+  pub no_members : members_of g.key_indices k finite.empty ≡ finite.empty
+  no_members = none_made (of_key (key_of g.key_indices) row_eq k)
 
-  -- where all rows fit, those of the key do
-  pub members_fit : (t : TaggedRows) → RowsFit g.schema t → RowsFit g.schema (members_of g.indices k t)
-  members_fit t fit = record { at = λ q. subst (λ o. IfSome o (λ row. IsTrue (row_fits g.schema row))) (sym (get_member t q)) (of_row (finite.get t q) (fit.at q)) }
-    where
-      of_row : (o : Option (List Cell)) → IfSome o (λ row. IsTrue (row_fits g.schema row)) → IfSome (option_and_then (of_key (key_of g.indices) row_eq k) o) (λ row. IsTrue (row_fits g.schema row))
-      of_row None h = tt
-      of_row (Some row) h = elim (row_eq (key_of g.indices row) k) as (λ b. IfSome (cond b (Some row) None) (λ row. IsTrue (row_fits g.schema row))) [ true ↦ h | false ↦ tt ]
-
-  pub no_members : members_of g.indices k finite.empty ≡ finite.empty
-  no_members = finite.same_map tag_total tag_same _ _ (λ q. get_member finite.empty q ∙ ap (option_and_then (of_key (key_of g.indices) row_eq k)) (finite.get-empty tag_cmp q) ∙ sym (finite.get-empty tag_cmp q))
-
+  -- where there are no rows, no key has a group
   pub no_group : non_empty (group_in g k finite.empty) ≡ None
-  no_group = ap (λ m. non_empty (group_with g k (parts m))) no_members ∙ ap (λ n. cond (n == 0) None (Some (group_with g k (parts finite.empty)))) (finite.len-empty tag_cmp (List Cell))
+  no_group =
+      ap (λ m. non_empty (group_with g k (parts (projected_rows g.members.indices m)))) no_members
+      ∙ ap (λ m. non_empty (group_with g k (parts m))) (none_projected g.members.indices)
+      ∙ ap (λ n. cond (n == 0) None (Some (group_with g k (parts finite.empty)))) (finite.len-empty tag_cmp (List Cell))
 
-  first_is : (es : List (Tag × List Cell)) → first_entry (row_of_group g k (map (λ e. e.1) es)) es ≡ group_entry (row_of_group g) k es
+  first_is : (es : List (Tag × List Cell)) → first_entry (row_of_group g k (map (λ e. e.1) (with_member_cells g.members.indices es))) (with_member_cells g.members.indices es) ≡ group_entry (row_of_rows g) k es
   first_is [] = refl
-  first_is (e ∷ es) = refl
+  first_is (e ∷ es) = ap (λ rows. Some (e.0, row_of_group g k rows)) (values_projected g.members.indices (e ∷ es))
 
-  -- what the group gives to the output
-  pub entry_is : (m : TaggedRows) → entry_of (Some (group_with g k (parts m))) ≡ group_entry (row_of_group g) k (finite.entries m)
-  entry_is m = first_is (finite.entries m)
+  -- what the group of the key gives to the output
+  pub entry_is : (t : TaggedRows) → entry_of (Some (group_in g k t)) ≡ group_entry (row_of_rows g) k (finite.entries (members_of g.key_indices k t))
+  entry_is t =
+      ap (λ es. first_entry (row_of_group g k (map (λ e. e.1) es)) es) (entries_projected g.members.indices (members_of g.key_indices k t))
+      ∙ first_is (finite.entries (members_of g.key_indices k t))
 
 pub entry_of-non_empty : (group : Group) → entry_of (non_empty group) ≡ entry_of (Some group)
 entry_of-non_empty group =

@@ -131,7 +131,7 @@ over_others columns [] old new = refl
 over_others columns (a ∷ aggs) old new = ap (λ ts. total_for columns a.1 new ∷ ts) (over_others columns aggs old new)
 
 pub totals_over_others : (g : Grouping) (old new : List (List Cell)) → totals_over (totals_of g old) new ≡ totals_of g new
-totals_over_others g old new = over_others g.schema g.aggregates old new
+totals_over_others g old new = over_others g.members.schema g.aggregates old new
 
 -- totals of the rows before, moved, are those of the rows afterwards
 pub totals_moved : (g : Grouping) (totals moved : List Total) (old new : List (List Cell)) → totals ≡ totals_of g old → (totals ≡ totals_over totals old → moved ≡ totals_over totals new) → moved ≡ totals_of g new

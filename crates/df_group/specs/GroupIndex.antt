@@ -10,24 +10,29 @@ use Rattle.df_column.specs.declared.entry.Entry.{Entry}
 use Rattle.df_column.specs.declared.tag.Tag.{Tag}
 use Rattle.df_delta.specs.declared.keyed.KeyChanges.{KeyChanges}
 use Rattle.df_ops.specs.Groups.{key_of}
-use Rattle.df_group.specs.Grouped.{groups_at}
-use Rattle.df_group.specs.GroupRows.{finished_row, members_of, group_output}
+use Rattle.df_group.specs.Grouped.{grouped, groups_at}
+use Rattle.df_group.specs.GroupRows.{finished_row, members_of}
+use Rattle.df_group.specs.Projections.{member_cells, projected_entries, projected_rows}
 use Rattle.df_group.specs.Totals.{Lead, total_for}
 use Rattle.df_group.specs.declared.group.Group.{Group}
 use Rattle.df_group.specs.declared.grouping.Grouping.{Grouping}
 use Rattle.df_group.specs.declared.total.Total.{Total}
 
--- the finished row of these rows of a key
+-- the finished row of these members of a key
 abbrev pub row_of_group : Grouping → List Cell → List (List Cell) → List Cell
-row_of_group g key rows = finished_row g.schema g.aggregates key rows
+row_of_group g key members = finished_row g.members.schema g.aggregates key members
+
+-- and of the rows of the input that have the key
+abbrev pub row_of_rows : Grouping → List Cell → List (List Cell) → List Cell
+row_of_rows g key rows = row_of_group g key (map (member_cells g.members.indices) rows)
 
 -- the output over an input
 abbrev pub output_of : Grouping → TaggedRows → TaggedRows
-output_of g t = group_output g.schema g.indices g.aggregates t
+output_of g t = grouped (key_of g.key_indices) row_eq (row_of_rows g) t
 
 -- what the groups of these keys have at a tag
 abbrev pub output_at : Grouping → List (List Cell) → TaggedRows → Tag → Option (List Cell)
-output_at g ks t q = groups_at (key_of g.indices) row_eq (row_of_group g) ks t q
+output_at g ks t q = groups_at (key_of g.key_indices) row_eq (row_of_rows g) ks t q
 
 -- each tag of the rows u is a tag of the rows t
 abbrev pub HasTagsOf : TaggedRows → TaggedRows → Type 0
@@ -35,7 +40,7 @@ HasTagsOf t u = (q : Tag) → IfSome (finite.get u q) (λ _. is_some (finite.get
 
 -- the total of these rows for each aggregate
 abbrev pub totals_of : Grouping → List (List Cell) → List Total
-totals_of g rows = map (λ a. total_for g.schema a.1 rows) g.aggregates
+totals_of g rows = map (λ a. total_for g.members.schema a.1 rows) g.aggregates
 
 -- the group of these members
 abbrev pub group_with : Grouping → List Cell → TableParts → Group
@@ -45,9 +50,13 @@ group_with g k members = record {
   row = row_of_group g k (finite.values members.rows);
 }
 
+-- the members of a key in an input
+abbrev pub members_in : Grouping → List Cell → TaggedRows → TaggedRows
+members_in g k t = projected_rows g.members.indices (members_of g.key_indices k t)
+
 -- the group of a key in an input
 abbrev pub group_in : Grouping → List Cell → TaggedRows → Group
-group_in g k t = group_with g k (record { schema = g.schema; rows = members_of g.indices k t })
+group_in g k t = group_with g k (record { schema = g.members.schema; rows = members_in g k t })
 
 -- the group, unless it has no member
 abbrev pub non_empty : Group → Option Group
@@ -55,7 +64,7 @@ non_empty group = cond (finite.len group.members.rows == 0) None (Some group)
 
 -- the members of a group, none where there is no group
 abbrev pub members_now : Grouping → Option Group → TableParts
-members_now g None = record { schema = g.schema; rows = finite.empty }
+members_now g None = record { schema = g.members.schema; rows = finite.empty }
 members_now g (Some group) = group.members
 
 -- the totals of a group, those of no rows where there is no group
@@ -67,16 +76,16 @@ totals_now g (Some group) = group.totals
 abbrev pub edited_table : TableParts → List Entry → TableParts
 edited_table t entries = cond (new_rows_fit t.schema entries) (after_entries t entries) t
 
--- the group of a key after these changes
-abbrev pub changed_group : Grouping → List Cell → Option Group → KeyChanges → Group
-changed_group g k now changes = group_with g k (edited_table (members_now g now) changes.entries.items)
+-- the group of a key after these changes of its members
+abbrev pub changed_group : Grouping → List Cell → Option Group → List Entry → Group
+changed_group g k now entries = group_with g k (edited_table (members_now g now) entries)
 
 -- the cell at an index of a row, if both are there
 abbrev pub cell_at_if : Option (List Cell) → ℕ → Option Cell
 cell_at_if None at = None
 cell_at_if (Some row) at = slice_get row at
 
--- a row that is the group's of some rows of a key, which the entries lead to others
+-- the row that a key's group has of some members, from which the entries lead to the new ones
 pub record IsRowBefore (g : Grouping) (key row : List Cell) (entries : List Entry) (new : List (List Cell)) : Type 0 where
   pub old : List (List Cell)
   pub is : row ≡ row_of_group g key old
@@ -84,16 +93,24 @@ pub record IsRowBefore (g : Grouping) (key row : List Cell) (entries : List Entr
 
 -- the row and the totals of the key's group are those of its members, and the changes lead them to those of its members
 -- afterwards
-pub record Follows (g : Grouping) (key : List Cell) (now : Option Group) (changes : KeyChanges) : Type 0 where
+pub record Follows (g : Grouping) (key : List Cell) (now : Option Group) (entries : List Entry) : Type 0 where
   pub row : IfSome now (λ group. group.row ≡ row_of_group g key (finite.values group.members.rows))
   pub own : totals_now g now ≡ totals_of g (finite.values (members_now g now).rows)
-  pub lead : Lead (finite.values (members_now g now).rows) changes.entries.items
-      (finite.values (edited_table (members_now g now) changes.entries.items).rows)
+  pub lead : Lead (finite.values (members_now g now).rows) entries (finite.values (edited_table (members_now g now) entries).rows)
 
--- what is staged for a key once these changes are
+-- what changes of the rows of a key are to its members
+abbrev pub member_entries : Grouping → KeyChanges → List Entry
+member_entries g changes = projected_entries g.members.indices changes.entries.items
+
+-- what is staged for a key after these changes of its members: what was staged before, where there are none
+abbrev pub staged_after : Grouping → List Cell → Option Group → List Entry → Option Group → Option Group
+staged_after g k now [] staged = staged
+staged_after g k now (e ∷ es) staged = Some (changed_group g k now (e ∷ es))
+
+-- the same after these changes of its rows, if there are any
 abbrev pub staged_with : Grouping → List Cell → Option Group → Option KeyChanges → Option Group → Option Group
 staged_with g k now None staged = staged
-staged_with g k now (Some changes) staged = Some (changed_group g k now changes)
+staged_with g k now (Some changes) staged = staged_after g k now (member_entries g changes) staged
 
 -- the group of a key as it will be: as staged, else as it is
 abbrev pub staged_or : Option Group → Option Group → Option Group

@@ -4,4 +4,4 @@ pub mod Totals
 pub mod NotedSides
 pub mod GroupIndex
 pub mod Work
-pub mod Kept
+pub mod Projections

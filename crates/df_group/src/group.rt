@@ -20,8 +20,8 @@ use df_value::{Duplicate, List, Row};
 use indexmap::IndexMap;
 use std::alloc::{AllocError, Global};
 
-/// The rows of one key, at their tags, a running total of them for each aggregate, and the row that the output has of
-/// them.
+/// The members of one key, at the tags of their rows, each with the cells that are kept of its row; a running total of
+/// them for each aggregate; and the key's row of the output.
 #[derive(Drop)]
 pub struct Group {
     pub members: Table,
@@ -51,7 +51,7 @@ pub fn changed_members(
     match group {
         Some(group) => edit_table(alloc, &group.members, &changes.entries),
         None => {
-            let none = Table::new(alloc, grouping.schema.copy(alloc)?)?;
+            let none = Table::new(alloc, grouping.members.schema.copy(alloc)?)?;
             edit_table(alloc, &none, &changes.entries)
         }
     }
@@ -66,7 +66,7 @@ pub fn changed_totals(
     changes: &KeyChanges,
     members: &Table,
 ) -> Result<List<Total>, AllocError>
-    ensures { IfOk result (λ ts. Follows grouping.now key.now (option_copied group.entry) changes.now
+    ensures { IfOk result (λ ts. Follows grouping.now key.now (option_copied group.entry) changes.now.entries.items
         → members.now ≡ edited_table (members_now grouping.now (option_copied group.entry)) changes.now.entries.items
         → ts ≡ totals_of grouping.now (finite.values members.now.rows)) }
 {

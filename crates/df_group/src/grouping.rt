@@ -4,15 +4,20 @@ ghost use Rattle.std.specs.Option.{option_copied};
 ghost use Rattle.std.specs.FinMap as finite;
 ghost use Rattle.df_value.specs.Rows.{cell_at};
 ghost use Rattle.df_value.specs.declared.cell.Cell.TheVariants as cells;
+ghost use Rattle.df_column.specs.Tables.{TaggedRows};
+ghost use Rattle.df_delta.specs.Deltas.{RowsFit};
 ghost use Rattle.df_ops.specs.Aggregates.{cells_of};
 ghost use Rattle.df_ops.specs.NamedColumns as named_columns;
 ghost use Rattle.df_ops.specs.Tables.{aggregate_cell};
 ghost use Rattle.df_group.specs.GroupIndex as index_spec;
 ghost use Rattle.df_group.specs.GroupIndex.{IsRowBefore, cell_at_if, totals_of};
+ghost use Rattle.df_group.specs.Projections as projections;
+ghost use Rattle.df_group.specs.Projections.{projected_rows};
 ghost use Rattle.df_group.specs.Totals as totals_spec;
 ghost use Rattle.df_group.specs.Totals.{IsCellBefore, total_for};
 
 use crate::extremes::extreme_cell;
+use crate::projection::Projection;
 use crate::total::Total;
 use df_column::{Entry, Table};
 use df_ops::{Agg, MinMax, column_indices};
@@ -21,11 +26,14 @@ use df_value::{
 };
 use std::alloc::{AllocError, Global};
 
-/// The columns of the rows, the indices of those that are keys, and the aggregates of a group.
+/// How the rows of an input are grouped.
 #[derive(Drop)]
 pub struct Grouping {
-    pub schema: Schema,
-    pub indices: List<Option<usize>>,
+    /// The indices of the key columns.
+    pub key_indices: List<Option<usize>>,
+    /// What members have of the input's columns.
+    pub members: Projection,
+    /// The aggregates of a group, with their names.
     pub aggregates: List<(Text, Agg)>,
 }
 
@@ -37,16 +45,22 @@ impl Grouping {
         keys: &[Text],
         aggregates: &[(Text, Agg)],
     ) -> Result<Grouping, AllocError>
-        ensures schema { IfOk result (λ g. g.schema ≡ schema.now) }
-        ensures indices { IfOk result (λ g. g.indices
+        ensures keys { IfOk result (λ g. g.key_indices
             ≡ named_columns.column_indices schema.now keys.now) }
+        ensures schema { IfOk result (λ g. g.members.schema
+            ≡ projections.member_columns schema.now aggregates.now) }
+        ensures indices { IfOk result (λ g. g.members.indices
+            ≡ projections.member_indices schema.now aggregates.now) }
         ensures aggregates { IfOk result (λ g. g.aggregates ≡ aggregates.now) }
+        ensures fit { IfOk result (λ g. (t : TaggedRows) → RowsFit schema.now t
+            → RowsFit g.members.schema (projected_rows g.members.indices t)) }
     {
-        let indices = column_indices(alloc, schema.columns().as_slice(), keys)?;
+        let key_indices = column_indices(alloc, schema.columns().as_slice(), keys)?;
+        let members = Projection::new(alloc, schema, aggregates)?;
         let aggregates = copies(alloc, aggregates)?;
         Ok(Grouping {
-            schema: schema.copy(alloc)?,
-            indices,
+            key_indices,
+            members,
             aggregates: List::from_vec(aggregates),
         })
     }
@@ -55,7 +69,7 @@ impl Grouping {
     pub fn no_totals(&self, alloc: Global) -> Result<List<Total>, AllocError>
         ensures { IfOk result (λ ts. ts ≡ totals_of self.now []) }
     {
-        let columns = self.schema.columns().as_slice();
+        let columns = self.members.schema.columns().as_slice();
         let mut totals = Vec::with_capacity(alloc, self.aggregates.len())?;
         for named in self.aggregates.as_slice() {
             let agg = &named.1;
@@ -64,10 +78,10 @@ impl Grouping {
         Ok(List::from_vec(totals))
     }
 
-    /// The row of a group of these members: the key, and after it the aggregates. Only a first and a last member are
-    /// read, where they are wanted. A least and a greatest cell are found from the row before and the entries, which lead
-    /// to the members, unless a member goes that may have that cell; then one cell of each leaf of members is read, and
-    /// of each block behind them.
+    /// The row of a group of these members: the key, and after it the aggregates. For a first and a last cell that one
+    /// member is read. A least and a greatest cell are found from the row before and the entries, which lead to the
+    /// members; where there is no row before, or a member goes that may have that cell and none as good comes in its place,
+    /// one cell of each leaf of members is read, and of each block behind them.
     pub fn finished_row(
         &self,
         alloc: Global,
@@ -82,7 +96,7 @@ impl Grouping {
             (λ row. IsRowBefore self.now key.now row entries.now (finite.values members.now.rows))
             → r ≡ index_spec.row_of_group self.now key.now (finite.values members.now.rows)) }
     {
-        let columns = self.schema.columns().as_slice();
+        let columns = self.members.schema.columns().as_slice();
         let mut cells = copies(alloc, key.as_slice())?;
         for (named, total) in self.aggregates.as_slice().iter().zip(totals) {
             let known = cell_before(before, cells.as_slice().len());

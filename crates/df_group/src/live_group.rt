@@ -14,29 +14,27 @@ ghost use Rattle.df_delta.specs.Work.{IsBelow, IsWithin, plus};
 ghost use Rattle.df_group.specs.GroupIndex as index_spec;
 ghost use Rattle.df_group.specs.GroupIndex.{HasTagsOf, IsIndexOf, output_of};
 ghost use Rattle.df_group.specs.GroupRows.{group_output};
-ghost use Rattle.df_group.specs.Kept as kept;
-ghost use Rattle.df_group.specs.Kept.{kept_indices, kept_rows};
+ghost use Rattle.df_group.specs.Projections as projections;
+ghost use Rattle.df_group.specs.Projections.{projected_rows};
 ghost use Rattle.df_group.specs.Work.{finishes};
 
 use crate::group::Group;
 use crate::grouping::Grouping;
-use crate::kept::{KeptColumns, kept_columns, projected_delta};
 use crate::notes::note_all;
 use crate::staging::{put_all, stage_all};
 use df_delta::{Delta, LiveNode, keyed_changes};
 use df_expr::Meter;
 use df_ops::Agg;
-use df_value::{List, Row, Schema, Text};
+use df_value::{Row, Schema, Text};
 use indexmap::IndexMap;
 use std::alloc::{AllocError, Global};
 
-/// Groups rows by the cells of key columns: a row for each key, with aggregates of the rows that have it. Where
-/// the keys and aggregates name at most half of the columns together, only the cells of these are kept of a row.
+/// Groups rows by the cells of key columns: a row for each key, with aggregates of the rows that have it. Of each row it
+/// keeps the cells of the columns that aggregates take, or one cell where they take none, if these are at most half of the
+/// columns and none is of type `Text`; else the whole row.
 #[derive(Drop)]
 pub struct LiveGroup {
     alloc: Global,
-    /// The indices in the input of the columns that are kept; none where all are.
-    kept: Option<List<Option<usize>>>,
     grouping: Grouping,
     index: IndexMap<Row, Group>,
 }
@@ -56,40 +54,36 @@ impl LiveGroup {
         keys: &[Text],
         aggregates: &[(Text, Agg)],
     ) -> Result<LiveGroup, AllocError>
-        ensures output { IfOk result (λ n. (t : TaggedRows) → output_of n.grouping (kept_rows n.kept t)
+        ensures output { IfOk result (λ n. (t : TaggedRows) → output_of n.grouping t
             ≡ group_output schema.now (column_indices schema.now keys.now) aggregates.now t) }
 
         // The rows are those that the operator gives of the rows of the input.
-        ensures rows { IfOk result (λ n. (t : TaggedRows) →
-            finite.values (output_of n.grouping (kept_rows n.kept t))
+        ensures rows { IfOk result (λ n. (t : TaggedRows) → finite.values (output_of n.grouping t)
             ≡ (tables.group_by_table (record { columns = schema.now; rows = finite.values t })
             keys.now aggregates.now).rows) }
 
-        // A group has its first row's tag: so its tag has what all tags of the input have.
-        ensures tags { IfOk result (λ n. (t : TaggedRows) →
-            HasTagsOf t (output_of n.grouping (kept_rows n.kept t))) }
-        ensures over { IfOk result (λ n. IsIndexOf n.grouping n.index (kept_rows n.kept finite.empty)) }
+        // Each tag of the output is one of the input: that of the group's first row.
+        ensures tags { IfOk result (λ n. (t : TaggedRows) → HasTagsOf t (output_of n.grouping t)) }
+        ensures over { IfOk result (λ n. IsIndexOf n.grouping n.index finite.empty) }
 
         // It takes rows of the schema.
         ensures takes { IfOk result (λ n. (t : TaggedRows) → RowsFit schema.now t
-            → RowsFit n.grouping.schema (kept_rows n.kept t)) }
+            → RowsFit n.grouping.members.schema (projected_rows n.grouping.members.indices t)) }
 
-        // Of each row it keeps the columns that a key or an aggregate names, where they are at most half.
-        ensures schema { IfOk result (λ n. n.grouping.schema
-            ≡ kept.kept_columns schema.now keys.now aggregates.now) }
-        ensures kept { IfOk result (λ n. n.kept ≡ kept_indices schema.now keys.now aggregates.now) }
+        // The columns that it keeps, and where they stand in the input.
+        ensures schema { IfOk result (λ n. n.grouping.members.schema
+            ≡ projections.member_columns schema.now aggregates.now) }
+        ensures indices { IfOk result (λ n. n.grouping.members.indices
+            ≡ projections.member_indices schema.now aggregates.now) }
     {
-        let columns = kept_columns(alloc, schema, keys, aggregates)?;
-        let KeptColumns { schema, indices } = columns;
         Ok(LiveGroup {
             alloc,
-            kept: indices,
-            grouping: Grouping::new(alloc, &schema, keys, aggregates)?,
+            grouping: Grouping::new(alloc, schema, keys, aggregates)?,
             index: IndexMap::new(alloc),
         })
     }
 
-    /// The groups after this delta of what is kept, and the delta of the output. The index gets room for them.
+    /// The groups after this delta, and the delta of the output. The index gets room for them.
     fn staged(
         &mut self,
         delta: &Delta,
@@ -101,17 +95,18 @@ impl LiveGroup {
         ensures meter { IsWithin meter.new (plus meter.old (finishes (2 * finite.len delta.now))) }
         ensures contents { IsUnchanged self.old.index self.new.index }
         ensures grouping { self.new.grouping ≡ self.old.grouping }
-        ensures kept { self.new.kept ≡ self.old.kept }
         ensures diff { IfOk result (λ r. (t : TaggedRows) → IsIndexOf self.old.grouping self.old.index t
-            → Fits t delta.now → RowsFit self.old.grouping.schema (applied t delta.now)
+            → Fits t delta.now
+            → RowsFit self.old.grouping.members.schema (projected_rows self.old.grouping.members.indices (applied t delta.now))
             → IsDiff (output_of self.old.grouping t)
             (output_of self.old.grouping (applied t delta.now)) r.1) }
         ensures staged { IfOk result (λ r. (t : TaggedRows) → IsIndexOf self.old.grouping self.old.index t
-            → Fits t delta.now → RowsFit self.old.grouping.schema (applied t delta.now)
+            → Fits t delta.now
+            → RowsFit self.old.grouping.members.schema (projected_rows self.old.grouping.members.indices (applied t delta.now))
             → index_spec.LeadsTo self.old.grouping self.new.index r.0.groups (applied t delta.now)) }
         ensures room { IfOk result (λ r. index_map_len r.0.groups ≤ spare self.new.index) }
     {
-        let changes = keyed_changes(self.alloc, self.grouping.indices.as_slice(), delta)?;
+        let changes = keyed_changes(self.alloc, self.grouping.key_indices.as_slice(), delta)?;
         let groups = stage_all(self.alloc, &self.grouping, &self.index, changes, meter)?;
         let notes = note_all(self.alloc, &self.index, &groups)?;
         let changes = notes.into_delta()?;
@@ -126,7 +121,6 @@ impl LiveGroup {
             index_spec.LeadsTo self.old.grouping self.old.index staged.groups t
             → IsIndexOf self.new.grouping self.new.index t }
         ensures grouping { self.new.grouping ≡ self.old.grouping }
-        ensures kept { self.new.kept ≡ self.old.kept }
     {
         let StagedGroups { groups } = staged;
         put_all(&mut self.index, groups);
@@ -136,16 +130,15 @@ impl LiveGroup {
 impl LiveNode for LiveGroup {
     type Staged = StagedGroups;
 
-    ghost Takes = { λ n t. RowsFit n.grouping.schema (kept_rows n.kept t) };
+    ghost Takes = { λ n t. RowsFit n.grouping.members.schema (projected_rows n.grouping.members.indices t) };
 
-    ghost IsOver = { λ n t. IsIndexOf n.grouping n.index (kept_rows n.kept t) };
+    ghost IsOver = { λ n t. IsIndexOf n.grouping n.index t };
 
-    ghost output = { λ n t. output_of n.grouping (kept_rows n.kept t) };
+    ghost output = { λ n t. output_of n.grouping t };
 
     ghost HasRoomFor = { λ n s. index_map_len s.groups ≤ spare n.index };
 
-    ghost LeadsTo = { λ n s t.
-        index_spec.LeadsTo n.grouping n.index s.groups (kept_rows n.kept t) };
+    ghost LeadsTo = { λ n s t. index_spec.LeadsTo n.grouping n.index s.groups t };
 
     ghost budget = { λ _. finishes (2 ^ 64) };
 
@@ -156,13 +149,7 @@ impl LiveNode for LiveGroup {
         delta: &Delta,
         meter: &mut Meter,
     ) -> Result<(StagedGroups, Delta), AllocError> {
-        match &self.kept {
-            None => self.staged(delta, meter),
-            Some(indices) => {
-                let projected = projected_delta(self.alloc, indices.as_slice(), delta)?;
-                self.staged(&projected, meter)
-            }
-        }
+        self.staged(delta, meter)
     }
 
     fn commit(&mut self, staged: StagedGroups) {

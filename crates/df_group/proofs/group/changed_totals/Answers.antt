@@ -11,7 +11,7 @@ returns-in-Some c =
     let now = option_copied c.args.group in
     let some : now ≡ Some c.in-Some.group.now = ap option_copied c.in-Some.is in
     IfOk-weaker c.moved_totals.result _ _
-    (λ ts made. followed g c.args.key.now now c.args.changes.now c.args.members.now c.as_slice.result.now ts c.deref.result.now (c.as_slice.ensures ∙ ap (totals_now g) (sym some)) (cc c.deref.ensures.value) made)
+    (λ ts made. followed g c.args.key.now now c.args.changes.now.entries.items c.args.members.now c.as_slice.result.now ts c.deref.result.now (c.as_slice.ensures ∙ ap (totals_now g) (sym some)) (cc c.deref.ensures.value) made)
     c.moved_totals.ensures
 
 pub returns-in_ok-none-in-None : goal.returns-in_ok-none-in-None
@@ -20,6 +20,6 @@ returns-in_ok-none-in-None c =
     let now = option_copied c.args.group in
     let none : now ≡ None = ap option_copied c.in-None.is in
     IfOk-weaker c.moved_totals-in-None.result _ _
-    (λ ts made. followed g c.args.key.now now c.args.changes.now c.args.members.now c.as_slice-in-None.result.now ts c.deref-in-None.result.now
+    (λ ts made. followed g c.args.key.now now c.args.changes.now.entries.items c.args.members.now c.as_slice-in-None.result.now ts c.deref-in-None.result.now
     (c.as_slice-in-None.ensures ∙ c.in_ok-none-in-None.ensures ∙ ap (totals_now g) (sym none)) (cc c.deref-in-None.ensures.value) made)
     c.moved_totals-in-None.ensures

@@ -5,7 +5,7 @@ use Rattle.indexmap.specs.IndexMap.{get}
 use Rattle.df_value.specs.Rows.{row_eq}
 use Rattle.df_value.specs.declared.cell.Cell.{Cell}
 use Rattle.df_column.specs.Tables.{AreRising}
-use Rattle.df_group.specs.GroupIndex.{Follows, staged_with}
+use Rattle.df_group.specs.GroupIndex.{Follows, member_entries, staged_with}
 use Rattle.df_group.proofs.IndexMaps.{none_left, popped, rest_has, taken_has}
 use Rattle.df_group.proofs.Staged.{stage_more}
 use Rattle.df_group.proofs.staging.stage_all.Goals as goal
@@ -25,12 +25,12 @@ loop-key-preserved c =
     let g = c.loop-key.invariant.grows in
     let h = c.loop-key.invariant.counted in
     let n = c.in-Some.ensures.len in
-    let here = λ (all : (k : List Cell) → IfSome (get row_eq c.args.changes k) (λ x. Follows c.args.grouping.now k (get row_eq c.args.index.now k) x)).
-    taken_has (λ x. Follows c.args.grouping.now key (get row_eq c.args.index.now key) x) key (get row_eq c.loop-key.changes key) (get row_eq c.pop.new.self key) c.in-Some.key_changes
+    let here = λ (all : (k : List Cell) → IfSome (get row_eq c.args.changes k) (λ x. Follows c.args.grouping.now k (get row_eq c.args.index.now k) (member_entries c.args.grouping.now x))).
+    taken_has (λ x. Follows c.args.grouping.now key (get row_eq c.args.index.now key) (member_entries c.args.grouping.now x)) key (get row_eq c.loop-key.changes key) (get row_eq c.pop.new.self key) c.in-Some.key_changes
     (popped c.loop-key.changes c.pop.new.self key c.in-Some.key_changes c.in-Some.ensures.entries c.in-Some.ensures.updates.0 key)
     (c.loop-key.invariant.follow all key) in
     record {
-      follow = λ all k. rest_has (λ x. Follows c.args.grouping.now k (get row_eq c.args.index.now k) x) (row_eq key k) (get row_eq c.loop-key.changes k) (get row_eq c.pop.new.self k) (c.in-Some.ensures.updates.0 k) (c.loop-key.invariant.follow all k);
+      follow = λ all k. rest_has (λ x. Follows c.args.grouping.now k (get row_eq c.args.index.now k) (member_entries c.args.grouping.now x)) (row_eq key k) (get row_eq c.loop-key.changes k) (get row_eq c.pop.new.self k) (c.in-Some.ensures.updates.0 k) (c.loop-key.invariant.follow all k);
       staged = λ all k. stage_more c.args.grouping.now key k (get row_eq c.args.index.now) c.in-Some.key_changes
           (get row_eq c.loop-key.changes k) (get row_eq c.pop.new.self k) (get row_eq c.loop-key.staged k) (get row_eq c.stage_group.new.staged k)
           (popped c.loop-key.changes c.pop.new.self key c.in-Some.key_changes c.in-Some.ensures.entries c.in-Some.ensures.updates.0 k)

@@ -10,4 +10,4 @@ abbrev pub invariant-loop-named : goal.invariant-loop-named
 invariant-loop-named l =
     l.totals ≡ totals_of l.self (finite.values l.members.rows)
     → IfSome (option_copied l.before) (λ row. IsRowBefore l.self l.key row l.entries (finite.values l.members.rows))
-    → l.cells.items ≡ l.key ++ map (λ a. aggregate_cell l.self.schema (finite.values l.members.rows) a.1) (take (length l.yielded) l.self.aggregates)
+    → l.cells.items ≡ l.key ++ map (λ a. aggregate_cell l.self.members.schema (finite.values l.members.rows) a.1) (take (length l.yielded) l.self.aggregates)

@@ -19,7 +19,7 @@ pub returns-clause-diff : goal.returns-clause-diff
 returns-clause-diff c t over fits fit =
     let g = c.args.self.now.grouping in
     let d = c.args.delta.now in
-    let kept : (k : List Cell) → kept_changes (get row_eq c.in_ok-changes.changes k) ≡ finite.entries (keyed_changes (key_of g.indices) k d) =
+    let kept : (k : List Cell) → kept_changes (get row_eq c.in_ok-changes.changes k) ≡ finite.entries (keyed_changes (key_of g.key_indices) k d) =
     λ k. c.in_ok-changes.ensures.changes k ∙ ap (λ indices. finite.entries (keyed_changes (key_of indices) k d)) c.as_slice.ensures in
     let to : LeadsTo g c.args.self.now.index c.in_ok-groups.groups (applied t d) =
     leads g t d fits fit c.args.self.now.index c.in_ok-groups.groups c.in_ok-changes.changes over kept
@@ -31,7 +31,7 @@ pub returns-clause-staged : goal.returns-clause-staged
 returns-clause-staged c t over fits fit =
     let g = c.args.self.now.grouping in
     let d = c.args.delta.now in
-    let kept : (k : List Cell) → kept_changes (get row_eq c.in_ok-changes.changes k) ≡ finite.entries (keyed_changes (key_of g.indices) k d) =
+    let kept : (k : List Cell) → kept_changes (get row_eq c.in_ok-changes.changes k) ≡ finite.entries (keyed_changes (key_of g.key_indices) k d) =
     λ k. c.in_ok-changes.ensures.changes k ∙ ap (λ indices. finite.entries (keyed_changes (key_of indices) k d)) c.as_slice.ensures in
     leads_still g c.args.self.now.index c.reserve.new.self c.in_ok-groups.groups (applied t d) c.reserve.ensures.entries
     (leads g t d fits fit c.args.self.now.index c.in_ok-groups.groups c.in_ok-changes.changes over kept

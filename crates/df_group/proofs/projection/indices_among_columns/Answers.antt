@@ -1,8 +1,8 @@
 use Rattle.std.proofs.Common.{arith}
 use Rattle.df_value.specs.Schemas.{Columns}
 use Rattle.df_ops.proofs.Steps.{mapped_more, all_done}
-use Rattle.df_group.specs.Kept.{indices_among}
-use Rattle.df_group.proofs.kept.indices_among_columns.Goals as goal
+use Rattle.df_group.specs.Projections.{indices_among}
+use Rattle.df_group.proofs.projection.indices_among_columns.Goals as goal
 
 pub loop-column-preserved : goal.loop-column-preserved
 loop-column-preserved c = mapped_more _ _ _ _ _ _ _ (omega arith) c.column-item.is c.loop-column.invariant (cc) c.in_ok-push.ensures.items

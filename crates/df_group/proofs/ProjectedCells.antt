@@ -18,8 +18,9 @@ use Rattle.df_ops.specs.Groups.{key_of}
 use Rattle.df_ops.specs.NamedColumns.{first_of_name, has_column}
 use Rattle.df_ops.proofs.Beside.{Beside}
 use Rattle.df_ops.proofs.RowWiseLaws.{OneName, cell_named, cell_of_found}
-use Rattle.df_group.specs.Kept.{indices_among}
+use Rattle.df_group.specs.Projections.{indices_among}
 
+-- a name is itself
 pub same_name : (name : List ℕ) → bytes_eq name name ≡ true
 same_name name = (bytes_eq-Decides name name).1 refl
 
