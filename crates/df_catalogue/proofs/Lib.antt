@@ -10,6 +10,7 @@ pub mod Legal
 pub mod NumberSetFacts
 pub mod FrameTableFacts
 pub mod StandingRows
+pub mod StoredRows
 pub mod Refusing
 pub mod Counting
 pub mod RangeFacts

@@ -30,6 +30,7 @@ mod staged_pictures;
 mod stages;
 mod staging;
 mod state;
+mod stored;
 mod views;
 
 pub use catalogue::Catalogue;
@@ -40,3 +41,4 @@ pub use picture::Picture;
 pub use prepared::PreparedChunk;
 pub use staged::{StagedRows, StagedViews};
 pub use state::{CatalogueParts, FrameState, RowCounts, StagedParts, State, ViewState};
+pub use stored::StoredChunk;

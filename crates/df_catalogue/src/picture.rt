@@ -10,6 +10,7 @@ ghost use Rattle.df_value.specs.Limits as limits;
 use crate::deltas::row_tag;
 use crate::fault::CatalogueFault;
 use crate::row_numbers::row_numbers;
+use crate::stored::StoredChunk;
 use crate::views::View;
 use df_column::Table;
 use df_plan::{CheckedPlan, evaluate};
@@ -86,6 +87,18 @@ impl Picture {
     {
         match self.frame_table(frame) {
             Some(table) => table.are_rows(place, row_tag(number).first, rows),
+            None => false,
+        }
+    }
+
+    /// Whether the rows of a chunk stand in a frame from this place on, by rising number, under their numbers. It copies
+    /// nothing and takes no memory.
+    pub fn has_chunk(&self, frame: usize, place: usize, chunk: &StoredChunk) -> bool
+        ensures { result ≡ true →
+            pictures.AreRowsIn self.now frame place chunk.now.first chunk.now.rows }
+    {
+        match self.frame_table(frame) {
+            Some(table) => chunk.stands_in(table, place),
             None => false,
         }
     }

@@ -1,5 +1,5 @@
 //! Chunks whose rows stand in blocks already.
-ghost use Rattle.std.specs.Prelude.{◌≡◌, IfOk};
+ghost use Rattle.std.specs.Prelude.{◌≡◌, ◌+◌, ◌≤◌, IfOk, IfSome, drop, length, take, true};
 ghost use Rattle.std.specs.FinMap as finite;
 ghost use Rattle.df_value.specs.Chunks.{IsChunk};
 ghost use Rattle.df_column.specs.Changes.{applied};
@@ -7,11 +7,13 @@ ghost use Rattle.df_catalogue.specs.FrameChanges.{delta_of_chunk};
 ghost use Rattle.df_catalogue.specs.Prepared.{delta_in};
 
 use crate::deltas::delta_of_rows;
+use crate::stored::StoredChunk;
 use df_column::Table;
 use df_delta::{Delta, apply};
-use df_value::{Chunk, Duplicate};
+use df_value::{Chunk, Duplicate, same};
 use std::alloc::{AllocError, Global};
 use std::marker::Model;
+use std::sync::Arc;
 
 /// A chunk, with the delta that it makes, and its rows in the blocks of a table. The frame that it enters can share these
 /// blocks, so that they are made before the frame is locked. Contracts see the chunk.
@@ -19,10 +21,11 @@ use std::marker::Model;
 pub struct PreparedChunk {
     chunk: Chunk,
     delta: Delta,
-    table: Table,
+    table: Arc<Table>,
 }
 
 impl Model for PreparedChunk {
+    ghost use Rattle.std.specs.Arc.{arc_value};
     ghost use Rattle.df_value.specs.Chunks.{ChunkParts};
     ghost use Rattle.df_catalogue.specs.Prepared.{IsPrepared};
 
@@ -30,7 +33,7 @@ impl Model for PreparedChunk {
 
     ghost view = { λ p. p.chunk };
 
-    ghost invariant = { λ p. IsPrepared p.chunk p.delta p.table.rows };
+    ghost invariant = { λ p. IsPrepared p.chunk p.delta (arc_value p.table).rows };
 }
 
 /// The delta of a change of a frame: made for it, or that of a prepared chunk.
@@ -60,7 +63,7 @@ impl PreparedChunk {
         let rows = chunk.rows().as_slice();
         let delta = delta_of_rows(alloc, chunk.first(), rows)?;
         let none = Table::new(alloc, chunk.schema().copy(alloc)?)?;
-        let table = apply(alloc, &none, &delta)?;
+        let table = Arc::new(alloc, apply(alloc, &none, &delta)?)?;
         Ok(PreparedChunk {
             chunk,
             delta,
@@ -88,5 +91,28 @@ impl PreparedChunk {
         ensures { result.now.rows ≡ applied finite.empty (delta_of_chunk self.now) }
     {
         &self.table
+    }
+
+    /// A chunk that has rows of this one from an index on, in the blocks of this one. None where it has another schema, or
+    /// other numbers. It takes no memory.
+    pub fn part(&self, low: usize, chunk: &Chunk) -> Result<Option<StoredChunk>, AllocError>
+        requires rows { take (length chunk.now.rows) (drop low self.now.rows) ≡ chunk.now.rows }
+        ensures { IfOk result (λ part. IfSome part (λ stored. stored ≡ chunk.now)) }
+    {
+        let len = chunk.rows().len();
+        if !self.has_part(low, len, chunk.first()) || !same(self.table.schema(), chunk.schema()) {
+            return Ok(None);
+        }
+        let table = Arc::try_clone(&self.table)?;
+        Ok(Some(StoredChunk::new(table, chunk.first(), low, len)))
+    }
+
+    // Whether there are so many rows from an index on, the first of which has this number.
+    fn has_part(&self, low: usize, len: usize, first: u32) -> bool
+        ensures within { result ≡ true → low + len ≤ length self.now.rows }
+        ensures number { result ≡ true → first ≡ self.now.first + low }
+    {
+        let rows = self.chunk.rows().len();
+        low <= rows && len <= rows - low && first as u64 == self.chunk.first() as u64 + low as u64
     }
 }

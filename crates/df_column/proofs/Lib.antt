@@ -39,6 +39,7 @@ pub mod FitLemmas
 pub mod BlockLemmas
 pub mod ChangeRuns
 mod RunRows
+mod SameRows
 mod ChangedParts
 mod ChangedTrees
 mod ChangedNodes

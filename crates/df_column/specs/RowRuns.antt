@@ -7,3 +7,7 @@ use Rattle.df_column.specs.declared.tag.Tag.{Tag}
 pub record StandFrom (tagged : List (Tag × List Cell)) (at first : ℕ) (rows : List (List Cell)) : Type 0 where
   pub numbers : (k : ℕ) (d : Tag × List Cell) → k < length rows → (slice_index_or tagged (at + k) d).0.first ≡ first + k
   pub rows_are : (k : ℕ) (d : Tag × List Cell) → k < length rows → (slice_index_or tagged (at + k) d).1 ≡ slice_index_or rows k d.1
+
+-- so many things of a list, from an index on, are those of another list from an index on
+pub record AreThose {X : Type 0} (xs : List X) (at : ℕ) (ys : List X) (from count : ℕ) : Type 0 where
+  pub each : (k : ℕ) (d : X) → k < count → slice_index_or xs (at + k) d ≡ slice_index_or ys (from + k) d

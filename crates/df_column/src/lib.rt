@@ -34,6 +34,7 @@ mod pool;
 mod reads;
 mod row_tags;
 mod run;
+mod same_rows;
 mod shared_leaf;
 mod sharing;
 mod spots;

@@ -21,7 +21,7 @@ use df_value::{Row, same};
 use std::alloc::{AllocError, Global};
 
 /// Where the row at this index of all rows stands.
-fn locate(blocks: &BlockList, at: usize) -> Spot
+pub fn locate(blocks: &BlockList, at: usize) -> Spot
     requires { at < length (rows_of_blocks blocks.now) }
     ensures { IsSpot blocks.now at result.block result.row }
 {

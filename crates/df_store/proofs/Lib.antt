@@ -9,6 +9,7 @@ pub mod OutcomeFacts
 pub mod RowFacts
 pub mod ExpectedFacts
 pub mod JoinedFacts
+pub mod StoredFacts
 pub mod LostFacts
 pub mod ViewFacts
 pub mod CrossingPlans
@@ -17,3 +18,4 @@ pub mod CrossingNodes
 pub mod CrossingViews
 pub mod Crosses
 pub mod CrossingPictures
+pub mod CrossingOutcomes

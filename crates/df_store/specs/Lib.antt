@@ -1,6 +1,7 @@
 pub mod Rooms
 pub mod Closing
 pub mod Halls
+pub mod Made
 pub mod Jobs
 pub mod Workers
 pub mod Loaded

@@ -1,5 +1,5 @@
-//! Whether the frames of a picture have the rows of the good chunks. Threads look for them side by side, and free each
-//! chunk as soon as its rows are found. No row is copied.
+//! Whether the frames of a picture have the rows of the good chunks. Threads look for them side by side, and drop each
+//! outcome as soon as its rows are found. No row is copied.
 ghost use Rattle.std.specs.Prelude.{◌≡◌, ◌≢◌, ◌<◌, ℕ, false, true, All, IfNone, IfOk, IfSome, get_or, length, map, slice_index_or};
 ghost use Rattle.df_store.specs.Expected.{HasAll, IsFound};
 ghost use Rattle.df_store.specs.Jobs.{job_of};
@@ -7,7 +7,8 @@ ghost use Rattle.df_store.specs.Loaded.{AreLoadedIn, HasRows, chunk_rows, job_ro
 
 use crate::expected::{Expected, expect_all};
 use crate::jobs::Outcome;
-use df_catalogue::Picture;
+use crate::made::KeptPiece;
+use df_catalogue::{Picture, StoredChunk};
 use df_value::{Chunk, Piece};
 use std::alloc::{AllocError, Global};
 use std::thread;
@@ -65,16 +66,23 @@ fn has_rows(picture: &Picture, place: usize, outcome: &Outcome) -> bool
     ensures { result ≡ true → HasRows picture.now outcome.now.frame place
         (job_rows outcome.now.frame (job_of outcome.now)) }
 {
-    match &outcome.made {
-        Piece::Good(chunk) => has_chunk(picture, outcome.frame, place, chunk),
-        Piece::Bad(_) => true,
+    match outcome.made.kept() {
+        KeptPiece::Typed(Piece::Good(chunk)) => has_typed(picture, outcome.frame, place, chunk),
+        KeptPiece::Typed(Piece::Bad(_)) => true,
+        KeptPiece::Stored(chunk) => has_stored(picture, outcome.frame, place, chunk),
     }
 }
 
-fn has_chunk(picture: &Picture, frame: usize, place: usize, chunk: &Chunk) -> bool
+fn has_typed(picture: &Picture, frame: usize, place: usize, chunk: &Chunk) -> bool
     ensures { result ≡ true → HasRows picture.now frame place (chunk_rows chunk.now) }
 {
     picture.are_rows(frame, place, chunk.first(), chunk.rows().as_slice())
+}
+
+fn has_stored(picture: &Picture, frame: usize, place: usize, chunk: &StoredChunk) -> bool
+    ensures { result ≡ true → HasRows picture.now frame place (chunk_rows chunk.now) }
+{
+    picture.has_chunk(frame, place, chunk)
 }
 
 // The least frame that has not as many rows as its count says, or of which an outcome is left.

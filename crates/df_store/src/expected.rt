@@ -2,10 +2,9 @@
 ghost use Rattle.std.specs.Prelude.{◌≡◌, ◌+◌, ◌<◌, ◌^◌, ◌-◌, ℕ, IfOk, get_or, length, min};
 ghost use Rattle.df_store.specs.Expected.{AreExpected};
 ghost use Rattle.df_store.specs.Jobs.{job_of};
-ghost use Rattle.df_store.specs.Loaded.{job_rows, made_rows};
+ghost use Rattle.df_store.specs.Loaded.{job_rows};
 
 use crate::jobs::Outcome;
-use df_value::Piece;
 use std::alloc::{AllocError, Global};
 
 /// The outcome of a job until its rows are found, and the place in its frame from which they are to stand.
@@ -61,16 +60,6 @@ fn add_rows(counts: &mut [usize], outcome: &Outcome) -> usize
         return 0;
     }
     let place = counts[frame];
-    counts[frame] = place.saturating_add(row_count(&outcome.made));
+    counts[frame] = place.saturating_add(outcome.made.row_count());
     place
-}
-
-// How many rows a piece gives to its frame.
-fn row_count(made: &Piece) -> usize
-    ensures { result ≡ length (made_rows made.now) }
-{
-    match made {
-        Piece::Good(chunk) => chunk.rows().len(),
-        Piece::Bad(_) => 0,
-    }
 }

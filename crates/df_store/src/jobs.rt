@@ -2,11 +2,12 @@
 ghost use Rattle.std.specs.Prelude.{◌≡◌, ◌<◌, ◌^◌, None, Some, IfOk, IfSome, MatchOption, length, slice_get};
 ghost use Rattle.df_store.specs.Jobs.{IsOutcome, IsPlace, chunks_of, jobs_of};
 
-use df_value::{Piece, Source};
+use crate::made::Made;
+use df_value::Source;
 use std::alloc::{AllocError, Global};
 
 /// What a job made.
-#[derive(Debug, Drop)]
+#[derive(Drop)]
 pub(crate) struct Outcome {
     /// The number of the job.
     pub(crate) job: u64,
@@ -15,7 +16,7 @@ pub(crate) struct Outcome {
     /// The number of its chunk's first row.
     pub(crate) first: u32,
     /// Its chunk, or the chunk's first bad cell.
-    pub(crate) made: Piece,
+    pub(crate) made: Made,
 }
 
 /// Where the chunk of a job stands.
@@ -75,7 +76,7 @@ fn make_at<S: Source>(
         job,
         frame,
         first,
-        made,
+        made: Made::typed(made),
     })
 }
 

@@ -1,36 +1,40 @@
 //! Joining: the chunks of several jobs become one, which enters in one change.
-ghost use Rattle.std.specs.Prelude.{◌≡◌, ◌<◌, ◌≤◌, ◌+◌, ◌++◌, ◌==◌, true, All, IfOk, IfSome, flat_map, length};
+ghost use Rattle.std.specs.Prelude.{◌≡◌, ◌<◌, ◌≤◌, ◌+◌, ◌++◌, ◌^◌, ◌==◌, true, All, IfOk, IfSome, drop, flat_map, length, take};
 ghost use Rattle.std.specs.List.{enumerate_from, prefix_len};
 ghost use Rattle.df_store.specs.Jobs.{job_of};
 ghost use Rattle.df_store.specs.Joined as joined;
 ghost use Rattle.df_store.specs.Joined.{IsGoodOf, IsJoined};
 ghost use Rattle.df_store.specs.Loaded.{job_rows};
+ghost use Rattle.df_store.specs.Made.{rows_in};
 ghost use Rattle.df_value.specs.Chunks.{MakesChunk};
 
 use crate::jobs::Outcome;
+use crate::made::Made;
 use df_catalogue::PreparedChunk;
-use df_value::{Chunk, ChunkFault, List, MOST_ROWS_OF_CHUNK, Piece, Row, copies, same};
+use df_value::{Chunk, ChunkFault, List, MOST_ROWS_OF_CHUNK, Row, copies, same};
 use std::alloc::{AllocError, Global};
 
-/// The chunks of several outcomes as one.
+/// The chunks of one or several outcomes as one.
 #[derive(Drop)]
 pub(crate) struct Joined {
     /// The index of their frame.
     pub(crate) frame: usize,
     pub(crate) chunk: PreparedChunk,
+    /// The outcomes, with the rows of each in the blocks of the joined chunk.
+    pub(crate) stored: Vec<Outcome>,
 }
 
-/// The chunks of all these outcomes as one, where there are several, all good, of one frame and one schema, each begins at
-/// the number behind the one before, and one chunk can have so many rows. None otherwise. Its rows stand in blocks already,
-/// so that few are made while the lock is held.
+/// The chunks of all these outcomes as one, where they are all good, of one frame and one schema, each begins at the number
+/// behind the one before, and one chunk can have so many rows. None otherwise. Its rows stand in blocks already, so that few
+/// are made while the lock is held.
 pub(crate) fn join(alloc: Global, outcomes: &[Outcome]) -> Result<Option<Joined>, AllocError>
     ensures { IfOk result (λ joined. IfSome joined (IsJoined outcomes.now)) }
 {
-    if outcomes.len() < 2 {
+    let Some(first) = outcomes.first() else {
         return Ok(None);
-    }
-    let frame = outcomes[0].frame;
-    let Piece::Good(begin) = &outcomes[0].made else {
+    };
+    let frame = first.frame;
+    let Some(begin) = first.made.typed_chunk() else {
         return Ok(None);
     };
     let Some(rows) = joined_rows(alloc, frame, begin, outcomes)? else {
@@ -40,7 +44,59 @@ pub(crate) fn join(alloc: Global, outcomes: &[Outcome]) -> Result<Option<Joined>
         return Ok(None);
     };
     let chunk = PreparedChunk::new(alloc, chunk)?;
-    Ok(Some(Joined { frame, chunk }))
+    match stored_in(alloc, &chunk, outcomes)? {
+        Some(stored) => Ok(Some(Joined {
+            frame,
+            chunk,
+            stored,
+        })),
+        None => Ok(None),
+    }
+}
+
+// The same outcomes, with the rows of each in the blocks of a chunk that has the rows of all of them.
+fn stored_in(
+    alloc: Global,
+    joined: &PreparedChunk,
+    outcomes: &[Outcome],
+) -> Result<Option<Vec<Outcome>>, AllocError>
+    requires rows { joined.now.rows ≡ flat_map (λ o. rows_in o.made) outcomes.now }
+    requires short { length joined.now.rows < 2 ^ 64 }
+    ensures { IfOk result (λ r. IfSome r (λ stored. stored.items ≡ outcomes.now)) }
+{
+    let mut stored = Vec::with_capacity(alloc, outcomes.len())?;
+    let mut low = 0;
+    for outcome in outcomes {
+        let Some(same) = stored_at(joined, low, outcome)? else {
+            return Ok(None);
+        };
+        stored.push(same)?;
+        low += outcome.made.row_count();
+    }
+    Ok(Some(stored))
+}
+
+// The same outcome, with its rows in the blocks of a chunk that has them from an index on.
+fn stored_at(
+    joined: &PreparedChunk,
+    low: usize,
+    outcome: &Outcome,
+) -> Result<Option<Outcome>, AllocError>
+    requires { take (length (rows_in outcome.now.made)) (drop low joined.now.rows) ≡ rows_in outcome.now.made }
+    ensures { IfOk result (λ r. IfSome r (λ same. same ≡ outcome.now)) }
+{
+    let Some(chunk) = outcome.made.typed_chunk() else {
+        return Ok(None);
+    };
+    match joined.part(low, chunk)? {
+        Some(part) => Ok(Some(Outcome {
+            job: outcome.job,
+            frame: outcome.frame,
+            first: outcome.first,
+            made: Made::stored(part),
+        })),
+        None => Ok(None),
+    }
 }
 
 /// How many outcomes stand before the first one of another frame than the first.
@@ -73,6 +129,8 @@ fn joined_rows(
         All (IsGoodOf frame begin.now.schema) outcomes.now)) }
     ensures rows { IfOk result (λ r. IfSome r (λ rows. enumerate_from begin.now.first rows.items
         ≡ flat_map (λ o. job_rows frame (job_of o)) outcomes.now)) }
+    ensures cells { IfOk result (λ r. IfSome r (λ rows. rows.items
+        ≡ flat_map (λ o. rows_in o.made) outcomes.now)) }
 {
     let mut rows = Vec::new(alloc);
     for outcome in outcomes {
@@ -97,8 +155,10 @@ fn add_rows(
     ensures rows { IfOk result (λ added. added ≡ true →
         enumerate_from begin.now.first rows.new.items
         ≡ enumerate_from begin.now.first rows.old.items ++ job_rows frame (job_of outcome.now)) }
+    ensures cells { IfOk result (λ added. added ≡ true →
+        rows.new.items ≡ rows.old.items ++ rows_in outcome.now.made) }
 {
-    let Piece::Good(chunk) = &outcome.made else {
+    let Some(chunk) = outcome.made.typed_chunk() else {
         return Ok(false);
     };
     if outcome.frame != frame || !goes_on(begin, rows.len(), chunk) {

@@ -16,6 +16,7 @@ mod hall;
 mod jobs;
 mod joining;
 mod load;
+mod made;
 mod opened_hall;
 mod outcomes;
 mod pool;

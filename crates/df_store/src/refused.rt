@@ -4,7 +4,7 @@ ghost use Rattle.df_store.specs.Jobs.{job_of};
 ghost use Rattle.df_store.specs.Refused.{refusal};
 
 use crate::jobs::Outcome;
-use df_value::{BadCell, Piece};
+use df_value::BadCell;
 use std::alloc::{AllocError, Global};
 
 /// A chunk that did not enter, since a cell of it is bad.
@@ -35,7 +35,7 @@ fn push_refused(refused: &mut Vec<Refused>, outcome: &Outcome) -> Result<(), All
         (refused.new.items
         ≡ refused.old.items ++ filter_map refusal (job_of outcome.now ∷ [])) }
 {
-    if let Piece::Bad(cell) = &outcome.made {
+    if let Some(cell) = outcome.made.bad_cell() {
         refused.push(Refused {
             frame: outcome.frame,
             first: outcome.first,

@@ -12,6 +12,8 @@ use crate::gate::Gate;
 use crate::hall::Hall;
 use crate::jobs::{Outcome, make};
 use crate::joining::{Joined, count_of_first_frame, join};
+use crate::made::KeptPiece;
+use core::mem;
 use df_catalogue::{Desk, PreparedChunk};
 use df_claims::{ClaimSeat, Claims};
 use df_value::{Chunk, Piece, Source};
@@ -161,21 +163,23 @@ impl<Acc: Ledger, Del: Ledger> Worker<Acc, Del> {
     {
         // The room comes first: of each chunk that has entered there is an outcome.
         self.done.reserve(made.len())?;
-        let joined = join(work.alloc, made.as_slice())?;
+        let mut made = made;
+        let mut joined = join(work.alloc, made.as_slice())?;
         let mut catalogue = hall.lock(rt);
         let entered = enter_all(
             rt,
             work.alloc,
             &mut catalogue,
             &mut self.desks,
-            made,
-            joined.as_ref(),
+            &mut made,
+            &mut joined,
             &mut self.done,
             told,
         );
         MutexGuard::unlock(catalogue);
-        // Dropped once the lock is free.
+        // The typed rows of chunks that entered joined are freed once the lock is free.
         drop(joined);
+        drop(made);
         entered
     }
 
@@ -236,34 +240,42 @@ fn enter_all<Acc: Ledger, Del: Ledger, J: Naming, R: Wait>(
     alloc: Global,
     catalogue: &mut VersionedCatalogue<Acc, Del, J>,
     desks: &mut Vec<Desk<Acc, Del>>,
-    made: Vec<Outcome>,
-    joined: Option<&Joined>,
+    made: &mut Vec<Outcome>,
+    joined: &mut Option<Joined>,
     done: &mut Vec<Outcome>,
     told: &mut Option<Told<J>>,
 ) -> Result<(), Stop>
-    requires room { length done.old.items + length made.items ≤ vec_capacity done.old }
-    requires joined { IfSome joined (λ j. IsJoined made.items j.now) }
+    requires room { length done.old.items + length made.old.items ≤ vec_capacity done.old }
+    requires joined { IfSome joined.old (IsJoined made.old.items) }
     ensures desks { all_without_accepted desks.new.items ≡ all_without_accepted desks.old.items }
     ensures counted { AreCounted desks.old.items done.old.items desks.new.items done.new.items }
-    ensures done { (chunks : List (List (ℕ × Piece))) → AreOutcomes chunks made.items →
+    ensures done { (chunks : List (List (ℕ × Piece))) → AreOutcomes chunks made.old.items →
         AreOutcomes chunks done.old.items → AreOutcomes chunks done.new.items }
 {
     if let Some(joined) = joined {
         let incoming = Incoming::Prepared(&joined.chunk);
         if enter_chunk(rt, alloc, catalogue, desks, joined.frame, incoming, told)? {
-            keep_all(made, done);
+            keep_all(mem::replace(&mut joined.stored, Vec::new(alloc)), done);
             return Ok(());
         }
     }
-    enter_each(rt, alloc, catalogue, desks, made, done, told)
+    enter_each(
+        rt,
+        alloc,
+        catalogue,
+        desks,
+        mem::replace(made, Vec::new(alloc)),
+        done,
+        told,
+    )
 }
 
 // Adds outcomes to those that are done.
-fn keep_all(made: Vec<Outcome>, done: &mut Vec<Outcome>)
-    requires { length done.old.items + length made.items ≤ vec_capacity done.old }
-    ensures { done.new.items ≡ done.old.items ++ made.items }
+fn keep_all(outcomes: Vec<Outcome>, done: &mut Vec<Outcome>)
+    requires { length done.old.items + length outcomes.items ≤ vec_capacity done.old }
+    ensures { done.new.items ≡ done.old.items ++ outcomes.items }
 {
-    for outcome in made {
+    for outcome in outcomes {
         done.push_reserved(outcome);
     }
 }
@@ -307,12 +319,14 @@ fn enter<Acc: Ledger, Del: Ledger, J: Naming, R: Wait>(
         (if stands then outcome.now ∷ [] else [])) }
     ensures refused { OnErr result (desks.new.items ≡ desks.old.items) }
 {
-    match &outcome.made {
-        Piece::Good(chunk) => {
+    match outcome.made.kept() {
+        KeptPiece::Typed(Piece::Good(chunk)) => {
             let incoming = Incoming::Chunk(chunk);
             enter_chunk(rt, alloc, catalogue, desks, outcome.frame, incoming, told)
         }
-        Piece::Bad(_) => Ok(true),
+        KeptPiece::Typed(Piece::Bad(_)) => Ok(true),
+        // None comes here: jobs make typed pieces.
+        KeptPiece::Stored(_) => Ok(false),
     }
 }
 

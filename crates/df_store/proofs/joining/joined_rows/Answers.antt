@@ -1,12 +1,14 @@
-use Rattle.std.proofs.Common.{◌≡◌, ◌++◌, ◌∷◌, [], List, ◌∙◌, ap, get_or, subst, sym, take}
+use Rattle.std.proofs.Common.{◌++◌, ◌∷◌, [], List, ◌∙◌, ap, get_or, subst, sym, take}
 use Rattle.std.specs.Prelude.{All}
 use Rattle.std.proofs.lemmas.List.Elements.{All-append, All-cons, All-nil}
 use Rattle.df_store.specs.declared.jobs.Outcome.{Outcome}
 use Rattle.df_store.specs.Jobs.{job_of}
 use Rattle.df_store.specs.Joined.{IsGoodOf}
 use Rattle.df_store.specs.Loaded.{job_rows}
+use Rattle.df_store.specs.Made.{rows_in}
 use Rattle.df_store.proofs.ListFacts.{take-more}
 use Rattle.df_store.proofs.RowFacts.{rows-more}
+use Rattle.df_store.proofs.StoredFacts.{cells-more}
 use Rattle.df_store.proofs.joining.joined_rows.Goals as goal
 
 pub loop-outcome-preserved : goal.loop-outcome-preserved
@@ -23,4 +25,7 @@ loop-outcome-preserved c =
       rows = added.rows c.if-not-branch.false
           ∙ (ap (λ zs. zs ++ job_rows c.args.frame (job_of o)) c.loop-outcome.invariant.rows
           ∙ sym (rows-more c.args.frame os i o low c.outcome-item.is));
+      cells = added.cells c.if-not-branch.false
+          ∙ (ap (λ zs. zs ++ rows_in o.made) c.loop-outcome.invariant.cells
+          ∙ sym (cells-more os i o low c.outcome-item.is));
     }

@@ -1,11 +1,21 @@
 use denote.Param.{param}
 use denote.Param.Send.{sendable}
+use Rattle.std.proofs.Crossing.{crosses}
+use Rattle.df_catalogue.proofs.desk.Desk.TheSendSync as desk
+use Rattle.df_claims.proofs.claims.ClaimSeat.TheSendSync as seat
 use Rattle.df_store.proofs.Crosses.{hall_sync}
+use Rattle.df_store.proofs.CrossingOutcomes.{outcome_send}
 use Rattle.df_store.proofs.worker.Work.TheSendSync as shared
 use Rattle.std.proofs.Common.{rules}
 use Rattle.df_store.proofs.CountFacts.{all-counted}
 use Rattle.df_store.proofs.WorkerFacts.{same-desks}
 use Rattle.df_store.proofs.pool.run_workers.Goals as goal
+
+pub for_each_mut-requires-send-T : goal.for_each_mut-requires-send-T
+for_each_mut-requires-send-T g c κs within =
+    let o = outcome_send in
+    let b = c.type_bounds in
+    search (sendable, crosses, desk.the_send, seat.the_send) depth 40
 
 pub for_each_mut-requires-sync-F : goal.for_each_mut-requires-sync-F
 for_each_mut-requires-sync-F g c κs within =

@@ -2,6 +2,7 @@ use Rattle.std.proofs.Common.{◌∙◌, ap, map, subst, sym}
 use Rattle.std.specs.FinMap as finite
 use Rattle.std.specs.List.{enumerate_from}
 use Rattle.df_column.specs.Changes.{applied}
+use Rattle.df_column.specs.Tables.{TableParts}
 use Rattle.df_delta.specs.Deltas.{RowsFit}
 use Rattle.df_catalogue.specs.FrameTables.{coming_row}
 use Rattle.df_catalogue.proofs.PreparedFacts.{chunk-fits}
@@ -19,4 +20,4 @@ invariant_of-result c =
     let fits =
     subst (λ s. RowsFit s (applied c.in_ok-none.none.rows c.in_ok-delta.delta)) (sym schema)
     (subst (RowsFit chunk.schema) (sym (none ∙ ap (applied finite.empty) delta)) (chunk-fits chunk c.rows.ensures.sound)) in
-    record { sound = c.rows.ensures.sound; delta_is = delta; rows_are = c.in_ok-table.ensures.rows fits ∙ none }
+    record { sound = c.rows.ensures.sound; delta_is = delta; rows_are = ap (λ (t : TableParts). t.rows) c.in_ok-table.ensures.ok ∙ (c.in_ok-apply.ensures.rows fits ∙ none) }

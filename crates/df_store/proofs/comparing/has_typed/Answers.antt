@@ -1,7 +1,7 @@
 use Rattle.std.proofs.Common.{◌∙◌, subst}
 use Rattle.df_catalogue.specs.Pictures.{AreRowsIn}
 use Rattle.df_store.proofs.RowFacts.{chunk-stands}
-use Rattle.df_store.proofs.comparing.has_chunk.Goals as goal
+use Rattle.df_store.proofs.comparing.has_typed.Goals as goal
 
 pub returns : goal.returns
 returns c = λ h.

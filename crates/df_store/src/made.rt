@@ -1,0 +1,89 @@
+//! What jobs made, and what is kept of it.
+ghost use Rattle.std.specs.Prelude.{◌≡◌, IfSome, length};
+ghost use Rattle.std.specs.Option.{option_copied};
+ghost use Rattle.df_value.specs.declared.chunk.Piece.TheVariants.{Good};
+ghost use Rattle.df_store.specs.Made.{bad_cell_of, piece_in, rows_in};
+
+use df_catalogue::StoredChunk;
+use df_value::{BadCell, Chunk, Piece};
+use std::marker::Model;
+
+/// A piece as its source made it, or a chunk whose rows stand in the blocks of a joined one.
+#[derive(Drop)]
+pub(crate) enum KeptPiece {
+    Typed(Piece),
+    Stored(StoredChunk),
+}
+
+/// What a job made. Contracts see the piece.
+#[derive(Drop)]
+pub(crate) struct Made {
+    kept: KeptPiece,
+}
+
+impl Model for Made {
+    ghost use Rattle.df_value.specs.declared.chunk.Piece.{Piece};
+    ghost use Rattle.df_store.specs.Made.{piece_in};
+
+    ghost Value = { Piece };
+
+    ghost view = { λ m. piece_in m.kept };
+}
+
+impl Made {
+    /// A piece as its source made it.
+    pub(crate) fn typed(piece: Piece) -> Made
+        ensures { result ≡ piece }
+    {
+        Made {
+            kept: KeptPiece::Typed(piece),
+        }
+    }
+
+    /// A chunk whose rows stand in the blocks of a joined one.
+    pub(crate) fn stored(chunk: StoredChunk) -> Made
+        ensures { result ≡ Good chunk }
+    {
+        Made {
+            kept: KeptPiece::Stored(chunk),
+        }
+    }
+
+    /// What is kept of it.
+    pub(crate) fn kept(&self) -> &KeptPiece
+        ensures { piece_in result.now ≡ self.now }
+    {
+        &self.kept
+    }
+
+    /// The chunk, if it is one as its source made it.
+    pub(crate) fn typed_chunk(&self) -> Option<&Chunk>
+        ensures { IfSome (option_copied result) (λ chunk. self.now ≡ Good chunk) }
+    {
+        match &self.kept {
+            KeptPiece::Typed(Piece::Good(chunk)) => Some(chunk),
+            _ => None,
+        }
+    }
+
+    /// The first bad cell, if there is one.
+    pub(crate) fn bad_cell(&self) -> Option<&BadCell>
+        ensures { option_copied result ≡ bad_cell_of self.now }
+    {
+        match &self.kept {
+            KeptPiece::Typed(Piece::Bad(cell)) => Some(cell),
+            _ => None,
+        }
+    }
+
+    /// How many rows it gives to its frame.
+    pub(crate) fn row_count(&self) -> usize
+        ensures { result ≡ length (rows_in self.now) }
+    {
+        match &self.kept {
+            KeptPiece::Typed(Piece::Good(chunk)) => chunk.rows().len(),
+            KeptPiece::Typed(Piece::Bad(_)) => 0,
+            KeptPiece::Stored(chunk) => chunk.len(),
+        }
+    }
+}
