@@ -7,7 +7,7 @@ pub const DEFAULT_WORKERS: usize = 4;
 pub const DEFAULT_CHUNK: usize = 1000;
 
 /// What the words of a command line say.
-#[derive(Clone, Copy, Debug, PartialEq, Eq)]
+#[derive(Clone, Copy, PartialEq, Eq)]
 pub struct Words<'a> {
     /// The path of the view document; without one it comes from standard input.
     pub views: Option<&'a str>,

@@ -23,7 +23,7 @@ pub const MOST_BYTES_OF_DOCUMENT: usize = 1_048_576;
 
 /// A document that was read, with the checked plans of its views and the records of its frames in
 /// typed pieces, each in the document's order.
-#[derive(Debug, Drop)]
+#[derive(Drop)]
 pub struct OpenedDocument {
     pub document: Views,
     pub plans: List<CheckedPlan>,
@@ -32,7 +32,7 @@ pub struct OpenedDocument {
 
 /// A document that was read, with the checked plans of its views and a source of each frame's records,
 /// each in the document's order.
-#[derive(Debug, Drop)]
+#[derive(Drop)]
 pub(crate) struct SourcedDocument {
     pub(crate) document: Views,
     pub(crate) plans: List<CheckedPlan>,

@@ -2,7 +2,7 @@
 use df_value::List;
 
 /// How a run ends that wrote all of its output.
-#[derive(Clone, Copy, Debug, PartialEq, Eq)]
+#[derive(Clone, Copy, PartialEq, Eq)]
 pub enum Outcome {
     /// No chunk was refused.
     Clean,
@@ -11,8 +11,16 @@ pub enum Outcome {
 }
 
 /// What a run writes, and how it then ends.
-#[derive(Debug, Drop)]
 pub struct Output {
     pub text: List<u8>,
     pub outcome: Outcome,
+}
+
+// A body that owns one drops it by a call.
+impl Drop for Output {
+    fn drop(self) {
+        let Output { text, outcome } = self;
+        drop(text);
+        drop(outcome);
+    }
 }

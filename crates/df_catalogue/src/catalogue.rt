@@ -25,7 +25,6 @@ use std::sync::ledger::{Blank, Book, Ledger, Share};
 ///
 /// `Acc` and `Del` are the ledgers of all rows that were accepted and deleted: a desk of another
 /// catalogue has another type.
-#[derive(Drop)]
 pub struct Catalogue<Acc: Ledger, Del: Ledger> {
     pub(crate) frames: Vec<Frame>,
     pub(crate) views: Vec<View>,
@@ -35,6 +34,29 @@ pub struct Catalogue<Acc: Ledger, Del: Ledger> {
     pub(crate) deleted: Book<Del>,
     pub(crate) accepted_of_no_desk: Share<Acc>,
     pub(crate) deleted_of_no_desk: Share<Del>,
+}
+
+// A body that owns one drops it by a call.
+impl<Acc: Ledger, Del: Ledger> Drop for Catalogue<Acc, Del> {
+    fn drop(self) {
+        let Catalogue {
+            frames,
+            views,
+            work: _,
+            staged,
+            accepted,
+            deleted,
+            accepted_of_no_desk,
+            deleted_of_no_desk,
+        } = self;
+        drop(frames);
+        drop(views);
+        drop(staged);
+        drop(accepted);
+        drop(deleted);
+        drop(accepted_of_no_desk);
+        drop(deleted_of_no_desk);
+    }
 }
 
 impl<Acc: Ledger, Del: Ledger> Model for Catalogue<Acc, Del> {

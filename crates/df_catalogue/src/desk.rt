@@ -19,7 +19,6 @@ pub const PARTS_OF_FIRST_DESK: u64 = 65_536;
 ///
 /// The numbers are shares of two ledgers, whose books the catalogue keeps. A desk has as many parts
 /// of the one as of the other, at least one.
-#[derive(Drop)]
 pub struct Desk<Acc: Ledger, Del: Ledger> {
     frame: usize,
     accepted: u64,
@@ -27,6 +26,22 @@ pub struct Desk<Acc: Ledger, Del: Ledger> {
     parts: u64,
     accepted_share: Share<Acc>,
     deleted_share: Share<Del>,
+}
+
+// A body that owns one drops it by a call.
+impl<Acc: Ledger, Del: Ledger> Drop for Desk<Acc, Del> {
+    fn drop(self) {
+        let Desk {
+            frame: _,
+            accepted: _,
+            deleted: _,
+            parts: _,
+            accepted_share,
+            deleted_share,
+        } = self;
+        drop(accepted_share);
+        drop(deleted_share);
+    }
 }
 
 impl<Acc: Ledger, Del: Ledger> Model for Desk<Acc, Del> {

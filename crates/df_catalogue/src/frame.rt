@@ -27,12 +27,25 @@ use std::marker::Model;
 
 /// A table of the rows by rising number, the numbers that were accepted, and how many were accepted
 /// and deleted.
-#[derive(Drop)]
 pub struct Frame {
     accepted: Ranges,
     table: Table,
     accepted_rows: u64,
     deleted_rows: u64,
+}
+
+// A body that owns one drops it by a call.
+impl Drop for Frame {
+    fn drop(self) {
+        let Frame {
+            accepted,
+            table,
+            accepted_rows: _,
+            deleted_rows: _,
+        } = self;
+        drop(accepted);
+        drop(table);
+    }
 }
 
 impl Model for Frame {

@@ -19,19 +19,35 @@ use std::alloc::{AllocError, Global};
 use std::marker::Model;
 
 /// A view of a picture: its name, and its table.
-#[derive(Drop)]
 pub(crate) struct PicturedView {
     pub(crate) name: Text,
     pub(crate) table: Table,
 }
 
+// A body that owns one drops it by a call.
+impl Drop for PicturedView {
+    fn drop(self) {
+        let PicturedView { name, table } = self;
+        drop(name);
+        drop(table);
+    }
+}
+
 /// The tables of a catalogue's frames and views, which no later change touches. They share the blocks of
 /// the catalogue's own tables, so that a picture takes little memory. Contracts see the rows, a frame's behind their
 /// numbers.
-#[derive(Drop)]
 pub struct Picture {
     frames: Vec<Table>,
     views: Vec<PicturedView>,
+}
+
+// A body that owns one drops it by a call.
+impl Drop for Picture {
+    fn drop(self) {
+        let Picture { frames, views } = self;
+        drop(frames);
+        drop(views);
+    }
 }
 
 impl Model for Picture {

@@ -17,11 +17,24 @@ use std::sync::Arc;
 
 /// A chunk, with the delta that it makes, and its rows in the blocks of a table. The frame that it enters can share these
 /// blocks, so that they are made before the frame is locked. Contracts see the chunk.
-#[derive(Drop)]
 pub struct PreparedChunk {
     chunk: Chunk,
     delta: Delta,
     table: Arc<Table>,
+}
+
+// A body that owns one drops it by a call.
+impl Drop for PreparedChunk {
+    fn drop(self) {
+        let PreparedChunk {
+            chunk,
+            delta,
+            table,
+        } = self;
+        drop(chunk);
+        drop(delta);
+        drop(table);
+    }
 }
 
 impl Model for PreparedChunk {
@@ -37,10 +50,19 @@ impl Model for PreparedChunk {
 }
 
 /// The delta of a change of a frame: made for it, or that of a prepared chunk.
-#[derive(Drop)]
 pub(crate) enum FrameDelta<'a> {
     Made(Delta),
     Lent(&'a Delta),
+}
+
+// A body that owns one drops it by a call.
+impl Drop for FrameDelta<'_> {
+    fn drop(self) {
+        match self {
+            FrameDelta::Made(delta) => drop(delta),
+            FrameDelta::Lent(_) => {}
+        }
+    }
 }
 
 impl FrameDelta<'_> {

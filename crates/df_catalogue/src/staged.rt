@@ -10,17 +10,31 @@ use std::sync::ledger::Ledger;
 ///
 /// It has no bytes: the catalogue keeps what is staged. To drop it changes nothing, and one that is
 /// stale cannot be committed.
-#[derive(Drop)]
 pub struct StagedRows<Acc: Ledger, Del: Ledger> {
     /// The catalogue right after the staging, as contracts see it.
     pub catalogue: Snapshot<Catalogue<Acc, Del>>,
     ghost there: { are_rows_staged catalogue.value ≡ true },
 }
 
+// A body that owns one drops it by a call.
+impl<Acc: Ledger, Del: Ledger> Drop for StagedRows<Acc, Del> {
+    fn drop(self) {
+        let StagedRows { catalogue } = self;
+        drop(catalogue);
+    }
+}
+
 /// The right to commit the change of views that was staged last. It is as [`StagedRows`] else.
-#[derive(Drop)]
 pub struct StagedViews<Acc: Ledger, Del: Ledger> {
     /// The catalogue right after the staging, as contracts see it.
     pub catalogue: Snapshot<Catalogue<Acc, Del>>,
     ghost there: { are_views_staged catalogue.value ≡ true },
+}
+
+// A body that owns one drops it by a call.
+impl<Acc: Ledger, Del: Ledger> Drop for StagedViews<Acc, Del> {
+    fn drop(self) {
+        let StagedViews { catalogue } = self;
+        drop(catalogue);
+    }
 }

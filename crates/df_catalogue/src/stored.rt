@@ -11,7 +11,6 @@ use std::sync::Arc;
 
 /// A chunk whose rows stand in the blocks of a table, among others. Where a frame shares these blocks, the chunk takes the
 /// memory of a pointer and three numbers. Contracts see the chunk.
-#[derive(Drop)]
 pub struct StoredChunk {
     table: Arc<Table>,
     /// The number of its first row.
@@ -19,6 +18,19 @@ pub struct StoredChunk {
     /// The index of its first row in the table.
     low: usize,
     len: usize,
+}
+
+// A body that owns one drops it by a call.
+impl Drop for StoredChunk {
+    fn drop(self) {
+        let StoredChunk {
+            table,
+            first: _,
+            low: _,
+            len: _,
+        } = self;
+        drop(table);
+    }
 }
 
 impl Model for StoredChunk {

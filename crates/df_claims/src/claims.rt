@@ -9,10 +9,17 @@ use std::alloc::{AllocError, Global};
 use std::marker::Model;
 
 /// Numbers below a total, to be drawn by several threads, each number at most once.
-#[derive(Drop)]
 pub struct Claims {
     table: Table<(), Draws, u64, DrawnOnce, Global>,
     total: u64,
+}
+
+// A body that owns one drops it by a call.
+impl Drop for Claims {
+    fn drop(self) {
+        let Claims { table, total: _ } = self;
+        drop(table);
+    }
 }
 
 impl Model for Claims {
@@ -28,10 +35,20 @@ impl Model for Claims {
 
 /// What a worker draws with. It knows whether it got none; the list of the numbers drawn with it exists in
 /// proofs alone.
-#[derive(Drop)]
 pub struct ClaimSeat {
     seat: Seat<(), Draws>,
     is_finished: bool,
+}
+
+// A body that owns one drops it by a call.
+impl Drop for ClaimSeat {
+    fn drop(self) {
+        let ClaimSeat {
+            seat,
+            is_finished: _,
+        } = self;
+        drop(seat);
+    }
 }
 
 impl Model for ClaimSeat {

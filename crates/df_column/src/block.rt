@@ -26,11 +26,24 @@ pub const MOST_ROWS: usize = 128;
 
 /// Some rows: a tag for each, and a cell in each column. Of each column it is kept where the least and the greatest cell
 /// stand.
-#[derive(Drop)]
 pub struct Block {
     tags: RowTags,
     columns: Vec<Column>,
     extremes: Vec<Extremes>,
+}
+
+// A body that owns one drops it by a call.
+impl Drop for Block {
+    fn drop(self) {
+        let Block {
+            tags,
+            columns,
+            extremes,
+        } = self;
+        drop(tags);
+        drop(columns);
+        drop(extremes);
+    }
 }
 
 impl Model for Block {

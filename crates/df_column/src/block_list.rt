@@ -17,6 +17,7 @@ ghost use Rattle.df_column.specs.TreeChanges.{AreChangedBetween};
 use crate::block::Block;
 use crate::blocks::entries_before;
 use crate::column::Column;
+use crate::edited::Edited;
 use crate::entry::Entry;
 use crate::extremes::Extreme;
 use crate::leaf::Leaf;
@@ -36,10 +37,18 @@ const TOO_MANY_BEHIND: usize = 10;
 
 /// Blocks in order: leaves of up to 8 blocks, which several lists share, and up to 9 blocks behind them. So a list that
 /// differs from another in one place shares all but one leaf with it. Contracts see the blocks.
-#[derive(Drop)]
 pub struct BlockList {
     leaves: Leaves,
     tail: Run,
+}
+
+// A body that owns one drops it by a call.
+impl Drop for BlockList {
+    fn drop(self) {
+        let BlockList { leaves, tail } = self;
+        drop(leaves);
+        drop(tail);
+    }
 }
 
 impl Model for BlockList {
@@ -324,14 +333,6 @@ impl BlockList {
             tail: Run::new(alloc),
         })
     }
-}
-
-/// A list after the changes of some entries: those from one index up to another.
-#[derive(Drop)]
-pub struct Edited {
-    pub list: BlockList,
-    pub from: usize,
-    pub to: usize,
 }
 
 /// How many of the entries go into leaves: those before the first row of the blocks behind them; where there is no such

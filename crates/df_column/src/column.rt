@@ -13,13 +13,25 @@ use df_value::{Cell, CellType, Frac};
 use std::alloc::{AllocError, Global};
 
 /// The cells of one column of a block, all null or of one type.
-#[derive(Drop)]
 pub enum Column {
     Int(Masked<i64>),
     Wide(Masked<i128>),
     Text(Texts),
     Bool(Masked<bool>),
     Frac(Masked<Frac>),
+}
+
+// A body that owns one drops it by a call.
+impl Drop for Column {
+    fn drop(self) {
+        match self {
+            Column::Int(cells) => drop(cells),
+            Column::Wide(cells) => drop(cells),
+            Column::Text(cells) => drop(cells),
+            Column::Bool(cells) => drop(cells),
+            Column::Frac(cells) => drop(cells),
+        }
+    }
 }
 
 impl Column {

@@ -6,11 +6,19 @@ use crate::tag::Tag;
 use df_value::{Row, Schema};
 
 /// A change of one row of a table: what stood at the tag, and what stands there afterwards.
-#[derive(Drop)]
 pub struct Entry {
     pub tag: Tag,
     pub old: Option<Row>,
     pub new: Option<Row>,
+}
+
+// A body that owns one drops it by a call.
+impl Drop for Entry {
+    fn drop(self) {
+        let Entry { tag: _, old, new } = self;
+        drop(old);
+        drop(new);
+    }
 }
 
 /// Whether the new row of each entry fits the schema.

@@ -18,12 +18,26 @@ use std::marker::Model;
 
 /// A run of blocks, with the tag of its first row, and copies of the least and the greatest cell of each column. Contracts
 /// see the blocks.
-#[derive(Drop)]
 pub struct Leaf {
     run: Run,
     first: Tag,
     least: Vec<Option<Cell>>,
     greatest: Vec<Option<Cell>>,
+}
+
+// A body that owns one drops it by a call.
+impl Drop for Leaf {
+    fn drop(self) {
+        let Leaf {
+            run,
+            first: _,
+            least,
+            greatest,
+        } = self;
+        drop(run);
+        drop(least);
+        drop(greatest);
+    }
 }
 
 impl Model for Leaf {

@@ -15,22 +15,48 @@ mod reads;
 
 /// Leaves in order. Trees share the nodes that they have in common.
 #[cycle(leaf_tree)]
-#[derive(Drop)]
 pub enum LeafTree {
     Empty,
     Fork(Arc<Node>),
 }
 
+// A body that owns one drops it by a call.
+impl Drop for LeafTree {
+    #[cycle(leaf_tree_drop)]
+    fn drop(self) {
+        match self {
+            LeafTree::Empty => {}
+            LeafTree::Fork(node) => drop(node),
+        }
+    }
+}
+
 /// A leaf between those before it and those behind it, and how many blocks and rows there are in all. Contracts see the
 /// blocks of each leaf.
 #[cycle(leaf_tree)]
-#[derive(Drop)]
 pub struct Node {
     left: LeafTree,
     leaf: SharedLeaf,
     right: LeafTree,
     height: u8,
     totals: Totals,
+}
+
+// A body that owns one drops it by a call.
+impl Drop for Node {
+    #[cycle(leaf_tree_drop)]
+    fn drop(self) {
+        let Node {
+            left,
+            leaf,
+            right,
+            height: _,
+            totals: _,
+        } = self;
+        drop(left);
+        drop(leaf);
+        drop(right);
+    }
 }
 
 impl Model for Node {

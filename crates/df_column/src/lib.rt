@@ -20,6 +20,7 @@ mod block_list;
 mod blocks;
 mod column;
 mod compare;
+mod edited;
 mod entry;
 mod extremes;
 mod further;

@@ -13,10 +13,18 @@ use std::alloc::{AllocError, Global};
 use std::marker::Model;
 
 /// Values of one type, or nulls, which contracts see as a list of options. Values past the mask's end are not null.
-#[derive(Drop)]
 pub struct Masked<T> {
     nulls: Vec<bool>,
     values: Vec<T>,
+}
+
+// A body that owns one drops it by a call.
+impl<T: Drop> Drop for Masked<T> {
+    fn drop(self) {
+        let Masked { nulls, values } = self;
+        drop(nulls);
+        drop(values);
+    }
 }
 
 impl<T> Model for Masked<T> {

@@ -8,10 +8,18 @@ use std::marker::Model;
 
 /// The dictionary of one column of texts: each distinct text once, in the order in which they came.
 /// Contracts see it as the list of its texts.
-#[derive(Drop)]
 pub struct TextPool {
     bytes: Vec<u8>,
     ends: Vec<usize>,
+}
+
+// A body that owns one drops it by a call.
+impl Drop for TextPool {
+    fn drop(self) {
+        let TextPool { bytes, ends } = self;
+        drop(bytes);
+        drop(ends);
+    }
 }
 
 impl Model for TextPool {

@@ -15,7 +15,6 @@ use std::alloc::{AllocError, Global};
 use std::marker::Model;
 
 /// The tags of some rows.
-#[derive(Drop)]
 pub enum KeptTags {
     /// The first numbers of tags whose other two are 0, as those of a frame's rows: 8 bytes a tag.
     Numbers(Vec<u64>),
@@ -23,10 +22,27 @@ pub enum KeptTags {
     Whole(Vec<Tag>),
 }
 
+// A body that owns one drops it by a call.
+impl Drop for KeptTags {
+    fn drop(self) {
+        match self {
+            KeptTags::Numbers(numbers) => drop(numbers),
+            KeptTags::Whole(tags) => drop(tags),
+        }
+    }
+}
+
 /// The tags of some rows, which contracts see as a list. A block begins with numbers; a tag that is none makes all whole.
-#[derive(Drop)]
 pub struct RowTags {
     kept: KeptTags,
+}
+
+// A body that owns one drops it by a call.
+impl Drop for RowTags {
+    fn drop(self) {
+        let RowTags { kept } = self;
+        drop(kept);
+    }
 }
 
 impl Model for RowTags {

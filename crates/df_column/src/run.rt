@@ -25,10 +25,18 @@ use std::marker::Model;
 use std::sync::Arc;
 
 /// Blocks in order, with how many rows stand up to the end of each. Contracts see the blocks.
-#[derive(Drop)]
 pub struct Run {
     blocks: Vec<Arc<Block>>,
     ends: Vec<usize>,
+}
+
+// A body that owns one drops it by a call.
+impl Drop for Run {
+    fn drop(self) {
+        let Run { blocks, ends } = self;
+        drop(blocks);
+        drop(ends);
+    }
 }
 
 impl Model for Run {

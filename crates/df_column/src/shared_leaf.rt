@@ -14,11 +14,22 @@ use std::sync::Arc;
 
 /// A leaf that trees share, with what is asked of it on the way down: the tag of its first row, and how many blocks and
 /// rows it has. Contracts see its blocks.
-#[derive(Drop)]
 pub struct SharedLeaf {
     leaf: Arc<Leaf>,
     first: Tag,
     totals: Totals,
+}
+
+// A body that owns one drops it by a call.
+impl Drop for SharedLeaf {
+    fn drop(self) {
+        let SharedLeaf {
+            leaf,
+            first: _,
+            totals: _,
+        } = self;
+        drop(leaf);
+    }
 }
 
 impl Model for SharedLeaf {

@@ -9,9 +9,10 @@ ghost use Rattle.df_column.specs.Rows.{AreNewRows, are_even};
 ghost use Rattle.df_column.specs.Tables.{AreRising, entry_change};
 ghost use Rattle.df_column.specs.Tags.{tag_cmp};
 
-use crate::block_list::{BlockList, Edited};
+use crate::block_list::BlockList;
 use crate::blocks::with_changes;
 use crate::column::Column;
+use crate::edited::Edited;
 use crate::entry::Entry;
 use crate::spots;
 use std::alloc::{AllocError, Global};

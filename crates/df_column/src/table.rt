@@ -35,10 +35,18 @@ use std::marker::Model;
 use std::sync::Arc;
 
 /// Rows by rising tags, which fit a schema. They stand in blocks that several tables share.
-#[derive(Drop)]
 pub struct Table {
     schema: Arc<Schema>,
     blocks: BlockList,
+}
+
+// A body that owns one drops it by a call.
+impl Drop for Table {
+    fn drop(self) {
+        let Table { schema, blocks } = self;
+        drop(schema);
+        drop(blocks);
+    }
 }
 
 impl Model for Table {

@@ -6,7 +6,7 @@ use df_value::{Duplicate, Exact};
 use std::alloc::{AllocError, Global};
 
 /// Where a row of a table stands: three numbers, compared from left to right.
-#[derive(Clone, Copy, Debug, PartialEq, Eq, PartialOrd, Ord, Hash)]
+#[derive(Clone, Copy, PartialEq, Eq, PartialOrd, Ord)]
 pub struct Tag {
     pub first: u64,
     pub second: u64,

@@ -32,10 +32,18 @@ const FEW_TEXTS: usize = 16;
 const MORE_ROWS: usize = 64;
 
 /// Texts or nulls: the places of the texts in a pool. Contracts see a list of options.
-#[derive(Drop)]
 pub struct Texts {
     places: Masked<u16>,
     pool: TextPool,
+}
+
+// A body that owns one drops it by a call.
+impl Drop for Texts {
+    fn drop(self) {
+        let Texts { places, pool } = self;
+        drop(places);
+        drop(pool);
+    }
 }
 
 impl Model for Texts {

@@ -19,9 +19,16 @@ use std::marker::Model;
 ///
 /// To change a count makes counts beside these ones. Both share all nodes but those on the way to the value, whose number
 /// goes by the logarithm of the number of values.
-#[derive(Drop)]
 pub struct Counts {
     root: Subtree,
+}
+
+// A body that owns one drops it by a call.
+impl Drop for Counts {
+    fn drop(self) {
+        let Counts { root } = self;
+        drop(root);
+    }
 }
 
 impl Model for Counts {

@@ -18,16 +18,25 @@ use std::sync::Arc;
 
 /// Values with their counts, by rising value. Trees share the nodes that they have in common.
 #[cycle(subtree)]
-#[derive(Drop)]
 pub enum Subtree {
     Empty,
     Fork(Arc<Node>),
 }
 
+// A body that owns one drops it by a call.
+impl Drop for Subtree {
+    #[cycle(subtree_drop)]
+    fn drop(self) {
+        match self {
+            Subtree::Empty => {}
+            Subtree::Fork(node) => drop(node),
+        }
+    }
+}
+
 /// A value between lower and higher ones, and how many there are in all, with their rows. Contracts see the values with
 /// their counts.
 #[cycle(subtree)]
-#[derive(Drop)]
 pub struct Node {
     left: Subtree,
     value: Shared<Cell>,
@@ -35,6 +44,24 @@ pub struct Node {
     right: Subtree,
     height: u8,
     totals: Totals,
+}
+
+// A body that owns one drops it by a call.
+impl Drop for Node {
+    #[cycle(subtree_drop)]
+    fn drop(self) {
+        let Node {
+            left,
+            value,
+            count: _,
+            right,
+            height: _,
+            totals: _,
+        } = self;
+        drop(left);
+        drop(value);
+        drop(right);
+    }
 }
 
 impl Model for Node {

@@ -13,12 +13,19 @@ use std::alloc::Global;
 use std::io::Read;
 
 /// What the header says of the records under it.
-#[derive(Debug, Drop)]
 pub struct Layout {
     /// Where the fields of the columns stand in a record.
     pub indices: Vec<usize>,
     /// The number of fields of a record.
     pub width: usize,
+}
+
+// A body that owns one drops it by a call.
+impl Drop for Layout {
+    fn drop(self) {
+        let Layout { indices, width: _ } = self;
+        drop(indices);
+    }
 }
 
 /// Takes the header, which is the first record. `None` where there is no record, and no column

@@ -9,7 +9,7 @@ use std::marker::Model;
 /// Some of the records of a CSV file that stand one behind the other.
 ///
 /// The fields of all records stand in one buffer, each record's behind those of the one before it.
-#[derive(Debug, Drop)]
+#[derive(Drop)]
 pub(crate) struct RecordPart {
     fields: StringRecord,
     width: usize,

@@ -11,10 +11,17 @@ use std::marker::Model;
 /// The records of a CSV file: of each the fields of a schema's columns, in the schema's order.
 ///
 /// They stand in parts, one for each segment of the text that was read by itself.
-#[derive(Debug, Drop)]
 pub struct Records {
     parts: Vec<RecordPart>,
     count: usize,
+}
+
+// A body that owns one drops it by a call.
+impl Drop for Records {
+    fn drop(self) {
+        let Records { parts, count: _ } = self;
+        drop(parts);
+    }
 }
 
 impl Model for Records {

@@ -26,7 +26,7 @@ pub fn reader_of(alloc: Global, text: &[u8]) -> Reader<&[u8]>
 }
 
 /// What the next record is: a row, none, or not known for want of memory.
-#[derive(Debug, Drop)]
+#[derive(Drop)]
 pub enum NextRow {
     Row,
     End,

@@ -11,11 +11,23 @@ use std::alloc::{AllocError, Global};
 use std::marker::Model;
 
 /// The records of a CSV file in pieces of `size` records, of which the last one may have fewer.
-#[derive(Debug, Drop)]
 pub struct CsvSource {
     records: Records,
     schema: Schema,
     size: usize,
+}
+
+// A body that owns one drops it by a call.
+impl Drop for CsvSource {
+    fn drop(self) {
+        let CsvSource {
+            records,
+            schema,
+            size: _,
+        } = self;
+        drop(records);
+        drop(schema);
+    }
 }
 
 impl Model for CsvSource {

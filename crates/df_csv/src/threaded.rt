@@ -53,11 +53,23 @@ pub(crate) fn read_segments<R: Threads + Sync>(
 }
 
 // What the threads that read the segments of a text share.
-#[derive(Drop)]
 struct SegmentWork<'a> {
     alloc: Global,
     segments: Vec<&'a [u8]>,
     layout: Layout,
+}
+
+// A body that owns one drops it by a call.
+impl Drop for SegmentWork<'_> {
+    fn drop(self) {
+        let SegmentWork {
+            alloc: _,
+            segments,
+            layout,
+        } = self;
+        drop(segments);
+        drop(layout);
+    }
 }
 
 impl<'a> SegmentWork<'a> {

@@ -12,14 +12,14 @@ use df_value::{BadCell, CellType, Chunk, ChunkFault, List, Piece, Row, Schema, T
 use std::alloc::{AllocError, Global};
 
 /// The row of a record, or the index of its first bad cell.
-#[derive(Debug, Drop)]
+#[derive(Drop)]
 pub enum TypedRow {
     Good(Row),
     Bad(usize),
 }
 
 /// The rows of records, or the first bad cell.
-#[derive(Debug, Drop)]
+#[derive(Drop)]
 pub enum TypedRows {
     Good(List<Row>),
     Bad(BadCell),

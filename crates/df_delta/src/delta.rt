@@ -14,9 +14,16 @@ use std::marker::Model;
 
 /// Changes of the rows of a table, by rising tags. Each names what stood at the tag and what stands there afterwards,
 /// at least one of the two being a row.
-#[derive(Drop)]
 pub struct Delta {
     entries: Vec<Entry>,
+}
+
+// A body that owns one drops it by a call.
+impl Drop for Delta {
+    fn drop(self) {
+        let Delta { entries } = self;
+        drop(entries);
+    }
 }
 
 impl Model for Delta {

@@ -21,9 +21,16 @@ use indexmap::IndexMap;
 use std::alloc::{AllocError, Global};
 
 /// The changes of the rows of one key, by rising tags.
-#[derive(Drop)]
 pub struct KeyChanges {
     pub entries: Vec<Entry>,
+}
+
+// A body that owns one drops it by a call.
+impl Drop for KeyChanges {
+    fn drop(self) {
+        let KeyChanges { entries } = self;
+        drop(entries);
+    }
 }
 
 /// Adds a change of the rows of this key, unless both rows are equal. The key is made only where it is new.

@@ -24,10 +24,17 @@ struct Note {
 
 /// What an operator's output had and comes to have, noted by tag and in any order. A tag may be noted more than once,
 /// and where both of its rows are equal, it is no change.
-#[derive(Drop)]
 pub struct Notes {
     alloc: Global,
     notes: BTreeMap<Tag, Note>,
+}
+
+// A body that owns one drops it by a call.
+impl Drop for Notes {
+    fn drop(self) {
+        let Notes { alloc: _, notes } = self;
+        drop(notes);
+    }
 }
 
 impl Model for Notes {

@@ -74,10 +74,13 @@ fn value_in<'a>(expr: &'a Expr, columns: &[(Text, CellType)], row: &'a Row) -> V
         Expr::Not(a) => apply_unary(a, columns, row, Unary::Not),
         Expr::IsNull(a) => apply_unary(a, columns, row, Unary::IsNull),
         Expr::IsNotNull(a) => apply_unary(a, columns, row, Unary::IsNotNull),
-        Expr::FillNull(a, b) => match value_in(a.get(), columns, row) {
-            Value::Lent(Cell::Null) | Value::Made(Cell::Null) => value_in(b.get(), columns, row),
-            a => a,
-        },
+        Expr::FillNull(a, b) => {
+            let a = value_in(a.get(), columns, row);
+            match a.cell() {
+                Cell::Null => value_in(b.get(), columns, row),
+                _ => a,
+            }
+        }
     }
 }
 

@@ -5,7 +5,7 @@ use df_value::{Boxed, Cell, CellType, Duplicate, Exact, Text, same};
 use std::alloc::{AllocError, Global};
 
 /// Arithmetic on Int cells, which wraps at 64 bits.
-#[derive(Clone, Copy, Debug, PartialEq, Eq, Hash)]
+#[derive(Clone, Copy, PartialEq, Eq)]
 pub enum ArithOp {
     Add,
     Sub,
@@ -13,7 +13,7 @@ pub enum ArithOp {
 }
 
 /// A comparison of two cells of one type: Int, Wide, Text or Bool.
-#[derive(Clone, Copy, Debug, PartialEq, Eq, Hash)]
+#[derive(Clone, Copy, PartialEq, Eq)]
 pub enum CompareOp {
     Eq,
     Ne,
@@ -24,7 +24,6 @@ pub enum CompareOp {
 }
 
 /// An expression over the cells of a row. Null spreads where nothing else is said.
-#[derive(Debug, Drop)]
 pub enum Expr {
     /// The cell of the column of this name.
     Column(Text),
@@ -48,6 +47,26 @@ pub enum Expr {
     IsNotNull(Boxed<Expr>),
     /// The first operand, or the second where the first is null. Both have one type, not Frac.
     FillNull(Boxed<Expr>, Boxed<Expr>),
+}
+
+// A body that owns one drops it by a call.
+impl Drop for Expr {
+    fn drop(self) {
+        match self {
+            Expr::Column(name) => drop(name),
+            Expr::Literal(cell, _) => drop(cell),
+            Expr::Not(a) | Expr::IsNull(a) | Expr::IsNotNull(a) => drop(a),
+            Expr::Arith(_, a, b)
+            | Expr::Compare(_, a, b)
+            | Expr::EqMissing(a, b)
+            | Expr::And(a, b)
+            | Expr::Or(a, b)
+            | Expr::FillNull(a, b) => {
+                drop(a);
+                drop(b);
+            }
+        }
+    }
 }
 
 impl PartialEq for Expr {

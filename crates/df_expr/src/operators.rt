@@ -63,7 +63,7 @@ pub fn eq_missing(a: &Cell, b: &Cell) -> bool
 }
 
 /// An operator of one operand.
-#[derive(Clone, Copy, Debug)]
+#[derive(Clone, Copy)]
 pub enum Unary {
     /// The other truth.
     Not,
@@ -93,7 +93,7 @@ fn is_null(cell: &Cell) -> bool
 }
 
 /// An operator of two operands, both of which are evaluated.
-#[derive(Clone, Copy, Debug)]
+#[derive(Clone, Copy)]
 pub enum Binary {
     /// Arithmetic on two Ints.
     Arith(ArithOp),

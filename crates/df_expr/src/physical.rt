@@ -15,7 +15,6 @@ use std::alloc::{AllocError, Global};
 
 /// An expression over the rows of a table, made once for all of them: its evaluation looks up no
 /// name.
-#[derive(Debug, Drop)]
 pub enum PhysicalExpr {
     /// The cell at this index; null where the table has no such column.
     Column(Option<usize>),
@@ -27,6 +26,21 @@ pub enum PhysicalExpr {
     Binary(Binary, Boxed<PhysicalExpr>, Boxed<PhysicalExpr>),
     /// The first operand, or the second where the first is null.
     FillNull(Boxed<PhysicalExpr>, Boxed<PhysicalExpr>),
+}
+
+// A body that owns one drops it by a call.
+impl Drop for PhysicalExpr {
+    fn drop(self) {
+        match self {
+            PhysicalExpr::Column(_) => {}
+            PhysicalExpr::Literal(cell) => drop(cell),
+            PhysicalExpr::Unary(_, a) => drop(a),
+            PhysicalExpr::Binary(_, a, b) | PhysicalExpr::FillNull(a, b) => {
+                drop(a);
+                drop(b);
+            }
+        }
+    }
 }
 
 impl PhysicalExpr {
@@ -124,9 +138,12 @@ fn value_in<'a>(expr: &'a PhysicalExpr, row: &'a Row) -> Value<'a>
             let b = value_in(b.get(), row);
             Value::Made(operator.apply(a.cell(), b.cell()))
         }
-        PhysicalExpr::FillNull(a, b) => match value_in(a.get(), row) {
-            Value::Lent(Cell::Null) | Value::Made(Cell::Null) => value_in(b.get(), row),
-            a => a,
-        },
+        PhysicalExpr::FillNull(a, b) => {
+            let a = value_in(a.get(), row);
+            match a.cell() {
+                Cell::Null => value_in(b.get(), row),
+                _ => a,
+            }
+        }
     }
 }

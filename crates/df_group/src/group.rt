@@ -22,11 +22,24 @@ use std::alloc::{AllocError, Global};
 
 /// The members of one key, at the tags of their rows, each with the cells that are kept of its row; a running total of
 /// them for each aggregate; and the key's row of the output.
-#[derive(Drop)]
 pub struct Group {
     pub members: Table,
     pub totals: List<Total>,
     pub row: Row,
+}
+
+// A body that owns one drops it by a call.
+impl Drop for Group {
+    fn drop(self) {
+        let Group {
+            members,
+            totals,
+            row,
+        } = self;
+        drop(members);
+        drop(totals);
+        drop(row);
+    }
 }
 
 /// The table after the changes of these entries, if they fit its schema.

@@ -27,7 +27,6 @@ use df_value::{
 use std::alloc::{AllocError, Global};
 
 /// How the rows of an input are grouped.
-#[derive(Drop)]
 pub struct Grouping {
     /// The indices of the key columns.
     pub key_indices: List<Option<usize>>,
@@ -35,6 +34,20 @@ pub struct Grouping {
     pub members: Projection,
     /// The aggregates of a group, with their names.
     pub aggregates: List<(Text, Agg)>,
+}
+
+// A body that owns one drops it by a call.
+impl Drop for Grouping {
+    fn drop(self) {
+        let Grouping {
+            key_indices,
+            members,
+            aggregates,
+        } = self;
+        drop(key_indices);
+        drop(members);
+        drop(aggregates);
+    }
 }
 
 impl Grouping {

@@ -32,11 +32,23 @@ use std::alloc::{AllocError, Global};
 /// Groups rows by the cells of key columns: a row for each key, with aggregates of the rows that have it. Of each row it
 /// keeps the cells of the columns that aggregates take, or one cell where they take none, if these are at most half of the
 /// columns and none is of type `Text`; else the whole row.
-#[derive(Drop)]
 pub struct LiveGroup {
     alloc: Global,
     grouping: Grouping,
     index: IndexMap<Row, Group>,
+}
+
+// A body that owns one drops it by a call.
+impl Drop for LiveGroup {
+    fn drop(self) {
+        let LiveGroup {
+            alloc: _,
+            grouping,
+            index,
+        } = self;
+        drop(grouping);
+        drop(index);
+    }
 }
 
 /// The groups that a commit puts into the index.

@@ -19,10 +19,18 @@ use std::alloc::{AllocError, Global};
 
 /// The columns of the members of groups, and their indices in the input. There are no indices where members have all
 /// columns, so that no row is copied.
-#[derive(Drop)]
 pub struct Projection {
     pub schema: Schema,
     pub indices: Option<List<Option<usize>>>,
+}
+
+// A body that owns one drops it by a call.
+impl Drop for Projection {
+    fn drop(self) {
+        let Projection { schema, indices } = self;
+        drop(schema);
+        drop(indices);
+    }
 }
 
 /// Whether this aggregate takes the column of this name.

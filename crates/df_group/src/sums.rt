@@ -12,7 +12,7 @@ use std::alloc::{AllocError, Global};
 use std::slice;
 
 /// How many cells of some rows at an index are not null, and their sum.
-#[derive(Clone, Copy, Debug, PartialEq, Eq)]
+#[derive(Clone, Copy, PartialEq, Eq)]
 pub struct Sums {
     pub index: Option<usize>,
     pub count: i64,

@@ -13,10 +13,17 @@ use df_value::List;
 use std::alloc::{AllocError, Global};
 
 /// What some rows have at an index whose cells are summed, and at one whose values are counted.
-#[derive(Drop)]
 pub struct Total {
     pub sums: Sums,
     pub values: Values,
+}
+
+// A body that owns one drops it by a call.
+impl Drop for Total {
+    fn drop(self) {
+        let Total { sums: _, values } = self;
+        drop(values);
+    }
 }
 
 impl Total {

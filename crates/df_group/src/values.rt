@@ -14,10 +14,17 @@ use df_value::{Cell, Row};
 use std::alloc::{AllocError, Global};
 
 /// How many of some rows have each value at an index, null being no value.
-#[derive(Drop)]
 pub struct Values {
     pub index: Option<usize>,
     pub counts: Counts,
+}
+
+// A body that owns one drops it by a call.
+impl Drop for Values {
+    fn drop(self) {
+        let Values { index: _, counts } = self;
+        drop(counts);
+    }
 }
 
 impl Values {

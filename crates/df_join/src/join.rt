@@ -29,7 +29,6 @@ use df_value::{Schema, Text};
 use std::alloc::{AllocError, Global};
 
 /// Joins two sides by their keys.
-#[derive(Drop)]
 pub struct LiveJoin {
     alloc: Global,
     rule: JoinRule,
@@ -37,6 +36,23 @@ pub struct LiveJoin {
     right_scans: usize,
     left: Members,
     right: Members,
+}
+
+// A body that owns one drops it by a call.
+impl Drop for LiveJoin {
+    fn drop(self) {
+        let LiveJoin {
+            alloc: _,
+            rule,
+            left_scans: _,
+            right_scans: _,
+            left,
+            right,
+        } = self;
+        drop(rule);
+        drop(left);
+        drop(right);
+    }
 }
 
 /// The members of both sides that a commit puts in place.

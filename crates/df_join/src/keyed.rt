@@ -12,9 +12,16 @@ use indexmap::IndexMap;
 use std::alloc::{AllocError, Global};
 
 /// A table for each of some keys. Each look-up of a key is a probe, and is counted; to put a table under a key is none.
-#[derive(Drop)]
 pub struct KeyedTables {
     tables: IndexMap<Row, TreeTable>,
+}
+
+// A body that owns one drops it by a call.
+impl Drop for KeyedTables {
+    fn drop(self) {
+        let KeyedTables { tables } = self;
+        drop(tables);
+    }
 }
 
 impl KeyedTables {

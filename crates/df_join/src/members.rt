@@ -21,11 +21,23 @@ use df_value::{Duplicate, Row, Schema};
 use std::alloc::{AllocError, Global};
 
 /// The rows of one side, a table for each key that has one.
-#[derive(Drop)]
 pub struct Members {
     alloc: Global,
     empty: TreeTable,
     keyed: KeyedTables,
+}
+
+// A body that owns one drops it by a call.
+impl Drop for Members {
+    fn drop(self) {
+        let Members {
+            alloc: _,
+            empty,
+            keyed,
+        } = self;
+        drop(empty);
+        drop(keyed);
+    }
 }
 
 /// The table without the row that goes, or with the row that comes.

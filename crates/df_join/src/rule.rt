@@ -8,10 +8,17 @@ use df_value::Row;
 use std::alloc::{AllocError, Global};
 
 /// Which rows match, and which cells stand beside a left row.
-#[derive(Drop)]
 pub struct JoinRule {
     pub how: How,
     pub indices: JoinIndices,
+}
+
+// A body that owns one drops it by a call.
+impl Drop for JoinRule {
+    fn drop(self) {
+        let JoinRule { how: _, indices } = self;
+        drop(indices);
+    }
 }
 
 impl JoinRule {

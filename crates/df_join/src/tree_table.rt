@@ -16,10 +16,18 @@ use subtree::Subtree;
 ///
 /// To put a row there or to take one away makes a table beside this one. Both share all nodes but those on the way to
 /// the row, whose number goes by the logarithm of the number of rows.
-#[derive(Drop)]
 pub struct TreeTable {
     schema: Shared<Schema>,
     root: Subtree,
+}
+
+// A body that owns one drops it by a call.
+impl Drop for TreeTable {
+    fn drop(self) {
+        let TreeTable { schema, root } = self;
+        drop(schema);
+        drop(root);
+    }
 }
 
 impl Model for TreeTable {

@@ -5,9 +5,16 @@ use df_join::{LiveJoin, StagedJoin};
 use std::alloc::AllocError;
 
 /// A live node of two inputs, which is a join. It promises and costs what the join does.
-#[derive(Drop)]
 pub struct JoinOperator {
     pub join: LiveJoin,
+}
+
+// A body that owns one drops it by a call.
+impl Drop for JoinOperator {
+    fn drop(self) {
+        let JoinOperator { join } = self;
+        drop(join);
+    }
 }
 
 impl TwoSidedNode for JoinOperator {

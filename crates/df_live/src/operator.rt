@@ -7,7 +7,6 @@ use df_ranks::{LiveRank, StagedRank};
 use std::alloc::AllocError;
 
 /// A live node of one input, by its kind. It promises and costs what the node in it does.
-#[derive(Drop)]
 pub enum LiveOperator {
     /// Of a filter.
     Filter(LiveFilter),
@@ -21,6 +20,20 @@ pub enum LiveOperator {
     Rank(LiveRank),
     /// Of a group-by.
     Group(LiveGroup),
+}
+
+// A body that owns one drops it by a call.
+impl Drop for LiveOperator {
+    fn drop(self) {
+        match self {
+            LiveOperator::Filter(node) => drop(node),
+            LiveOperator::Map(node) => drop(node),
+            LiveOperator::Window(node) => drop(node),
+            LiveOperator::Sum(node) => drop(node),
+            LiveOperator::Rank(node) => drop(node),
+            LiveOperator::Group(node) => drop(node),
+        }
+    }
 }
 
 /// What a prepare of a node of one input staged.

@@ -16,7 +16,6 @@ use df_join::StagedJoin;
 use std::alloc::{AllocError, Global};
 
 /// A live node for each node of a plan, over the trees of its inputs.
-#[derive(Drop)]
 pub enum LiveTree {
     /// The frame of this index. It keeps nothing.
     Scan(usize),
@@ -24,6 +23,24 @@ pub enum LiveTree {
     Operator(Box<LiveTree>, LiveOperator),
     /// A join of two inputs.
     Join(Box<LiveTree>, Box<LiveTree>, JoinOperator),
+}
+
+// A body that owns one drops it by a call.
+impl Drop for LiveTree {
+    fn drop(self) {
+        match self {
+            LiveTree::Scan(_) => {}
+            LiveTree::Operator(input, node) => {
+                drop(input);
+                drop(node);
+            }
+            LiveTree::Join(left, right, node) => {
+                drop(left);
+                drop(right);
+                drop(node);
+            }
+        }
+    }
 }
 
 /// What a prepare of each node staged.

@@ -21,13 +21,27 @@ use std::alloc::{AllocError, Global};
 /// What a change costs goes by the rows that it changes at each node and by the rows of the groups that it reaches, and
 /// not by the others that stand there. But at a cumulative sum or a rank one row can change those of many others. Each
 /// table that is kept then gets a new list of its blocks, of which those without a change stay.
-#[derive(Drop)]
 pub struct LiveView {
     alloc: Global,
     plan: CheckedPlan,
     tree: LiveTree,
     table: Table,
     ghost counts: { IsAtMost (budget tree) (2 ^ 94) },
+}
+
+// A body that owns one drops it by a call.
+impl Drop for LiveView {
+    fn drop(self) {
+        let LiveView {
+            alloc: _,
+            plan,
+            tree,
+            table,
+        } = self;
+        drop(plan);
+        drop(tree);
+        drop(table);
+    }
 }
 
 /// What a prepare of a view made and a commit puts in place. It is of use for the next commit of that view alone, and

@@ -17,10 +17,17 @@ use df_value::Schema;
 use std::alloc::{AllocError, Global};
 
 /// Keeps the rows whose predicate is true, at their tags.
-#[derive(Drop)]
 pub struct LiveFilter {
     alloc: Global,
     operator: RowOperator,
+}
+
+// A body that owns one drops it by a call.
+impl Drop for LiveFilter {
+    fn drop(self) {
+        let LiveFilter { alloc: _, operator } = self;
+        drop(operator);
+    }
 }
 
 impl LiveFilter {

@@ -18,10 +18,17 @@ use df_value::{List, Schema, Text};
 use std::alloc::{AllocError, Global};
 
 /// Makes another row of each row, at its tag.
-#[derive(Drop)]
 pub struct LiveMap {
     alloc: Global,
     operator: RowOperator,
+}
+
+// A body that owns one drops it by a call.
+impl Drop for LiveMap {
+    fn drop(self) {
+        let LiveMap { alloc: _, operator } = self;
+        drop(operator);
+    }
 }
 
 impl LiveMap {

@@ -12,13 +12,26 @@ use df_value::{List, Row, Schema, Text};
 use std::alloc::{AllocError, Global};
 
 /// What a rolling column takes of which cells, and where its own cell stands.
-#[derive(Drop)]
 pub struct Rolling {
     pub kind: RollKind,
     pub index: Option<usize>,
     pub w: usize,
     pub m: usize,
     pub places: List<Place>,
+}
+
+// A body that owns one drops it by a call.
+impl Drop for Rolling {
+    fn drop(self) {
+        let Rolling {
+            kind: _,
+            index: _,
+            w: _,
+            m: _,
+            places,
+        } = self;
+        drop(places);
+    }
 }
 
 impl Rolling {

@@ -9,7 +9,6 @@ use df_value::{Duplicate, List, Row};
 use std::alloc::{AllocError, Global};
 
 /// What is made of one row.
-#[derive(Drop)]
 pub enum RowOperator {
     /// The row itself where this is true.
     Filter(PhysicalExpr),
@@ -17,6 +16,20 @@ pub enum RowOperator {
     Select(List<PhysicalExpr>),
     /// The row with these values at their places among its cells.
     WithColumns(List<Place>, List<PhysicalExpr>),
+}
+
+// A body that owns one drops it by a call.
+impl Drop for RowOperator {
+    fn drop(self) {
+        match self {
+            RowOperator::Filter(predicate) => drop(predicate),
+            RowOperator::Select(values) => drop(values),
+            RowOperator::WithColumns(places, values) => {
+                drop(places);
+                drop(values);
+            }
+        }
+    }
 }
 
 impl RowOperator {

@@ -32,13 +32,28 @@ use df_value::{Cell, CellType, Duplicate, List, Row, Schema, Text};
 use std::alloc::{AllocError, Global};
 
 /// Puts the cumulative sums of a column among the cells of each row.
-#[derive(Drop)]
 pub struct LiveSum {
     alloc: Global,
     index: Option<usize>,
     places: List<Place>,
     input: Table,
     output: Table,
+}
+
+// A body that owns one drops it by a call.
+impl Drop for LiveSum {
+    fn drop(self) {
+        let LiveSum {
+            alloc: _,
+            index: _,
+            places,
+            input,
+            output,
+        } = self;
+        drop(places);
+        drop(input);
+        drop(output);
+    }
 }
 
 impl LiveSum {

@@ -15,13 +15,27 @@ use std::alloc::{AllocError, Global};
 const MOST: i128 = 10_633_823_966_279_326_983_230_456_482_242_756_608;
 
 /// Rows of an input from one on, with the cumulative sum at each. The rows before have tags below the first.
-#[derive(Drop)]
 pub struct TailSums {
     pub first: Tag,
     pub start: usize,
     pub before: i128,
     pub rows: Vec<Row>,
     pub sums: Vec<Cell>,
+}
+
+// A body that owns one drops it by a call.
+impl Drop for TailSums {
+    fn drop(self) {
+        let TailSums {
+            first: _,
+            start: _,
+            before: _,
+            rows,
+            sums,
+        } = self;
+        drop(rows);
+        drop(sums);
+    }
 }
 
 /// The tag of the first of these entries; the last tag of all where there is none.

@@ -32,12 +32,26 @@ use df_value::{Duplicate, Row, Schema, Text};
 use std::alloc::{AllocError, Global};
 
 /// Puts the rolling values of a column among the cells of each row.
-#[derive(Drop)]
 pub struct LiveWindow {
     alloc: Global,
     rolling: Rolling,
     input: Table,
     output: Table,
+}
+
+// A body that owns one drops it by a call.
+impl Drop for LiveWindow {
+    fn drop(self) {
+        let LiveWindow {
+            alloc: _,
+            rolling,
+            input,
+            output,
+        } = self;
+        drop(rolling);
+        drop(input);
+        drop(output);
+    }
 }
 
 /// Rows of a table from an index on.

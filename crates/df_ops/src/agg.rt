@@ -6,7 +6,7 @@ use df_value::{CellType, Duplicate, Exact, Text};
 use std::alloc::{AllocError, Global};
 
 /// What is taken of the rows of a group. All but the length take the cells of a column.
-#[derive(Debug, PartialEq, Eq, Hash, Drop)]
+#[derive(PartialEq, Eq)]
 pub enum Agg {
     /// The number of rows, an Int.
     Len,
@@ -28,6 +28,23 @@ pub enum Agg {
     /// The mean of an Int column's cells that are not null: a Frac, never reduced; null where there
     /// is none.
     Mean(Text),
+}
+
+// A body that owns one drops it by a call.
+impl Drop for Agg {
+    fn drop(self) {
+        match self {
+            Agg::Len => {}
+            Agg::Count(column)
+            | Agg::Sum(column)
+            | Agg::Min(column)
+            | Agg::Max(column)
+            | Agg::First(column)
+            | Agg::Last(column)
+            | Agg::NUnique(column)
+            | Agg::Mean(column) => drop(column),
+        }
+    }
 }
 
 impl Agg {

@@ -9,12 +9,26 @@ use std::alloc::{AllocError, Global};
 
 /// The column indices of the keys on the left and on the right, and those of the right columns that
 /// are no keys; and whether null keys match.
-#[derive(Debug, Drop)]
 pub struct JoinIndices {
     pub left: List<Option<usize>>,
     pub right: List<Option<usize>>,
     pub rest: List<Option<usize>>,
     pub nulls_equal: bool,
+}
+
+// A body that owns one drops it by a call.
+impl Drop for JoinIndices {
+    fn drop(self) {
+        let JoinIndices {
+            left,
+            right,
+            rest,
+            nulls_equal: _,
+        } = self;
+        drop(left);
+        drop(right);
+        drop(rest);
+    }
 }
 
 /// The column indices that a join of tables of these columns reads.

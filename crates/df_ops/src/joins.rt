@@ -14,7 +14,7 @@ use df_value::{Cell, Duplicate, List, Row, Text, copies, push_made};
 use std::alloc::{AllocError, Global};
 
 /// Which left rows a join keeps.
-#[derive(Clone, Copy, Debug, PartialEq, Eq, Hash)]
+#[derive(Clone, Copy, PartialEq, Eq)]
 pub enum How {
     /// Those that have a match.
     Inner,

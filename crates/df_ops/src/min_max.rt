@@ -11,7 +11,7 @@ use df_value::{Cell, Row};
 use std::cmp::Ordering;
 
 /// An end of an order.
-#[derive(Clone, Copy, Debug, PartialEq, Eq)]
+#[derive(Clone, Copy, PartialEq, Eq)]
 pub enum MinMax {
     Min,
     Max,

@@ -9,7 +9,7 @@ use df_value::{Cell, Duplicate, Row, Text, push_made};
 use std::alloc::{AllocError, Global};
 
 /// Whether a cell is a row's own or an added one.
-#[derive(Clone, Copy, Debug, PartialEq, Eq)]
+#[derive(Clone, Copy, PartialEq, Eq)]
 pub enum Origin {
     /// The row's own cells.
     Row,
@@ -18,7 +18,7 @@ pub enum Origin {
 }
 
 /// Which cell stands somewhere: the one at an index of the row's own, or of the added ones.
-#[derive(Clone, Copy, Debug, PartialEq, Eq)]
+#[derive(Clone, Copy, PartialEq, Eq)]
 pub struct Place {
     /// Whose index it is.
     pub origin: Origin,

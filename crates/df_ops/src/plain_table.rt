@@ -5,7 +5,7 @@ use df_value::{CellType, List, Row, Text, both};
 use std::alloc::AllocError;
 
 /// Rows under columns of these names and types.
-#[derive(Debug, Drop)]
+#[derive(Drop)]
 pub struct PlainTable {
     pub columns: List<(Text, CellType)>,
     pub rows: List<Row>,

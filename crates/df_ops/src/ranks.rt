@@ -15,7 +15,7 @@ use df_value::{Cell, CellType, Row, Text, column_index};
 use std::alloc::{AllocError, Global};
 
 /// How a rank counts cells that are equal.
-#[derive(Clone, Copy, Debug, PartialEq, Eq, Hash)]
+#[derive(Clone, Copy, PartialEq, Eq)]
 pub enum RankKind {
     /// Once, so that no rank is left out.
     Dense,

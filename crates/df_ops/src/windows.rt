@@ -16,7 +16,7 @@ use df_value::{Cell, CellType, Row, Text, column_index};
 use std::alloc::{AllocError, Global};
 
 /// What a rolling window takes of its cells.
-#[derive(Clone, Copy, Debug, PartialEq, Eq, Hash)]
+#[derive(Clone, Copy, PartialEq, Eq)]
 pub enum RollKind {
     /// The sum of those that are not null, a Wide.
     Sum,

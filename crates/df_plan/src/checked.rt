@@ -12,11 +12,25 @@ use std::alloc::{AllocError, Global};
 use std::marker::Model;
 
 /// A plan that checks over frames of known schemas, with the schema of its result.
-#[derive(Debug, PartialEq, Eq, Drop)]
+#[derive(PartialEq, Eq)]
 pub struct CheckedPlan {
     plan: Plan,
     frames: List<Schema>,
     schema: Schema,
+}
+
+// A body that owns one drops it by a call.
+impl Drop for CheckedPlan {
+    fn drop(self) {
+        let CheckedPlan {
+            plan,
+            frames,
+            schema,
+        } = self;
+        drop(plan);
+        drop(frames);
+        drop(schema);
+    }
 }
 
 impl Model for CheckedPlan {

@@ -7,7 +7,6 @@ use df_value::{Boxed, Duplicate, Exact, List, Text, both, same};
 use std::alloc::{AllocError, Global};
 
 /// How a table is made of frames.
-#[derive(Debug, Drop)]
 pub enum Plan {
     /// The frame of this index.
     Scan(usize),
@@ -40,6 +39,40 @@ pub enum Plan {
     /// The input, and put among its columns one of this name: the rank of each cell of a column
     /// among all of them, an Int from 1 on; null where the cell is null. Of every type but Frac.
     Rank(Boxed<Plan>, Text, RankKind, Text),
+}
+
+// A body that owns one drops it by a call.
+impl Drop for Plan {
+    fn drop(self) {
+        match self {
+            Plan::Scan(_) => {}
+            Plan::Filter(input, predicate) => {
+                drop(input);
+                drop(predicate);
+            }
+            Plan::Select(input, items) | Plan::WithColumns(input, items) => {
+                drop(input);
+                drop(items);
+            }
+            Plan::GroupBy(input, keys, aggregates) => {
+                drop(input);
+                drop(keys);
+                drop(aggregates);
+            }
+            Plan::Join(left, right, _, keys, _) => {
+                drop(left);
+                drop(right);
+                drop(keys);
+            }
+            Plan::Rolling(input, output, _, column, _, _)
+            | Plan::CumSum(input, output, column)
+            | Plan::Rank(input, output, _, column) => {
+                drop(input);
+                drop(output);
+                drop(column);
+            }
+        }
+    }
 }
 
 impl PartialEq for Plan {

@@ -20,7 +20,6 @@ use std::alloc::{AllocError, Global};
 const TOO_MANY: u64 = 4_611_686_018_427_387_904;
 
 /// A column of rows of a schema, the kind of its ranks, and the name under which they are put among the cells.
-#[derive(Drop)]
 pub struct RankColumn {
     schema: Schema,
     name: Text,
@@ -28,6 +27,22 @@ pub struct RankColumn {
     index: Option<usize>,
     places: Vec<Place>,
     ghost placed: { places.items ≡ places_spec.places_of schema ((name, dtype.Int) ∷ []) },
+}
+
+// A body that owns one drops it by a call.
+impl Drop for RankColumn {
+    fn drop(self) {
+        let RankColumn {
+            schema,
+            name,
+            kind: _,
+            index: _,
+            places,
+        } = self;
+        drop(schema);
+        drop(name);
+        drop(places);
+    }
 }
 
 impl RankColumn {

@@ -26,13 +26,29 @@ use std::alloc::{AllocError, Global};
 use std::collections::BTreeMap;
 
 /// Puts the rank of a column's cell into each row, at its tag.
-#[derive(Drop)]
 pub struct LiveRank {
     alloc: Global,
     column: RankColumn,
     input: Table,
     output: Table,
     counts: Counts,
+}
+
+// A body that owns one drops it by a call.
+impl Drop for LiveRank {
+    fn drop(self) {
+        let LiveRank {
+            alloc: _,
+            column,
+            input,
+            output,
+            counts,
+        } = self;
+        drop(column);
+        drop(input);
+        drop(output);
+        drop(counts);
+    }
 }
 
 /// What a live rank keeps after a change.

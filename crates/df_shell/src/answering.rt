@@ -13,7 +13,7 @@ use csv::StringRecord;
 use std::alloc::{AllocError, Global};
 
 /// What a command is answered, where it is not refused.
-#[derive(Debug, Drop)]
+#[derive(Drop)]
 pub enum Answer {
     /// The change was made.
     Accepted,

@@ -9,7 +9,7 @@ use df_value::List;
 use std::alloc::Global;
 
 /// What a line asks for. Frames and views are named as in the document.
-#[derive(Debug, Drop)]
+#[derive(Drop)]
 pub enum Command<'a> {
     Change(AskedChange<'a>),
     Question(Question<'a>),
@@ -18,7 +18,7 @@ pub enum Command<'a> {
 }
 
 /// A change that is asked for.
-#[derive(Debug, Drop)]
+#[derive(Drop)]
 pub enum AskedChange<'a> {
     /// Adds rows to a frame, the first of which has this number.
     Append(&'a str, u32),
@@ -33,7 +33,7 @@ pub enum AskedChange<'a> {
 }
 
 /// What is asked about the frames and views.
-#[derive(Clone, Copy, Debug)]
+#[derive(Clone, Copy)]
 pub enum Question<'a> {
     /// The table of a view.
     Show(&'a str),

@@ -8,10 +8,18 @@ use df_text::Views;
 use df_value::{List, index_of_name};
 
 /// The frames and views that a document names, and the checked plans of the views, in their order.
-#[derive(Debug, Drop)]
 pub struct Definitions {
     pub document: Views,
     pub plans: List<CheckedPlan>,
+}
+
+// A body that owns one drops it by a call.
+impl Drop for Definitions {
+    fn drop(self) {
+        let Definitions { document, plans } = self;
+        drop(document);
+        drop(plans);
+    }
 }
 
 impl Definitions {

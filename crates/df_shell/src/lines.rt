@@ -10,7 +10,7 @@ use std::io::{BufRead, Read};
 pub const MOST_BYTES_OF_LINE: usize = 1_048_576;
 
 /// What a read found.
-#[derive(Clone, Copy, Debug, PartialEq, Eq)]
+#[derive(Clone, Copy, PartialEq, Eq)]
 pub enum Line {
     /// A line, which is in the buffer.
     Whole,

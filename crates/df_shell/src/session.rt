@@ -20,10 +20,18 @@ pub struct Session<S> {
 }
 
 /// Room for the line of a command, and for a line of CSV behind it.
-#[derive(Drop)]
 pub struct Buffers {
     command: Vec<u8>,
     record: Vec<u8>,
+}
+
+// A body that owns one drops it by a call.
+impl Drop for Buffers {
+    fn drop(self) {
+        let Buffers { command, record } = self;
+        drop(command);
+        drop(record);
+    }
 }
 
 impl Buffers {

@@ -14,12 +14,20 @@ use std::alloc::Global;
 use std::sync::ledger::Ledger;
 
 /// A catalogue, over which nothing is staged, with the desks of its frames, in their order.
-#[derive(Drop)]
 pub struct Store<Acc: Ledger, Del: Ledger> {
     pub catalogue: Catalogue<Acc, Del>,
     pub desks: Vec<Desk<Acc, Del>>,
     ghost in_order: { AreInOrder desks.items catalogue.state },
     ghost nothing_staged: { is_none catalogue.staged ≡ true },
+}
+
+// A body that owns one drops it by a call.
+impl<Acc: Ledger, Del: Ledger> Drop for Store<Acc, Del> {
+    fn drop(self) {
+        let Store { catalogue, desks } = self;
+        drop(catalogue);
+        drop(desks);
+    }
 }
 
 impl<Acc: Ledger, Del: Ledger> Store<Acc, Del> {

@@ -8,11 +8,18 @@ use crate::jobs::Outcome;
 use std::alloc::{AllocError, Global};
 
 /// The outcome of a job until its rows are found, and the place in its frame from which they are to stand.
-#[derive(Drop)]
 pub(crate) struct Expected {
     /// None once the rows were found.
     pub(crate) outcome: Option<Outcome>,
     pub(crate) place: usize,
+}
+
+// A body that owns one drops it by a call.
+impl Drop for Expected {
+    fn drop(self) {
+        let Expected { outcome, place: _ } = self;
+        drop(outcome);
+    }
 }
 
 /// The outcomes with their places, each behind the rows that those before it give to its frame, and how many rows they

@@ -7,7 +7,6 @@ use df_value::Source;
 use std::alloc::{AllocError, Global};
 
 /// What a job made.
-#[derive(Drop)]
 pub(crate) struct Outcome {
     /// The number of the job.
     pub(crate) job: u64,
@@ -19,8 +18,21 @@ pub(crate) struct Outcome {
     pub(crate) made: Made,
 }
 
+// A body that owns one drops it by a call.
+impl Drop for Outcome {
+    fn drop(self) {
+        let Outcome {
+            job: _,
+            frame: _,
+            first: _,
+            made,
+        } = self;
+        drop(made);
+    }
+}
+
 /// Where the chunk of a job stands.
-#[derive(Clone, Copy, Debug, Drop)]
+#[derive(Clone, Copy, Drop)]
 pub(crate) struct Place {
     pub(crate) frame: usize,
     pub(crate) chunk: u64,

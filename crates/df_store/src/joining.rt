@@ -15,13 +15,25 @@ use df_value::{Chunk, ChunkFault, List, MOST_ROWS_OF_CHUNK, Row, copies, same};
 use std::alloc::{AllocError, Global};
 
 /// The chunks of one or several outcomes as one.
-#[derive(Drop)]
 pub(crate) struct Joined {
     /// The index of their frame.
     pub(crate) frame: usize,
     pub(crate) chunk: PreparedChunk,
     /// The outcomes, with the rows of each in the blocks of the joined chunk.
     pub(crate) stored: Vec<Outcome>,
+}
+
+// A body that owns one drops it by a call.
+impl Drop for Joined {
+    fn drop(self) {
+        let Joined {
+            frame: _,
+            chunk,
+            stored,
+        } = self;
+        drop(chunk);
+        drop(stored);
+    }
 }
 
 /// The chunks of all these outcomes as one, where they are all good, of one frame and one schema, each begins at the number

@@ -36,7 +36,6 @@ const MOST_WORKERS: usize = 16;
 const MOST_AT_ONCE: u64 = 32;
 
 /// A catalogue that was loaded.
-#[derive(Drop)]
 pub struct Loaded<Acc: Ledger, Del: Ledger> {
     pub catalogue: Catalogue<Acc, Del>,
     /// What each frame accepted, what was deleted of it, and what it has.
@@ -45,13 +44,34 @@ pub struct Loaded<Acc: Ledger, Del: Ledger> {
     pub refused: List<Refused>,
 }
 
+// A body that owns one drops it by a call.
+impl<Acc: Ledger, Del: Ledger> Drop for Loaded<Acc, Del> {
+    fn drop(self) {
+        let Loaded {
+            catalogue,
+            totals,
+            refused,
+        } = self;
+        drop(catalogue);
+        drop(totals);
+        drop(refused);
+    }
+}
+
 /// A load that was refused.
-#[derive(Drop)]
 pub struct LoadFault<Acc: Ledger, Del: Ledger> {
     pub cause: LoadCause,
     /// What the load left, with its totals; none where the gathered shares of the desks are not the
     /// books, whatever the cause is. Each chunk that entered has entered whole.
     pub left: Option<(Catalogue<Acc, Del>, Totals)>,
+}
+
+// A body that owns one drops it by a call.
+impl<Acc: Ledger, Del: Ledger> Drop for LoadFault<Acc, Del> {
+    fn drop(self) {
+        let LoadFault { cause: _, left } = self;
+        drop(left);
+    }
 }
 
 /// Registers copies of the views in the hall, splits the desks among workers, has these load the

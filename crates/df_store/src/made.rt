@@ -9,16 +9,32 @@ use df_value::{BadCell, Chunk, Piece};
 use std::marker::Model;
 
 /// A piece as its source made it, or a chunk whose rows stand in the blocks of a joined one.
-#[derive(Drop)]
 pub(crate) enum KeptPiece {
     Typed(Piece),
     Stored(StoredChunk),
 }
 
+// A body that owns one drops it by a call.
+impl Drop for KeptPiece {
+    fn drop(self) {
+        match self {
+            KeptPiece::Typed(piece) => drop(piece),
+            KeptPiece::Stored(chunk) => drop(chunk),
+        }
+    }
+}
+
 /// What a job made. Contracts see the piece.
-#[derive(Drop)]
 pub(crate) struct Made {
     kept: KeptPiece,
+}
+
+// A body that owns one drops it by a call.
+impl Drop for Made {
+    fn drop(self) {
+        let Made { kept } = self;
+        drop(kept);
+    }
 }
 
 impl Model for Made {

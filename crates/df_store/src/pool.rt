@@ -27,11 +27,19 @@ use std::thread::Threads;
 //
 // A worker is lent to its thread and is never moved, and there is room for the desks of all of them.
 // So each desk comes back, whatever was refused meanwhile.
-#[derive(Drop)]
 struct WorkerPool<Acc: Ledger, Del: Ledger> {
     workers: Vec<Worker<Acc, Del>>,
     // No desk, until the workers have ended.
     gathered: Vec<Desk<Acc, Del>>,
+}
+
+// A body that owns one drops it by a call.
+impl<Acc: Ledger, Del: Ledger> Drop for WorkerPool<Acc, Del> {
+    fn drop(self) {
+        let WorkerPool { workers, gathered } = self;
+        drop(workers);
+        drop(gathered);
+    }
 }
 
 impl<Acc: Ledger, Del: Ledger> WorkerPool<Acc, Del> {

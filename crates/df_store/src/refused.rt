@@ -8,7 +8,7 @@ use df_value::BadCell;
 use std::alloc::{AllocError, Global};
 
 /// A chunk that did not enter, since a cell of it is bad.
-#[derive(Clone, Copy, Debug, PartialEq, Eq)]
+#[derive(Clone, Copy, PartialEq, Eq)]
 pub struct Refused {
     /// The index of its frame.
     pub frame: usize,

@@ -12,7 +12,7 @@ use std::alloc::{AllocError, Global};
 use std::sync::ledger::Ledger;
 
 /// What was accepted and deleted, and what there is, by frame.
-#[derive(Debug, PartialEq, Eq, Drop)]
+#[derive(PartialEq, Eq)]
 pub struct Totals {
     /// How many rows each frame accepted, also those that were deleted.
     pub accepted: List<u64>,
@@ -20,6 +20,20 @@ pub struct Totals {
     pub deleted: List<u64>,
     /// How many rows each frame has.
     pub live: List<u64>,
+}
+
+// A body that owns one drops it by a call.
+impl Drop for Totals {
+    fn drop(self) {
+        let Totals {
+            accepted,
+            deleted,
+            live,
+        } = self;
+        drop(accepted);
+        drop(deleted);
+        drop(live);
+    }
 }
 
 /// Room for the totals of all frames.

@@ -23,13 +23,27 @@ use std::sync::ledger::Ledger;
 use std::sync::{MutexGuard, Wait};
 
 /// What a thread that does jobs owns: its desks, what it draws jobs with, and what it has done so far.
-#[derive(Drop)]
 pub(crate) struct Worker<Acc: Ledger, Del: Ledger> {
     pub(crate) desks: Vec<Desk<Acc, Del>>,
     seat: ClaimSeat,
     done: Vec<Outcome>,
     // Why it stopped before no job was left, if it did.
     pub(crate) stopped: Option<Stop>,
+}
+
+// A body that owns one drops it by a call.
+impl<Acc: Ledger, Del: Ledger> Drop for Worker<Acc, Del> {
+    fn drop(self) {
+        let Worker {
+            desks,
+            seat,
+            done,
+            stopped: _,
+        } = self;
+        drop(desks);
+        drop(seat);
+        drop(done);
+    }
 }
 
 /// What the workers of a load share beside the hall.

@@ -3,18 +3,39 @@ use df_plan::Plan;
 use df_value::{List, Named, Schema, Text};
 
 /// The frames and views that a document names, each in the document's order.
-#[derive(Debug, Drop)]
 pub struct Views {
     pub frames: List<FrameSpec>,
     pub views: List<ViewSpec>,
 }
 
+// A body that owns one drops it by a call.
+impl Drop for Views {
+    fn drop(self) {
+        let Views { frames, views } = self;
+        drop(frames);
+        drop(views);
+    }
+}
+
 /// A frame: its name, its columns, and where its records come from.
-#[derive(Debug, Drop)]
 pub struct FrameSpec {
     pub name: Text,
     pub schema: Schema,
     pub source: FrameSource,
+}
+
+// A body that owns one drops it by a call.
+impl Drop for FrameSpec {
+    fn drop(self) {
+        let FrameSpec {
+            name,
+            schema,
+            source,
+        } = self;
+        drop(name);
+        drop(schema);
+        drop(source);
+    }
 }
 
 impl Named for FrameSpec {
@@ -26,7 +47,6 @@ impl Named for FrameSpec {
 }
 
 /// Where the records of a frame come from.
-#[derive(Debug, Drop)]
 pub enum FrameSource {
     /// The path of a file that has the CSV, as the document writes it.
     Path(Text),
@@ -34,11 +54,29 @@ pub enum FrameSource {
     Text(Text),
 }
 
+// A body that owns one drops it by a call.
+impl Drop for FrameSource {
+    fn drop(self) {
+        match self {
+            FrameSource::Path(path) => drop(path),
+            FrameSource::Text(text) => drop(text),
+        }
+    }
+}
+
 /// A view: its name, and the plan that makes it of the document's frames.
-#[derive(Debug, Drop)]
 pub struct ViewSpec {
     pub name: Text,
     pub plan: Plan,
+}
+
+// A body that owns one drops it by a call.
+impl Drop for ViewSpec {
+    fn drop(self) {
+        let ViewSpec { name, plan } = self;
+        drop(name);
+        drop(plan);
+    }
 }
 
 impl Named for ViewSpec {

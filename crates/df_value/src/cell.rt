@@ -11,7 +11,7 @@ use std::alloc::{AllocError, Global};
 ///
 /// Base frames have `Int` (i64), `Text` and `Bool` columns. `Wide` (i128) comes from sums and
 /// `Frac` from means. Null belongs to every type.
-#[derive(Clone, Copy, Debug, PartialEq, Eq, Hash)]
+#[derive(Clone, Copy, Debug, PartialEq, Eq)]
 pub enum CellType {
     Int,
     Wide,
@@ -21,7 +21,7 @@ pub enum CellType {
 }
 
 /// One value of a table.
-#[derive(Debug, PartialEq, Eq, PartialOrd, Ord, Hash, Drop)]
+#[derive(PartialEq, Eq, PartialOrd, Ord, Hash)]
 pub enum Cell {
     Null,
     Int(i64),
@@ -29,6 +29,16 @@ pub enum Cell {
     Text(Text),
     Bool(bool),
     Frac(Frac),
+}
+
+// A body that owns one drops it by a call.
+impl Drop for Cell {
+    fn drop(self) {
+        match self {
+            Cell::Text(text) => drop(text),
+            Cell::Null | Cell::Int(_) | Cell::Wide(_) | Cell::Bool(_) | Cell::Frac(_) => {}
+        }
+    }
 }
 
 impl Cell {

@@ -15,11 +15,23 @@ use thiserror::Error;
 /// Rows of a frame, of one schema. The first one has the number [`first`](Chunk::first), and each
 /// further one the number after it. There are at most 65,536 of them, perhaps none; each fits the
 /// schema, and each number is below 2^32.
-#[derive(Debug, Drop)]
 pub struct Chunk {
     schema: Schema,
     first: u32,
     rows: List<Row>,
+}
+
+// A body that owns one drops it by a call.
+impl Drop for Chunk {
+    fn drop(self) {
+        let Chunk {
+            schema,
+            first: _,
+            rows,
+        } = self;
+        drop(schema);
+        drop(rows);
+    }
 }
 
 impl Model for Chunk {
@@ -46,14 +58,14 @@ pub enum ChunkFault {
 }
 
 /// Rows that are no chunk, handed back, and why.
-#[derive(Debug, Drop)]
+#[derive(Drop)]
 pub struct RefusedRows {
     pub fault: ChunkFault,
     pub rows: List<Row>,
 }
 
 /// A cell of a file that is no value of its column's type.
-#[derive(Clone, Copy, Debug, PartialEq, Eq)]
+#[derive(Clone, Copy, PartialEq, Eq)]
 pub struct BadCell {
     /// The number of its record, from 1.
     pub number: u64,
@@ -62,7 +74,7 @@ pub struct BadCell {
 }
 
 /// What records made: a chunk, or the first bad cell, in which case none of the rows is kept.
-#[derive(Debug, Drop)]
+#[derive(Drop)]
 pub enum Piece {
     Good(Chunk),
     Bad(BadCell),
@@ -147,7 +159,13 @@ impl Chunk {
     pub fn into_rows(self) -> List<Row>
         ensures { result ≡ self.rows }
     {
-        self.rows
+        let Chunk {
+            schema,
+            first: _,
+            rows,
+        } = self;
+        drop(schema);
+        rows
     }
 }
 

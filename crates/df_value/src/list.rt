@@ -4,14 +4,20 @@ ghost use Rattle.std.specs.Option.{option_copied};
 
 use crate::traits::{Duplicate, Exact};
 use std::alloc::{AllocError, Global};
-use std::fmt;
 use std::hash::{Hash, Hasher};
 use std::marker::Model;
 
 /// A list of items, as the cells of a row.
-#[derive(Drop)]
 pub struct List<T> {
     items: Vec<T>,
+}
+
+// A body that owns one drops it by a call.
+impl<T: Drop> Drop for List<T> {
+    fn drop(self) {
+        let List { items } = self;
+        drop(items);
+    }
 }
 
 impl<T> Model for List<T> {
@@ -41,7 +47,8 @@ impl<T> List<T> {
     pub fn into_vec(self) -> Vec<T>
         ensures { result.items ≡ self }
     {
-        self.items
+        let List { items } = self;
+        items
     }
 
     /// The number of items.
@@ -119,11 +126,5 @@ impl<T: Hash> Hash for List<T> {
 
     fn hash<H: Hasher>(&self, state: &mut H) {
         self.items.hash(state);
-    }
-}
-
-impl<T: fmt::Debug> fmt::Debug for List<T> {
-    fn fmt<W: fmt::Write>(&self, f: &mut fmt::Formatter<W>) -> fmt::Result {
-        f.debug_list().entries(self.items.iter()).finish()
     }
 }

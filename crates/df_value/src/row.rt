@@ -7,16 +7,23 @@ use crate::list::List;
 use crate::shared::Shared;
 use crate::traits::{Duplicate, Exact};
 use std::alloc::{AllocError, Global};
-use std::fmt;
 use std::marker::Model;
 
 /// One row of a table, which contracts see as the list of its cells.
 ///
 /// All copies of a row share its cells, so that a row can be handed on without a copy of its
 /// texts.
-#[derive(PartialEq, Eq, Hash, Drop)]
+#[derive(PartialEq, Eq, Hash)]
 pub struct Row {
     cells: Shared<List<Cell>>,
+}
+
+// A body that owns one drops it by a call.
+impl Drop for Row {
+    fn drop(self) {
+        let Row { cells } = self;
+        drop(cells);
+    }
 }
 
 impl Model for Row {
@@ -83,10 +90,4 @@ impl Exact for Row {
     ghost use Rattle.df_value.specs.RowEq.{row_eq-Decides};
 
     ghost decides = { row_eq-Decides };
-}
-
-impl fmt::Debug for Row {
-    fn fmt<W: fmt::Write>(&self, f: &mut fmt::Formatter<W>) -> fmt::Result {
-        f.debug_list().entries(self.as_slice().iter()).finish()
-    }
 }

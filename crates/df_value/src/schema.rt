@@ -21,9 +21,17 @@ use thiserror::Error;
 
 /// The columns of a table by name and type: 1 to 32 of them, no two of one name. Any text is a
 /// name.
-#[derive(PartialEq, Eq, Hash, Debug, Drop)]
+#[derive(PartialEq, Eq)]
 pub struct Schema {
     columns: List<(Text, CellType)>,
+}
+
+// A body that owns one drops it by a call.
+impl Drop for Schema {
+    fn drop(self) {
+        let Schema { columns } = self;
+        drop(columns);
+    }
 }
 
 impl Model for Schema {

@@ -4,7 +4,6 @@ ghost use Rattle.std.specs.Arc.{arc_value};
 
 use crate::traits::{Duplicate, Exact};
 use std::alloc::{AllocError, Global};
-use std::fmt;
 use std::hash::{Hash, Hasher};
 use std::marker::Model;
 use std::sync::Arc;
@@ -13,9 +12,16 @@ use std::sync::Arc;
 ///
 /// A copy is one more owner and takes no memory. It is refused only where the count of owners is
 /// full.
-#[derive(Drop)]
 pub struct Shared<T> {
     value: Arc<T>,
+}
+
+// A body that owns one drops it by a call.
+impl<T: Drop> Drop for Shared<T> {
+    fn drop(self) {
+        let Shared { value } = self;
+        drop(value);
+    }
 }
 
 impl<T> Model for Shared<T> {
@@ -80,11 +86,5 @@ impl<T: Hash> Hash for Shared<T> {
 
     fn hash<H: Hasher>(&self, state: &mut H) {
         self.get().hash(state);
-    }
-}
-
-impl<T: fmt::Debug> fmt::Debug for Shared<T> {
-    fn fmt<W: fmt::Write>(&self, f: &mut fmt::Formatter<W>) -> fmt::Result {
-        self.get().fmt(f)
     }
 }

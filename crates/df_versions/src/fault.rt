@@ -4,7 +4,7 @@ use crate::told::Told;
 use df_catalogue::CatalogueFault;
 
 /// Why a version is not published.
-#[derive(Clone, Copy, Debug, PartialEq, Eq, Drop)]
+#[derive(Clone, Copy, PartialEq, Eq, Drop)]
 pub enum PublishFault {
     /// 2^64 - 1 versions were published.
     Spent,
@@ -13,7 +13,7 @@ pub enum PublishFault {
 }
 
 /// Why a catalogue that publishes its versions is not opened.
-#[derive(Clone, Copy, Debug, PartialEq, Eq, Drop)]
+#[derive(Clone, Copy, PartialEq, Eq, Drop)]
 pub enum OpenFault {
     /// More than 8 frames.
     TooManyFrames,

@@ -65,10 +65,17 @@ pub type Head = Word<State, u64, HistoryRule>;
 
 /// The states of a history so far, as somebody knows them: later ones may have come. Contracts see which history it is,
 /// and these states.
-#[derive(Drop)]
 pub struct History {
     states: u64,
     seen: Seen<State, u64, HistoryRule>,
+}
+
+// A body that owns one drops it by a call.
+impl Drop for History {
+    fn drop(self) {
+        let History { states: _, seen } = self;
+        drop(seen);
+    }
 }
 
 impl Model for History {

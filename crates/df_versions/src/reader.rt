@@ -16,11 +16,20 @@ use std::sync::Arc;
 
 /// Takes versions. Contracts see the history's name, the states up to the newest version that was taken, and the longest
 /// list of states that was learnt.
-#[derive(Drop)]
 pub struct Reader {
     inner: VersionReader,
     seen: History,
     told: History,
+}
+
+// A body that owns one drops it by a call.
+impl Drop for Reader {
+    fn drop(self) {
+        let Reader { inner, seen, told } = self;
+        drop(inner);
+        drop(seen);
+        drop(told);
+    }
 }
 
 impl Model for Reader {

@@ -9,10 +9,18 @@ use std::marker::{Model, PhantomData};
 
 /// The history up to a change, or up to the state that refused it. A reader that learns it sees no version from before.
 /// Contracts see the states.
-#[derive(Drop)]
 pub struct Told<J: Naming> {
     history: History,
     of: PhantomData<J>,
+}
+
+// A body that owns one drops it by a call.
+impl<J: Naming> Drop for Told<J> {
+    fn drop(self) {
+        let Told { history, of } = self;
+        drop(history);
+        drop(of);
+    }
 }
 
 impl<J: Naming> Model for Told<J> {

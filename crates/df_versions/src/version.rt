@@ -23,10 +23,17 @@ use std::sync::Arc;
 
 /// The frames and views of a catalogue after some changes, and how many these were. Contracts see the number and the
 /// picture, which is that of a legal state: so each view has the table of its plan over the frames of this version.
-#[derive(Drop)]
 pub struct Version {
     number: u64,
     picture: Picture,
+}
+
+// A body that owns one drops it by a call.
+impl Drop for Version {
+    fn drop(self) {
+        let Version { number: _, picture } = self;
+        drop(picture);
+    }
 }
 
 impl Model for Version {
@@ -116,12 +123,20 @@ impl Version {
 }
 
 /// The newest version, with the history that it ends. The writer of `left_right` has it twice.
-#[derive(Drop)]
 pub struct Published {
     pub version: Arc<Version, Global>,
     pub history: History,
     pub ghost counted: { length history.1 ≡ (arc_value version).0 + 1 },
     pub ghost ends: { option_map picture_of (last_state history.1) ≡ Some (arc_value version).1 },
+}
+
+// A body that owns one drops it by a call.
+impl Drop for Published {
+    fn drop(self) {
+        let Published { version, history } = self;
+        drop(version);
+        drop(history);
+    }
 }
 
 impl Published {

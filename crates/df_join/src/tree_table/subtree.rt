@@ -13,21 +13,47 @@ use std::sync::Arc;
 
 /// Rows by rising tags. Trees share the nodes that they have in common.
 #[cycle(subtree)]
-#[derive(Drop)]
 pub enum Subtree {
     Empty,
     Fork(Arc<Node>),
 }
 
+// A body that owns one drops it by a call.
+impl Drop for Subtree {
+    #[cycle(subtree_drop)]
+    fn drop(self) {
+        match self {
+            Subtree::Empty => {}
+            Subtree::Fork(node) => drop(node),
+        }
+    }
+}
+
 /// A row between those of lower tags and those of higher ones.
 #[cycle(subtree)]
-#[derive(Drop)]
 pub struct Node {
     left: Subtree,
     tag: Tag,
     row: Row,
     right: Subtree,
     height: u8,
+}
+
+// A body that owns one drops it by a call.
+impl Drop for Node {
+    #[cycle(subtree_drop)]
+    fn drop(self) {
+        let Node {
+            left,
+            tag: _,
+            row,
+            right,
+            height: _,
+        } = self;
+        drop(left);
+        drop(row);
+        drop(right);
+    }
 }
 
 /// The first row of a tree, and the others.

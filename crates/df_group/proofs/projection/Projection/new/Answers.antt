@@ -8,10 +8,10 @@ use Rattle.df_group.specs.Projections.{are_all_kept, indices_among, is_text, nee
 use Rattle.df_group.proofs.ProjectedSchemas.{all_kept, few_kept, few_of_schema, kept_of_fault, kept_of_many, kept_of_text}
 use Rattle.df_group.proofs.ProjectedColumns.{fits_needed}
 use Rattle.df_group.proofs.projection.Projection.new.Goals as goal
-use Rattle.df_group.proofs.projection.Projection.new.Goals.{After-drop-needed-inside, In-Err, In-Ok, then-len-columns-via-then-len-columns, then-len-columns-via-else-len-columns+then-any}
+use Rattle.df_group.proofs.projection.Projection.new.Goals.{After-drop-needed, In-Err, In-Ok, then-len-columns-via-then-len-columns, then-len-columns-via-else-len-columns+then-any}
 
 -- all are kept where more than half of the columns are needed, or one of texts
-many_needed : (c : After-drop-needed-inside) → are_all_kept c.args.schema.now c.args.aggregates.now ≡ true
+many_needed : (c : After-drop-needed) → are_all_kept c.args.schema.now c.args.aggregates.now ≡ true
 many_needed c =
     let columns : c.as_slice-columns.result.now ≡ c.args.schema.now = c.as_slice-columns.ensures ∙ c.columns.ensures.value in
     let needed : c.in_ok-needed.needed ≡ needed_columns c.args.schema.now c.args.aggregates.now =
