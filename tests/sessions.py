@@ -1,5 +1,10 @@
 #!/usr/bin/env python3
-"""Runs sessions of the shell: sessions.py PROGRAM [--hall] [--refuse] SESSION..
+"""Runs sessions of the shell.
+
+    sessions.py PROGRAM [--hall] [--refuse] SESSION..
+    sessions.py --export FOLDER [--hall] SESSION..     writes in place of running them what is typed, the words as
+                                                       NAME.args and the answers as NAME.stdout, as `rt try --cases`
+                                                       reads them
 
 NAME.session is a transcript over the document NAME.toml. A line `> COMMAND` is what is typed, `| LINE` a line of CSV
 behind an append, and `N| LINE` the same line N times; the lines below are the answer, and those above the first
@@ -184,10 +189,26 @@ def run(program, words, path, library, folder):
     return runner.wrong, refused
 
 
+def export(folder, hall, paths):
+    os.makedirs(folder, exist_ok=True)
+    for path in paths:
+        session = Session(path, bool(hall))
+        name = os.path.join(folder, os.path.basename(path)[: -len(".session")])
+        with open(name, "wb") as file:
+            file.write(b"".join(session.typed))
+        with open(name + ".stdout", "wb") as file:
+            file.write(b"".join(session.answers))
+        with open(name + ".args", "w") as file:
+            file.write("".join(f"{word}\n" for word in [*hall, os.path.basename(name) + ".toml"]))
+
+
 def main(words):
     refuse = "--refuse" in words
     hall = [word for word in words if word == "--hall"]
     program, *paths = [word for word in words if word not in ("--hall", "--refuse")]
+    if program == "--export":
+        export(paths[0], hall, paths[1:])
+        return 0
     with tempfile.TemporaryDirectory() as folder, concurrent.futures.ThreadPoolExecutor(4) as pool:
         library = failing_library(folder) if refuse else None
         results = list(pool.map(lambda path: run(program, hall, path, library, folder), paths))
