@@ -1,5 +1,6 @@
 #!/usr/bin/env python3
-"""gate_times.py COMMAND..: runs the gate, say `rt ci`, and tells what each crate's proof, tests and edits cost.
+"""gate_times.py COMMAND..: runs the gate, say `rt ci --anew`, and prints the table of docs/GATE.md: what each crate's
+proof, tests and edits cost, which crate it waits for longest, and the sum of the proofs up to its own.
 
 It looks at the processes of `rattle` every half second and keeps the processor time of each, so a process that ends
 within that time is missed. Ends with the command's status. Linux, Python 3.11 or later."""
@@ -11,6 +12,7 @@ import subprocess
 import sys
 import time
 
+HERE = pathlib.Path(__file__).resolve().parent.parent
 TICKS = os.sysconf("SC_CLK_TCK")
 
 
@@ -41,6 +43,39 @@ def look(pid, seconds):
         seconds[crate, part, pid] = (int(fields[11]) + int(fields[12])) / TICKS
 
 
+def libraries():
+    """The libraries of this repository that each of its crates uses, by crates.txt."""
+    lines = (HERE / "crates.txt").read_text().split("\n")
+    used = dict(line.split(":") for line in lines if line and not line.startswith("#"))
+    return {crate: [name for name in names.split() if name in used] for crate, names in used.items()}
+
+
+def chains(used, proofs):
+    """Of each crate the library that is proved last of those that it waits for, and the seconds until its own proof ends."""
+    ends, waits = {}, {}
+    while len(ends) < len(used):
+        for crate, names in used.items():
+            if crate not in ends and all(name in ends for name in names):
+                waits[crate] = max(names, key=ends.get, default=None)
+                ends[crate] = proofs[crate] + ends.get(waits[crate], 0)
+    return waits, ends
+
+
+def table(seconds):
+    sums = collections.Counter()
+    for (crate, part, _), spent in seconds.items():
+        sums[crate, part if part in ("edits", "tests") else "proof"] += spent
+    used = libraries()
+    waits, ends = chains(used, {crate: sums[crate, "proof"] for crate in used})
+    yield "| Crate | Proof | Tests | Edits | Waits for | Proved after |"
+    yield "|---|---|---|---|---|---|"
+    for crate in sorted(used, key=ends.get):
+        costs = [f"{sums[crate, part]:.0f}" if sums[crate, part] else "" for part in ("proof", "tests", "edits")]
+        waited = f"`{waits[crate]}`" if waits[crate] else ""
+        yield f"| `{crate}` | {' | '.join(costs)} | {waited} | {ends[crate] / 60:.0f} min |"
+    yield f"in all {sum(sums.values()) / 60:.0f} processor minutes, the longest chain {max(ends.values()) / 60:.0f}"
+
+
 def main():
     begin, seconds = time.time(), {}
     gate = subprocess.Popen(sys.argv[1:])
@@ -48,12 +83,9 @@ def main():
         for pid in below(gate.pid):
             look(pid, seconds)
         time.sleep(0.5)
-    sums = collections.Counter()
-    for (crate, part, _), spent in seconds.items():
-        sums[crate, part] += spent
-    for (crate, part), spent in sorted(sums.items()):
-        print(f"{crate:14} {part:8} {spent:7.0f} s")
-    print(f"in all {sum(sums.values()) / 60:.0f} processor minutes, {(time.time() - begin) / 60:.0f} minutes by the clock")
+    for line in table(seconds):
+        print(line)
+    print(f"{(time.time() - begin) / 60:.0f} minutes by the clock")
     return gate.returncode
 
 
