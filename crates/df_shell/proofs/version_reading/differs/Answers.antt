@@ -15,4 +15,4 @@ returns-in_ok-computed_rows-in-Ok-clause-differs c =
     let planned : differs_from p (Some c.in-Some.plan.now) (Ok rows) ≡ differs_from p (plan_named c.args.definitions.now name) (view_rows_in p name) =
     ap (λ o. differs_from p o (Ok rows)) c.in-Some.ensures
     ∙ ap (λ r. differs_from p (plan_named c.args.definitions.now name) r) (sym c.in-Ok.ensures.answer) in
-    c.ne-in-Ok.ensures ∙ (ap (λ cs. not (pointwise row_eq rows cs)) c.in_ok-computed_rows-in-Ok.ensures.answer ∙ planned)
+    c.ne.ensures ∙ (ap (λ cs. not (pointwise row_eq rows cs)) c.in_ok-computed_rows-in-Ok.ensures.answer ∙ planned)
