@@ -17,7 +17,7 @@ try() {
 # The long sessions stay out.
 sessions=()
 for session in examples/shell/*.session tests/sessions/*.session; do
-  case "$session" in */full.session | */records.session | */blocks.session) ;; *) sessions+=("$session") ;; esac
+  case "$session" in */full.session | */records.session | */blocks.session | */leaves.session) ;; *) sessions+=("$session") ;; esac
 done
 documents=()
 for session in "${sessions[@]}"; do

@@ -5,15 +5,11 @@
 #![tactic(auto)]
 
 #[cfg(test)]
-mod blocks;
-#[cfg(test)]
 mod changes;
 #[cfg(test)]
 mod deltas;
 #[cfg(test)]
 mod desks;
-#[cfg(test)]
-mod following;
 #[cfg(test)]
 mod given;
 #[cfg(test)]
@@ -26,8 +22,6 @@ mod nodes;
 mod openings;
 #[cfg(test)]
 mod plans;
-#[cfg(test)]
-mod runs;
 #[cfg(test)]
 mod sources;
 #[cfg(test)]
