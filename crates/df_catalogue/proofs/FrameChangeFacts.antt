@@ -18,12 +18,12 @@ use Rattle.df_catalogue.specs.declared.state.FrameState.{FrameState}
 use Rattle.df_catalogue.specs.declared.views.View.{View}
 use Rattle.df_catalogue.specs.declared.change.Change.TheVariants as change
 use Rattle.df_catalogue.specs.declared.frame_change.FrameChange.{FrameChange}
-use Rattle.df_catalogue.specs.declared.frame_change.FrameChange.TheVariants.{Append, Delete, Replace}
+use Rattle.df_catalogue.specs.declared.frame_change.FrameChange.TheVariants.{Append, Delete, Prepared, Replace}
 use Rattle.df_catalogue.specs.declared.fault.CatalogueFault.{CatalogueFault}
 use Rattle.df_catalogue.specs.declared.fault.CatalogueFault.TheVariants as fault
 use Rattle.df_catalogue.specs.Changes.{accepted_rows, after, change_at, deleted_rows, refreshed_views, view_over, IsSound}
 use Rattle.df_catalogue.specs.Desks.{DeskParts, accepted_in, deleted_in, desk_after, desks_after}
-use Rattle.df_catalogue.specs.FrameChanges.{change_of, frame_after, FrameTakes, TakesNumbers}
+use Rattle.df_catalogue.specs.FrameChanges.{change_of, frame_after, FrameTakes, TakesChunk, TakesNumbers}
 use Rattle.df_catalogue.specs.FrameParts.{FrameParts, schemas_of, states_of}
 use Rattle.df_catalogue.specs.Frames.{rows_of, IsFrame, IsNumbered}
 use Rattle.df_catalogue.specs.FrameTables.{tagged_rows_of}
@@ -82,15 +82,24 @@ changeable-at s f c x h lent within takes =
     let at : slice_get s.frames f ≡ Some x = slice_get_read s.frames (length s.frames) f x refl within lent in
     record { within = within; at = at; numbered = numbered-at s.schemas s.frames f x h.frames at; takes = takes at }
 
+takes-chunk :
+    (s : State) (f : ℕ) (chunk : ChunkParts) (x : FrameState) → append_refusal chunk (slice_get s.schemas f) (slice_get s.frames f) ≡ None →
+    slice_get s.frames f ≡ Some x → TakesChunk x chunk
+takes-chunk s f chunk x free at =
+    let there = append-there chunk (slice_get s.schemas f) (slice_get s.frames f) free in
+    let known = append-accepted chunk there.0 x
+    (ap (λ o. append_refusal chunk o (Some x)) (sym there.2) ∙ (ap (append_refusal chunk (slice_get s.schemas f)) (sym at) ∙ free)) in
+    (known.1, known.2)
+
 changeable :
     (s : State) (f : ℕ) (c : FrameChange) (x : FrameState) → IsLegal s → refusal_of s (change_of f c) ≡ None →
     x ≡ get_or s.frames f x → IsChangeable s f c x
 changeable s f (Append chunk) x h free lent =
     let there = append-there chunk.now (slice_get s.schemas f) (slice_get s.frames f) free in
-    changeable-at s f (Append chunk) x h lent (slice_get_within s.frames f there.1 there.3) (λ at.
-    let known = append-accepted chunk.now there.0 x
-    (ap (λ o. append_refusal chunk.now o (Some x)) (sym there.2) ∙ (ap (append_refusal chunk.now (slice_get s.schemas f)) (sym at) ∙ free)) in
-    (known.1, known.2))
+    changeable-at s f (Append chunk) x h lent (slice_get_within s.frames f there.1 there.3) (takes-chunk s f chunk.now x free)
+changeable s f (Prepared chunk) x h free lent =
+    let there = append-there chunk.now (slice_get s.schemas f) (slice_get s.frames f) free in
+    changeable-at s f (Prepared chunk) x h lent (slice_get_within s.frames f there.1 there.3) (takes-chunk s f chunk.now x free)
 changeable s f (Delete ns) x h free lent =
     let there = delete-there ns.now (slice_get s.frames f) free in
     changeable-at s f (Delete ns) x h lent (slice_get_within s.frames f there.0 there.1) (λ at.
@@ -125,6 +134,7 @@ changeable-of frames views t f g c x same place h free lent =
 -- a frame is sound after it
 pub numbered-after : (f : ℕ) (c : FrameChange) (x : FrameState) → IsSound (change_of f c) → IsNumbered x → FrameTakes x c → IsNumbered (frame_after x c)
 numbered-after f (Append chunk) x sound h takes = numbered-with_chunk chunk.now x h sound.numbered takes.0 takes.1
+numbered-after f (Prepared chunk) x sound h takes = numbered-with_chunk chunk.now x h sound.numbered takes.0 takes.1
 numbered-after f (Delete ns) x sound h takes = numbered-without_rows ns.now x h
 numbered-after f (Replace rows) x sound h takes = numbered-with_replaced_rows rows.now x h
 
@@ -134,6 +144,7 @@ pub after-frame :
     let frames = change_at f (λ x. frame_after x c) s.frames in
     after s (change_of f c) ≡ record { schemas = s.schemas; frames = frames; views = refreshed_views frames s.views }
 after-frame s f (Append chunk) = refl
+after-frame s f (Prepared chunk) = refl
 after-frame s f (Delete ns) = refl
 after-frame s f (Replace rows) = refl
 
@@ -162,6 +173,7 @@ fits-after frames views f c x h sound free known lent =
 pub frame-accepted :
     (f : ℕ) (c : FrameChange) (x : FrameState) → length (frame_after x c).accepted ≡ length x.accepted + accepted_rows (change_of f c)
 frame-accepted f (Append chunk) x = accepted-more chunk.now x
+frame-accepted f (Prepared chunk) x = accepted-more chunk.now x
 frame-accepted f (Delete ns) x = omega arith
 frame-accepted f (Replace rows) x = omega arith
 
@@ -169,6 +181,7 @@ pub frame-deleted :
     (f : ℕ) (c : FrameChange) (x : FrameState) → IsNumbered x → FrameTakes x c →
     length (frame_after x c).deleted ≡ length x.deleted + deleted_rows (change_of f c)
 frame-deleted f (Append chunk) x sound takes = omega arith
+frame-deleted f (Prepared chunk) x sound takes = omega arith
 frame-deleted f (Delete ns) x sound takes = deleted-more x ns.now sound takes.0 takes.1
 frame-deleted f (Replace rows) x sound takes = omega arith
 
@@ -185,9 +198,10 @@ kept (d ∷ ds) zero f rows = ap (λ e. e ∷ ds) (replace-desk d f rows)
 kept (d ∷ ds) (suc i) f rows = ap (λ es. d ∷ es) (kept ds i f rows)
 
 -- the desks of all frames, of which that at the frame's index counts the rows
-desks-counted :
+pub desks-counted :
     (desks : List DeskParts) (f : ℕ) (c : FrameChange) → desks_after desks (change_of f c) ≡ change_at f (λ d. desk_after d (change_of f c)) desks
 desks-counted desks f (Append chunk) = refl
+desks-counted desks f (Prepared chunk) = refl
 desks-counted desks f (Delete ns) = refl
 desks-counted desks f (Replace rows) = sym (kept desks f f rows.now)
 

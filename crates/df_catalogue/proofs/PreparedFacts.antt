@@ -15,15 +15,13 @@ use Rattle.df_column.specs.Tables.{TableParts}
 use Rattle.df_column.specs.declared.tag.Tag.{Tag}
 use Rattle.df_delta.specs.Deltas.{RowsFit}
 use Rattle.df_delta.specs.Differences.{IsDiff}
-use Rattle.df_catalogue.specs.FrameChanges.{Appends, FrameTakes, delta_of_chunk, frame_after}
+use Rattle.df_catalogue.specs.FrameChanges.{TakesChunk}
 use Rattle.df_catalogue.specs.FrameTables.{at_tag, tagged_rows_of}
 use Rattle.df_catalogue.specs.Frames.{IsFrame, IsNumbered, chunk_numbers, with_chunk}
 use Rattle.df_catalogue.specs.Numbers.{has_number}
-use Rattle.df_catalogue.specs.Refusals.{first_taken, would_be_full}
+use Rattle.df_catalogue.specs.Prepared.{delta_of_chunk}
 use Rattle.df_catalogue.specs.States.{empty_frame}
 use Rattle.df_catalogue.specs.Stored.{IsStored, rows_from}
-use Rattle.df_catalogue.specs.declared.frame_change.FrameChange.{FrameChange}
-use Rattle.df_catalogue.specs.declared.frame_change.FrameChange.TheVariants.{Append, Delete, Replace}
 use Rattle.df_catalogue.specs.declared.state.FrameState.{FrameState}
 use Rattle.df_catalogue.proofs.FrameFacts.{empty-sound, frame-with_chunk, numbered-with_chunk}
 use Rattle.df_catalogue.proofs.FrameTableFacts.{appended-diff, empty-table, table-entries, table-fits}
@@ -106,10 +104,7 @@ part-stored c sound t is low first len within number =
     }
 
 -- the delta of a chunk leads a frame that takes it to the frame with it
-pub prepared-diff : (change : FrameChange) (c : ChunkParts) (f : FrameState) → Appends change c → IsChunk c.schema c.first c.rows → IsNumbered f → FrameTakes f change → IsDiff (tagged_rows_of f) (tagged_rows_of (frame_after f change)) (delta_of_chunk c)
-prepared-diff (Append chunk) c f is sound numbered takes =
-    let free : (first_taken f c ≡ None) × (would_be_full f c ≡ false) = subst (λ k. (first_taken f k ≡ None) × (would_be_full f k ≡ false)) is takes in
-    subst (λ k. IsDiff (tagged_rows_of f) (tagged_rows_of (with_chunk k f)) (delta_of_chunk c)) (sym is)
-    (appended-diff c f numbered (numbered-with_chunk c f numbered sound.numbered free.0 free.1) free.0)
-prepared-diff (Delete numbers) c f is sound numbered takes = absurd is
-prepared-diff (Replace rows) c f is sound numbered takes = absurd is
+pub prepared-diff :
+    (c : ChunkParts) (f : FrameState) → IsChunk c.schema c.first c.rows → IsNumbered f → TakesChunk f c →
+    IsDiff (tagged_rows_of f) (tagged_rows_of (with_chunk c f)) (delta_of_chunk c)
+prepared-diff c f sound numbered takes = appended-diff c f numbered (numbered-with_chunk c f numbered sound.numbered takes.0 takes.1) takes.0

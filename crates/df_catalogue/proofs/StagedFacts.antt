@@ -9,7 +9,7 @@ use Rattle.df_catalogue.specs.declared.change.Change.TheVariants.{Register}
 use Rattle.df_catalogue.specs.declared.fault.CatalogueFault.{CatalogueFault}
 use Rattle.df_catalogue.specs.declared.fault.CatalogueFault.TheVariants as fault
 use Rattle.df_catalogue.specs.declared.frame_change.FrameChange.{FrameChange}
-use Rattle.df_catalogue.specs.declared.frame_change.FrameChange.TheVariants.{Append, Delete, Replace}
+use Rattle.df_catalogue.specs.declared.frame_change.FrameChange.TheVariants.{Append, Delete, Prepared, Replace}
 use Rattle.df_catalogue.specs.declared.staging.StagedFrame.{StagedFrame}
 use Rattle.df_catalogue.specs.declared.staging.Staging.{Staging}
 use Rattle.df_catalogue.specs.declared.staging.Staging.TheVariants.{Rows}
@@ -99,6 +99,7 @@ staged-at old new c f g r same h = subst (λ i. IsStagedChange old (change_of i 
 
 counts-frame : (f : ℕ) (c : FrameChange) → option_map (λ r. r.frame) (counts_of (change_of f c)) ≡ Some f
 counts-frame f (Append chunk) = refl
+counts-frame f (Prepared chunk) = refl
 counts-frame f (Delete ns) = refl
 counts-frame f (Replace rows) = refl
 
@@ -149,6 +150,7 @@ refused-work f old new c h = record { counted = tt; same = h.work }
 
 desk-counted : (f : ℕ) (c : FrameChange) (d new : DeskParts) → IsSomeAnd (counts_of (change_of f c)) (λ r. new ≡ counted_desk d r) → new ≡ desk_after d (change_of f c)
 desk-counted f (Append chunk) d new h = h
+desk-counted f (Prepared chunk) d new h = h
 desk-counted f (Delete ns) d new h = h
 desk-counted f (Replace rows) d new h = h
 
@@ -169,6 +171,7 @@ whole-desk t u old mid f c d new h k = record { counted = desk-of old f c d new 
 -- a change of rows takes memory
 pub out-of-memory : (s : State) (f : ℕ) (c : FrameChange) → refusal_of s (change_of f c) ≡ None → RefusedBy s (change_of f c) fault.Memory
 out-of-memory s f (Append chunk) free = record { exact = λ n. absurd (n refl); memory_last = λ m. free; memory_taken = λ m. refl }
+out-of-memory s f (Prepared chunk) free = record { exact = λ n. absurd (n refl); memory_last = λ m. free; memory_taken = λ m. refl }
 out-of-memory s f (Delete ns) free = record { exact = λ n. absurd (n refl); memory_last = λ m. free; memory_taken = λ m. refl }
 out-of-memory s f (Replace rows) free = record { exact = λ n. absurd (n refl); memory_last = λ m. free; memory_taken = λ m. refl }
 

@@ -8,7 +8,7 @@ use Rattle.df_delta.specs.Differences.{IsDiff}
 use Rattle.df_delta.specs.Work.{IsWithin}
 use Rattle.df_live.specs.Frames.{changed}
 use Rattle.df_catalogue.specs.declared.frame_change.FrameChange.{FrameChange}
-use Rattle.df_catalogue.specs.declared.frame_change.FrameChange.TheVariants.{Append, Delete, Replace}
+use Rattle.df_catalogue.specs.declared.frame_change.FrameChange.TheVariants.{Append, Delete, Prepared, Replace}
 use Rattle.df_catalogue.specs.declared.staging.StagedFrame.{StagedFrame}
 use Rattle.df_catalogue.specs.declared.state.FrameState.{FrameState}
 use Rattle.df_catalogue.specs.declared.state.RowCounts.{RowCounts}
@@ -120,5 +120,6 @@ rows-counts f c accepted deleted e d =
     counted : (f : ℕ) (c : FrameChange) →
         Some (record { frame = f; accepted = accepted_rows (change_of f c); deleted = deleted_rows (change_of f c) }) ≡ counts_of (change_of f c)
     counted f (Append chunk) = refl
+    counted f (Prepared chunk) = refl
     counted f (Delete ns) = refl
     counted f (Replace rows) = refl

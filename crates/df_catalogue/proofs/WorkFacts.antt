@@ -108,6 +108,7 @@ counted-views views frames new_frames others m same h =
 pub counted-frame :
     (s : State) (f : ℕ) (c : FrameChange) (m old : Meter) → IsWithin m (allowance s (after s (change_of f c))) → IsCounted (allowed_after s (change_of f c) None) old m
 counted-frame s f (RowsOf.Append chunk) m old h = h
+counted-frame s f (RowsOf.Prepared chunk) m old h = h
 counted-frame s f (RowsOf.Delete ns) m old h = h
 counted-frame s f (RowsOf.Replace rows) m old h = h
 

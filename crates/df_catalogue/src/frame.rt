@@ -1,14 +1,11 @@
 //! One frame: its rows under their numbers, and the numbers that it accepted.
-ghost use Rattle.std.specs.Prelude.{◌≡◌, ◌≤◌, ◌<◌, IfOk, IfSome, IsTrue, length, map, slice_index};
+ghost use Rattle.std.specs.Prelude.{◌≡◌, ◌≤◌, ◌<◌, IfOk, IsTrue, length, map, slice_index};
 ghost use Rattle.df_catalogue.specs.FrameChanges as frame_changes;
 ghost use Rattle.df_catalogue.specs.FrameParts.{empty_parts};
 ghost use Rattle.df_catalogue.specs.FrameTables.{table_parts, tagged_rows_of};
 ghost use Rattle.df_catalogue.specs.Frames as frames;
 ghost use Rattle.df_catalogue.specs.Frames.{IsNumbered, numbers_of, rows_of};
-ghost use Rattle.df_catalogue.specs.Prepared.{delta_in};
 ghost use Rattle.df_catalogue.specs.Refusals as refusals;
-ghost use Rattle.df_column.specs.Changes.{applied};
-ghost use Rattle.df_delta.specs.Deltas.{RowsFit};
 ghost use Rattle.df_delta.specs.Differences.{IsDiff};
 ghost use Rattle.df_value.specs.Limits as limits;
 ghost use Rattle.df_value.specs.Rows.{rows_fit};
@@ -16,11 +13,10 @@ ghost use Rattle.df_value.specs.Rows.{rows_fit};
 use crate::deltas::{delta_at, delta_of_rows, row_tag};
 use crate::frame_change::FrameChange;
 use crate::numbered::HasNumber;
-use crate::prepared::{FrameDelta, PreparedChunk};
+use crate::prepared::FrameDelta;
 use crate::ranges::Ranges;
 use crate::row_numbers::{number_at, row_numbers};
 use df_column::Table;
-use df_delta::{Delta, apply, apply_with};
 use df_value::{Chunk, Duplicate, List, MOST_ROWS_OF_FRAME, Row, Schema};
 use std::alloc::{AllocError, Global};
 use std::marker::Model;
@@ -181,41 +177,31 @@ impl Frame {
             .find(|n| !self.has_row(*n))
     }
 
-    /// The lean delta from the rows to those after a change that nothing in the frame refuses.
-    pub fn delta(&self, alloc: Global, change: FrameChange) -> Result<Delta, AllocError>
+    // The delta from the rows to those after a change that nothing in the frame refuses: made for it, and lean, or lent by
+    // the prepared chunk that it adds.
+    fn delta<'a>(
+        &self,
+        alloc: Global,
+        change: FrameChange<'a>,
+    ) -> Result<FrameDelta<'a>, AllocError>
         requires sound { IsNumbered self.now.state }
         requires free { frame_changes.FrameTakes self.now.state change }
-        ensures { IfOk result (IsDiff (tagged_rows_of self.now.state)
-            (tagged_rows_of (frame_changes.frame_after self.now.state change.entry))) }
+        ensures { IfOk result (λ delta. IsDiff (tagged_rows_of self.now.state)
+            (tagged_rows_of (frame_changes.frame_after self.now.state change.entry))
+            (frame_changes.delta_in delta)) }
     {
         match change {
             FrameChange::Append(chunk) => {
-                delta_of_rows(alloc, chunk.first(), chunk.rows().as_slice())
+                let rows = chunk.rows().as_slice();
+                Ok(FrameDelta::Made(delta_of_rows(alloc, chunk.first(), rows)?))
             }
-            FrameChange::Delete(numbers) => delta_at(alloc, &self.table, numbers),
-            FrameChange::Replace(rows) => delta_at(alloc, &self.table, rows),
-        }
-    }
-
-    // The delta of a change, made for it or lent by the prepared chunk that it adds.
-    fn delta_with<'a>(
-        &self,
-        alloc: Global,
-        change: FrameChange,
-        prepared: Option<&'a PreparedChunk>,
-    ) -> Result<FrameDelta<'a>, AllocError>
-        requires prepared { IfSome prepared (λ p. frame_changes.Appends change p.now) }
-        requires sound { IsNumbered self.now.state }
-        requires free { frame_changes.FrameTakes self.now.state change }
-        ensures diff { IfOk result (λ delta. IsDiff (tagged_rows_of self.now.state)
-            (tagged_rows_of (frame_changes.frame_after self.now.state change.entry))
-            (delta_in delta)) }
-        ensures lent { IfOk result (λ delta. IfSome prepared.entry
-            (λ p. delta_in delta ≡ frame_changes.delta_of_chunk p.now)) }
-    {
-        match prepared {
-            Some(prepared) => Ok(FrameDelta::Lent(prepared.delta())),
-            None => Ok(FrameDelta::Made(self.delta(alloc, change)?)),
+            FrameChange::Prepared(prepared) => Ok(prepared.lend()),
+            FrameChange::Delete(numbers) => {
+                Ok(FrameDelta::Made(delta_at(alloc, &self.table, numbers)?))
+            }
+            FrameChange::Replace(rows) => {
+                Ok(FrameDelta::Made(delta_at(alloc, &self.table, rows)?))
+            }
         }
     }
 
@@ -224,10 +210,8 @@ impl Frame {
     pub(crate) fn changed<'a>(
         &self,
         alloc: Global,
-        change: FrameChange,
-        prepared: Option<&'a PreparedChunk>,
+        change: FrameChange<'a>,
     ) -> Result<(Frame, FrameDelta<'a>), AllocError>
-        requires prepared { IfSome prepared (λ p. frame_changes.Appends change p.now) }
         requires sound { IsNumbered self.now.state }
         requires free { frame_changes.FrameTakes self.now.state change }
         requires fits { IsTrue (rows_fit self.now.schema
@@ -237,10 +221,10 @@ impl Frame {
             made.0.state ≡ frame_changes.frame_after self.now.state change.entry) }
         ensures diff { IfOk result (λ made. IsDiff (tagged_rows_of self.now.state)
             (tagged_rows_of (frame_changes.frame_after self.now.state change.entry))
-            (delta_in made.1)) }
+            (frame_changes.delta_in made.1)) }
     {
-        let delta = self.delta_with(alloc, change, prepared)?;
-        let table = changed_table(alloc, &self.table, delta.get(), prepared)?;
+        let delta = self.delta(alloc, change)?;
+        let table = delta.applied(alloc, &self.table)?;
         let accepted = self.accepted_after(alloc, change)?;
         let frame = Frame {
             accepted,
@@ -259,28 +243,18 @@ impl Frame {
             accepted ≡ (frame_changes.frame_after self.now.state change.entry).accepted) }
     {
         match change {
-            FrameChange::Append(chunk) => {
-                self.accepted.with(alloc, chunk.first(), chunk.rows().len())
-            }
+            FrameChange::Append(chunk) => self.accepted_with(alloc, chunk),
+            FrameChange::Prepared(prepared) => self.accepted_with(alloc, prepared.chunk()),
             FrameChange::Delete(_) | FrameChange::Replace(_) => self.accepted.copy(alloc),
         }
     }
-}
 
-// The table after the changes. The delta may be that of a prepared chunk, whose blocks are then taken where that goes.
-fn changed_table(
-    alloc: Global,
-    table: &Table,
-    delta: &Delta,
-    prepared: Option<&PreparedChunk>,
-) -> Result<Table, AllocError>
-    requires { IfSome prepared (λ p. delta.now ≡ frame_changes.delta_of_chunk p.now) }
-    ensures schema { IfOk result (λ t. t.schema ≡ table.now.schema) }
-    ensures rows { RowsFit table.now.schema (applied table.now.rows delta.now)
-        → IfOk result (λ t. t.rows ≡ applied table.now.rows delta.now) }
-{
-    match prepared {
-        Some(prepared) => apply_with(alloc, table, delta, prepared.table()),
-        None => apply(alloc, table, delta),
+    fn accepted_with(&self, alloc: Global, chunk: &Chunk) -> Result<Ranges, AllocError>
+        requires sound { IsNumbered self.now.state }
+        requires free { frame_changes.TakesChunk self.now.state chunk.now }
+        ensures { IfOk result (λ accepted.
+            accepted ≡ (frames.with_chunk chunk.now self.now.state).accepted) }
+    {
+        self.accepted.with(alloc, chunk.first(), chunk.rows().len())
     }
 }

@@ -2,6 +2,7 @@
 ghost use Rattle.std.specs.Prelude.{◌≡◌, ℕ};
 
 use crate::numbered::Numbered;
+use crate::prepared::PreparedChunk;
 use df_value::Chunk;
 
 /// A change of one frame's rows. Which frame it is, the call says that makes the change.
@@ -9,6 +10,8 @@ use df_value::Chunk;
 pub enum FrameChange<'a> {
     /// The chunk's rows are added.
     Append(&'a Chunk),
+    /// The prepared chunk's rows are added.
+    Prepared(&'a PreparedChunk),
     /// The rows of these numbers are taken out.
     Delete(&'a [u32]),
     /// Each of these rows comes in the place of the row of its number.
@@ -27,6 +30,7 @@ impl FrameChange<'_> {
     {
         match self {
             FrameChange::Append(chunk) => chunk.rows().len() as u64,
+            FrameChange::Prepared(prepared) => prepared.chunk().rows().len() as u64,
             FrameChange::Delete(_) | FrameChange::Replace(_) => 0,
         }
     }
@@ -36,7 +40,7 @@ impl FrameChange<'_> {
         ensures { (f : ℕ) → result ≡ changes.deleted_rows (frame_changes.change_of f self.now) }
     {
         match self {
-            FrameChange::Append(_) | FrameChange::Replace(_) => 0,
+            FrameChange::Append(_) | FrameChange::Prepared(_) | FrameChange::Replace(_) => 0,
             FrameChange::Delete(numbers) => numbers.len() as u64,
         }
     }

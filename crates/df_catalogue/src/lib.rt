@@ -31,14 +31,17 @@ mod stages;
 mod staging;
 mod state;
 mod stored;
+mod view_change;
 mod views;
 
 pub use catalogue::Catalogue;
 pub use change::Change;
 pub use desk::{Desk, PARTS_OF_LEDGER};
 pub use fault::{CatalogueFault, NewFault};
+pub use frame_change::FrameChange;
 pub use picture::Picture;
 pub use prepared::PreparedChunk;
 pub use staged::{StagedRows, StagedViews};
 pub use state::{CatalogueParts, FrameState, RowCounts, StagedParts, State, ViewState};
 pub use stored::StoredChunk;
+pub use view_change::ViewChange;

@@ -3,13 +3,14 @@ ghost use Rattle.std.specs.Prelude.{◌≡◌, ◌+◌, ◌≤◌, IfOk, IfSome,
 ghost use Rattle.std.specs.FinMap as finite;
 ghost use Rattle.df_value.specs.Chunks.{IsChunk};
 ghost use Rattle.df_column.specs.Changes.{applied};
-ghost use Rattle.df_catalogue.specs.FrameChanges.{delta_of_chunk};
-ghost use Rattle.df_catalogue.specs.Prepared.{delta_in};
+ghost use Rattle.df_catalogue.specs.FrameChanges.{delta_in};
+ghost use Rattle.df_catalogue.specs.Prepared.{delta_of_chunk};
+ghost use Rattle.df_delta.specs.Deltas.{RowsFit};
 
 use crate::deltas::delta_of_rows;
 use crate::stored::StoredChunk;
 use df_column::Table;
-use df_delta::{Delta, apply};
+use df_delta::{Delta, apply, apply_with};
 use df_value::{Chunk, Duplicate, same};
 use std::alloc::{AllocError, Global};
 use std::marker::Model;
@@ -52,7 +53,7 @@ impl Model for PreparedChunk {
 /// The delta of a change of a frame: made for it, or that of a prepared chunk.
 pub(crate) enum FrameDelta<'a> {
     Made(Delta),
-    Lent(&'a Delta),
+    Lent(&'a PreparedChunk),
 }
 
 // A body that owns one drops it by a call.
@@ -72,7 +73,21 @@ impl FrameDelta<'_> {
     {
         match self {
             FrameDelta::Made(delta) => delta,
-            FrameDelta::Lent(delta) => delta,
+            FrameDelta::Lent(prepared) => prepared.delta(),
+        }
+    }
+
+    /// The table after it. The blocks of a prepared chunk are taken where that goes.
+    pub(crate) fn applied(&self, alloc: Global, table: &Table) -> Result<Table, AllocError>
+        ensures schema { IfOk result (λ t. t.schema ≡ table.now.schema) }
+        ensures rows { RowsFit table.now.schema (applied table.now.rows (delta_in self.now))
+            → IfOk result (λ t. t.rows ≡ applied table.now.rows (delta_in self.now)) }
+    {
+        match self {
+            FrameDelta::Made(delta) => apply(alloc, table, delta),
+            FrameDelta::Lent(prepared) => {
+                apply_with(alloc, table, prepared.delta(), prepared.table())
+            }
         }
     }
 }
@@ -101,15 +116,23 @@ impl PreparedChunk {
     }
 
     /// The delta by which its rows come.
-    pub(crate) fn delta(&self) -> &Delta
-        ensures value { result.now ≡ delta_of_chunk self.now }
+    pub(crate) fn lend(&self) -> FrameDelta<'_>
+        ensures value { delta_in result ≡ delta_of_chunk self.now }
         ensures sound { IsChunk self.now.schema self.now.first self.now.rows }
+    {
+        // The chunk is sound also where nothing of it is read.
+        let _ = &self.chunk;
+        FrameDelta::Lent(self)
+    }
+
+    fn delta(&self) -> &Delta
+        ensures { result.now ≡ delta_of_chunk self.now }
     {
         &self.delta
     }
 
-    /// Its rows, each at the tag of its number.
-    pub(crate) fn table(&self) -> &Table
+    // Its rows, each at the tag of its number.
+    fn table(&self) -> &Table
         ensures { result.now.rows ≡ applied finite.empty (delta_of_chunk self.now) }
     {
         &self.table

@@ -1,6 +1,6 @@
 //! The staging of changes: all that may be refused, and all that takes memory. The state stays, and
 //! so does the work.
-ghost use Rattle.std.specs.Prelude.{◌≡◌, None, Ok, IfOk, IfSome, IsSomeAnd, OnErr, OnOk};
+ghost use Rattle.std.specs.Prelude.{◌≡◌, None, Ok, IfOk, IsSomeAnd, OnErr, OnOk};
 ghost use Rattle.df_plan.specs.Checks.{plan_check};
 ghost use Rattle.df_live.specs.Views.{IsLive};
 ghost use Rattle.df_catalogue.specs.declared.change.Change.TheVariants.{Append, Delete, Replace, Register, DropView};
@@ -10,6 +10,7 @@ ghost use Rattle.df_catalogue.specs.LiveViews.{tagged_frames};
 ghost use Rattle.df_catalogue.specs.Refusals.{refusal_of};
 ghost use Rattle.df_catalogue.specs.StagedChanges.{IsStagedChange, IsStagedFor};
 ghost use Rattle.df_catalogue.specs.States.{IsLegal};
+ghost use Rattle.df_catalogue.specs.ViewChanges.{change_of_views};
 
 use crate::catalogue::Catalogue;
 use crate::desk::Desk;
@@ -19,6 +20,7 @@ use crate::live_views::{prepare_all, shared_tables};
 use crate::prepared::PreparedChunk;
 use crate::staged::{StagedRows, StagedViews};
 use crate::staging::{StagedFrame, Staging, clear, stage};
+use crate::view_change::ViewChange;
 use crate::views::{View, has_room};
 use df_expr::Meter;
 use df_live::LiveView;
@@ -40,7 +42,7 @@ impl<Acc: Ledger, Del: Ledger> Catalogue<Acc, Del> {
         ensures staged { IsStagedChange self.old (Append desk.now.frame chunk.now) result self.new }
         ensures token { IfOk result (λ token. token.catalogue.value ≡ self.new) }
     {
-        self.stage_frame_change(alloc, desk, FrameChange::Append(chunk), None)
+        self.stage_frame_change(alloc, desk, FrameChange::Append(chunk))
     }
 
     /// Makes the append of a prepared chunk ready, as [`stage_append`](Catalogue::stage_append) does
@@ -54,8 +56,7 @@ impl<Acc: Ledger, Del: Ledger> Catalogue<Acc, Del> {
         ensures staged { IsStagedChange self.old (Append desk.now.frame chunk.now) result self.new }
         ensures token { IfOk result (λ token. token.catalogue.value ≡ self.new) }
     {
-        let change = FrameChange::Append(chunk.chunk());
-        self.stage_frame_change(alloc, desk, change, Some(chunk))
+        self.stage_frame_change(alloc, desk, FrameChange::Prepared(chunk))
     }
 
     /// Makes [`delete`](Catalogue::delete) ready, in the place of what was staged before. It is
@@ -69,7 +70,7 @@ impl<Acc: Ledger, Del: Ledger> Catalogue<Acc, Del> {
         ensures staged { IsStagedChange self.old (Delete desk.now.frame numbers.now) result self.new }
         ensures token { IfOk result (λ token. token.catalogue.value ≡ self.new) }
     {
-        self.stage_frame_change(alloc, desk, FrameChange::Delete(numbers), None)
+        self.stage_frame_change(alloc, desk, FrameChange::Delete(numbers))
     }
 
     /// Makes [`replace`](Catalogue::replace) ready, in the place of what was staged before. It is
@@ -83,7 +84,7 @@ impl<Acc: Ledger, Del: Ledger> Catalogue<Acc, Del> {
         ensures staged { IsStagedChange self.old (Replace desk.now.frame rows.now) result self.new }
         ensures token { IfOk result (λ token. token.catalogue.value ≡ self.new) }
     {
-        self.stage_frame_change(alloc, desk, FrameChange::Replace(rows), None)
+        self.stage_frame_change(alloc, desk, FrameChange::Replace(rows))
     }
 
     /// Makes [`register`](Catalogue::register) ready, in the place of what was staged before. It is
@@ -123,15 +124,32 @@ impl<Acc: Ledger, Del: Ledger> Catalogue<Acc, Del> {
         }
     }
 
-    /// Stages a change of the rows of the desk's frame. The chunk that it adds may be a prepared one.
-    pub(crate) fn stage_frame_change(
+    /// Makes a change of the views ready, in the place of what was staged before. It is refused as
+    /// [`register`](Catalogue::register) or [`drop_view`](Catalogue::drop_view) is, and then nothing is
+    /// staged.
+    pub fn stage_view_change(
+        &mut self,
+        alloc: Global,
+        change: ViewChange,
+    ) -> Result<StagedViews<Acc, Del>, CatalogueFault>
+        ensures staged { IsStagedChange self.old (change_of_views change.entry) result self.new }
+        ensures token { IfOk result (λ token. token.catalogue.value ≡ self.new) }
+    {
+        match change {
+            ViewChange::Register(name, plan) => self.stage_register(alloc, name, plan),
+            ViewChange::Drop(name) => self.stage_drop(name),
+        }
+    }
+
+    /// Makes a change of the rows of the desk's frame ready, in the place of what was staged before. It is
+    /// refused as [`append`](Catalogue::append), [`delete`](Catalogue::delete) or
+    /// [`replace`](Catalogue::replace) is, and then nothing is staged.
+    pub fn stage_frame_change(
         &mut self,
         alloc: Global,
         desk: &Desk<Acc, Del>,
         change: FrameChange,
-        prepared: Option<&PreparedChunk>,
     ) -> Result<StagedRows<Acc, Del>, CatalogueFault>
-        requires { IfSome prepared (λ p. frame_changes.Appends change p.now) }
         ensures staged { IsStagedChange self.old
             (frame_changes.change_of desk.now.frame change.entry)
             result self.new }
@@ -140,7 +158,7 @@ impl<Acc: Ledger, Del: Ledger> Catalogue<Acc, Del> {
         let frame = desk.frame();
         self.unstage();
         self.check_frame_change(alloc, frame, change)?;
-        Ok(self.stage_rows(alloc, frame, change, prepared)?)
+        Ok(self.stage_rows(alloc, frame, change)?)
     }
 
     // Stages a change of a frame that is not refused.
@@ -149,9 +167,7 @@ impl<Acc: Ledger, Del: Ledger> Catalogue<Acc, Del> {
         alloc: Global,
         frame: usize,
         change: FrameChange,
-        prepared: Option<&PreparedChunk>,
     ) -> Result<StagedRows<Acc, Del>, AllocError>
-        requires prepared { IfSome prepared (λ p. frame_changes.Appends change p.now) }
         requires free { refusal_of self.old.state (frame_changes.change_of frame change) ≡ None }
         requires nothing { self.old.staged ≡ None }
         ensures state { self.new.state ≡ self.old.state }
@@ -166,7 +182,7 @@ impl<Acc: Ledger, Del: Ledger> Catalogue<Acc, Del> {
         let accepted = change.accepted_rows();
         let deleted = change.deleted_rows();
         let mut work = Meter::new();
-        let (changed, delta) = self.frames[frame].changed(alloc, change, prepared)?;
+        let (changed, delta) = self.frames[frame].changed(alloc, change)?;
         let views = prepare_all(alloc, &mut self.views, frame, delta.get(), &mut work)?;
         let rows = StagedFrame {
             frame,

@@ -1,20 +1,22 @@
 -- The desks of a hall, of which a change counts in one.
 use Rattle.std.proofs.Common.{◌≡◌, ◌∙◌, ◌+◌, ◌<◌, ℕ, zero, suc, List, [], ◌∷◌, ap, arith, length, map, refl, subst, sym}
-use Rattle.std.specs.Prelude.{Result, Ok, Err, OnErr, OnOk, Some, slice_get, slice_index_or, slice_set}
+use Rattle.std.specs.Prelude.{Result, Ok, Err, OnErr, OnOk, None, Some, slice_get, slice_index_or, slice_set}
 use Rattle.std.specs.List.{range_with_len}
 use Rattle.std.proofs.lemmas.List.{length-map, set-get_or}
 use Rattle.std.proofs.lemmas.List.FromFn.{length-range_with_len}
 use Rattle.std.proofs.lemmas.Option.{slice_get-get_or}
-use Rattle.df_value.specs.declared.cell.Cell.{Cell}
-use Rattle.df_value.specs.Chunks.{ChunkParts}
 use Rattle.df_catalogue.specs.Changes.{change_at}
 use Rattle.df_catalogue.specs.Desks.{DeskParts, desk_after, desks_after, first_desk, first_desks}
 use Rattle.df_catalogue.specs.declared.change.Change.{Change}
-use Rattle.df_catalogue.specs.declared.change.Change.TheVariants.{Append, Delete, Replace}
+use Rattle.df_catalogue.specs.declared.frame_change.FrameChange.{FrameChange}
+use Rattle.df_catalogue.specs.declared.frame_change.FrameChange.TheVariants as Rows
+use Rattle.df_catalogue.specs.declared.view_change.ViewChange.{ViewChange}
+use Rattle.df_catalogue.specs.declared.view_change.ViewChange.TheVariants as Views
+use Rattle.df_catalogue.specs.FrameChanges.{change_of}
+use Rattle.df_catalogue.specs.ViewChanges.{change_of_views}
 use Rattle.df_catalogue.proofs.DeskFacts.{first-in-order, frames-after}
-use Rattle.df_catalogue.proofs.FrameChangeFacts.{replace-desk}
 use Rattle.df_catalogue.proofs.StateFacts.{change-set}
-use Rattle.df_store.specs.Halls.{having_accepted, having_deleted}
+use Rattle.df_shell.specs.Halls.{HasNoDesk}
 
 -- each desk is at the index of its frame
 abbrev pub InOrder : List DeskParts → Type 0
@@ -62,30 +64,17 @@ pub ordered : {X E : Type 0} (desks new : List DeskParts) (c : Change) (r : Resu
 ordered desks new c (Ok x) h o = same-frames desks new (ap (map (λ d. d.frame)) h ∙ frames-after desks c) o
 ordered desks new c (Err e) h o = subst InOrder (sym h) o
 
--- a desk counts what a change of its frame adds and takes out
-pub accepted-desk : (d : DeskParts) (f : ℕ) (chunk : ChunkParts) → having_accepted (length chunk.rows) d ≡ desk_after d (Append f chunk)
-accepted-desk d f chunk =
-    let none : d.deleted ≡ d.deleted + 0 = omega arith in
-    λ i. record d { accepted = d.accepted + length chunk.rows; deleted = none i }
+-- a change of rows has no desk where none is at the frame's index
+pub no-desk : (desks : List DeskParts) (f : ℕ) (c : FrameChange) → slice_get desks f ≡ None → HasNoDesk desks (change_of f c)
+no-desk desks f (Rows.Append chunk) e = e
+no-desk desks f (Rows.Prepared chunk) e = e
+no-desk desks f (Rows.Delete ns) e = e
+no-desk desks f (Rows.Replace rows) e = e
 
-pub deleted-desk : (d : DeskParts) (f : ℕ) (numbers : List ℕ) → having_deleted (length numbers) d ≡ desk_after d (Delete f numbers)
-deleted-desk d f numbers =
-    let none : d.accepted ≡ d.accepted + 0 = omega arith in
-    λ i. record d { accepted = none i; deleted = d.deleted + length numbers }
-
-pub replaced-desks :
-    (desks : List DeskParts) (i f : ℕ) (rows : List (ℕ × List Cell)) → desks ≡ change_at i (λ d. desk_after d (Replace f rows)) desks
-replaced-desks [] i f rows = refl
-replaced-desks (d ∷ ds) zero f rows = ap (λ e. e ∷ ds) (sym (replace-desk d f rows))
-replaced-desks (d ∷ ds) (suc i) f rows = ap (λ es. d ∷ es) (replaced-desks ds i f rows)
-
-pub ok-any : {X E P : Type 0} (r : Result X E) → P → OnOk r P
-ok-any (Ok x) p = p
-ok-any (Err e) p = tt
-
-pub err-any : {X E P : Type 0} (r : Result X E) → P → OnErr r P
-err-any (Ok x) p = tt
-err-any (Err e) p = p
+-- a change of views touches no desk
+pub desks-kept : (desks : List DeskParts) (c : ViewChange) → desks_after desks (change_of_views c) ≡ desks
+desks-kept desks (Views.Register name plan) = refl
+desks-kept desks (Views.Drop name) = refl
 
 pub are-same : {X E : Type 0} (desks : List DeskParts) (c : Change) (r : Result X E) → desks_after desks c ≡ desks → AreAfter desks c r desks
 are-same desks c (Ok x) e = sym e

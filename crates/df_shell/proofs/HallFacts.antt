@@ -2,11 +2,14 @@
 use Rattle.std.proofs.Common.{◌≡◌, ◌∙◌, ◌≤◌, ◌<◌, ◌⊎◌, ⊎_elim, inl, ℕ, List, [], ◌∷◌, ap, arith, length, length-append, refl, subst, sym}
 use Rattle.std.specs.Prelude.{Option, Some, None, Result, Ok, Err, IfErr, OnErr, OnOk, slice_index_or, slice_set}
 use mathlib.Core.List.{IsPrefix}
-use Rattle.df_catalogue.specs.Changes.{after, change_at}
+use Rattle.df_catalogue.specs.Changes.{after}
 use Rattle.df_catalogue.specs.declared.change.Change.{Change}
 use Rattle.df_catalogue.specs.declared.fault.CatalogueFault.{CatalogueFault}
 use Rattle.df_catalogue.specs.declared.state.State.{State}
+use Rattle.df_catalogue.specs.declared.frame_change.FrameChange.{FrameChange}
 use Rattle.df_catalogue.specs.Desks.{DeskParts, desk_after, desks_after}
+use Rattle.df_catalogue.specs.FrameChanges.{change_of}
+use Rattle.df_catalogue.proofs.FrameChangeFacts.{desks-counted}
 use Rattle.df_shell.proofs.DesksFacts.{AreAfter, InOrder, counted, frame-there, ordered}
 use Rattle.df_shell.specs.Changing.{AnswersTold, IsAnswered, IsKnown, IsLearnt, IsLongEnough}
 use Rattle.df_shell.specs.Halls.{Follows, HallParts, IsKeptInHall, IsMadeInHall, IsRefusedInHall}
@@ -69,22 +72,26 @@ module _ {J : Type 0} where
 
   -- the same where the change went through the desk at this index
   pub desk-answered :
-      (told : Option (List State)) (floor : ℕ) (p : HallParts) (desks held : List DeskParts) (f : ℕ) (none new : DeskParts) (change : ℕ → Change)
+      (told : Option (List State)) (floor : ℕ) (p : HallParts) (desks held : List DeskParts) (f : ℕ) (none new : DeskParts) (c : FrameChange)
       (r : Result (List State) (ChangeFault J)) → IsKnown told p.told → floor ≡ told_states told → desks ≡ p.desks → InOrder p.desks →
       f < length p.desks → held ≡ slice_set desks f new →
-      desks_after desks (change f) ≡ change_at f (λ d. desk_after d (change f)) desks →
-      AnswersOverHistory floor (change (slice_index_or desks f none).frame) r →
-      OnOk r (new ≡ desk_after (slice_index_or desks f none) (change f)) → OnErr r (new ≡ slice_index_or desks f none) →
-      IsAnswered p (change f) (Some r) (record p { desks = held }) × InOrder held
-  desk-answered told floor p desks held f none new change r k e same order lt is one h share kept =
+      AnswersOverHistory floor (change_of (slice_index_or desks f none).frame c) r →
+      OnOk r (new ≡ desk_after (slice_index_or desks f none) (change_of (slice_index_or desks f none).frame c)) →
+      OnErr r (new ≡ slice_index_or desks f none) → IsAnswered p (change_of f c) (Some r) (record p { desks = held }) × InOrder held
+  desk-answered told floor p desks held f none new c r k e same order lt is h share kept =
+      let desk : DeskParts = slice_index_or desks f none in
       let ordered_desks : InOrder desks = subst InOrder (sym same) order in
       let within : f < length desks = omega (arith, lt, ap length same) in
-      let all : AreAfter desks (change f) r held =
-      subst (AreAfter desks (change f) r) (sym is) (counted desks f none (change f) r new within one share kept) in
-      let told_answer : AnswersOverHistory {J = J} floor (change f) r =
-      subst (λ i. AnswersOverHistory {J = J} floor (change i) r) (frame-there desks f none ordered_desks within) h in (
-        answered told floor p held (change f) r k e told_answer (subst (λ ds. AreAfter ds (change f) r held) same all),
-        ordered desks held (change f) r all ordered_desks,
+      let there : desk.frame ≡ f = frame-there desks f none ordered_desks within in
+      let counts : OnOk r (new ≡ desk_after desk (change_of f c)) =
+      subst (λ i. OnOk r (new ≡ desk_after desk (change_of i c))) there share in
+      let all : AreAfter desks (change_of f c) r held =
+      subst (AreAfter desks (change_of f c) r) (sym is)
+      (counted desks f none (change_of f c) r new within (desks-counted desks f c) counts kept) in
+      let told_answer : AnswersOverHistory {J = J} floor (change_of f c) r =
+      subst (λ i. AnswersOverHistory {J = J} floor (change_of i c) r) there h in (
+        answered told floor p held (change_of f c) r k e told_answer (subst (λ ds. AreAfter ds (change_of f c) r held) same all),
+        ordered desks held (change_of f c) r all ordered_desks,
       )
 
   not-learnt : (mid : HallParts) (f : ChangeFault J) (x : Unit {0}) (new : HallParts) → IsLearnt mid (Err f) (Ok x) new → ⊥

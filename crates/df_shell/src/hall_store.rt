@@ -1,7 +1,8 @@
 //! The hall behind a shell.
-ghost use Rattle.std.specs.Prelude.{◌≡◌, ◌≤◌, IfErr, OnOk, length, map};
+ghost use Rattle.std.specs.Prelude.{◌≡◌, ◌≤◌, IfErr, OnOk, Some, length, map};
 ghost use Rattle.std.specs.List.{range_with_len};
-ghost use Rattle.df_catalogue.specs.declared.change.Change.TheVariants.{Append, Delete, Replace};
+ghost use Rattle.df_catalogue.specs.FrameChanges.{change_of};
+ghost use Rattle.df_catalogue.specs.ViewChanges.{change_of_views};
 ghost use Rattle.df_shell.specs.Changing.{IsAnswered, IsLearnt, IsLongEnough};
 ghost use Rattle.df_shell.specs.Halls.{Closes, Follows, IsLeftOpen};
 
@@ -11,9 +12,8 @@ use crate::fault::ShellFault;
 use crate::refusal::{Refusal, VersionFault};
 use crate::version_reading::answer_from_version;
 use crate::view_store::ViewStore;
-use df_catalogue::{CatalogueFault, Change, Desk};
+use df_catalogue::{CatalogueFault, Change, Desk, FrameChange, ViewChange};
 use df_store::{Hall, Missing};
-use df_value::{Chunk, Row};
 use df_versions::{ChangeFault, Naming, Reader, Told};
 use std::alloc::Global;
 use std::marker::Model;
@@ -111,51 +111,44 @@ impl<'r, R: Wait, Acc: Ledger, Del: Ledger, J: Naming> HallStore<'r, R, Acc, Del
         ensures { IsAnswered self.old change result self.new }
     {
         match change {
-            Change::Append(frame, chunk) => self.append(alloc, frame, &chunk),
-            Change::Delete(frame, numbers) => self.delete(alloc, frame, numbers.as_slice()),
-            Change::Replace(frame, rows) => self.replace(alloc, frame, rows.as_slice()),
+            Change::Append(frame, chunk) => {
+                self.change_rows(alloc, frame, FrameChange::Append(&chunk))
+            }
+            Change::Delete(frame, numbers) => {
+                let rows = FrameChange::Delete(numbers.as_slice());
+                self.change_rows(alloc, frame, rows)
+            }
+            Change::Replace(frame, rows) => {
+                let rows = FrameChange::Replace(rows.as_slice());
+                self.change_rows(alloc, frame, rows)
+            }
             Change::Register(name, plan) => {
-                let told = self.told.as_ref();
-                Some(self.hall.register(self.rt, alloc, name, plan, told))
+                Some(self.change_views(alloc, ViewChange::Register(name, plan)))
             }
             Change::DropView(name) => {
-                let told = self.told.as_ref();
-                Some(self.hall.drop_view(self.rt, alloc, name.as_str(), told))
+                Some(self.change_views(alloc, ViewChange::Drop(name.as_str())))
             }
         }
     }
 
-    fn append(&mut self, alloc: Global, frame: usize, chunk: &Chunk) -> Option<Answer<J>>
-        ensures { IsAnswered self.old (Append frame chunk.now) result self.new }
+    // Changes the rows of a frame through its desk, if there is such a desk.
+    fn change_rows(&mut self, alloc: Global, frame: usize, change: FrameChange) -> Option<Answer<J>>
+        ensures { IsAnswered self.old (change_of frame change.entry) result self.new }
     {
         if frame >= self.desks.len() {
             return None;
         }
         let told = self.told.as_ref();
         let desk = &mut self.desks.as_mut_slice()[frame];
-        Some(self.hall.commit_chunk(self.rt, alloc, desk, chunk, told))
+        Some(self.hall.change_rows(self.rt, alloc, desk, change, told))
     }
 
-    fn delete(&mut self, alloc: Global, frame: usize, numbers: &[u32]) -> Option<Answer<J>>
-        ensures { IsAnswered self.old (Delete frame numbers.now) result self.new }
+    // Changes the views.
+    fn change_views(&mut self, alloc: Global, change: ViewChange) -> Answer<J>
+        ensures { IsAnswered self.old (change_of_views change.entry) (Some result) self.new }
     {
-        if frame >= self.desks.len() {
-            return None;
-        }
         let told = self.told.as_ref();
-        let desk = &mut self.desks.as_mut_slice()[frame];
-        Some(self.hall.delete_rows(self.rt, alloc, desk, numbers, told))
-    }
-
-    fn replace(&mut self, alloc: Global, frame: usize, rows: &[(u32, Row)]) -> Option<Answer<J>>
-        ensures { IsAnswered self.old (Replace frame rows.now) result self.new }
-    {
-        if frame >= self.desks.len() {
-            return None;
-        }
-        let told = self.told.as_ref();
-        let desk = &mut self.desks.as_mut_slice()[frame];
-        Some(self.hall.replace_rows(self.rt, alloc, desk, rows, told))
+        self.hall.change_views(self.rt, alloc, change, told)
     }
 
     // Learns what was told with the answer.

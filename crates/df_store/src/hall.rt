@@ -1,6 +1,9 @@
 //! The hall: a lock round a catalogue that publishes its versions.
 ghost use Rattle.std.specs.Prelude.{◌≡◌, [], None, IfErr, IfOk, OnErr, OnOk, Some, length, option_map};
 ghost use Rattle.df_catalogue.specs.declared.change.Change.TheVariants.{Append, Delete, DropView, Register, Replace};
+ghost use Rattle.df_catalogue.specs.Desks.{desk_after};
+ghost use Rattle.df_catalogue.specs.FrameChanges.{change_of};
+ghost use Rattle.df_catalogue.specs.ViewChanges.{change_of_views};
 ghost use Rattle.df_store.specs.Closing as closing;
 ghost use Rattle.df_store.specs.Halls.{AnswersOverHistory, having_accepted, having_deleted};
 ghost use Rattle.df_store.specs.Rooms.{HasRoomFor, Holds};
@@ -10,7 +13,7 @@ ghost use Rattle.df_versions.specs.Histories.{last_state};
 
 use crate::closing::{Unsettled, settle};
 use crate::totals::{Totals, TotalsRoom};
-use df_catalogue::{Catalogue, Desk};
+use df_catalogue::{Catalogue, Desk, FrameChange, ViewChange};
 use df_plan::CheckedPlan;
 use df_value::{Chunk, Row, Text};
 use df_versions::{ChangeFault, Naming, Publisher, Told, VersionedCatalogue};
@@ -81,12 +84,7 @@ impl<Acc: Ledger, Del: Ledger, J: Naming> Hall<Acc, Del, J> {
             (desk.new ≡ having_accepted (length chunk.now.rows) desk.old) }
         ensures same_share { OnErr result (desk.new ≡ desk.old) }
     {
-        let mut catalogue = self.catalogue.lock(rt);
-        // Asked for what it tells: that the history is lawful.
-        let _states = catalogue.len();
-        let answer = catalogue.append(rt, alloc, desk, chunk, told);
-        MutexGuard::unlock(catalogue);
-        answer
+        self.change_rows(rt, alloc, desk, FrameChange::Append(chunk), told)
     }
 
     /// Takes the rows of these numbers out of the desk's frame, and every view follows. The desk's
@@ -105,11 +103,7 @@ impl<Acc: Ledger, Del: Ledger, J: Naming> Hall<Acc, Del, J> {
             (desk.new ≡ having_deleted (length numbers.now) desk.old) }
         ensures same_share { OnErr result (desk.new ≡ desk.old) }
     {
-        let mut catalogue = self.catalogue.lock(rt);
-        let _states = catalogue.len();
-        let answer = catalogue.delete(rt, alloc, desk, numbers, told);
-        MutexGuard::unlock(catalogue);
-        answer
+        self.change_rows(rt, alloc, desk, FrameChange::Delete(numbers), told)
     }
 
     /// Puts each row in the place of the row of its number in the desk's frame, and every view
@@ -126,11 +120,7 @@ impl<Acc: Ledger, Del: Ledger, J: Naming> Hall<Acc, Del, J> {
             (Replace desk.old.frame rows.now) result }
         ensures same_share { desk.new ≡ desk.old }
     {
-        let mut catalogue = self.catalogue.lock(rt);
-        let _states = catalogue.len();
-        let answer = catalogue.replace(rt, alloc, desk, rows, told);
-        MutexGuard::unlock(catalogue);
-        answer
+        self.change_rows(rt, alloc, desk, FrameChange::Replace(rows), told)
     }
 
     /// Adds a view of this name and plan last.
@@ -145,11 +135,7 @@ impl<Acc: Ledger, Del: Ledger, J: Naming> Hall<Acc, Del, J> {
         ensures { AnswersOverHistory (told_states (option_map (λ t. t.now) told.entry))
             (Register name plan) result }
     {
-        let mut catalogue = self.catalogue.lock(rt);
-        let _states = catalogue.len();
-        let answer = catalogue.register(rt, alloc, name, plan, told);
-        MutexGuard::unlock(catalogue);
-        answer
+        self.change_views(rt, alloc, ViewChange::Register(name, plan), told)
     }
 
     /// Takes the view of this name out. The version without it takes memory.
@@ -163,9 +149,44 @@ impl<Acc: Ledger, Del: Ledger, J: Naming> Hall<Acc, Del, J> {
         ensures { AnswersOverHistory (told_states (option_map (λ t. t.now) told.entry))
             (DropView name.now) result }
     {
+        self.change_views(rt, alloc, ViewChange::Drop(name), told)
+    }
+
+    /// Changes the rows of the desk's frame, and every view follows. The desk counts what is added and
+    /// taken out, and at a refusal stays as it was.
+    pub fn change_rows<R: Wait>(
+        &self,
+        rt: &R,
+        alloc: Global,
+        desk: &mut Desk<Acc, Del>,
+        change: FrameChange,
+        told: Option<&Told<J>>,
+    ) -> Result<Told<J>, ChangeFault<J>>
+        ensures answer { AnswersOverHistory (told_states (option_map (λ t. t.now) told.entry))
+            (change_of desk.old.frame change.entry) result }
+        ensures desk { OnOk result (desk.new ≡
+            desk_after desk.old (change_of desk.old.frame change.entry)) }
+        ensures same_desk { OnErr result (desk.new ≡ desk.old) }
+    {
         let mut catalogue = self.catalogue.lock(rt);
-        let _states = catalogue.len();
-        let answer = catalogue.drop_view(rt, alloc, name, told);
+        let answer = catalogue.change_rows(rt, alloc, desk, change, told);
+        MutexGuard::unlock(catalogue);
+        answer
+    }
+
+    /// Changes the views. The version without a view takes memory too.
+    pub fn change_views<R: Wait>(
+        &self,
+        rt: &R,
+        alloc: Global,
+        change: ViewChange,
+        told: Option<&Told<J>>,
+    ) -> Result<Told<J>, ChangeFault<J>>
+        ensures { AnswersOverHistory (told_states (option_map (λ t. t.now) told.entry))
+            (change_of_views change.entry) result }
+    {
+        let mut catalogue = self.catalogue.lock(rt);
+        let answer = catalogue.change_views(rt, alloc, change, told);
         MutexGuard::unlock(catalogue);
         answer
     }

@@ -14,7 +14,7 @@ use crate::jobs::{Outcome, make};
 use crate::joining::{Joined, count_of_first_frame, join};
 use crate::made::KeptPiece;
 use core::mem;
-use df_catalogue::{Desk, PreparedChunk};
+use df_catalogue::{Desk, FrameChange, PreparedChunk};
 use df_claims::{ClaimSeat, Claims};
 use df_value::{Chunk, Piece, Source};
 use df_versions::{ChangeFault, Naming, Told, VersionedCatalogue};
@@ -389,8 +389,12 @@ fn append<Acc: Ledger, Del: Ledger, J: Naming, R: Wait>(
     ensures same_desk { OnErr result (desk.new ≡ desk.old) }
 {
     match chunk {
-        Incoming::Chunk(chunk) => catalogue.append(rt, alloc, desk, chunk, told),
-        Incoming::Prepared(chunk) => catalogue.append_prepared(rt, alloc, desk, chunk, told),
+        Incoming::Chunk(chunk) => {
+            catalogue.change_rows(rt, alloc, desk, FrameChange::Append(chunk), told)
+        }
+        Incoming::Prepared(chunk) => {
+            catalogue.change_rows(rt, alloc, desk, FrameChange::Prepared(chunk), told)
+        }
     }
 }
 

@@ -4,7 +4,7 @@ ghost use Rattle.std.specs.Prelude.{◌≡◌, Some, IsSomeAnd, OnErr, OnOk, opt
 ghost use Rattle.df_catalogue.specs.StagedChanges.{counted_desk, counts_staged};
 ghost use Rattle.df_catalogue.specs.Pictures.{next_state};
 ghost use Rattle.df_versions.specs.Answered.{AnswersNext, ChangesHistory, Reports, told_states};
-ghost use Rattle.df_versions.specs.Histories.{MayFollow};
+ghost use Rattle.df_versions.specs.Histories.{IsHistory, MayFollow};
 
 use crate::fault::{ChangeFault, PublishFault};
 use crate::history::Naming;
@@ -44,7 +44,8 @@ pub(crate) fn report<J: Naming>(
     told: Option<&Told<J>>,
     fault: CatalogueFault,
 ) -> ChangeFault<J>
-    ensures { Reports publisher.now (told_states (option_map (λ t. t.now) told.entry)) fault result }
+    ensures answer { Reports publisher.now (told_states (option_map (λ t. t.now) told.entry)) fault result }
+    ensures lawful { IsHistory publisher.now }
 {
     if states_told(told) > publisher.len() {
         return ChangeFault::Ahead;
@@ -67,6 +68,7 @@ fn publish_staged<Acc: Ledger, Del: Ledger, J: Naming, R: Wait>(
     ensures answer { AnswersNext publisher.old (told_states (option_map (λ t. t.now) told.entry))
         (next_state catalogue.now) result }
     ensures history { ChangesHistory publisher.old result publisher.new }
+    ensures lawful { IsHistory publisher.old }
 {
     if states_told(told) > publisher.len() {
         return Err(ChangeFault::Ahead);
@@ -99,6 +101,7 @@ pub(crate) fn enter_rows<Acc: Ledger, Del: Ledger, J: Naming, R: Wait>(
     ensures history { ChangesHistory publisher.old result publisher.new }
     ensures committed { OnOk result (catalogue.new.state ≡ next_state catalogue.old) }
     ensures same { OnErr result (catalogue.new.state ≡ catalogue.old.state) }
+    ensures lawful { IsHistory publisher.old }
     ensures desk { OnOk result (IsSomeAnd (counts_staged catalogue.old) (λ rows.
         desk.new ≡ counted_desk desk.old rows)) }
     ensures same_desk { OnErr result (desk.new ≡ desk.old) }
@@ -128,6 +131,7 @@ pub(crate) fn enter_views<Acc: Ledger, Del: Ledger, J: Naming, R: Wait>(
     ensures history { ChangesHistory publisher.old result publisher.new }
     ensures committed { OnOk result (catalogue.new.state ≡ next_state catalogue.old) }
     ensures same { OnErr result (catalogue.new.state ≡ catalogue.old.state) }
+    ensures lawful { IsHistory publisher.old }
 {
     match publish_staged(catalogue, publisher, rt, alloc, told) {
         Ok(told) => {

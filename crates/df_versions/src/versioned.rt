@@ -1,7 +1,8 @@
 //! A catalogue of which each change is published: what stands behind the lock of a hall.
 ghost use Rattle.std.specs.Prelude.{◌≡◌, Some, OnErr, OnOk, length, option_map};
-ghost use Rattle.df_catalogue.specs.declared.change.Change.TheVariants.{Append, Delete, DropView, Register, Replace};
 ghost use Rattle.df_catalogue.specs.Desks.{desk_after};
+ghost use Rattle.df_catalogue.specs.FrameChanges.{change_of};
+ghost use Rattle.df_catalogue.specs.ViewChanges.{change_of_views};
 ghost use Rattle.df_versions.specs.Histories.{IsHistory, last_state};
 
 use crate::entering::{enter_rows, enter_views, report};
@@ -9,9 +10,7 @@ use crate::fault::ChangeFault;
 use crate::history::Naming;
 use crate::publisher::Publisher;
 use crate::told::Told;
-use df_catalogue::{Catalogue, Desk, PreparedChunk};
-use df_plan::CheckedPlan;
-use df_value::{Chunk, Row, Text};
+use df_catalogue::{Catalogue, Desk, FrameChange, ViewChange};
 use std::alloc::Global;
 use std::marker::Model;
 use std::sync::Wait;
@@ -92,22 +91,25 @@ impl<Acc: Ledger, Del: Ledger, J: Naming> VersionedCatalogue<Acc, Del, J> {
         catalogue
     }
 
-    /// Appends the chunk to the desk's frame, as [`Catalogue::append`] does.
-    pub fn append<R: Wait>(
+    /// Changes the rows of the desk's frame, as [`Catalogue::append`], [`Catalogue::delete`] and
+    /// [`Catalogue::replace`] do. The rows of a prepared chunk are added as those of a chunk.
+    pub fn change_rows<R: Wait>(
         &mut self,
         rt: &R,
         alloc: Global,
         desk: &mut Desk<Acc, Del>,
-        chunk: &Chunk,
+        change: FrameChange,
         told: Option<&Told<J>>,
     ) -> Result<Told<J>, ChangeFault<J>>
         ensures answer { AnswersChange self.old (told_states (option_map (λ t. t.now) told.entry))
-            (Append desk.old.frame chunk.now) result }
+            (change_of desk.old.frame change.entry) result }
         ensures history { ChangesHistory self.old result self.new }
-        ensures desk { OnOk result (desk.new ≡ desk_after desk.old (Append desk.old.frame chunk.now)) }
+        ensures desk { OnOk result (desk.new ≡
+            desk_after desk.old (change_of desk.old.frame change.entry)) }
         ensures same_desk { OnErr result (desk.new ≡ desk.old) }
+        ensures lawful { IsHistory self.old }
     {
-        match self.catalogue.stage_append(alloc, desk, chunk) {
+        match self.catalogue.stage_frame_change(alloc, desk, change) {
             Ok(staged) => enter_rows(
                 &mut self.catalogue,
                 &mut self.publisher,
@@ -121,132 +123,21 @@ impl<Acc: Ledger, Del: Ledger, J: Naming> VersionedCatalogue<Acc, Del, J> {
         }
     }
 
-    /// Appends the prepared chunk to the desk's frame, as [`VersionedCatalogue::append`] does a chunk.
-    pub fn append_prepared<R: Wait>(
+    /// Changes the views, as [`Catalogue::register`] and [`Catalogue::drop_view`] do. The version without a
+    /// view takes memory too.
+    pub fn change_views<R: Wait>(
         &mut self,
         rt: &R,
         alloc: Global,
-        desk: &mut Desk<Acc, Del>,
-        chunk: &PreparedChunk,
+        change: ViewChange,
         told: Option<&Told<J>>,
     ) -> Result<Told<J>, ChangeFault<J>>
         ensures answer { AnswersChange self.old (told_states (option_map (λ t. t.now) told.entry))
-            (Append desk.old.frame chunk.now) result }
+            (change_of_views change.entry) result }
         ensures history { ChangesHistory self.old result self.new }
-        ensures desk { OnOk result (desk.new ≡ desk_after desk.old (Append desk.old.frame chunk.now)) }
-        ensures same_desk { OnErr result (desk.new ≡ desk.old) }
+        ensures lawful { IsHistory self.old }
     {
-        match self.catalogue.stage_prepared(alloc, desk, chunk) {
-            Ok(staged) => enter_rows(
-                &mut self.catalogue,
-                &mut self.publisher,
-                rt,
-                alloc,
-                desk,
-                staged,
-                told,
-            ),
-            Err(fault) => Err(report(&self.publisher, told, fault)),
-        }
-    }
-
-    /// Takes the rows of these numbers out of the desk's frame, as [`Catalogue::delete`] does.
-    pub fn delete<R: Wait>(
-        &mut self,
-        rt: &R,
-        alloc: Global,
-        desk: &mut Desk<Acc, Del>,
-        numbers: &[u32],
-        told: Option<&Told<J>>,
-    ) -> Result<Told<J>, ChangeFault<J>>
-        ensures answer { AnswersChange self.old (told_states (option_map (λ t. t.now) told.entry))
-            (Delete desk.old.frame numbers.now) result }
-        ensures history { ChangesHistory self.old result self.new }
-        ensures desk { OnOk result (desk.new ≡ desk_after desk.old (Delete desk.old.frame numbers.now)) }
-        ensures same_desk { OnErr result (desk.new ≡ desk.old) }
-    {
-        match self.catalogue.stage_delete(alloc, desk, numbers) {
-            Ok(staged) => enter_rows(
-                &mut self.catalogue,
-                &mut self.publisher,
-                rt,
-                alloc,
-                desk,
-                staged,
-                told,
-            ),
-            Err(fault) => Err(report(&self.publisher, told, fault)),
-        }
-    }
-
-    /// Puts each row in the place of that of its number, as [`Catalogue::replace`] does.
-    pub fn replace<R: Wait>(
-        &mut self,
-        rt: &R,
-        alloc: Global,
-        desk: &mut Desk<Acc, Del>,
-        rows: &[(u32, Row)],
-        told: Option<&Told<J>>,
-    ) -> Result<Told<J>, ChangeFault<J>>
-        ensures answer { AnswersChange self.old (told_states (option_map (λ t. t.now) told.entry))
-            (Replace desk.old.frame rows.now) result }
-        ensures history { ChangesHistory self.old result self.new }
-        ensures desk { OnOk result (desk.new ≡ desk_after desk.old (Replace desk.old.frame rows.now)) }
-        ensures same_desk { OnErr result (desk.new ≡ desk.old) }
-    {
-        match self.catalogue.stage_replace(alloc, desk, rows) {
-            Ok(staged) => enter_rows(
-                &mut self.catalogue,
-                &mut self.publisher,
-                rt,
-                alloc,
-                desk,
-                staged,
-                told,
-            ),
-            Err(fault) => Err(report(&self.publisher, told, fault)),
-        }
-    }
-
-    /// Adds a view of this name and plan last, as [`Catalogue::register`] does.
-    pub fn register<R: Wait>(
-        &mut self,
-        rt: &R,
-        alloc: Global,
-        name: Text,
-        plan: CheckedPlan,
-        told: Option<&Told<J>>,
-    ) -> Result<Told<J>, ChangeFault<J>>
-        ensures answer { AnswersChange self.old (told_states (option_map (λ t. t.now) told.entry))
-            (Register name plan) result }
-        ensures history { ChangesHistory self.old result self.new }
-    {
-        match self.catalogue.stage_register(alloc, name, plan) {
-            Ok(staged) => enter_views(
-                &mut self.catalogue,
-                &mut self.publisher,
-                rt,
-                alloc,
-                staged,
-                told,
-            ),
-            Err(fault) => Err(report(&self.publisher, told, fault)),
-        }
-    }
-
-    /// Takes the view of this name out, as [`Catalogue::drop_view`] does. Its version takes memory.
-    pub fn drop_view<R: Wait>(
-        &mut self,
-        rt: &R,
-        alloc: Global,
-        name: &str,
-        told: Option<&Told<J>>,
-    ) -> Result<Told<J>, ChangeFault<J>>
-        ensures answer { AnswersChange self.old (told_states (option_map (λ t. t.now) told.entry))
-            (DropView name.now) result }
-        ensures history { ChangesHistory self.old result self.new }
-    {
-        match self.catalogue.stage_drop(name) {
+        match self.catalogue.stage_view_change(alloc, change) {
             Ok(staged) => enter_views(
                 &mut self.catalogue,
                 &mut self.publisher,

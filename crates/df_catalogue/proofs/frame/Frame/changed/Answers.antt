@@ -1,17 +1,13 @@
 use Rattle.std.proofs.Common.{◌≡◌, ◌+◌, ◌∙◌, length, ap, sym, subst, arith}
-use Rattle.std.proofs.lemmas.Option.{IfSome_then}
 use Rattle.df_column.specs.Changes.{applied}
 use Rattle.df_delta.specs.Deltas.{RowsFit}
-use Rattle.df_catalogue.specs.FrameChanges.{frame_after}
+use Rattle.df_catalogue.specs.FrameChanges.{delta_in, frame_after}
 use Rattle.df_catalogue.specs.FrameParts.{FrameParts}
 use Rattle.df_catalogue.specs.FrameTables.{tagged_rows_of}
 use Rattle.df_catalogue.proofs.Counting.{live-left}
 use Rattle.df_catalogue.proofs.FrameChangeFacts.{frame-accepted, frame-deleted, numbered-after}
 use Rattle.df_catalogue.proofs.FrameTableFacts.{frame-tabled, frame-tables, table-fits, table-is}
 use Rattle.df_catalogue.proofs.frame.Frame.changed.Goals as goal
-
-pub changed_table-requires : goal.changed_table-requires
-changed_table-requires c = IfSome_then c.args.prepared c.in_ok-delta.ensures.lent (λ p is. c.get.ensures ∙ is)
 
 pub overflow_add-frame : goal.overflow_add-frame
 overflow_add-frame c =
@@ -39,9 +35,9 @@ invariant_of-frame c =
     let sound = numbered-after 0 change f (c.accepted_rows.ensures.sound 0) c.requires.sound c.requires.free in
     let t = c.self.inside.table.rows in
     let is : t ≡ tagged_rows_of f = sym (table-is t c.self.invariant.tags) ∙ ap (λ (x : FrameParts). tagged_rows_of x.state) c.self.view_is in
-    let gives-d = ap (applied (tagged_rows_of f)) c.get.ensures ∙ c.in_ok-delta.ensures.diff.gives in
-    let gives : applied t c.get.result.now ≡ tagged_rows_of (frame_after f change) = ap (λ u. applied u c.get.result.now) is ∙ gives-d in
-    let fits = subst (λ schema. RowsFit schema (applied t c.get.result.now)) (sym (ap (λ (x : FrameParts). x.schema) c.self.view_is))
+    let d = delta_in c.in_ok-delta.delta in
+    let gives : applied t d ≡ tagged_rows_of (frame_after f change) = ap (λ u. applied u d) is ∙ c.in_ok-delta.ensures.gives in
+    let fits = subst (λ schema. RowsFit schema (applied t d)) (sym (ap (λ (x : FrameParts). x.schema) c.self.view_is))
     (subst (RowsFit c.args.self.now.schema) (sym gives) (table-fits c.args.self.now.schema (frame_after f change) sound c.requires.fits)) in
     frame-tabled (frame_after f change) sound c.in_ok-accepted.accepted c.in_ok-table.table.rows c.in_ok-accepted.ensures (c.in_ok-table.ensures.rows fits ∙ gives) _ _
     (ap (λ k. k + c.accepted_rows.result) (c.self.invariant.counts_accepted ∙ ap (λ (x : FrameParts). length x.state.accepted) c.self.view_is)
@@ -56,8 +52,8 @@ returns-clause-state c =
     let sound = numbered-after 0 change f (c.accepted_rows.ensures.sound 0) c.requires.sound c.requires.free in
     let t = c.self.inside.table.rows in
     let is : t ≡ tagged_rows_of f = sym (table-is t c.self.invariant.tags) ∙ ap (λ (x : FrameParts). tagged_rows_of x.state) c.self.view_is in
-    let gives-d = ap (applied (tagged_rows_of f)) c.get.ensures ∙ c.in_ok-delta.ensures.diff.gives in
-    let gives : applied t c.get.result.now ≡ tagged_rows_of (frame_after f change) = ap (λ u. applied u c.get.result.now) is ∙ gives-d in
-    let fits = subst (λ schema. RowsFit schema (applied t c.get.result.now)) (sym (ap (λ (x : FrameParts). x.schema) c.self.view_is))
+    let d = delta_in c.in_ok-delta.delta in
+    let gives : applied t d ≡ tagged_rows_of (frame_after f change) = ap (λ u. applied u d) is ∙ c.in_ok-delta.ensures.gives in
+    let fits = subst (λ schema. RowsFit schema (applied t d)) (sym (ap (λ (x : FrameParts). x.schema) c.self.view_is))
     (subst (RowsFit c.args.self.now.schema) (sym gives) (table-fits c.args.self.now.schema (frame_after f change) sound c.requires.fits)) in
     frame-tables (frame_after f change) sound c.in_ok-accepted.accepted c.in_ok-table.table.rows c.in_ok-accepted.ensures (c.in_ok-table.ensures.rows fits ∙ gives)

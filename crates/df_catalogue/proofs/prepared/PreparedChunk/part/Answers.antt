@@ -4,7 +4,7 @@ use Rattle.std.specs.FinMap as finite
 use Rattle.df_value.specs.Chunks.{ChunkParts}
 use Rattle.df_column.specs.Changes.{applied}
 use Rattle.df_column.specs.Tables.{TableParts}
-use Rattle.df_catalogue.specs.FrameChanges.{delta_of_chunk}
+use Rattle.df_catalogue.specs.Prepared.{delta_of_chunk}
 use Rattle.df_catalogue.specs.Stored.{rows_from}
 use Rattle.df_catalogue.proofs.PreparedFacts.{part-rows, part-stored}
 use Rattle.df_catalogue.proofs.prepared.PreparedChunk.part.Goals as goal

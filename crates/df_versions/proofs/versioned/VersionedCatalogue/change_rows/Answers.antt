@@ -1,0 +1,46 @@
+use Rattle.std.proofs.Common.{subst}
+use Rattle.std.proofs.lemmas.Result.{on_ok_weaker}
+use Rattle.df_catalogue.specs.FrameChanges.{change_of}
+use Rattle.df_catalogue.specs.Pictures.{next_state}
+use Rattle.df_catalogue.proofs.StagedFacts.{staged-frame, whole-desk}
+use Rattle.df_versions.specs.Histories.{IsHistory}
+use Rattle.df_versions.proofs.Answered.{entered-ends, reported-answers, staged-answers}
+use Rattle.df_versions.proofs.Staged.{staged-follows}
+use Rattle.df_versions.proofs.versioned.VersionedCatalogue.change_rows.Goals as goal
+
+pub enter_rows-requires-clause-next : goal.enter_rows-requires-clause-next
+enter_rows-requires-clause-next g c =
+    let s = c.in-Ok.ensures.staged in
+    staged-follows c.self.inside.publisher c.self.inside.catalogue c.stage_frame_change.new.self (change_of c.args.desk.now.frame c.args.change) c.self.invariant s.sound s.accepted s.staged
+
+pub enter_rows-requires-clause-frame : goal.enter_rows-requires-clause-frame
+enter_rows-requires-clause-frame g c =
+    staged-frame c.self.inside.catalogue c.stage_frame_change.new.self c.args.desk.now.frame c.args.change c.in-Ok.ensures.staged.staged
+
+pub invariant_of-self : goal.invariant_of-self
+invariant_of-self g c =
+    let e = c.enter_rows.ensures in
+    entered-ends c.self.inside.publisher c.enter_rows.new.publisher c.self.inside.catalogue.state c.stage_frame_change.new.self.state c.enter_rows.new.catalogue.state (next_state c.stage_frame_change.new.self) _ c.enter_rows.result
+    c.self.invariant c.in-Ok.ensures.staged.state e.answer e.history e.committed e.same
+
+pub returns-in-Ok-clause-answer : goal.returns-in-Ok-clause-answer
+returns-in-Ok-clause-answer g c =
+    let s = c.in-Ok.ensures.staged in
+    staged-answers c.self.inside.publisher c.args.self.now c.self.inside.catalogue c.stage_frame_change.new.self (change_of c.args.desk.now.frame c.args.change) _ c.enter_rows.result c.self.view_is c.self.invariant s.accepted s.staged c.enter_rows.ensures.answer
+
+pub returns-in-Ok-clause-desk : goal.returns-in-Ok-clause-desk
+returns-in-Ok-clause-desk g c =
+    on_ok_weaker c.enter_rows.result
+    (λ counted.
+    (whole-desk {U = Unit {0}} _ tt c.self.inside.catalogue c.stage_frame_change.new.self c.args.desk.now.frame c.args.change c.args.desk.now c.enter_rows.new.desk c.in-Ok.ensures.staged counted).counted)
+    c.enter_rows.ensures.desk
+
+pub returns-in-Ok-clause-lawful : goal.returns-in-Ok-clause-lawful
+returns-in-Ok-clause-lawful g c = subst IsHistory c.self.view_is c.enter_rows.ensures.lawful
+
+pub returns-in-Err-clause-answer : goal.returns-in-Err-clause-answer
+returns-in-Err-clause-answer g c =
+    reported-answers c.self.inside.publisher c.args.self.now c.self.inside.catalogue.state (change_of c.args.desk.now.frame c.args.change) _ c.in-Err.fault c.report.result c.self.view_is c.self.invariant c.in-Err.ensures.staged.refused c.report.ensures.answer
+
+pub returns-in-Err-clause-lawful : goal.returns-in-Err-clause-lawful
+returns-in-Err-clause-lawful g c = subst IsHistory c.self.view_is c.report.ensures.lawful
