@@ -63,7 +63,7 @@ module _ {J : Type 0} where
   reported-reason log s c floor f Ahead ends by h = h
   reported-reason log s c floor f Spent ends by h = absurd h
   reported-reason log s c floor f (Refused g t) ends by h =
-      (refused-at log t s c g ends (by.exact h.1 ∙ ap Some (sym h.0)) h.3 h.2, subst (λ (l : List State). floor ≤ length l) (sym h.2) h.4)
+      (refused-at log t s c g ends (by.exact h.1 ∙ ap Some (sym h.0)) h.3 h.2, subst (λ (l : List State). floor ≤ length l) (sym h.2) h.4, h.2)
   reported-reason log s c floor f Memory ends by h = (s, ends, by.memory_last h)
 
   -- where the catalogue refused the change

@@ -35,7 +35,7 @@ module _ {J : Type 0} where
   abbrev pub IsReason : List State → ℕ → Change → ChangeFault J → Type 0
   IsReason history floor c Ahead = length history < floor
   IsReason history floor c Spent = (length history ≡ 2 ^ 64 - 1) × IsFree history c
-  IsReason history floor c (Refused f told) = IsRefusedAt told c f × (floor ≤ length told)
+  IsReason history floor c (Refused f told) = IsRefusedAt told c f × (floor ≤ length told) × (told ≡ history)
   IsReason history floor c Memory = IsFree history c
 
   -- what is answered to a change: at Ok the history up to it, longer than what the caller was told of
