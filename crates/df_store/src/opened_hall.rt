@@ -19,14 +19,15 @@ use std::sync::Wait;
 use std::sync::ledger::{Blank, Ledger};
 
 /// A hall that was just opened, with its desks and readers. Its history has no name yet: [`OpenedHall::named`] gives it
-/// one, which a body that is generic in it is called with. Contracts see which history it is, its states, and the desks.
+/// one, which a body that is generic in it is called with. Contracts see which history it is, its states, the desks, and
+/// how many readers there are.
 pub struct OpenedHall<Acc: Ledger, Del: Ledger> {
     opened: OpenedCatalogue<Acc, Del>,
     room: TotalsRoom,
 }
 
 impl<Acc: Ledger, Del: Ledger> Model for OpenedHall<Acc, Del> {
-    ghost use Rattle.std.specs.Prelude.{[], List};
+    ghost use Rattle.std.specs.Prelude.{[], ℕ, List};
     ghost use Rattle.std.specs.Coded.{codes};
     ghost use Rattle.logbook.specs.Pages.{Book, book_coded};
     ghost use Rattle.df_catalogue.specs.Desks.{DeskParts};
@@ -35,7 +36,7 @@ impl<Acc: Ledger, Del: Ledger> Model for OpenedHall<Acc, Del> {
     ghost use Rattle.df_store.specs.Rooms.{HasRoomFor, Holds};
     ghost use Rattle.df_value.specs.Limits as limits;
 
-    ghost Value = { Book × (List State × List DeskParts) };
+    ghost Value = { Book × (List State × List DeskParts) × ℕ };
 
     ghost coded = { Prim.hlevel (codes, book_coded, state_type.the_row.coded) };
 
@@ -70,6 +71,7 @@ impl<Acc: Ledger, Del: Ledger> OpenedHall<Acc, Del> {
         ensures sound { OnOk result (open_fault schemas readers ≡ None) }
         ensures history { IfOk result (λ o. o.1.0 ≡ opening_of schemas ∷ []) }
         ensures desks { IfOk result (λ o. o.1.1 ≡ first_desks (length schemas)) }
+        ensures readers { IfOk result (λ o. o.2 ≡ readers) }
         ensures refused { IfErr result (λ fault. fault ≢ open_fault_of.Memory → open_fault schemas readers ≡ Some fault) }
         ensures memory_last { IfErr result (λ fault. fault ≡ open_fault_of.Memory → open_fault schemas readers ≡ None) }
     {
@@ -88,6 +90,7 @@ impl<Acc: Ledger, Del: Ledger> OpenedHall<Acc, Del> {
         requires { self.0 ≡ J.book }
         ensures desks { result.1.items ≡ self.1.1 }
         ensures readers { All (λ r. r ≡ (J.book, (self.1.0, self.1.0))) result.2.items }
+        ensures count { length result.2.items ≡ self.2 }
     {
         let OpenedHall { opened, room } = self;
         let (catalogue, desks, readers) = opened.named::<J>();

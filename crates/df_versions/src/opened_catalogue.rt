@@ -25,7 +25,7 @@ use std::sync::ledger::{Blank, Ledger};
 pub const MOST_READERS: usize = 16;
 
 /// A catalogue that was just made, of whose opening state a version is published, with its desks and readers. Its history
-/// has no name yet. Contracts see which history it is, its states, and the desks.
+/// has no name yet. Contracts see which history it is, its states, the desks, and how many readers there are.
 pub struct OpenedCatalogue<Acc: Ledger, Del: Ledger> {
     catalogue: Catalogue<Acc, Del>,
     desks: Vec<Desk<Acc, Del>>,
@@ -33,7 +33,7 @@ pub struct OpenedCatalogue<Acc: Ledger, Del: Ledger> {
 }
 
 impl<Acc: Ledger, Del: Ledger> Model for OpenedCatalogue<Acc, Del> {
-    ghost use Rattle.std.specs.Prelude.{◌≡◌, List, Some};
+    ghost use Rattle.std.specs.Prelude.{◌≡◌, ℕ, List, Some};
     ghost use Rattle.std.specs.Coded.{codes};
     ghost use Rattle.logbook.specs.Pages.{Book, book_coded};
     ghost use Rattle.df_catalogue.specs.Desks.{DeskParts};
@@ -41,11 +41,11 @@ impl<Acc: Ledger, Del: Ledger> Model for OpenedCatalogue<Acc, Del> {
     ghost use Rattle.df_catalogue.specs.contracts.state.State as state_type;
     ghost use Rattle.df_versions.specs.Histories.{last_state};
 
-    ghost Value = { Book × (List State × List DeskParts) };
+    ghost Value = { Book × (List State × List DeskParts) × ℕ };
 
     ghost coded = { Prim.hlevel (codes, book_coded, state_type.the_row.coded) };
 
-    ghost view = { λ o. (o.versions.0, (o.versions.1, o.desks.items)) };
+    ghost view = { λ o. (o.versions.0, (o.versions.1, o.desks.items), o.versions.2) };
 
     // The history ends with the catalogue's state.
     ghost invariant = { λ o. last_state o.versions.1 ≡ Some o.catalogue.state };
@@ -74,6 +74,7 @@ impl<Acc: Ledger, Del: Ledger> OpenedCatalogue<Acc, Del> {
         ensures sound { OnOk result (open_fault schemas readers ≡ None) }
         ensures history { IfOk result (λ o. o.1.0 ≡ opening_of schemas ∷ []) }
         ensures desks { IfOk result (λ o. o.1.1 ≡ first_desks (length schemas)) }
+        ensures readers { IfOk result (λ o. o.2 ≡ readers) }
         ensures refused { IfErr result (λ fault. fault ≢ open_fault_of.Memory → open_fault schemas readers ≡ Some fault) }
         ensures memory_last { IfErr result (λ fault. fault ≡ open_fault_of.Memory → open_fault schemas readers ≡ None) }
     {
@@ -95,6 +96,7 @@ impl<Acc: Ledger, Del: Ledger> OpenedCatalogue<Acc, Del> {
         requires { IfOk opened (λ versions. versions.1 ≡ catalogue.state ∷ []) }
         ensures history { IfOk result (λ o. o.1.0 ≡ catalogue.state ∷ []) }
         ensures desks { IfOk result (λ o. o.1.1 ≡ desks.items) }
+        ensures readers { IfOk result (λ o. IfOk opened (λ versions. o.2 ≡ versions.2)) }
         ensures opened { OnOk result (IsOk opened) }
         ensures fault { IfErr result (λ fault. opened ≡ Err fault) }
     {
@@ -124,6 +126,7 @@ impl<Acc: Ledger, Del: Ledger> OpenedCatalogue<Acc, Del> {
         ensures catalogue { result.0 ≡ self.1.0 }
         ensures desks { result.1.items ≡ self.1.1 }
         ensures readers { All (λ r. r ≡ (J.book, (self.1.0, self.1.0))) result.2.items }
+        ensures count { length result.2.items ≡ self.2 }
     {
         let OpenedCatalogue {
             catalogue,
@@ -172,6 +175,7 @@ fn open_versions<Acc: Ledger, Del: Ledger, R: Wait>(
     requires opening { IsOpening catalogue.now.state }
     requires nothing { catalogue.now.staged ≡ None }
     ensures history { IfOk result (λ versions. versions.1 ≡ catalogue.now.state ∷ []) }
+    ensures count { IfOk result (λ versions. versions.2 ≡ readers) }
     ensures readers { OnOk result (readers ≤ 16) }
     ensures fault { IfErr result (λ fault. fault ≡ opening_refused catalogue_fault.Memory readers) }
 {
@@ -193,7 +197,8 @@ fn open_over<Acc: Ledger, Del: Ledger, R: Wait>(
     requires opening { IsOpening catalogue.now.state }
     requires nothing { catalogue.now.staged ≡ None }
     requires readers { readers ≤ 16 }
-    ensures { IfOk result (λ versions. versions.1 ≡ catalogue.now.state ∷ []) }
+    ensures history { IfOk result (λ versions. versions.1 ≡ catalogue.now.state ∷ []) }
+    ensures count { IfOk result (λ versions. versions.2 ≡ readers) }
 {
     let picture = catalogue.next_picture(alloc)?;
     OpenedVersions::open::<Catalogue<Acc, Del>, StagedState, R>(

@@ -1,5 +1,5 @@
 //! The opening of a history and of its readers.
-ghost use Rattle.std.specs.Prelude.{◌≡◌, ◌<◌, ◌≤◌, ◌^◌, ◌∷◌, [], All, IfOk, None, OnOk, drop, length};
+ghost use Rattle.std.specs.Prelude.{◌≡◌, ◌+◌, ◌<◌, ◌≤◌, ◌^◌, ◌∷◌, [], All, IfOk, None, OnOk, drop, length};
 ghost use Rattle.df_catalogue.specs.Pictures.{picture_of};
 ghost use Rattle.left_right.specs.Sides.{view};
 ghost use Rattle.df_versions.specs.Histories.{IsOpening};
@@ -16,7 +16,7 @@ use std::marker::Model;
 use std::sync::{Arc, Wait};
 
 /// A history of one state, whose version is published, with its readers. It has no name yet. Contracts see which history
-/// it is, and its states.
+/// it is, its states, and how many readers there are.
 pub struct OpenedVersions {
     head: Head,
     history: History,
@@ -25,19 +25,19 @@ pub struct OpenedVersions {
 }
 
 impl Model for OpenedVersions {
-    ghost use Rattle.std.specs.Prelude.{◌≡◌, ◌<◌, ◌∷◌, [], List, All, length};
-    ghost use Rattle.std.specs.Coded.{coded×, coded_list};
+    ghost use Rattle.std.specs.Prelude.{◌≡◌, ◌<◌, ◌∷◌, [], ℕ, List, All, length};
+    ghost use Rattle.std.specs.Coded.{codes};
     ghost use Rattle.logbook.specs.Pages.{Book, book_coded};
     ghost use Rattle.left_right.specs.Sides.{view as view_of};
     ghost use Rattle.df_catalogue.specs.declared.state.State.{State};
     ghost use Rattle.df_catalogue.specs.contracts.state.State as state_type;
     ghost use Rattle.df_versions.specs.HistoryRule.{head_of};
 
-    ghost Value = { Book × List State };
+    ghost Value = { Book × List State × ℕ };
 
-    ghost coded = { coded× book_coded (coded_list state_type.the_row.coded) };
+    ghost coded = { Prim.hlevel (codes, book_coded, state_type.the_row.coded) };
 
-    ghost view = { λ o. o.history };
+    ghost view = { λ o. (o.history.0, o.history.1, length o.readers.items) };
 
     ghost invariant = { λ o. (o.head ≡ head_of o.history.0) × (0 < length o.history.1)
         × (o.writer.desk.shown.value.history ≡ o.history)
@@ -60,7 +60,8 @@ fn reader_of(writer: &mut VersionWriter, history: &History) -> Result<Reader, Al
 fn keep(readers: &mut Vec<Reader>, history: &History, reader: Reader) -> Result<(), AllocError>
     requires all { All (λ r. r ≡ (history.now.0, (history.now.1, history.now.1))) readers.old.items }
     requires one { reader ≡ (history.now.0, (history.now.1, history.now.1)) }
-    ensures { All (λ r. r ≡ (history.now.0, (history.now.1, history.now.1))) readers.new.items }
+    ensures all { All (λ r. r ≡ (history.now.0, (history.now.1, history.now.1))) readers.new.items }
+    ensures count { OnOk result (length readers.new.items ≡ length readers.old.items + 1) }
 {
     match readers.push(reader) {
         Ok(()) => Ok(()),
@@ -104,7 +105,8 @@ impl OpenedVersions {
         requires opening { IsOpening (M.ask about.now) }
         requires picture { picture ≡ picture_of (M.ask about.now) }
         requires readers { readers ≤ 16 }
-        ensures { IfOk result (λ o. o.1 ≡ M.ask about.now ∷ []) }
+        ensures history { IfOk result (λ o. o.1 ≡ M.ask about.now ∷ []) }
+        ensures readers { IfOk result (λ o. o.2 ≡ readers) }
     {
         let mut opened = start::<X, M, R>(rt, alloc, about, picture, readers + 1)?;
         for _ in 0..readers {
@@ -117,7 +119,8 @@ impl OpenedVersions {
     }
 
     fn add_reader(&mut self) -> Result<(), AllocError>
-        ensures { self.new ≡ self.old }
+        ensures same { (self.new.0 ≡ self.old.0) × (self.new.1 ≡ self.old.1) }
+        ensures count { OnOk result (self.new.2 ≡ self.old.2 + 1) }
     {
         let reader = reader_of(&mut self.writer, &self.history)?;
         keep(&mut self.readers, &self.history, reader)
@@ -128,6 +131,7 @@ impl OpenedVersions {
         requires { self.0 ≡ J.book }
         ensures publisher { result.0 ≡ self.1 }
         ensures readers { All (λ r. r ≡ (J.book, (self.1, self.1))) result.1.items }
+        ensures count { length result.1.items ≡ self.2 }
     {
         let OpenedVersions {
             head,
@@ -162,7 +166,8 @@ fn start<X, M: Plain<X, State, u64>, R: Wait>(
     requires opening { IsOpening (M.ask about.now) }
     requires picture { picture ≡ picture_of (M.ask about.now) }
     requires slots { (0 < slots) × (slots < 2 ^ 32) }
-    ensures { IfOk result (λ o. o.1 ≡ M.ask about.now ∷ []) }
+    ensures history { IfOk result (λ o. o.1 ≡ M.ask about.now ∷ []) }
+    ensures readers { IfOk result (λ o. o.2 ≡ 0) }
 {
     let version = Arc::new(alloc, Version::new(0, picture))?;
     let (head, empty) = open();
