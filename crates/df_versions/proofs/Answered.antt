@@ -1,5 +1,5 @@
 -- What changes of a catalogue that publishes its versions answer.
-use Rattle.std.proofs.Common.{◌≡◌, ◌∙◌, ℕ, ◌≤◌, List, [], ◌∷◌, ◌++◌, ap, subst, sym, append_assoc, Result, Ok, Err, Some, None, OnOk, OnErr, length, IsSomeAnd}
+use Rattle.std.proofs.Common.{◌≡◌, ◌∙◌, ℕ, ◌≤◌, List, arith, [], ◌∷◌, ◌++◌, ap, subst, sym, append_assoc, Result, Ok, Err, Some, None, OnOk, OnErr, length, length-append, IsSomeAnd}
 use Rattle.df_catalogue.specs.declared.state.State.{State}
 use Rattle.df_catalogue.specs.declared.change.Change.{Change}
 use Rattle.df_catalogue.specs.declared.fault.CatalogueFault.{CatalogueFault}
@@ -10,7 +10,7 @@ use Rattle.df_catalogue.specs.Pictures.{next_state}
 use Rattle.df_catalogue.specs.Refusals.{refusal_of}
 use Rattle.df_catalogue.specs.StagedChanges.{IsStagedFor}
 use Rattle.df_versions.specs.Histories.{IsHistory, last_state}
-use Rattle.df_versions.specs.Answered.{IsAccepted, IsRefusedAt, IsReason, IsUnpublished, AnswersChange, AnswersNext, ChangesHistory, Reports}
+use Rattle.df_versions.specs.Answered.{IsAccepted, IsRefusedAt, IsReady, IsReason, IsUnpublished, IsUnready, AnswersChange, AnswersNext, ChangesHistory, Reports}
 use Rattle.df_versions.specs.declared.fault.ChangeFault.{ChangeFault}
 use Rattle.df_versions.specs.declared.fault.ChangeFault.TheVariants.{Ahead, Spent, Refused, Memory}
 use Rattle.df_versions.proofs.Histories.{ends_split, last_state-more}
@@ -32,50 +32,67 @@ refused-at log told s c f ends refused lawful e =
     (subst IsHistory (sym e) lawful, (split.0, s, refused, e ∙ split.1))
 
 module _ {J : Type 0} where
-  unpublished-reason : (log : List State) (s : State) (c : Change) (floor : ℕ) (r : ChangeFault J) → last_state log ≡ Some s → refusal_of s c ≡ None → IsUnpublished log floor r → IsReason log floor c r
-  unpublished-reason log s c floor Ahead ends free h = h
-  unpublished-reason log s c floor Spent ends free h = (h, (s, ends, free))
-  unpublished-reason log s c floor (Refused g t) ends free h = absurd h
-  unpublished-reason log s c floor Memory ends free h = (s, ends, free)
+  unpublished-reason :
+      (log : List State) (s : State) (c : Change) (floor : ℕ) (r : ChangeFault J) → last_state log ≡ Some s → refusal_of s c ≡ None → IsReady log floor →
+      IsUnpublished log r → IsReason log floor c r
+  unpublished-reason log s c floor Ahead ends free ready h = absurd h
+  unpublished-reason log s c floor Spent ends free ready h = absurd (omega (arith, ready.1, h))
+  unpublished-reason log s c floor (Refused g t) ends free ready h = absurd h
+  unpublished-reason log s c floor Memory ends free ready h = ((s, ends, free), ready)
 
   entered-answers :
       (log : List State) (s next : State) (c : Change) (floor : ℕ) (r : Result (List State) (ChangeFault J)) → last_state log ≡ Some s → refusal_of s c ≡ None → next ≡ after s c →
-      AnswersNext log floor next r → AnswersChange log floor c r
-  entered-answers log s next c floor (Ok t) ends free is h = record {
+      IsReady log floor → AnswersNext log next r → AnswersChange log floor c r
+  entered-answers log s next c floor (Ok t) ends free is ready h = record {
     accepted = told-accepted log t s next c ends free is h.lawful h.added;
-    later = h.later;
-    refused = h.refused;
+    later = omega (arith, ready.0, ap length h.added ∙ length-append log (next ∷ []));
+    refused = tt;
   }
-  entered-answers log s next c floor (Err f) ends free is h = record {
-    accepted = h.lawful;
-    later = h.later;
-    refused = unpublished-reason log s c floor f ends free h.refused;
+  entered-answers log s next c floor (Err f) ends free is ready h = record {
+    accepted = tt;
+    later = tt;
+    refused = unpublished-reason log s c floor f ends free ready h.refused;
   }
 
   -- where the change was staged, and is entered
   pub staged-answers :
       (log self : List State) (old mid : CatalogueParts) (c : Change) (floor : ℕ) (r : Result (List State) (ChangeFault J)) → log ≡ self → last_state log ≡ Some old.state →
-      refusal_of old.state c ≡ None → IsSomeAnd mid.staged (IsStagedFor old c) → AnswersNext log floor (next_state mid) r → AnswersChange self floor c r
-  staged-answers log self old mid c floor r is ends free staged h =
-      subst (λ (l : List State). AnswersChange l floor c r) is (entered-answers log old.state (next_state mid) c floor r ends free (staged-next old mid c staged) h)
+      refusal_of old.state c ≡ None → IsSomeAnd mid.staged (IsStagedFor old c) → IsReady log floor → AnswersNext log (next_state mid) r → AnswersChange self floor c r
+  staged-answers log self old mid c floor r is ends free staged ready h =
+      subst (λ (l : List State). AnswersChange l floor c r) is (entered-answers log old.state (next_state mid) c floor r ends free (staged-next old mid c staged) ready h)
 
-  reported-reason : (log : List State) (s : State) (c : Change) (floor : ℕ) (f : CatalogueFault) (r : ChangeFault J) → last_state log ≡ Some s → RefusedBy s c f → Reports log floor f r → IsReason log floor c r
-  reported-reason log s c floor f Ahead ends by h = h
-  reported-reason log s c floor f Spent ends by h = absurd h
-  reported-reason log s c floor f (Refused g t) ends by h =
-      (refused-at log t s c g ends (by.exact h.1 ∙ ap Some (sym h.0)) h.3 h.2, subst (λ (l : List State). floor ≤ length l) (sym h.2) h.4, h.2)
-  reported-reason log s c floor f Memory ends by h = (s, ends, by.memory_last h)
+  reported-reason :
+      (log : List State) (s : State) (c : Change) (floor : ℕ) (f : CatalogueFault) (r : ChangeFault J) → last_state log ≡ Some s → RefusedBy s c f → IsReady log floor →
+      Reports log f r → IsReason log floor c r
+  reported-reason log s c floor f Ahead ends by ready h = absurd h
+  reported-reason log s c floor f Spent ends by ready h = absurd h
+  reported-reason log s c floor f (Refused g t) ends by ready h =
+      (refused-at log t s c g ends (by.exact h.1 ∙ ap Some (sym h.0)) h.3 h.2, subst (λ (l : List State). floor ≤ length l) (sym h.2) ready.0, h.2, ready)
+  reported-reason log s c floor f Memory ends by ready h = ((s, ends, by.memory_last h), ready)
 
   -- where the catalogue refused the change
-  pub reported-answers : (log self : List State) (s : State) (c : Change) (floor : ℕ) (f : CatalogueFault) (r : ChangeFault J) → log ≡ self → last_state log ≡ Some s → RefusedBy s c f → Reports log floor f r → AnswersChange self floor c (Err r)
-  reported-answers log self s c floor f r is ends by h =
-      subst (λ (l : List State). AnswersChange l floor c (Err r)) is (record { accepted = tt; later = tt; refused = reported-reason log s c floor f r ends by h })
+  pub reported-answers :
+      (log self : List State) (s : State) (c : Change) (floor : ℕ) (f : CatalogueFault) (r : ChangeFault J) → log ≡ self → last_state log ≡ Some s → RefusedBy s c f →
+      IsReady log floor → Reports log f r → AnswersChange self floor c (Err r)
+  reported-answers log self s c floor f r is ends by ready h =
+      subst (λ (l : List State). AnswersChange l floor c (Err r)) is (record { accepted = tt; later = tt; refused = reported-reason log s c floor f r ends by ready h })
+
+  unready-reason : (log : List State) (c : Change) (floor : ℕ) (r : ChangeFault J) → IsUnready log floor r → IsReason log floor c r
+  unready-reason log c floor Ahead h = h
+  unready-reason log c floor Spent h = h
+  unready-reason log c floor (Refused g t) h = absurd h
+  unready-reason log c floor Memory h = absurd h
+
+  -- where no change can be made
+  pub unready-answers : (log self : List State) (c : Change) (floor : ℕ) (r : ChangeFault J) → log ≡ self → IsUnready log floor r → AnswersChange self floor c (Err r)
+  unready-answers log self c floor r is h =
+      subst (λ (l : List State). AnswersChange l floor c (Err r)) is (record { accepted = tt; later = tt; refused = unready-reason log c floor r h })
 
   -- the history still ends with the catalogue's state where a staged change was entered
   pub entered-ends :
-      (log log' : List State) (s mid s' next : State) (floor : ℕ) (r : Result (List State) (ChangeFault J)) → last_state log ≡ Some s → mid ≡ s →
-      AnswersNext log floor next r → ChangesHistory log r log' → OnOk r (s' ≡ next) → OnErr r (s' ≡ mid) → last_state log' ≡ Some s'
-  entered-ends log log' s mid s' next floor (Ok t) ends is h changes committed same =
+      (log log' : List State) (s mid s' next : State) (r : Result (List State) (ChangeFault J)) → last_state log ≡ Some s → mid ≡ s →
+      AnswersNext log next r → ChangesHistory log r log' → OnOk r (s' ≡ next) → OnErr r (s' ≡ mid) → last_state log' ≡ Some s'
+  entered-ends log log' s mid s' next (Ok t) ends is h changes committed same =
       ap last_state (changes.told ∙ h.added) ∙ (last_state-more log next ∙ ap Some (sym committed))
-  entered-ends log log' s mid s' next floor (Err f) ends is h changes committed same =
+  entered-ends log log' s mid s' next (Err f) ends is h changes committed same =
       ap last_state changes.same ∙ (ends ∙ ap Some (sym (same ∙ is)))

@@ -26,17 +26,28 @@ abbrev pub IsRefusedAt : List State → Change → CatalogueFault → Type 0
 IsRefusedAt history c f =
     IsHistory history × ((before : List State) × (s : State) × (refusal_of s c ≡ Some f) × (history ≡ before ++ s ∷ []))
 
+-- a history is no shorter than what a caller was told of, and one more state has a number
+abbrev pub IsReady : List State → ℕ → Type 0
+IsReady history floor = (floor ≤ length history) × (length history < 2 ^ 64 - 1)
+
 -- the last state of a history does not refuse the change
 abbrev pub IsFree : List State → Change → Type 0
 IsFree history c = (s : State) × (last_state history ≡ Some s) × (refusal_of s c ≡ None)
 
 module _ {J : Type 0} where
-  -- why a change is not made of a catalogue with this history, for a caller who was told of so many states
+  -- why no change is made of a catalogue with this history, whatever it is, for a caller who was told of so many states
+  abbrev pub IsUnready : List State → ℕ → ChangeFault J → Type 0
+  IsUnready history floor Ahead = length history < floor
+  IsUnready history floor Spent = (floor ≤ length history) × (length history ≡ 2 ^ 64 - 1)
+  IsUnready history floor (Refused f told) = ⊥
+  IsUnready history floor Memory = ⊥
+
+  -- why this change is not made
   abbrev pub IsReason : List State → ℕ → Change → ChangeFault J → Type 0
-  IsReason history floor c Ahead = length history < floor
-  IsReason history floor c Spent = (length history ≡ 2 ^ 64 - 1) × IsFree history c
-  IsReason history floor c (Refused f told) = IsRefusedAt told c f × (floor ≤ length told) × (told ≡ history)
-  IsReason history floor c Memory = IsFree history c
+  IsReason history floor c Ahead = IsUnready history floor Ahead
+  IsReason history floor c Spent = IsUnready history floor Spent
+  IsReason history floor c (Refused f told) = IsRefusedAt told c f × (floor ≤ length told) × (told ≡ history) × IsReady history floor
+  IsReason history floor c Memory = IsFree history c × IsReady history floor
 
   -- what is answered to a change: at Ok the history up to it, longer than what the caller was told of
   pub record AnswersChange (history : List State) (floor : ℕ) (c : Change) (result : Result (List State) (ChangeFault J)) :
@@ -52,24 +63,21 @@ module _ {J : Type 0} where
     pub same : OnErr result (new ≡ old)
 
   -- why a state is not published
-  abbrev pub IsUnpublished : List State → ℕ → ChangeFault J → Type 0
-  IsUnpublished history floor Ahead = length history < floor
-  IsUnpublished history floor Spent = length history ≡ 2 ^ 64 - 1
-  IsUnpublished history floor (Refused f told) = ⊥
-  IsUnpublished history floor Memory = Unit {0}
+  abbrev pub IsUnpublished : List State → ChangeFault J → Type 0
+  IsUnpublished history Ahead = ⊥
+  IsUnpublished history Spent = length history ≡ 2 ^ 64 - 1
+  IsUnpublished history (Refused f told) = ⊥
+  IsUnpublished history Memory = Unit {0}
 
   -- what is answered where this state is to be published
-  pub record AnswersNext (history : List State) (floor : ℕ) (next : State) (result : Result (List State) (ChangeFault J)) :
-      Type 0 where
+  pub record AnswersNext (history : List State) (next : State) (result : Result (List State) (ChangeFault J)) : Type 0 where
     pub added : IfOk result (λ told. told ≡ history ++ next ∷ [])
     pub lawful : IfOk result (λ told. IsHistory told)
-    pub later : IfOk result (λ told. floor < length told)
-    pub refused : IfErr result (IsUnpublished history floor)
+    pub refused : IfErr result (IsUnpublished history)
 
   -- what is answered after this history where the catalogue refused so
-  abbrev pub Reports : List State → ℕ → CatalogueFault → ChangeFault J → Type 0
-  Reports history floor f Ahead = length history < floor
-  Reports history floor f Spent = ⊥
-  Reports history floor f (Refused g told) =
-      (g ≡ f) × (f ≢ catalogue_fault.Memory) × (told ≡ history) × IsHistory history × (floor ≤ length history)
-  Reports history floor f Memory = f ≡ catalogue_fault.Memory
+  abbrev pub Reports : List State → CatalogueFault → ChangeFault J → Type 0
+  Reports history f Ahead = ⊥
+  Reports history f Spent = ⊥
+  Reports history f (Refused g told) = (g ≡ f) × (f ≢ catalogue_fault.Memory) × (told ≡ history) × IsHistory history
+  Reports history f Memory = f ≡ catalogue_fault.Memory

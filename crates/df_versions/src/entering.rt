@@ -1,9 +1,9 @@
 //! What changes a catalogue and publishes the version after it. These are functions over both and not methods of the
 //! value that holds them, which hides the catalogue's parts: what is staged is known of these.
-ghost use Rattle.std.specs.Prelude.{◌≡◌, Some, IsSomeAnd, OnErr, OnOk, option_map};
+ghost use Rattle.std.specs.Prelude.{◌≡◌, Some, IfErr, IsSomeAnd, OnErr, OnOk, option_map};
 ghost use Rattle.df_catalogue.specs.StagedChanges.{counted_desk, counts_staged};
 ghost use Rattle.df_catalogue.specs.Pictures.{next_state};
-ghost use Rattle.df_versions.specs.Answered.{AnswersNext, ChangesHistory, Reports, told_states};
+ghost use Rattle.df_versions.specs.Answered.{AnswersNext, ChangesHistory, IsReady, IsUnready, Reports, told_states};
 ghost use Rattle.df_versions.specs.Histories.{IsHistory, MayFollow};
 
 use crate::fault::{ChangeFault, PublishFault};
@@ -38,18 +38,31 @@ fn states_told<J: Naming>(told: Option<&Told<J>>) -> u64
     }
 }
 
-/// What a change answers that the catalogue refused.
-pub(crate) fn report<J: Naming>(
+/// Whether a change can be made, whatever it is: the caller was told of no later version, and there is a further one.
+pub(crate) fn check_ready<J: Naming>(
     publisher: &Publisher<J>,
     told: Option<&Told<J>>,
-    fault: CatalogueFault,
-) -> ChangeFault<J>
-    ensures answer { Reports publisher.now (told_states (option_map (λ t. t.now) told.entry)) fault result }
+) -> Result<(), ChangeFault<J>>
+    ensures ready { OnOk result (IsReady publisher.now
+        (told_states (option_map (λ t. t.now) told.entry))) }
+    ensures unready { IfErr result (IsUnready publisher.now
+        (told_states (option_map (λ t. t.now) told.entry))) }
     ensures lawful { IsHistory publisher.now }
 {
-    if states_told(told) > publisher.len() {
-        return ChangeFault::Ahead;
+    let states = publisher.len();
+    if states_told(told) > states {
+        return Err(ChangeFault::Ahead);
     }
+    if states == u64::MAX {
+        return Err(ChangeFault::Spent);
+    }
+    Ok(())
+}
+
+/// What a change answers that the catalogue refused.
+pub(crate) fn report<J: Naming>(publisher: &Publisher<J>, fault: CatalogueFault) -> ChangeFault<J>
+    ensures { Reports publisher.now fault result }
+{
     match fault {
         CatalogueFault::Memory => ChangeFault::Memory,
         fault => ChangeFault::Refused(fault, publisher.told()),
@@ -62,17 +75,11 @@ fn publish_staged<Acc: Ledger, Del: Ledger, J: Naming, R: Wait>(
     publisher: &mut Publisher<J>,
     rt: &R,
     alloc: Global,
-    told: Option<&Told<J>>,
 ) -> Result<Told<J>, ChangeFault<J>>
     requires { MayFollow publisher.old (next_state catalogue.now) }
-    ensures answer { AnswersNext publisher.old (told_states (option_map (λ t. t.now) told.entry))
-        (next_state catalogue.now) result }
+    ensures answer { AnswersNext publisher.old (next_state catalogue.now) result }
     ensures history { ChangesHistory publisher.old result publisher.new }
-    ensures lawful { IsHistory publisher.old }
 {
-    if states_told(told) > publisher.len() {
-        return Err(ChangeFault::Ahead);
-    }
     let Ok(picture) = catalogue.next_picture(alloc) else {
         return Err(ChangeFault::Memory);
     };
@@ -91,22 +98,19 @@ pub(crate) fn enter_rows<Acc: Ledger, Del: Ledger, J: Naming, R: Wait>(
     alloc: Global,
     desk: &mut Desk<Acc, Del>,
     staged: StagedRows<Acc, Del>,
-    told: Option<&Told<J>>,
 ) -> Result<Told<J>, ChangeFault<J>>
     requires last { staged.catalogue.value ≡ catalogue.old }
     requires next { MayFollow publisher.old (next_state catalogue.old) }
     requires frame { option_map (λ r. r.frame) (counts_staged catalogue.old) ≡ Some desk.old.frame }
-    ensures answer { AnswersNext publisher.old (told_states (option_map (λ t. t.now) told.entry))
-        (next_state catalogue.old) result }
+    ensures answer { AnswersNext publisher.old (next_state catalogue.old) result }
     ensures history { ChangesHistory publisher.old result publisher.new }
     ensures committed { OnOk result (catalogue.new.state ≡ next_state catalogue.old) }
     ensures same { OnErr result (catalogue.new.state ≡ catalogue.old.state) }
-    ensures lawful { IsHistory publisher.old }
     ensures desk { OnOk result (IsSomeAnd (counts_staged catalogue.old) (λ rows.
         desk.new ≡ counted_desk desk.old rows)) }
     ensures same_desk { OnErr result (desk.new ≡ desk.old) }
 {
-    match publish_staged(catalogue, publisher, rt, alloc, told) {
+    match publish_staged(catalogue, publisher, rt, alloc) {
         Ok(told) => {
             catalogue.commit_rows(desk, staged);
             Ok(told)
@@ -122,18 +126,15 @@ pub(crate) fn enter_views<Acc: Ledger, Del: Ledger, J: Naming, R: Wait>(
     rt: &R,
     alloc: Global,
     staged: StagedViews<Acc, Del>,
-    told: Option<&Told<J>>,
 ) -> Result<Told<J>, ChangeFault<J>>
     requires last { staged.catalogue.value ≡ catalogue.old }
     requires next { MayFollow publisher.old (next_state catalogue.old) }
-    ensures answer { AnswersNext publisher.old (told_states (option_map (λ t. t.now) told.entry))
-        (next_state catalogue.old) result }
+    ensures answer { AnswersNext publisher.old (next_state catalogue.old) result }
     ensures history { ChangesHistory publisher.old result publisher.new }
     ensures committed { OnOk result (catalogue.new.state ≡ next_state catalogue.old) }
     ensures same { OnErr result (catalogue.new.state ≡ catalogue.old.state) }
-    ensures lawful { IsHistory publisher.old }
 {
-    match publish_staged(catalogue, publisher, rt, alloc, told) {
+    match publish_staged(catalogue, publisher, rt, alloc) {
         Ok(told) => {
             catalogue.commit_views(staged);
             Ok(told)

@@ -5,7 +5,7 @@ ghost use Rattle.df_catalogue.specs.FrameChanges.{change_of};
 ghost use Rattle.df_catalogue.specs.ViewChanges.{change_of_views};
 ghost use Rattle.df_versions.specs.Histories.{IsHistory, last_state};
 
-use crate::entering::{enter_rows, enter_views, report};
+use crate::entering::{check_ready, enter_rows, enter_views, report};
 use crate::fault::ChangeFault;
 use crate::history::Naming;
 use crate::publisher::Publisher;
@@ -109,6 +109,7 @@ impl<Acc: Ledger, Del: Ledger, J: Naming> VersionedCatalogue<Acc, Del, J> {
         ensures same_desk { OnErr result (desk.new ≡ desk.old) }
         ensures lawful { IsHistory self.old }
     {
+        check_ready(&self.publisher, told)?;
         match self.catalogue.stage_frame_change(alloc, desk, change) {
             Ok(staged) => enter_rows(
                 &mut self.catalogue,
@@ -117,9 +118,8 @@ impl<Acc: Ledger, Del: Ledger, J: Naming> VersionedCatalogue<Acc, Del, J> {
                 alloc,
                 desk,
                 staged,
-                told,
             ),
-            Err(fault) => Err(report(&self.publisher, told, fault)),
+            Err(fault) => Err(report(&self.publisher, fault)),
         }
     }
 
@@ -137,16 +137,10 @@ impl<Acc: Ledger, Del: Ledger, J: Naming> VersionedCatalogue<Acc, Del, J> {
         ensures history { ChangesHistory self.old result self.new }
         ensures lawful { IsHistory self.old }
     {
+        check_ready(&self.publisher, told)?;
         match self.catalogue.stage_view_change(alloc, change) {
-            Ok(staged) => enter_views(
-                &mut self.catalogue,
-                &mut self.publisher,
-                rt,
-                alloc,
-                staged,
-                told,
-            ),
-            Err(fault) => Err(report(&self.publisher, told, fault)),
+            Ok(staged) => enter_views(&mut self.catalogue, &mut self.publisher, rt, alloc, staged),
+            Err(fault) => Err(report(&self.publisher, fault)),
         }
     }
 }

@@ -20,13 +20,13 @@ enter_rows-requires-clause-frame g c =
 pub invariant_of-self : goal.invariant_of-self
 invariant_of-self g c =
     let e = c.enter_rows.ensures in
-    entered-ends c.self.inside.publisher c.enter_rows.new.publisher c.self.inside.catalogue.state c.stage_frame_change.new.self.state c.enter_rows.new.catalogue.state (next_state c.stage_frame_change.new.self) _ c.enter_rows.result
+    entered-ends c.self.inside.publisher c.enter_rows.new.publisher c.self.inside.catalogue.state c.stage_frame_change.new.self.state c.enter_rows.new.catalogue.state (next_state c.stage_frame_change.new.self) c.enter_rows.result
     c.self.invariant c.in-Ok.ensures.staged.state e.answer e.history e.committed e.same
 
 pub returns-in-Ok-clause-answer : goal.returns-in-Ok-clause-answer
 returns-in-Ok-clause-answer g c =
     let s = c.in-Ok.ensures.staged in
-    staged-answers c.self.inside.publisher c.args.self.now c.self.inside.catalogue c.stage_frame_change.new.self (change_of c.args.desk.now.frame c.args.change) _ c.enter_rows.result c.self.view_is c.self.invariant s.accepted s.staged c.enter_rows.ensures.answer
+    staged-answers c.self.inside.publisher c.args.self.now c.self.inside.catalogue c.stage_frame_change.new.self (change_of c.args.desk.now.frame c.args.change) _ c.enter_rows.result c.self.view_is c.self.invariant s.accepted s.staged c.in_ok-check_ready.ensures.ready c.enter_rows.ensures.answer
 
 pub returns-in-Ok-clause-desk : goal.returns-in-Ok-clause-desk
 returns-in-Ok-clause-desk g c =
@@ -36,11 +36,11 @@ returns-in-Ok-clause-desk g c =
     c.enter_rows.ensures.desk
 
 pub returns-in-Ok-clause-lawful : goal.returns-in-Ok-clause-lawful
-returns-in-Ok-clause-lawful g c = subst IsHistory c.self.view_is c.enter_rows.ensures.lawful
+returns-in-Ok-clause-lawful g c = subst IsHistory c.self.view_is c.check_ready.ensures.lawful
 
 pub returns-in-Err-clause-answer : goal.returns-in-Err-clause-answer
 returns-in-Err-clause-answer g c =
-    reported-answers c.self.inside.publisher c.args.self.now c.self.inside.catalogue.state (change_of c.args.desk.now.frame c.args.change) _ c.in-Err.fault c.report.result c.self.view_is c.self.invariant c.in-Err.ensures.staged.refused c.report.ensures.answer
+    reported-answers c.self.inside.publisher c.args.self.now c.self.inside.catalogue.state (change_of c.args.desk.now.frame c.args.change) _ c.in-Err.fault c.report.result c.self.view_is c.self.invariant c.in-Err.ensures.staged.refused c.in_ok-check_ready.ensures.ready c.report.ensures
 
 pub returns-in-Err-clause-lawful : goal.returns-in-Err-clause-lawful
-returns-in-Err-clause-lawful g c = subst IsHistory c.self.view_is c.report.ensures.lawful
+returns-in-Err-clause-lawful g c = subst IsHistory c.self.view_is c.check_ready.ensures.lawful

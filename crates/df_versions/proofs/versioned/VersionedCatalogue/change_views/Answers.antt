@@ -14,20 +14,20 @@ enter_views-requires-clause-next g c =
 pub invariant_of-self : goal.invariant_of-self
 invariant_of-self g c =
     let e = c.enter_views.ensures in
-    entered-ends c.self.inside.publisher c.enter_views.new.publisher c.self.inside.catalogue.state c.stage_view_change.new.self.state c.enter_views.new.catalogue.state (next_state c.stage_view_change.new.self) _ c.enter_views.result
+    entered-ends c.self.inside.publisher c.enter_views.new.publisher c.self.inside.catalogue.state c.stage_view_change.new.self.state c.enter_views.new.catalogue.state (next_state c.stage_view_change.new.self) c.enter_views.result
     c.self.invariant c.in-Ok.ensures.staged.state e.answer e.history e.committed e.same
 
 pub returns-in-Ok-clause-answer : goal.returns-in-Ok-clause-answer
 returns-in-Ok-clause-answer g c =
     let s = c.in-Ok.ensures.staged in
-    staged-answers c.self.inside.publisher c.args.self.now c.self.inside.catalogue c.stage_view_change.new.self (change_of_views c.args.change) _ c.enter_views.result c.self.view_is c.self.invariant s.accepted s.staged c.enter_views.ensures.answer
+    staged-answers c.self.inside.publisher c.args.self.now c.self.inside.catalogue c.stage_view_change.new.self (change_of_views c.args.change) _ c.enter_views.result c.self.view_is c.self.invariant s.accepted s.staged c.in_ok-check_ready.ensures.ready c.enter_views.ensures.answer
 
 pub returns-in-Ok-clause-lawful : goal.returns-in-Ok-clause-lawful
-returns-in-Ok-clause-lawful g c = subst IsHistory c.self.view_is c.enter_views.ensures.lawful
+returns-in-Ok-clause-lawful g c = subst IsHistory c.self.view_is c.check_ready.ensures.lawful
 
 pub returns-in-Err-clause-answer : goal.returns-in-Err-clause-answer
 returns-in-Err-clause-answer g c =
-    reported-answers c.self.inside.publisher c.args.self.now c.self.inside.catalogue.state (change_of_views c.args.change) _ c.in-Err.fault c.report.result c.self.view_is c.self.invariant c.in-Err.ensures.staged.refused c.report.ensures.answer
+    reported-answers c.self.inside.publisher c.args.self.now c.self.inside.catalogue.state (change_of_views c.args.change) _ c.in-Err.fault c.report.result c.self.view_is c.self.invariant c.in-Err.ensures.staged.refused c.in_ok-check_ready.ensures.ready c.report.ensures
 
 pub returns-in-Err-clause-lawful : goal.returns-in-Err-clause-lawful
-returns-in-Err-clause-lawful g c = subst IsHistory c.self.view_is c.report.ensures.lawful
+returns-in-Err-clause-lawful g c = subst IsHistory c.self.view_is c.check_ready.ensures.lawful
