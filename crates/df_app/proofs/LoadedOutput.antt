@@ -1,6 +1,6 @@
 -- What a run writes of a loaded document is the document's output.
 use Rattle.std.proofs.Common.{◌≡◌, ℕ, zero, suc, ◌+◌, ◌*◌, ◌<◌, ◌≤◌, Bool, true, false, cond, ◌∙◌, List, [], ◌∷◌, ◌++◌, length, map, refl, ap, sym, subst, arith, length-append}
-use Rattle.std.specs.Prelude.{◌≢◌, All, IfErr, IfOk, Option, Some, None, IfSome, Result, Ok, Err, codes, filter_map, flat_map, nat_lt, not, option_map, position}
+use Rattle.std.specs.Prelude.{◌≢◌, All, IfErr, IfOk, IsOk, Option, Some, None, IfSome, Result, Ok, Err, codes, filter_map, flat_map, nat_lt, not, option_map, position}
 use Rattle.std.specs.List.{AllByRecursion, join_by, position_from}
 use Rattle.std.specs.Int.{div_ceil}
 use Rattle.std.proofs.Math.Nat.{suc-mul}
@@ -36,7 +36,7 @@ use Rattle.df_text.specs.Document.{document_of}
 use Rattle.df_text.specs.declared.document.ViewSpec.{ViewSpec}
 use Rattle.df_text.specs.declared.document.Views.{Views}
 use Rattle.df_app.specs.Loading.{IsOutputOfLoad, IsSourceOf, headings_in, jobs_of_sources, line_of, opened_with, outcome_of_load, pieces_of_sources, text_of_load}
-use Rattle.df_app.specs.Output.{Contents, KnowsFiles, of_document, of_plan, opened_from, opened_in, opened_of, output_of, paired, pieces_in, plan_of, plans_of, printed_view, refused_block, results_after, schemas_of, text_from}
+use Rattle.df_app.specs.Output.{Contents, KnowsFiles, of_document, of_plan, opened_from, opened_in, opened_of, output_made, output_of, paired, pieces_in, plan_of, plans_of, printed_view, refused_block, results_after, schemas_of, text_from}
 use Rattle.df_app.specs.Ran.{IsFaultBefore, IsFaultOfLoad, IsOpening, IsOutput, LeavesFiles}
 use Rattle.df_app.specs.declared.fault.RunFault.{RunFault}
 use Rattle.df_app.specs.declared.fault.RunFault.TheVariants as fault
@@ -127,22 +127,27 @@ gave_loaded :
 gave_loaded None contents chunk d o gave many each written = gave
 gave_loaded (Some b) contents chunk d o gave many each written = λ knows. loaded-output b contents chunk d o (gave knows) many each written
 
-before-load : (b : List ℕ) (contents : Contents) (chunk : ℕ) (f : RunFault) → IsFaultOfLoad f → IsFaultBefore b contents chunk f
-before-load b contents chunk fault.ReadFault is = absurd is
-before-load b contents chunk fault.TooLarge is = absurd is
-before-load b contents chunk (fault.Views f) is = absurd is
-before-load b contents chunk (fault.Plan view f) is = absurd is
-before-load b contents chunk (fault.Csv frame f) is = absurd is
-before-load b contents chunk (fault.Load cause) is = tt
-before-load b contents chunk fault.Write is = absurd is
-before-load b contents chunk fault.Memory is = tt
+before-load : (b : List ℕ) (contents : Contents) (chunk : ℕ) (f : RunFault) → IsOk (output_of b contents chunk) → IsFaultOfLoad f → IsFaultBefore b contents chunk f
+before-load b contents chunk fault.ReadFault opens is = absurd is
+before-load b contents chunk fault.TooLarge opens is = absurd is
+before-load b contents chunk (fault.Views f) opens is = absurd is
+before-load b contents chunk (fault.Plan view f) opens is = absurd is
+before-load b contents chunk (fault.Csv frame f) opens is = absurd is
+before-load b contents chunk (fault.Load cause) opens is = opens
+before-load b contents chunk fault.Write opens is = absurd is
+before-load b contents chunk fault.Memory opens is = tt
+
+-- a document that opens has an output
+has-output : (b : List ℕ) (contents : Contents) (chunk : ℕ) (o : OpenedDocument) → opened_of b contents chunk ≡ Ok o → IsOk (output_of b contents chunk)
+has-output b contents chunk o e =
+    subst (λ (r : Result OpenedDocument RunFault). IsOk (then_next r (λ (x : OpenedDocument). Ok (output_made chunk x)))) (sym e) refl
 
 -- or whose sources could not be loaded
 gave_no_load : (bytes : Option (List ℕ)) (contents : Contents) (chunk : ℕ) (d : SourcedDocument) (f : RunFault) → IsFaultOfLoad f →
     IfSome bytes (λ b. KnowsFiles contents b → IsOpening b contents chunk (Ok (opened_with d))) →
     IfSome bytes (λ b. KnowsFiles contents b → IsOutput b contents chunk (Err f))
 gave_no_load None contents chunk d f is gave = gave
-gave_no_load (Some b) contents chunk d f is gave = λ knows. before-load b contents chunk f is
+gave_no_load (Some b) contents chunk d f is gave = λ knows. before-load b contents chunk f (has-output b contents chunk (opened_with d) (gave knows)) is
 
 left_by_load : {F : Type 0} (old new : F) (f : RunFault) → IsFaultOfLoad f → LeavesFiles old new f
 left_by_load old new fault.ReadFault is = absurd is

@@ -1,5 +1,5 @@
 -- What a run did, of a document and of files that are known, to a writer.
-use Rattle.std.specs.Prelude.{◌≡◌, ◌≢◌, ◌<◌, ◌≤◌, ℕ, List, ⊤, length, take, Option, Result, Ok, Err}
+use Rattle.std.specs.Prelude.{◌≡◌, ◌≢◌, ◌<◌, ◌≤◌, ℕ, List, ⊤, length, take, Option, IsOk, Result, Ok, Err}
 use Rattle.std.specs.Io.KnownBytes.{Appends, Keeps}
 use Rattle.df_app.specs.declared.fault.RunFault.{RunFault}
 use Rattle.df_app.specs.declared.fault.RunFault.TheVariants as fault
@@ -11,13 +11,14 @@ use Rattle.df_app.specs.Output.{most_bytes_of_document, Contents, MayFailFrom, o
 
 -- What a fault says that comes before anything is written. But for a failed read of the document or of a file and for
 -- want of memory, it is the fault that the bytes have in the place of an output. A file of which a read fails is there,
--- and is that of a frame to which the run comes. That frames which were read cannot be loaded, no clause rules out.
+-- and is that of a frame to which the run comes. That frames which were read cannot be loaded, no clause rules out; then the
+-- document has an output.
 abbrev pub IsFaultBefore : List ℕ → Contents → ℕ → RunFault → Type 0
 IsFaultBefore bytes contents chunk fault.ReadFault = ⊤
 IsFaultBefore bytes contents chunk (fault.Csv frame csv.ReadFault) =
     output_of bytes contents chunk ≢ Err (fault.Csv frame csv.ReadFault) → (length bytes ≤ most_bytes_of_document) × MayFailFrom bytes contents chunk frame
 IsFaultBefore bytes contents chunk fault.Memory = ⊤
-IsFaultBefore bytes contents chunk (fault.Load cause) = ⊤
+IsFaultBefore bytes contents chunk (fault.Load cause) = IsOk (output_of bytes contents chunk)
 IsFaultBefore bytes contents chunk fault.Write = ⊥
 IsFaultBefore bytes contents chunk f = output_of bytes contents chunk ≡ Err f
 
