@@ -28,8 +28,8 @@ splits total id v fresh some_parts s h at =
       no_other = λ n more. same n ∙ h.no_other n more;
       counted = omega (arith, h.counted, sum (λ u. u.misses), fresh);
       parts = omega (arith, h.parts, sum (λ u. u.parts), some_parts);
-      each = λ j u e. ⊎_elim (λ old. fits-set total s.views id left h.each (record { bounded = omega (arith, fresh); knows = knows }) j u old)
-          (λ (new : right ≡ u). subst (FitsSeat total) new (record { bounded = omega arith; knows = knows })) (at_snoc (set s.views id left) right u j e);
+      each = λ j u e. ⊎_elim (λ old. fits-set total s.views id left h.each (record { missed_once = omega (arith, fresh); bounded = omega (arith, fresh); knows = knows }) j u old)
+          (λ (new : right ≡ u). subst (FitsSeat total) new (record { missed_once = omega arith; bounded = omega arith; knows = knows })) (at_snoc (set s.views id left) right u j e);
     }
 
 -- before the turn of this number, counted from 1, a part was cut off in each turn, and the seats have these parts

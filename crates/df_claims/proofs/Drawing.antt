@@ -33,7 +33,7 @@ takes total word views homes seat v low part h at =
       no_other = λ n more. let apart : word ≢ n = λ e. absurd (omega (arith, e, more, low)) in others n apart ∙ h.no_other n (omega (arith, is, low, more));
       counted = omega (arith, misses, h.counted, is, low);
       parts = parts ∙ h.parts;
-      each = fits-set total views seat w h.each (record { bounded = fits.bounded; knows = fits.knows });
+      each = fits-set total views seat w h.each (record { missed_once = fits.missed_once; bounded = fits.bounded; knows = fits.knows });
     }
 
 -- none is left
@@ -54,7 +54,7 @@ misses total word views homes seat v high fresh part h at =
       no_other = λ n up. others n ∙ h.no_other n (omega (arith, is, high, up));
       counted = omega (arith, more, h.counted, is, high);
       parts = parts ∙ h.parts;
-      each = fits-set total views seat w h.each (record { bounded = omega (arith, part); knows = fits.knows });
+      each = fits-set total views seat w h.each (record { missed_once = omega arith; bounded = omega (arith, part); knows = fits.knows });
     }
 
 wrapped : (n : ℕ) → n + 1 < 2 ^ 64 → (n + 1) % 2 ^ 64 ≡ n + 1

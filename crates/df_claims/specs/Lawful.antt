@@ -26,8 +26,9 @@ times n xs = count_by (λ x. x == n) xs
 abbrev pub times_in : ℕ → List Draws → ℕ
 times_in n views = sum_by (λ v. times n v.numbers) views
 
--- what holds of one seat: it got none no more often than it has parts, and it knows the total
+-- what holds of one seat: it got none once at most, and no more often than it has parts, and it knows the total
 pub record FitsSeat (total : ℕ) (v : Draws) : Type 0 where
+  pub missed_once : v.misses ≤ 1
   pub bounded : v.misses ≤ v.parts
   pub knows : v.total ≡ total
 
