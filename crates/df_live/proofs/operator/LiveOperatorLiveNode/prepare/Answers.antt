@@ -1,22 +1,27 @@
-use Rattle.df_live.specs.Operators.{is_operator_over, operator_allowed, operator_output, operator_takes}
+use Rattle.df_live.specs.Operators.{is_operator_over, has_operator_room, operator_allowed, operator_budget, operator_leads, operator_output, operator_takes}
 use Rattle.df_live.proofs.operator.LiveOperatorLiveNode.prepare.Goals as goal
 
-pub returns-in_ok-staged-in-Window-clause-meter : goal.returns-in_ok-staged-in-Window-clause-meter
-unfolding is_operator_over operator_allowed operator_takes
-returns-in_ok-staged-in-Window-clause-meter c t h = rw c.in-Window.is (c.in_ok-staged-in-Window.ensures.meter t (rw c.in-Window.is at h))
+-- What the node in it ensures is what is asked, once it is known which node that is.
+pub returns-in_ok-staged-in-Filter : goal.returns-in_ok-staged-in-Filter
+unfolding is_operator_over has_operator_room operator_allowed operator_budget operator_leads operator_output operator_takes
+returns-in_ok-staged-in-Filter c = rw c.in-Filter.is c.in_ok-staged-in-Filter.ensures
 
-pub returns-in_ok-staged-in-Window-clause-contents : goal.returns-in_ok-staged-in-Window-clause-contents
-unfolding is_operator_over
-returns-in_ok-staged-in-Window-clause-contents c t over = c.in_ok-staged-in-Window.ensures.contents t (rw c.in-Window.is at over)
+pub returns-in_ok-staged-in-Map : goal.returns-in_ok-staged-in-Map
+unfolding is_operator_over has_operator_room operator_allowed operator_budget operator_leads operator_output operator_takes
+returns-in_ok-staged-in-Map c = rw c.in-Map.is c.in_ok-staged-in-Map.ensures
 
-pub returns-in_ok-staged-in-Window-clause-operator : goal.returns-in_ok-staged-in-Window-clause-operator
-unfolding operator_output
-returns-in_ok-staged-in-Window-clause-operator c t = rw c.in-Window.is (c.in_ok-staged-in-Window.ensures.operator t)
+pub returns-in_ok-staged-in-Window : goal.returns-in_ok-staged-in-Window
+unfolding is_operator_over has_operator_room operator_allowed operator_budget operator_leads operator_output operator_takes
+returns-in_ok-staged-in-Window c = rw c.in-Window.is c.in_ok-staged-in-Window.ensures
 
-pub returns-in_ok-staged-in-Sum-clause-contents : goal.returns-in_ok-staged-in-Sum-clause-contents
-unfolding is_operator_over
-returns-in_ok-staged-in-Sum-clause-contents c t over = c.in_ok-staged-in-Sum.ensures.contents t (rw c.in-Sum.is at over)
+pub returns-in_ok-staged-in-Sum : goal.returns-in_ok-staged-in-Sum
+unfolding is_operator_over has_operator_room operator_allowed operator_budget operator_leads operator_output operator_takes
+returns-in_ok-staged-in-Sum c = rw c.in-Sum.is c.in_ok-staged-in-Sum.ensures
 
-pub returns-in_ok-staged-in-Sum-clause-operator : goal.returns-in_ok-staged-in-Sum-clause-operator
-unfolding operator_output
-returns-in_ok-staged-in-Sum-clause-operator c t = rw c.in-Sum.is (c.in_ok-staged-in-Sum.ensures.operator t)
+pub returns-in_ok-staged-in-Rank : goal.returns-in_ok-staged-in-Rank
+unfolding is_operator_over has_operator_room operator_allowed operator_budget operator_leads operator_output operator_takes
+returns-in_ok-staged-in-Rank c = rw c.in-Rank.is c.in_ok-staged-in-Rank.ensures
+
+pub returns-in_ok-staged-in-Group : goal.returns-in_ok-staged-in-Group
+unfolding is_operator_over has_operator_room operator_allowed operator_budget operator_leads operator_output operator_takes
+returns-in_ok-staged-in-Group c = rw c.in-Group.is c.in_ok-staged-in-Group.ensures
