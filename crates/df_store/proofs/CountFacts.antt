@@ -5,7 +5,7 @@ use Rattle.std.proofs.lemmas.List.Sums.{sum_by-append, sum_by-cons, sum_by-set, 
 use Rattle.df_catalogue.specs.Desks.{DeskParts, parts_of}
 use Rattle.df_store.specs.declared.jobs.Outcome.{Outcome}
 use Rattle.df_store.specs.declared.worker.Worker.{Worker}
-use Rattle.df_store.specs.Closing.{HaveSameSums}
+use Rattle.df_store.specs.Closing.{AddsUp, HaveSameSums, deleted_at}
 use Rattle.df_store.specs.Halls.{having_accepted}
 use Rattle.df_store.specs.Workers.{AreCounted, HaveAccepted, all_without_accepted, desks_of, outcomes_in, rows_of, without_accepted}
 
@@ -93,3 +93,27 @@ pub parts-in-all :
     (given split after : List DeskParts) → HaveSameSums given split → all_without_accepted after ≡ all_without_accepted split → parts_of after ≡ parts_of given
 parts-in-all given split after same left =
     sym (parts-left after) ∙ (ap parts_of left ∙ (parts-left split ∙ same.same (λ d. d.parts) (λ d e h. refl)))
+
+deleted-left : (frame : ℕ) (desks : List DeskParts) → deleted_at frame (all_without_accepted desks) ≡ deleted_at frame desks
+deleted-left frame [] = refl
+deleted-left frame (d ∷ desks) =
+    let h : DeskParts → ℕ = λ x. if x.frame == frame then x.deleted else 0 in
+    let here = sum_by-cons h d desks in
+    let there = sum_by-cons h (without_accepted d) (all_without_accepted desks) in
+    let rest = deleted-left frame desks in
+    omega (arith, here, there, rest)
+
+deleted-adds-up : (frame : ℕ) → AddsUp (λ d. if d.frame == frame then d.deleted else 0)
+deleted-adds-up frame d e same =
+    if-sum (d.frame == frame) d.deleted e.deleted
+    ∙ ap (λ n. (if d.frame == frame then d.deleted else 0) + (if n == frame then e.deleted else 0)) same
+
+-- as many rows were deleted through the desks that come back as through those that were given
+pub deleted-in-all :
+    (given split after : List DeskParts) → HaveSameSums given split → all_without_accepted after ≡ all_without_accepted split → (frame : ℕ) →
+    deleted_at frame after ≡ deleted_at frame given
+deleted-in-all given split after same left frame =
+    sym (deleted-left frame after)
+    ∙ (ap (deleted_at frame) left
+    ∙ (deleted-left frame split
+    ∙ same.same (λ d. if d.frame == frame then d.deleted else 0) (deleted-adds-up frame)))

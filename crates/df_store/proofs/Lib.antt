@@ -11,6 +11,7 @@ pub mod ExpectedFacts
 pub mod JoinedFacts
 pub mod StoredFacts
 pub mod LostFacts
+pub mod LoadFacts
 pub mod ViewFacts
 pub mod CrossingPlans
 pub mod CrossingTrees

@@ -1,18 +1,32 @@
 -- What a load answers.
-use Rattle.std.specs.Prelude.{◌≢◌, ◌<◌, ⊤, ℕ, List, length, map, Option, MatchOption}
+use Rattle.std.specs.Prelude.{◌≡◌, ◌≢◌, ◌+◌, ◌<◌, ◌==◌, ⊤, ℕ, List, length, map, sum_by, Option, Some, MatchOption, if◌then◌else◌, slice_get}
 use Rattle.df_value.specs.declared.chunk.Piece.{Piece}
 use Rattle.df_plan.specs.CheckedParts.{CheckedParts}
 use Rattle.df_catalogue.specs.declared.fault.CatalogueFault.TheVariants as catalogue_fault
+use Rattle.df_catalogue.specs.declared.state.FrameState.{FrameState}
 use Rattle.df_catalogue.specs.declared.state.State.{State}
+use Rattle.df_catalogue.specs.Desks.{DeskParts}
 use Rattle.df_store.specs.declared.fault.LoadCause.{LoadCause}
 use Rattle.df_store.specs.declared.fault.LoadCause.TheVariants.{Refused, Memory, Spent, Ahead, MissingDesk, Lost, Unlike, ViewsUnlike}
 use Rattle.df_store.specs.declared.jobs.Outcome.{Outcome}
+use Rattle.df_store.specs.Closing.{accepted_at, deleted_at}
 use Rattle.df_store.specs.Jobs.{jobs_of}
 use Rattle.df_store.specs.Lost.{IsLost}
+use Rattle.df_store.specs.Workers.{rows_of}
 
 -- the views of a state, each by its name and its plan
 abbrev pub headings_of : State → List (List ℕ × CheckedParts)
 headings_of s = map (λ v. (v.name, v.plan)) s.views
+
+-- how many rows the good ones of these jobs bring to a frame
+abbrev pub rows_of_jobs : ℕ → List (ℕ × (ℕ × Piece)) → ℕ
+rows_of_jobs frame jobs = sum_by (λ j. if j.0 == frame then rows_of j.1.1 else 0) jobs
+
+-- of each frame the rows accepted through the desks that were given and those of its good jobs are together the rows that
+-- it accepted, and the rows deleted through these desks are those that were deleted from it
+pub record AreShares (desks : List DeskParts) (jobs : List (ℕ × (ℕ × Piece))) (s : State) : Type 0 where
+  pub accepted : (frame : ℕ) (f : FrameState) → slice_get s.frames frame ≡ Some f → accepted_at frame desks + rows_of_jobs frame jobs ≡ length f.accepted
+  pub deleted : (frame : ℕ) (f : FrameState) → slice_get s.frames frame ≡ Some f → deleted_at frame desks ≡ length f.deleted
 
 -- the comparison of a state with the outcomes of so many jobs and with the views that were given finds this; of memory
 -- nothing can be said

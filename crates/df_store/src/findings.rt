@@ -1,9 +1,10 @@
 //! What a load left, compared once with its sources and with the views that were given.
-ghost use Rattle.std.specs.Prelude.{◌≡◌, ◌<◌, IfErr, IfNone, IfOk, IfSome, filter_map, length, map};
+ghost use Rattle.std.specs.Prelude.{◌≡◌, ◌<◌, ℕ, IfErr, IfNone, IfOk, IfSome, filter_map, length, map};
 ghost use Rattle.df_store.specs.Jobs.{AreOutcomes, chunks_of, job_of, jobs_of};
 ghost use Rattle.df_store.specs.Loaded.{AreLoaded};
 ghost use Rattle.df_store.specs.Loads as loads;
 ghost use Rattle.df_store.specs.Refused.{refusal};
+ghost use Rattle.df_store.specs.Workers.{entered_at};
 
 use crate::comparing::first_unlike;
 use crate::fault::LoadCause;
@@ -39,6 +40,8 @@ pub(crate) fn compare<Acc: Ledger, Del: Ledger, S: Source, G: Gate, R: Threads +
         AreLoaded (jobs_of (chunks_of S.made S.start_of work.now.sources.now)) catalogue.now.state) }
     ensures refused { IfOk result (λ refused.
         refused ≡ filter_map refusal (jobs_of (chunks_of S.made S.start_of work.now.sources.now))) }
+    ensures entered { IfOk result (λ _. (frame : ℕ) → entered_at frame outcomes.items
+        ≡ loads.rows_of_jobs frame (jobs_of (chunks_of S.made S.start_of work.now.sources.now))) }
     ensures views { IfOk result (λ _. loads.headings_of catalogue.now.state ≡ views.now) }
     ensures difference { IfErr result (λ cause.
         loads.IsDifference work.now.jobs outcomes.items views.now catalogue.now.state cause) }

@@ -1,6 +1,6 @@
 //! Loading: workers bring the chunks of sources into a hall, and what they left is compared with the
 //! sources once.
-ghost use Rattle.std.specs.Prelude.{◌≡◌, ◌<◌, ◌≤◌, Err, IfErr, IfNone, IfOk, IfSome, Ok, filter_map, length, option_map};
+ghost use Rattle.std.specs.Prelude.{◌≡◌, ◌<◌, ◌≤◌, ℕ, Err, IfErr, IfNone, IfOk, IfSome, IsOkAnd, None, Ok, filter_map, length, option_map};
 ghost use Rattle.df_catalogue.specs.States.{IsLegal};
 ghost use Rattle.df_store.specs.Closing as closing;
 ghost use Rattle.df_store.specs.Faults.{IsCauseOfRegister};
@@ -8,6 +8,7 @@ ghost use Rattle.df_store.specs.Jobs.{AreOutcomes, chunks_of, jobs_of, most_jobs
 ghost use Rattle.df_store.specs.Loaded.{AreLoaded};
 ghost use Rattle.df_store.specs.Loads as loads;
 ghost use Rattle.df_store.specs.Refused.{refusal};
+ghost use Rattle.df_store.specs.Workers.{entered_at};
 
 use crate::closing::{Unsettled, settle};
 use crate::fault::{LoadCause, Stop};
@@ -110,6 +111,8 @@ pub fn load_all<
         AreLoaded (jobs_of (chunks_of S.made S.start_of sources.now)) load.catalogue.state) }
     ensures refused { IfOk result (λ load.
         load.refused ≡ filter_map refusal (jobs_of (chunks_of S.made S.start_of sources.now))) }
+    ensures shares { IfOk result (λ load. loads.AreShares desks.items
+        (jobs_of (chunks_of S.made S.start_of sources.now)) load.catalogue.state) }
     ensures views { IfOk result (λ load. loads.headings_of load.catalogue.state ≡ views.now) }
     ensures totals { IfOk result (λ load.
         load.totals ≡ closing.totals_of load.catalogue.state) }
@@ -223,6 +226,11 @@ fn finish<Acc: Ledger, Del: Ledger, J: Naming, S: Source, G: Gate, R: Threads + 
         load.catalogue.state) }
     ensures refused { IfOk result (λ load. load.refused
         ≡ filter_map refusal (jobs_of (chunks_of S.made S.start_of work.now.sources.now))) }
+    ensures settled { IfOk result (λ load.
+        closing.missing_frame desks.items load.catalogue.state ≡ None) }
+    ensures entered { IfOk result (λ _. IsOkAnd entered (λ os. (frame : ℕ) →
+        entered_at frame os.items ≡ loads.rows_of_jobs frame
+        (jobs_of (chunks_of S.made S.start_of work.now.sources.now)))) }
     ensures views { IfOk result (λ load. loads.headings_of load.catalogue.state ≡ views.now) }
     ensures totals { IfOk result (λ load.
         load.totals ≡ closing.totals_of load.catalogue.state) }

@@ -2,7 +2,7 @@
 ghost use Rattle.std.specs.Prelude.{◌≡◌, ℕ, ◌+◌, ◌<◌, ◌≤◌, ◌*◌, ◌++◌, [], All, IfErr, IfOk, None, length, map, vec_capacity};
 ghost use Rattle.df_catalogue.specs.Desks as desks_spec;
 ghost use Rattle.df_claims.specs.Seats.{IsSeatOf};
-ghost use Rattle.df_store.specs.Closing.{HaveSameSums, accepted_at};
+ghost use Rattle.df_store.specs.Closing.{HaveSameSums, accepted_at, deleted_at};
 ghost use Rattle.df_store.specs.Jobs.{AreOutcomes, chunks_of};
 ghost use Rattle.df_store.specs.Workers.{AreCounted, IsIdle, IsPool, IsWorker, all_without_accepted, desks_of, entered_at, outcomes_in};
 ghost use Rattle.df_store.specs.Faults.{earlier_of, first_stop};
@@ -139,6 +139,7 @@ pub(crate) fn do_jobs<
     ensures parts { desks_spec.parts_of result.0.items ≡ desks_spec.parts_of desks.items }
     ensures counted { IfOk result.1 (λ os. (frame : ℕ) → accepted_at frame result.0.items
         ≡ accepted_at frame desks.items + entered_at frame os.items) }
+    ensures deleted { (frame : ℕ) → deleted_at frame result.0.items ≡ deleted_at frame desks.items }
     ensures outcomes { IfOk result.1 (λ os.
         AreOutcomes (chunks_of S.made S.start_of work.now.sources.now) os.items) }
 {

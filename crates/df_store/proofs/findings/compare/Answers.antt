@@ -4,6 +4,7 @@ use Rattle.df_store.specs.Jobs.{chunks_of, job_of, jobs_of}
 use Rattle.df_store.specs.Loaded.{AreLoaded}
 use Rattle.df_store.specs.Lost.{IsLost}
 use Rattle.df_store.specs.Refused.{refusal}
+use Rattle.df_store.proofs.LoadFacts.{entered-jobs}
 use Rattle.df_store.proofs.LostFacts.{lost-of-order}
 use Rattle.df_store.proofs.OutcomeFacts.{in-order}
 use Rattle.df_store.proofs.findings.compare.Goals as goal
@@ -31,3 +32,12 @@ returns-clause-refused g c =
     in-order chunks os c.args.work.now.jobs c.in_order-outcomes.ensures.outcomes
     (ap (map (λ o. o.job)) (sym c.as_slice-2.ensures.value) ∙ c.in_default.ensures.none) c.requires.jobs in
     c.from_vec.ensures ∙ (c.in_ok-refused.ensures ∙ (ap (λ os. filter_map refusal (map job_of os)) c.as_slice.ensures.value ∙ ap (filter_map refusal) is))
+
+pub returns-clause-entered : goal.returns-clause-entered
+returns-clause-entered g c =
+    let chunks = chunks_of g.S.Source.made g.S.Source.start_of c.args.work.now.sources.now in
+    let os = c.in_order-outcomes.result.items in
+    let is : map job_of os ≡ jobs_of chunks =
+    in-order chunks os c.args.work.now.jobs c.in_order-outcomes.ensures.outcomes
+    (ap (map (λ o. o.job)) (sym c.as_slice-2.ensures.value) ∙ c.in_default.ensures.none) c.requires.jobs in
+    entered-jobs c.args.outcomes.items os (jobs_of chunks) c.in_order-outcomes.ensures.same is
