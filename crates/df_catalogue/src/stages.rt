@@ -17,7 +17,6 @@ use crate::desk::Desk;
 use crate::fault::CatalogueFault;
 use crate::frame_change::FrameChange;
 use crate::live_views::{prepare_all, shared_tables};
-use crate::prepared::PreparedChunk;
 use crate::staged::{StagedRows, StagedViews};
 use crate::staging::{StagedFrame, Staging, clear, stage};
 use crate::view_change::ViewChange;
@@ -43,20 +42,6 @@ impl<Acc: Ledger, Del: Ledger> Catalogue<Acc, Del> {
         ensures token { IfOk result (λ token. token.catalogue.value ≡ self.new) }
     {
         self.stage_frame_change(alloc, desk, FrameChange::Append(chunk))
-    }
-
-    /// Makes the append of a prepared chunk ready, as [`stage_append`](Catalogue::stage_append) does
-    /// that of a chunk.
-    pub fn stage_prepared(
-        &mut self,
-        alloc: Global,
-        desk: &Desk<Acc, Del>,
-        chunk: &PreparedChunk,
-    ) -> Result<StagedRows<Acc, Del>, CatalogueFault>
-        ensures staged { IsStagedChange self.old (Append desk.now.frame chunk.now) result self.new }
-        ensures token { IfOk result (λ token. token.catalogue.value ≡ self.new) }
-    {
-        self.stage_frame_change(alloc, desk, FrameChange::Prepared(chunk))
     }
 
     /// Makes [`delete`](Catalogue::delete) ready, in the place of what was staged before. It is
