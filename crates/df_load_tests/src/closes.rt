@@ -74,8 +74,9 @@ fn close_with<Acc: Ledger, Del: Ledger, J: Naming, R: Wait + Abort>(
         frame,
         hall,
         mut desks,
+        told,
     } = missing;
-    assert!(rt; frame == 1 && desks.len() == 2);
+    assert!(rt; frame == 1 && desks.len() == 2 && told.number() > 0);
     assert!(rt; desks.push(other).is_ok());
     match hall.close(rt, desks) {
         Ok((catalogue, totals)) => {
@@ -91,6 +92,7 @@ fn close_with<Acc: Ledger, Del: Ledger, J: Naming, R: Wait + Abort>(
                 frame: _,
                 hall,
                 desks: _,
+                told: _,
             } = missing;
             hall.end(rt);
             Err("all desks".into())

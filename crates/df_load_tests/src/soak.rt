@@ -260,6 +260,7 @@ fn close<Acc: Ledger, Del: Ledger, J: Naming, R: Wait + Abort>(
                 frame: _,
                 hall,
                 desks: _,
+                told: _,
             } = missing;
             hall.end(rt);
             Err("all desks".into())

@@ -98,7 +98,15 @@ impl<'r, R: Wait, Acc: Ledger, Del: Ledger, J: Naming> HallStore<'r, R, Acc, Del
                 drop(catalogue);
                 Ok(())
             }
-            Err(Missing { frame, hall, desks }) => {
+            Err(
+                Missing {
+                    frame,
+                    hall,
+                    desks,
+                    told,
+                },
+            ) => {
+                drop(told);
                 drop(desks);
                 hall.end(rt);
                 Err(ShellFault::Missing(frame))

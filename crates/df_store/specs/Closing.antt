@@ -4,6 +4,7 @@ use Rattle.df_catalogue.specs.declared.state.FrameState.{FrameState}
 use Rattle.df_catalogue.specs.declared.state.State.{State}
 use Rattle.df_catalogue.specs.Desks.{DeskParts, HaveAllParts, accepted_in, accepted_through, deleted_in, deleted_through, joined_desk}
 use Rattle.df_catalogue.specs.States.{IsLegal}
+use Rattle.df_versions.specs.Histories.{IsHistory, last_state}
 use Rattle.df_store.specs.declared.totals.Totals.{Totals}
 
 -- how many rows were accepted through the desks of a frame
@@ -66,6 +67,13 @@ SameFrame desks a b = (d e : DeskParts) → (slice_index_or desks a d).frame ≡
 pub record AreBooks (desks : List DeskParts) (s : State) : Type 0 where
   pub accepted : HaveAllParts desks s → accepted_through desks ≡ accepted_in s
   pub deleted : HaveAllParts desks s → deleted_through desks ≡ deleted_in s
+
+-- a lawful history ends with a state of which this is the least frame where the shares of the desks are not the books
+pub record IsMissingAfter (desks : List DeskParts) (history : List State) (frame : ℕ) : Type 0 where
+  pub lawful : IsHistory history
+  pub state : State
+  pub last : last_state history ≡ Some state
+  pub missing : missing_frame desks state ≡ Some frame
 
 -- there is a legal state of which this is the least frame where the shares of the desks are not the books. What a lock
 -- holds has no name in a clause, so nothing here ties that state to a hall

@@ -9,7 +9,7 @@ ghost use Rattle.df_store.specs.Halls.{AnswersOverHistory, having_accepted, havi
 ghost use Rattle.df_store.specs.Rooms.{HasRoomFor, Holds};
 ghost use Rattle.df_value.specs.Limits as limits;
 ghost use Rattle.df_versions.specs.Answered.{told_states};
-ghost use Rattle.df_versions.specs.Histories.{last_state};
+ghost use Rattle.df_versions.specs.Histories.{IsHistory, last_state};
 
 use crate::closing::{Unsettled, settle};
 use crate::totals::{Totals, TotalsRoom};
@@ -44,6 +44,8 @@ pub struct Missing<Acc: Ledger, Del: Ledger, J: Naming> {
     pub hall: Hall<Acc, Del, J>,
     /// Everything that the given desks had, in one desk for each frame of which any was given.
     pub desks: Vec<Desk<Acc, Del>>,
+    /// The history of the hall: the shares are not the books of its last state.
+    pub told: Told<J>,
 }
 
 /// The calls that change the catalogue take last what the caller was told before, if anything, and answer the history up
@@ -204,6 +206,8 @@ impl<Acc: Ledger, Del: Ledger, J: Naming> Hall<Acc, Del, J> {
         ensures totals { IfOk result (λ closed. closed.1 ≡ closing.totals_of closed.0.state) }
         ensures books { IfOk result (λ closed. closing.AreBooks desks.items closed.0.state) }
         ensures missing { IfErr result (λ missing. closing.IsMissing desks.items missing.frame) }
+        ensures told { IfErr result (λ missing.
+            closing.IsMissingAfter desks.items missing.told missing.frame) }
         ensures joined { IfErr result (λ missing.
             closing.AreJoined desks.items missing.desks.items) }
     {
@@ -253,7 +257,10 @@ fn reopened<Acc: Ledger, Del: Ledger, J: Naming>(
     requires empty { Holds unsettled.room [] }
     ensures frame { result.frame ≡ unsettled.frame }
     ensures desks { result.desks ≡ unsettled.desks }
+    ensures told { result.told ≡ publisher }
+    ensures lawful { IsHistory publisher }
 {
+    let told = publisher.told();
     let Unsettled {
         frame,
         catalogue,
@@ -264,5 +271,6 @@ fn reopened<Acc: Ledger, Del: Ledger, J: Naming>(
         frame,
         hall: Hall::over(VersionedCatalogue::over(catalogue, publisher), room),
         desks,
+        told,
     }
 }
