@@ -68,12 +68,14 @@ pub record AreBooks (desks : List DeskParts) (s : State) : Type 0 where
   pub accepted : HaveAllParts desks s → accepted_through desks ≡ accepted_in s
   pub deleted : HaveAllParts desks s → deleted_through desks ≡ deleted_in s
 
--- a lawful history ends with a state of which this is the least frame where the shares of the desks are not the books
+-- a lawful history ends with a state of which this is the least frame where the shares of the desks are not the books, and of
+-- which desks with every part have the books
 pub record IsMissingAfter (desks : List DeskParts) (history : List State) (frame : ℕ) : Type 0 where
   pub lawful : IsHistory history
   pub state : State
   pub last : last_state history ≡ Some state
   pub missing : missing_frame desks state ≡ Some frame
+  pub books : AreBooks desks state
 
 -- there is a legal state of which this is the least frame where the shares of the desks are not the books. What a lock
 -- holds has no name in a clause, so nothing here ties that state to a hall

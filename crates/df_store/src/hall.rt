@@ -44,7 +44,8 @@ pub struct Missing<Acc: Ledger, Del: Ledger, J: Naming> {
     pub hall: Hall<Acc, Del, J>,
     /// Everything that the given desks had, in one desk for each frame of which any was given.
     pub desks: Vec<Desk<Acc, Del>>,
-    /// The history of the hall: the shares are not the books of its last state.
+    /// The history of the hall, of the last state of which the shares are not the books. Contracts know it as some
+    /// beginning of the hall's history.
     pub told: Told<J>,
 }
 
