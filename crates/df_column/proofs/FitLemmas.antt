@@ -43,7 +43,7 @@ frac_fits : (o : Option (ℤ × ℤ)) → T (fits_dtype dtype.Frac (frac_cell o)
 frac_fits None = tt
 frac_fits (Some f) = tt
 
-cells_fit : (c : Column) → T (list_all (fits_dtype (dtype_of_column c)) (column_cells c))
+pub cells_fit : (c : Column) → T (list_all (fits_dtype (dtype_of_column c)) (column_cells c))
 cells_fit (column.Int vs) = all_cells dtype.Int int_cell int_fits vs
 cells_fit (column.Wide vs) = all_cells dtype.Wide wide_cell wide_fits vs
 cells_fit (column.Text vs) = all_cells dtype.Text text_cell text_fits vs
@@ -61,7 +61,7 @@ columns_fit : (columns : List Column) → AreFitColumns (map dtype_of_column col
 columns_fit [] = tt
 columns_fit (c ∷ cs) = (cells_fit c, columns_fit cs)
 
-null_fits : (d : CellType) → T (fits_dtype d cell.Null)
+pub null_fits : (d : CellType) → T (fits_dtype d cell.Null)
 null_fits dtype.Int = tt
 null_fits dtype.Wide = tt
 null_fits dtype.Text = tt

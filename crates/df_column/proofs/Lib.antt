@@ -40,6 +40,7 @@ pub mod BlockLemmas
 pub mod ChangeRuns
 mod RunRows
 mod SameRows
+mod UnlikeTypes
 mod ChangedParts
 mod ChangedTrees
 mod ChangedNodes

@@ -1,7 +1,7 @@
 -- Rows that stand one behind the other, row by row and block by block.
-use Rattle.std.proofs.Common.{◌≡◌, ℕ, ◌+◌, ◌-◌, ◌<◌, ◌≤◌, Bool, true, false, List, get_or, length, nat_lt, refl, sym, ap, ◌∙◌, arith, length-drop, length-take, take, drop}
+use Rattle.std.proofs.Common.{◌≡◌, ℕ, ◌+◌, ◌-◌, ◌<◌, ◌≤◌, Bool, true, false, List, get_or, length, nat_lt, refl, sym, ap, subst, ◌∙◌, arith, length-drop, length-take, take, drop}
 use Rattle.std.proofs.lemmas.Bool.{ltb-false, ltb-true}
-use Rattle.std.proofs.lemmas.List.{get_or-take, get_or-drop}
+use Rattle.std.proofs.lemmas.List.{get_or-take, get_or-drop, take_all}
 use Rattle.df_value.specs.declared.cell.Cell.{Cell}
 use Rattle.df_column.specs.RowRuns.{StandFrom}
 use Rattle.df_column.specs.declared.tag.Tag.{Tag}
@@ -68,3 +68,25 @@ stand_one tagged at first rows n so_far lt number row =
           ap (λ i. (get_or tagged i d).1) off ∙ row d ∙ ap (λ i. get_or rows i d.1) there ∙ sym (get_or-drop n rows k d.1) ∙ sym (get_or-take 1 (drop n rows) k d.1 (omega (arith, z)));
     })
     (λ i d lt. refl)
+
+-- so many of the rows as there are
+pub all_stand : (tagged : List (Tag × List Cell)) (at first : ℕ) (rows : List (List Cell)) (n : ℕ) → StandFrom tagged at first (take n rows) → length rows ≤ n → StandFrom tagged at first rows
+all_stand tagged at first rows n stand all = subst (StandFrom tagged at first) (take_all n rows all) stand
+
+-- a part of the rows, in another list of tagged rows that goes along with this one
+pub part_stands : (tagged : List (Tag × List Cell)) (at first : ℕ) (rows : List (List Cell)) (n m : ℕ) (other : List (Tag × List Cell)) (low : ℕ) (part : List (List Cell)) → StandFrom tagged at first rows → n + m ≤ length rows → part ≡ take m (drop n rows)
+    → ((i : ℕ) (d : Tag × List Cell) → i < m → get_or tagged ((at + n) + i) d ≡ get_or other (low + i) d) → StandFrom other low (first + n) part
+part_stands tagged at first rows n m other low part stand within is along = record {
+  numbers = λ k d lt.
+      let few : k < m = omega (arith, lt, rest) in
+      let off : (at + n) + k ≡ at + (n + k) = omega arith in
+      let sum : first + (n + k) ≡ (first + n) + k = omega arith in
+      sym (ap (λ r. r.0.first) (along k d few)) ∙ ap (λ i. (get_or tagged i d).0.first) off ∙ stand.numbers (n + k) d (omega (arith, within, few)) ∙ sum;
+  rows_are = λ k d lt.
+      let few : k < m = omega (arith, lt, rest) in
+      let off : (at + n) + k ≡ at + (n + k) = omega arith in
+      sym (ap (λ r. r.1) (along k d few)) ∙ ap (λ i. (get_or tagged i d).1) off ∙ stand.rows_are (n + k) d (omega (arith, within, few))
+      ∙ sym (get_or-drop n rows k d.1) ∙ sym (get_or-take m (drop n rows) k d.1 few) ∙ ap (λ xs. get_or xs k d.1) (sym is);
+} where
+  rest : length part ≡ m
+  rest = let e = ap length is ∙ length-take m (drop n rows) in let f = length-drop n rows in omega (arith, e, f, within)

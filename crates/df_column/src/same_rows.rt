@@ -1,10 +1,10 @@
 //! Whether rows of one table are those of another. No row is made, and no cell is copied.
-ghost use Rattle.std.specs.Prelude.{◌≡◌, ℕ, ◌+◌, ◌<◌, ◌≤◌, ◌^◌, List, length, map, slice_index_or, true};
+ghost use Rattle.std.specs.Prelude.{◌≡◌, ◌↔◌, ℕ, ◌+◌, ◌<◌, ◌≤◌, ◌^◌, IsTrue, List, length, map, slice_index_or, true};
 ghost use Rattle.std.specs.FinMap as finite;
 ghost use Rattle.df_value.specs.declared.cell.Cell.{Cell};
 ghost use Rattle.df_column.specs.Blocks.{block_rows, rows_of_blocks};
-ghost use Rattle.df_column.specs.Columns.{column_cells};
-ghost use Rattle.df_column.specs.RowRuns.{AreThose};
+ghost use Rattle.df_column.specs.Columns.{column_cells, dtype_of_column};
+ghost use Rattle.df_column.specs.RowRuns.{AreNull, AreThose};
 ghost use Rattle.df_column.specs.Texts.{text_now};
 ghost use Rattle.df_column.specs.ValueCells.{text_cell};
 ghost use Rattle.df_column.specs.declared.tag.Tag.{Tag};
@@ -22,7 +22,7 @@ use df_value::same;
 
 /// Whether two values are the same, or both null.
 fn is_same_value<T: CellValue>(a: Option<T>, b: Option<T>) -> bool
-    ensures { result ≡ true → T.cell_of a ≡ T.cell_of b }
+    ensures { IsTrue result ↔ (T.cell_of a ≡ T.cell_of b) }
 {
     match (a, b) {
         (Some(a), Some(b)) => T::compare(a, b).is_eq(),
@@ -33,7 +33,7 @@ fn is_same_value<T: CellValue>(a: Option<T>, b: Option<T>) -> bool
 
 /// Whether two texts are the same, or both null.
 fn is_same_text(a: Option<&str>, b: Option<&str>) -> bool
-    ensures { result ≡ true → text_now a.entry ≡ text_now b.entry }
+    ensures { IsTrue result ↔ (text_now a.entry ≡ text_now b.entry) }
 {
     match (a, b) {
         (Some(a), Some(b)) => a == b,
@@ -49,7 +49,7 @@ impl<T: CellValue> Masked<T> {
         requires within_other { from + count ≤ length (map T.cell_of other.now) }
         requires few { at + count < 2 ^ 64 }
         requires few_of_other { from + count < 2 ^ 64 }
-        ensures { result ≡ true →
+        ensures { IsTrue result ↔
             AreThose (map T.cell_of self.now) at (map T.cell_of other.now) from count }
     {
         for k in 0..count {
@@ -68,7 +68,7 @@ impl Texts {
         requires within_other { from + count ≤ length (map text_cell other.now) }
         requires few { at + count < 2 ^ 64 }
         requires few_of_other { from + count < 2 ^ 64 }
-        ensures { result ≡ true →
+        ensures { IsTrue result ↔
             AreThose (map text_cell self.now) at (map text_cell other.now) from count }
     {
         for k in 0..count {
@@ -81,14 +81,28 @@ impl Texts {
 }
 
 impl Column {
-    /// Whether so many cells from an index on are those of another column from an index on. Columns of two types are taken
-    /// to differ.
-    fn has_cells_of(&self, at: usize, other: &Column, from: usize, count: usize) -> bool
+    /// Whether so many cells from an index on are null.
+    fn are_null(&self, at: usize, count: usize) -> bool
+        requires within { at + count ≤ length (column_cells self.now) }
+        requires few { at + count < 2 ^ 64 }
+        ensures { IsTrue result ↔ AreNull (column_cells self.now) at count }
+    {
+        for k in 0..count {
+            if !self.is_null(at + k) {
+                return false;
+            }
+        }
+        true
+    }
+
+    /// Whether so many cells from an index on are those of another column of this type from an index on.
+    fn has_typed_cells_of(&self, at: usize, other: &Column, from: usize, count: usize) -> bool
+        requires dtype { dtype_of_column self.now ≡ dtype_of_column other.now }
         requires within { at + count ≤ length (column_cells self.now) }
         requires within_other { from + count ≤ length (column_cells other.now) }
         requires few { at + count < 2 ^ 64 }
         requires few_of_other { from + count < 2 ^ 64 }
-        ensures { result ≡ true →
+        ensures { IsTrue result ↔
             AreThose (column_cells self.now) at (column_cells other.now) from count }
     {
         match (self, other) {
@@ -100,6 +114,22 @@ impl Column {
             _ => false,
         }
     }
+
+    /// Whether so many cells from an index on are those of another column from an index on. Cells of two types are the same
+    /// only where both are null.
+    fn has_cells_of(&self, at: usize, other: &Column, from: usize, count: usize) -> bool
+        requires within { at + count ≤ length (column_cells self.now) }
+        requires within_other { from + count ≤ length (column_cells other.now) }
+        requires few { at + count < 2 ^ 64 }
+        requires few_of_other { from + count < 2 ^ 64 }
+        ensures { IsTrue result ↔
+            AreThose (column_cells self.now) at (column_cells other.now) from count }
+    {
+        if same(&self.dtype(), &other.dtype()) {
+            return self.has_typed_cells_of(at, other, from, count);
+        }
+        self.are_null(at, count) && other.are_null(from, count)
+    }
 }
 
 impl RowTags {
@@ -109,7 +139,7 @@ impl RowTags {
         requires within_other { from + count ≤ length other.now }
         requires few { at + count < 2 ^ 64 }
         requires few_of_other { from + count < 2 ^ 64 }
-        ensures { result ≡ true → AreThose self.now at other.now from count }
+        ensures { IsTrue result ↔ AreThose self.now at other.now from count }
     {
         for k in 0..count {
             if !same(&self.get(at + k), &other.get(from + k)) {
@@ -123,9 +153,10 @@ impl RowTags {
 impl Block {
     /// Whether so many rows from an index on are those of another block from an index on. It goes column by column.
     fn has_rows_of(&self, at: usize, other: &Block, from: usize, count: usize) -> bool
+        requires some { 0 < count }
         requires within { at + count ≤ length self.now.tags }
         requires within_other { from + count ≤ length other.now.tags }
-        ensures { result ≡ true →
+        ensures { IsTrue result ↔
             AreThose (block_rows self.now) at (block_rows other.now) from count }
     {
         let (columns, others) = (self.columns(), other.columns());
@@ -161,7 +192,7 @@ fn are_rows_of(blocks: &BlockList, at: usize, others: &BlockList, from: usize, c
     requires within_other { from + count ≤ length (rows_of_blocks others.now) }
     requires few { at + count < 2 ^ 64 }
     requires few_of_other { from + count < 2 ^ 64 }
-    ensures { result ≡ true →
+    ensures { IsTrue result ↔
         AreThose (rows_of_blocks blocks.now) at (rows_of_blocks others.now) from count }
 {
     let mut done = 0;
@@ -180,24 +211,25 @@ fn are_rows_of(blocks: &BlockList, at: usize, others: &BlockList, from: usize, c
 
 impl Table {
     /// Whether there are so many rows from an index on.
-    fn reaches(&self, at: usize, count: usize) -> bool
-        ensures within { result ≡ true → at + count ≤ finite.len self.now.rows }
+    pub(crate) fn reaches(&self, at: usize, count: usize) -> bool
+        ensures within { IsTrue result ↔ (at + count ≤ finite.len self.now.rows) }
         ensures few { result ≡ true → at + count ≤ 2 ^ 60 }
     {
-        match at.checked_add(count) {
-            Some(end) => end <= self.len(),
-            None => false,
-        }
+        let len = self.len();
+        at <= len && count <= len - at
     }
 
     /// Whether so many rows from an index on are those of another table from an index on, with their tags. No cell is
-    /// copied, and blocks are looked for once for each part that lies in one block of both tables. Where columns differ in
-    /// number or type, the rows are taken to differ.
+    /// copied, and blocks are looked for once for each part that lies in one block of both tables.
     pub fn has_rows_of(&self, at: usize, other: &Table, from: usize, count: usize) -> bool
         ensures within { result ≡ true → at + count ≤ finite.len self.now.rows }
         ensures within_other { result ≡ true → from + count ≤ finite.len other.now.rows }
         ensures rows { result ≡ true →
             AreThose (finite.entries self.now.rows) at (finite.entries other.now.rows) from count }
+        ensures alike { at + count ≤ finite.len self.now.rows
+            → from + count ≤ finite.len other.now.rows
+            → AreThose (finite.entries self.now.rows) at (finite.entries other.now.rows) from count
+            → result ≡ true }
     {
         if !self.reaches(at, count) || !other.reaches(from, count) {
             return false;

@@ -1,5 +1,5 @@
 //! Rows of a list of blocks, or of one run, by their index and by their tags.
-ghost use Rattle.std.specs.Prelude.{◌≡◌, ℕ, ◌+◌, ◌<◌, ◌≤◌, ◌^◌, T, List, IfErr, IfOk, drop, length, slice_index_or, take, true};
+ghost use Rattle.std.specs.Prelude.{◌≡◌, ◌↔◌, ℕ, ◌+◌, ◌<◌, ◌≤◌, ◌^◌, T, List, IfErr, IfOk, IsTrue, drop, length, slice_index_or, take};
 ghost use Rattle.std.specs.FinMap as finite;
 ghost use Rattle.std.specs.FinMap.Entries.{below_all};
 ghost use Rattle.df_value.specs.Rows.{row_eq};
@@ -62,7 +62,7 @@ pub fn is_row_at(blocks: &BlockList, at: usize, row: &Row) -> bool
 fn are_rows_in(block: &Block, low: usize, first: u64, rows: &[Row]) -> bool
     requires within { low + length rows.now ≤ length block.now.tags }
     requires numbers { first + length rows.now < 2 ^ 64 }
-    ensures { result ≡ true → StandFrom (block_rows block.now) low first rows.now }
+    ensures { IsTrue result ↔ StandFrom (block_rows block.now) low first rows.now }
 {
     let tags = block.tags();
     for at in 0..rows.len() {
@@ -78,7 +78,7 @@ pub fn are_rows_at(blocks: &BlockList, at: usize, first: u64, rows: &[Row]) -> b
     requires within { at + length rows.now ≤ length (rows_of_blocks blocks.now) }
     requires few { at + length rows.now < 2 ^ 64 }
     requires numbers { first + length rows.now < 2 ^ 64 }
-    ensures { result ≡ true → StandFrom (rows_of_blocks blocks.now) at first rows.now }
+    ensures { IsTrue result ↔ StandFrom (rows_of_blocks blocks.now) at first rows.now }
 {
     let mut done = 0;
     while done < rows.len() {

@@ -264,12 +264,11 @@ impl Table {
         requires { first + length rows.now < 2 ^ 64 }
         ensures within { result ≡ true → at + length rows.now ≤ finite.len self.now.rows }
         ensures rows { result ≡ true → StandFrom (finite.entries self.now.rows) at first rows.now }
+        ensures alike { at + length rows.now ≤ finite.len self.now.rows
+            → StandFrom (finite.entries self.now.rows) at first rows.now → result ≡ true }
     {
-        let Some(end) = at.checked_add(rows.len()) else {
-            return false;
-        };
         let blocks = self.blocks();
-        end <= self.len() && spots::are_rows_at(blocks, at, first, rows)
+        self.reaches(at, rows.len()) && spots::are_rows_at(blocks, at, first, rows)
     }
 
     /// The index of the row at this tag, if there is one. The number of steps goes by the logarithm of the number of

@@ -6,4 +6,4 @@ pub are_rows_at-requires-clause-within : goal.are_rows_at-requires-clause-within
 are_rows_at-requires-clause-within c =
     let all = ap length c.blocks-blocks.ensures.rows in
     let count = finite.len-entries c.args.self.now.rows in
-    omega (arith, all, count, c.in-Some.ensures.1, c.if-end-len.true, c.len.ensures.value)
+    omega (arith, all, count, c.reaches.ensures.within.0 c.if-reaches.true)
