@@ -42,7 +42,7 @@ impl<Acc: Ledger, Del: Ledger> Drop for Catalogue<Acc, Del> {
         let Catalogue {
             frames,
             views,
-            work: _,
+            work,
             staged,
             accepted,
             deleted,
@@ -51,6 +51,7 @@ impl<Acc: Ledger, Del: Ledger> Drop for Catalogue<Acc, Del> {
         } = self;
         drop(frames);
         drop(views);
+        drop(work);
         drop(staged);
         drop(accepted);
         drop(deleted);

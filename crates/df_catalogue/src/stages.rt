@@ -166,8 +166,8 @@ impl<Acc: Ledger, Del: Ledger> Catalogue<Acc, Del> {
     {
         let accepted = change.accepted_rows();
         let deleted = change.deleted_rows();
-        let mut work = Meter::new();
         let (changed, delta) = self.frames[frame].changed(alloc, change)?;
+        let mut work = Meter::new();
         let views = prepare_all(alloc, &mut self.views, frame, delta.get(), &mut work)?;
         let rows = StagedFrame {
             frame,

@@ -39,7 +39,7 @@ pub fn eval(
         → IsTrue (fits_dtype t (value_of expr.now schema.now row.now)) }
     ensures free { IsTrue (not (is_text (value_of expr.now schema.now row.now))) → IsOk result }
 {
-    meter.evals += 1;
+    meter.evals.raise();
     value_in(expr, schema.columns().as_slice(), row).into_cell(alloc)
 }
 

@@ -6,6 +6,7 @@
 #![tactic(auto)]
 
 mod arithmetic;
+mod counter;
 mod evaluation;
 mod expr;
 mod fault;
@@ -16,12 +17,13 @@ mod operators;
 mod physical;
 mod typing;
 
+pub use counter::Counter;
 pub use evaluation::eval;
 pub use expr::{ArithOp, CompareOp, Expr};
 pub use fault::ExprFault;
 pub use lent::Value;
 pub use logic::{kleene_and, kleene_not, kleene_or};
-pub use meter::Meter;
+pub use meter::{Meter, WorkCounts};
 pub use operators::{Binary, Unary, arith, comparison, eq_missing};
 pub use physical::PhysicalExpr;
 pub use typing::{MOST_EXPR_LEVELS, check, names_column};

@@ -61,7 +61,7 @@ impl PhysicalExpr {
         ensures value { cell_of_value result ≡ physical_value self.now row.now }
         ensures counted { meter.new ≡ with_evals 1 meter.old }
     {
-        meter.evals += 1;
+        meter.evals.raise();
         value_in(self, row)
     }
 }

@@ -121,7 +121,7 @@ pub fn finished_group(
         → g ≡ group_with grouping.now key.now members) }
     ensures counted { meter.new ≡ plus meter.old (finishes 1) }
 {
-    meter.finishes += 1;
+    meter.finishes.raise();
     let row = grouping.finished_row(alloc, key, before, entries, &members, totals.as_slice())?;
     Ok(Group {
         members,

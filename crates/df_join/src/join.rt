@@ -23,7 +23,7 @@ use crate::keyed::KeyedTables;
 use crate::members::Members;
 use crate::rule::JoinRule;
 use df_delta::{Delta, TwoSidedNode};
-use df_expr::Meter;
+use df_expr::{Counter, Meter};
 use df_ops::{How, join_indices_of};
 use df_value::{Schema, Text};
 use std::alloc::{AllocError, Global};
@@ -122,7 +122,7 @@ impl LiveJoin {
         &self,
         left: &Delta,
         right: &Delta,
-        probes: &mut u128,
+        probes: &mut Counter,
     ) -> Result<(StagedJoin, Delta), AllocError>
         requires { probes.old + 2 ^ 68 < 2 ^ 128 }
         ensures diff { IfOk result (λ x. (l r : TaggedRows)

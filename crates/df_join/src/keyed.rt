@@ -7,6 +7,7 @@ ghost use Rattle.df_join.specs.Rules.{Cells};
 ghost use Rattle.df_join.specs.Keyed.{state_of, unless_empty};
 
 use crate::tree_table::TreeTable;
+use df_expr::Counter;
 use df_value::{Duplicate, Row};
 use indexmap::IndexMap;
 use std::alloc::{AllocError, Global};
@@ -34,23 +35,23 @@ impl KeyedTables {
     }
 
     /// The table of the key. Makes one probe.
-    pub fn look(&self, key: &Row, probes: &mut u128) -> Option<&TreeTable>
+    pub fn look(&self, key: &Row, probes: &mut Counter) -> Option<&TreeTable>
         requires { probes.old + 1 < 2 ^ 128 }
         ensures table { option_copied result ≡ get row_eq self.now.tables key.now }
         ensures counted { probes.new ≡ probes.old + 1 }
     {
-        *probes += 1;
+        probes.raise();
         self.tables.get(key)
     }
 
     /// Takes the table of the key out. Makes one probe.
-    pub fn take(&mut self, key: &Row, probes: &mut u128) -> Option<TreeTable>
+    pub fn take(&mut self, key: &Row, probes: &mut Counter) -> Option<TreeTable>
         requires { probes.old + 1 < 2 ^ 128 }
         ensures table { result ≡ get row_eq self.old.tables key.now }
         ensures rest { (k : Cells) → get row_eq self.new.tables k ≡ cond (row_eq key.now k) None (get row_eq self.old.tables k) }
         ensures counted { probes.new ≡ probes.old + 1 }
     {
-        *probes += 1;
+        probes.raise();
         self.tables.swap_remove(key)
     }
 

@@ -16,6 +16,7 @@ use crate::keyed::KeyedTables;
 use crate::tree_table::TreeTable;
 use df_column::{Entry, Tag};
 use df_delta::Delta;
+use df_expr::Counter;
 use df_ops::key_of;
 use df_value::{Duplicate, Row, Schema};
 use std::alloc::{AllocError, Global};
@@ -71,7 +72,7 @@ impl Members {
     }
 
     /// The rows of the key. Makes one probe.
-    pub fn look(&self, key: &Row, probes: &mut u128) -> Option<&TreeTable>
+    pub fn look(&self, key: &Row, probes: &mut Counter) -> Option<&TreeTable>
         requires { probes.old + 1 < 2 ^ 128 }
         ensures table { option_copied result ≡ get row_eq self.now.keyed.tables key.now }
         ensures counted { probes.new ≡ probes.old + 1 }
@@ -91,7 +92,7 @@ impl Members {
     }
 
     /// The rows of the key as they are. Makes one probe.
-    fn kept_table(&self, key: &Row, probes: &mut u128) -> Result<TreeTable, AllocError>
+    fn kept_table(&self, key: &Row, probes: &mut Counter) -> Result<TreeTable, AllocError>
         requires { probes.old + 1 < 2 ^ 128 }
         ensures table { IfOk result (λ t. t ≡ table_or self.now.empty (get row_eq self.now.keyed.tables key.now)) }
         ensures counted { probes.new ≡ probes.old + 1 }
@@ -107,7 +108,7 @@ impl Members {
         &self,
         staged: &mut KeyedTables,
         key: &Row,
-        probes: &mut u128,
+        probes: &mut Counter,
     ) -> Result<TreeTable, AllocError>
         requires { probes.old + 2 < 2 ^ 128 }
         ensures table { IfOk result (λ t. t ≡ table_or self.now.empty (state_of self.now.keyed.tables staged.old.tables key.now)) }
@@ -129,7 +130,7 @@ impl Members {
         tag: Tag,
         row: &Row,
         key: &Row,
-        probes: &mut u128,
+        probes: &mut Counter,
     ) -> Result<bool, AllocError>
         requires { probes.old + 2 < 2 ^ 128 }
         ensures states { OnOk result ((g : TaggedRows) → IsGroup self.now staged.old key.now g
@@ -160,7 +161,7 @@ impl Members {
         tag: Tag,
         row: &Row,
         key: &Row,
-        probes: &mut u128,
+        probes: &mut Counter,
     ) -> Result<bool, AllocError>
         requires { probes.old + 2 < 2 ^ 128 }
         ensures leads { OnOk result ((indices : List (Option ℕ)) (t : TaggedRows)
@@ -186,7 +187,7 @@ impl Members {
         goes: bool,
         tag: Tag,
         row: &Option<Row>,
-        probes: &mut u128,
+        probes: &mut Counter,
     ) -> Result<(), AllocError>
         requires { probes.old + 2 < 2 ^ 128 }
         ensures leads { OnOk result ((t : TaggedRows) → finite.get t tag ≡ cond goes row.now None
@@ -213,7 +214,7 @@ impl Members {
         indices: &[Option<usize>],
         staged: &mut KeyedTables,
         entry: &Entry,
-        probes: &mut u128,
+        probes: &mut Counter,
     ) -> Result<(), AllocError>
         requires { probes.old + 4 < 2 ^ 128 }
         ensures leads { OnOk result ((t : TaggedRows) → finite.get t entry.now.tag ≡ entry.now.old
@@ -235,7 +236,7 @@ impl Members {
         &self,
         indices: &[Option<usize>],
         delta: &Delta,
-        probes: &mut u128,
+        probes: &mut Counter,
     ) -> Result<KeyedTables, AllocError>
         requires { probes.old + 2 ^ 66 < 2 ^ 128 }
         ensures leads { IfOk result (λ staged. (t : TaggedRows) → IsIndexOf indices.now self.now t

@@ -76,7 +76,7 @@ impl Rolling {
         ensures value { IfOk result (λ r. r ≡ stretches.last_row self.now rows.now) }
         ensures counted { meter.new ≡ plus meter.old (windows 1) }
     {
-        meter.windows += 1;
+        meter.windows.raise();
         let cell = rolling_last(alloc, self.kind, self.w, self.m, self.index, rows)?;
         let last = &rows[rows.len() - 1];
         let added = [cell];

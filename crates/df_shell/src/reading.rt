@@ -7,7 +7,7 @@ ghost use Rattle.df_shell.specs.Questions.{IsTold, books_line, books_text, frame
 use crate::definitions::Definitions;
 use crate::refusal::Refusal;
 use df_catalogue::{Catalogue, CatalogueFault};
-use df_expr::Meter;
+use df_expr::WorkCounts;
 use df_text::{escape, print_table};
 use df_value::Text;
 use std::alloc::{AllocError, Global};
@@ -106,10 +106,15 @@ pub fn work<Acc: Ledger, Del: Ledger>(
     Ok(text.into_bytes())
 }
 
-fn work_of(alloc: Global, work: Meter) -> Result<String, AllocError>
-    ensures { IfOk result (λ text. string_bytes text ≡ work_text work) }
+fn work_of(alloc: Global, work: WorkCounts) -> Result<String, AllocError>
+    ensures { IfOk result (λ text. string_bytes text ≡ work_text (record {
+      evals = work.evals;
+      finishes = work.finishes;
+      probes = work.probes;
+      windows = work.windows;
+    })) }
 {
-    let Meter {
+    let WorkCounts {
         evals,
         finishes,
         probes,

@@ -4,7 +4,7 @@ ghost use Rattle.df_delta.specs.Work.{IsBelow};
 
 use df_column::{Entry, Tag};
 use df_delta::{Delta, LiveNode, TwoSidedNode};
-use df_expr::Meter;
+use df_expr::{Meter, WorkCounts};
 use df_value::{Cell, CellType, Row};
 use std::alloc::{AllocError, Global};
 
@@ -143,19 +143,22 @@ pub struct TwoSidedStep<'a> {
     pub most: u128,
 }
 
-fn is_at_most(meter: &Meter, most: u128) -> bool {
-    meter.evals <= most && meter.finishes <= most && meter.probes <= most && meter.windows <= most
+fn is_at_most(work: &WorkCounts, most: u128) -> bool {
+    work.evals <= most && work.finishes <= most && work.probes <= most && work.windows <= most
 }
 
 /// The node after this delta, the delta of its output, and the work that it counted.
-pub fn after<N: LiveNode + Drop>(mut node: N, delta: Delta) -> Result<(N, Delta, Meter), AllocError>
+pub fn after<N: LiveNode + Drop>(
+    mut node: N,
+    delta: Delta,
+) -> Result<(N, Delta, WorkCounts), AllocError>
     requires { IsBelow (N.budget node) (2 ^ 128) }
     ensures { IfOk result (λ r. N.budget r.0 ≡ N.budget node) }
 {
     let mut meter = Meter::new();
     let (staged, out) = node.prepare(&delta, &mut meter)?;
     node.commit(staged);
-    Ok((node, out, meter))
+    Ok((node, out, meter.counts()))
 }
 
 /// The node after a step, and whether it told what the step says. The cells that it is given and that it tells are of
@@ -170,9 +173,9 @@ fn after_step<N: LiveNode + Drop>(
     requires { IsBelow (N.budget node) (2 ^ 128) }
     ensures { IfOk result (λ r. N.budget r.0 ≡ N.budget node) }
 {
-    let (node, out, meter) = after(node, delta(alloc, given, step.given)?)?;
+    let (node, out, work) = after(node, delta(alloc, given, step.given)?)?;
     let same = has_changes(alloc, &out, told, step.told)?;
-    Ok((node, same && is_at_most(&meter, step.most)))
+    Ok((node, same && is_at_most(&work, step.most)))
 }
 
 /// Whether the node tells what the steps say, one after another.
@@ -201,14 +204,14 @@ pub fn after_both<N: TwoSidedNode + Drop>(
     mut node: N,
     left: Delta,
     right: Delta,
-) -> Result<(N, Delta, Meter), AllocError>
+) -> Result<(N, Delta, WorkCounts), AllocError>
     requires { IsBelow (N.budget node) (2 ^ 128) }
     ensures { IfOk result (λ r. N.budget r.0 ≡ N.budget node) }
 {
     let mut meter = Meter::new();
     let (staged, out) = node.prepare(&left, &right, &mut meter)?;
     node.commit(staged);
-    Ok((node, out, meter))
+    Ok((node, out, meter.counts()))
 }
 
 /// The types of the cells of the rows of a join's two sides, and of its own.
@@ -230,9 +233,9 @@ fn after_step_of_both<N: TwoSidedNode + Drop>(
 {
     let left = delta(alloc, dtypes.left, step.left)?;
     let right = delta(alloc, dtypes.right, step.right);
-    let (node, out, meter) = after_both(node, left, right?)?;
+    let (node, out, work) = after_both(node, left, right?)?;
     let same = has_changes(alloc, &out, dtypes.told, step.told)?;
-    Ok((node, same && is_at_most(&meter, step.most)))
+    Ok((node, same && is_at_most(&work, step.most)))
 }
 
 /// Whether the node of two inputs tells what the steps say, one after another.

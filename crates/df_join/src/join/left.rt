@@ -16,12 +16,13 @@ use super::LiveJoin;
 use super::pairs::tagged_rows;
 use df_column::{Entry, Tag};
 use df_delta::{Delta, Notes};
+use df_expr::Counter;
 use df_value::Row;
 use std::alloc::AllocError;
 
 impl LiveJoin {
     /// The right rows of the key, where it is not null. Makes at most one probe.
-    fn right_rows(&self, key: &Row, probes: &mut u128) -> Result<Vec<(Tag, Row)>, AllocError>
+    fn right_rows(&self, key: &Row, probes: &mut Counter) -> Result<Vec<(Tag, Row)>, AllocError>
         requires { probes.old + 1 < 2 ^ 128 }
         ensures rows { IfOk result (λ rows. (r : TaggedRows) → IsIndexOf self.now.rule.indices.right self.now.right r
             → rows.items ≡ finite.entries (keyed_rows self.now.rule self.now.rule.indices.right key.now r)) }
@@ -41,7 +42,7 @@ impl LiveJoin {
         goes: bool,
         tag: Tag,
         left: &Row,
-        probes: &mut u128,
+        probes: &mut Counter,
     ) -> Result<(), AllocError>
         requires { probes.old + 1 < 2 ^ 128 }
         ensures noted { OnOk result ((r : TaggedRows) → IsIndexOf self.now.rule.indices.right self.now.right r
@@ -65,7 +66,7 @@ impl LiveJoin {
         goes: bool,
         tag: Tag,
         row: &Option<Row>,
-        probes: &mut u128,
+        probes: &mut Counter,
     ) -> Result<(), AllocError>
         requires { probes.old + 1 < 2 ^ 128 }
         ensures leads { OnOk result ((from l r : TaggedRows)
@@ -88,7 +89,7 @@ impl LiveJoin {
         &self,
         notes: &mut Notes,
         entry: &Entry,
-        probes: &mut u128,
+        probes: &mut Counter,
     ) -> Result<(), AllocError>
         requires { probes.old + 2 < 2 ^ 128 }
         ensures leads { OnOk result ((from l r : TaggedRows)
@@ -106,7 +107,7 @@ impl LiveJoin {
     }
 
     /// Notes all changes of the left side. Makes at most two probes for each.
-    pub fn note_left_all(&self, delta: &Delta, probes: &mut u128) -> Result<Notes, AllocError>
+    pub fn note_left_all(&self, delta: &Delta, probes: &mut Counter) -> Result<Notes, AllocError>
         requires { probes.old + 2 ^ 65 < 2 ^ 128 }
         ensures leads { IfOk result (λ notes. (l r : TaggedRows)
             → AreSides (is_one self.now.left_scans) self.now.rule self.now.right l r

@@ -18,6 +18,7 @@ use super::{LiveJoin, StagedJoin};
 use crate::keyed::KeyedTables;
 use df_column::{Entry, Tag};
 use df_delta::{Delta, Notes};
+use df_expr::Counter;
 use df_value::Row;
 use std::alloc::AllocError;
 
@@ -28,7 +29,7 @@ impl LiveJoin {
         &self,
         staged: &KeyedTables,
         key: &Row,
-        probes: &mut u128,
+        probes: &mut Counter,
     ) -> Result<Vec<(Tag, Row)>, AllocError>
         requires { probes.old + 2 < 2 ^ 128 }
         ensures rows { IfOk result (λ rows. (l : TaggedRows) → LeadsTo self.now.rule.indices.left self.now.left staged.now l
@@ -54,7 +55,7 @@ impl LiveJoin {
         goes: bool,
         tag: Tag,
         right: &Row,
-        probes: &mut u128,
+        probes: &mut Counter,
     ) -> Result<(), AllocError>
         requires { probes.old + 4 < 2 ^ 128 }
         ensures leads { OnOk result ((from l r : TaggedRows) → IsRowTag (is_one self.now.left_scans) tag
@@ -88,7 +89,7 @@ impl LiveJoin {
         goes: bool,
         tag: Tag,
         row: &Option<Row>,
-        probes: &mut u128,
+        probes: &mut Counter,
     ) -> Result<(), AllocError>
         requires { probes.old + 4 < 2 ^ 128 }
         ensures leads { OnOk result ((from l r : TaggedRows) → IsRowTag (is_one self.now.left_scans) tag
@@ -115,7 +116,7 @@ impl LiveJoin {
         staged: &mut StagedJoin,
         notes: &mut Notes,
         entry: &Entry,
-        probes: &mut u128,
+        probes: &mut Counter,
     ) -> Result<(), AllocError>
         requires { probes.old + 8 < 2 ^ 128 }
         ensures leads { OnOk result ((from l r : TaggedRows) → IsRowTag (is_one self.now.left_scans) entry.now.tag
@@ -142,7 +143,7 @@ impl LiveJoin {
         staged: &mut StagedJoin,
         notes: &mut Notes,
         delta: &Delta,
-        probes: &mut u128,
+        probes: &mut Counter,
     ) -> Result<(), AllocError>
         requires { probes.old + 2 ^ 67 < 2 ^ 128 }
         ensures leads { OnOk result ((from l r : TaggedRows) → HasKeys (IsRowTag (is_one self.now.left_scans)) delta.now
