@@ -20,3 +20,4 @@ pub mod MinMaxFacts
 pub mod GroupSums
 pub mod AggregateLaws
 pub mod ColumnLaws
+pub mod FitCells

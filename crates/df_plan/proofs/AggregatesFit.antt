@@ -1,6 +1,6 @@
 -- An aggregate of rows that fit has the type that its check found.
-use Rattle.std.proofs.Common.{◌≡◌, ℕ, zero, suc, Bool, true, false, cond, List, [], ◌∷◌, length, filter, refl, sym, ap, subst, ◌∙◌, arith}
-use Rattle.std.specs.Prelude.{IsTrue, ℤ, pos, Option, Some, None, Ok, ◌&&◌, ◌-◌, not, find, slice_get, unwrap_or}
+use Rattle.std.proofs.Common.{◌≡◌, ℕ, zero, suc, Bool, List, [], ◌∷◌, length, refl, sym, ap, subst, ◌∙◌, arith}
+use Rattle.std.specs.Prelude.{IsTrue, ℤ, pos, Option, Some, None, Ok, ◌-◌, slice_get, unwrap_or}
 use Rattle.std.specs.List.{list_all}
 use Rattle.std.proofs.lemmas.Grind.{common_steps}
 use Rattle.df_value.specs.declared.cell.Cell.{Cell}
@@ -8,76 +8,25 @@ use Rattle.df_value.specs.declared.cell.Cell.TheVariants as cell
 use Rattle.df_value.specs.declared.cell.CellType.{CellType}
 use Rattle.df_value.specs.declared.cell.CellType.TheVariants as dtype
 use Rattle.df_value.specs.Cells.{fits_dtype}
-use Rattle.df_value.specs.Rows.{cell_at, row_fits, rows_fit}
+use Rattle.df_value.specs.Rows.{rows_fit}
 use Rattle.df_value.specs.Schemas.{column_dtype, column_index}
-use Rattle.df_expr.specs.Typing.{column_dtype_check}
-use Rattle.df_expr.specs.Value.{is_null}
-use Rattle.df_expr.proofs.Sound.{column_fits}
-use Rattle.df_ops.specs.declared.min_max.MinMax.{MinMax}
 use Rattle.df_ops.specs.declared.min_max.MinMax.TheVariants as end
 use Rattle.df_ops.specs.declared.agg.Agg.{Agg}
 use Rattle.df_ops.specs.declared.agg.Agg.TheVariants as agg
-use Rattle.df_ops.specs.Aggregates.{cells_of, non_null, count_of, sum_of, is_min_or_max, min_or_max_of, first_cell, last_cell, mean_at}
+use Rattle.df_ops.specs.Aggregates.{cells_of, count_of, sum_of, first_cell, last_cell, mean_at}
 use Rattle.df_ops.specs.AggregateDtypes.{input_column, output_dtype}
 use Rattle.df_value.specs.Schemas.{Columns}
+use Rattle.df_ops.proofs.FitCells.{cells_fit, extreme_fits, first_of_two, second_of_two}
 use Rattle.df_plan.specs.ItemChecks.{aggregate_dtype_check, aggregate_dtype_over, column_aggregate_dtype, accepted_dtype}
 use Rattle.df_ops.specs.Tables.{aggregate_cell, aggregate_dtype, output_dtype_over}
 
 abbrev Rows : Type 0
 Rows = List (List Cell)
 
-first_true : (a b : Bool) → IsTrue (a && b) → IsTrue a
-first_true true b h = refl
-first_true false b h = cc
-
-second_true : (a b : Bool) → IsTrue (a && b) → IsTrue b
-second_true true b h = h
-second_true false b h = cc
-
-both_true : (a b : Bool) → IsTrue a → IsTrue b → IsTrue (a && b)
-both_true true b e h = h
-both_true false b e h = cc
-
--- the cells of a column are null or of its type
-pub cells_fit :
-    (columns : Columns) (name : List ℕ) (t : CellType) → column_dtype name columns ≡ Some t → (rows : Rows) →
-    IsTrue (rows_fit columns rows) → IsTrue (list_all (fits_dtype t) (cells_of (column_index name columns) rows))
-cells_fit columns name t is [] h = refl
-cells_fit columns name t is (r ∷ rs) h =
-    both_true (fits_dtype t (cell_at (column_index name columns) r)) _
-    (column_fits columns r (first_true (row_fits columns r) (rows_fit columns rs) h) name t (ap (column_dtype_check name) is))
-    (cells_fit columns name t is rs (second_true (row_fits columns r) (rows_fit columns rs) h))
-
-kept_fit : (q : Cell → Bool) (c : Cell) (b : Bool) (cs kept : List Cell) → IsTrue (q c && list_all q cs) → IsTrue (list_all q kept) →
-    IsTrue (list_all q (cond b (c ∷ kept) kept))
-kept_fit q c true cs kept h k = both_true (q c) (list_all q kept) (first_true (q c) (list_all q cs) h) k
-kept_fit q c false cs kept h k = k
-
-filter_fits : (q p : Cell → Bool) (cs : List Cell) → IsTrue (list_all q cs) → IsTrue (list_all q (filter p cs))
-filter_fits q p [] h = refl
-filter_fits q p (c ∷ cs) h = kept_fit q c (p c) cs (filter p cs) h (filter_fits q p cs (second_true (q c) (list_all q cs) h))
-
-chosen_fits : (q : Cell → Bool) (b : Bool) (c : Cell) (o : Option Cell) → IsTrue (q c) → IsTrue (q (unwrap_or o cell.Null)) →
-    IsTrue (q (unwrap_or (cond b (Some c) o) cell.Null))
-chosen_fits q true c o h k = h
-chosen_fits q false c o h k = k
-
-find_fits : (q p : Cell → Bool) (cs : List Cell) → IsTrue (q cell.Null) → IsTrue (list_all q cs) → IsTrue (q (unwrap_or (find p cs) cell.Null))
-find_fits q p [] null h = null
-find_fits q p (c ∷ cs) null h =
-    chosen_fits q (p c) c (find p cs) (first_true (q c) (list_all q cs) h) (find_fits q p cs null (second_true (q c) (list_all q cs) h))
-
 at_fits : (q : Cell → Bool) (cs : List Cell) (i : ℕ) → IsTrue (q cell.Null) → IsTrue (list_all q cs) → IsTrue (q (unwrap_or (slice_get cs i) cell.Null))
 at_fits q [] i null h = null
-at_fits q (c ∷ cs) zero null h = first_true (q c) (list_all q cs) h
-at_fits q (c ∷ cs) (suc i) null h = at_fits q cs i null (second_true (q c) (list_all q cs) h)
-
-null_fits : (t : CellType) → IsTrue (fits_dtype t cell.Null)
-null_fits t = refl
-
-pub extreme_fits : (e : MinMax) (t : CellType) (cs : List Cell) → IsTrue (list_all (fits_dtype t) cs) → IsTrue (fits_dtype t (min_or_max_of e cs))
-extreme_fits e t cs h =
-    find_fits (fits_dtype t) (is_min_or_max e (non_null cs)) (non_null cs) refl (filter_fits (fits_dtype t) (λ c. not (is_null c)) cs h)
+at_fits q (c ∷ cs) zero null h = first_of_two (q c) (list_all q cs) h
+at_fits q (c ∷ cs) (suc i) null h = at_fits q cs i null (second_of_two (q c) (list_all q cs) h)
 
 mean_fits : (s : ℤ) (n : ℕ) → IsTrue (fits_dtype dtype.Frac (mean_at s n))
 mean_fits s zero = refl

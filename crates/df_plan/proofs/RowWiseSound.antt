@@ -1,9 +1,8 @@
 -- The rows that filter, select and with_columns give of rows that fit fit too.
-use Rattle.std.proofs.Common.{◌≡◌, ℕ, Bool, true, false, List, [], ◌∷◌, map, filter, refl}
-use Rattle.std.specs.Prelude.{IsTrue, ◌&&◌}
+use Rattle.std.proofs.Common.{ℕ, Bool, List, [], ◌∷◌, map, filter, refl}
+use Rattle.std.specs.Prelude.{IsTrue}
 use Rattle.std.specs.List.{list_all, AllByRecursion}
 use Rattle.df_value.specs.declared.cell.Cell.{Cell}
-use Rattle.df_value.specs.declared.cell.CellType.{CellType}
 use Rattle.df_value.specs.Cells.{fits_dtype}
 use Rattle.df_value.specs.Rows.{row_fits}
 use Rattle.df_expr.specs.declared.expr.Expr.{Expr}
@@ -14,19 +13,9 @@ use Rattle.df_ops.specs.NamedColumns.{with_columns}
 use Rattle.df_ops.specs.RowWise.{expr_dtype, item_column, item_cell, select_row, named_cells, with_columns_row, with_columns_schema}
 use Rattle.df_value.specs.Choices.{either}
 use Rattle.df_ops.proofs.Beside.{Beside, with_columns-beside}
+use Rattle.df_ops.proofs.FitCells.{FitsBeside, fits_row, own_beside}
+pub use Rattle.df_ops.proofs.FitCells.{both_true, first_of_two, second_of_two}
 use Rattle.df_plan.proofs.ItemKinds.{HasKind}
-
-pub first_of_two : (a b : Bool) → IsTrue (a && b) → IsTrue a
-first_of_two true b h = refl
-first_of_two false b h = cc
-
-pub second_of_two : (a b : Bool) → IsTrue (a && b) → IsTrue b
-second_of_two true b h = h
-second_of_two false b h = cc
-
-pub both_true : (a b : Bool) → IsTrue a → IsTrue b → IsTrue (a && b)
-both_true true b h k = k
-both_true false b h k = cc
 
 pub map_all :
     (p q : List Cell → Bool) (f : List Cell → List Cell) → ((r : List Cell) → IsTrue (p r) → IsTrue (q (f r))) →
@@ -50,24 +39,6 @@ selected_fit columns row fits [] typed = refl
 selected_fit columns row fits (i ∷ items) typed =
     both_true (fits_dtype (expr_dtype i.1 columns) (value_of i.1 columns row)) (row_fits (map (item_column columns) items) (select_row columns items row))
     (value_fits columns row fits i.1 (expr_dtype i.1 columns) typed.0) (selected_fit columns row fits items typed.1)
-
--- a cell stands beside a column of its name, whose type it fits
-abbrev pub FitsBeside : List ℕ × CellType → List ℕ × Cell → Type 0
-FitsBeside c v = (c.0 ≡ v.0) × IsTrue (fits_dtype c.1 v.1)
-
-pub fits_row : (columns : Columns) (cells : List (List ℕ × Cell)) → Beside FitsBeside columns cells → IsTrue (row_fits columns (map (λ v. v.1) cells))
-fits_row [] [] h = refl
-fits_row [] (v ∷ cells) h = absurd h
-fits_row (c ∷ columns) [] h = absurd h
-fits_row (c ∷ columns) (v ∷ cells) h =
-    both_true (fits_dtype c.1 v.1) (row_fits columns (map (λ v. v.1) cells)) h.0.1 (fits_row columns cells h.1)
-
-pub own_beside : (columns : Columns) (row : List Cell) → IsTrue (row_fits columns row) → Beside FitsBeside columns (named_cells columns row)
-own_beside [] [] h = tt
-own_beside [] (v ∷ row) h = tt
-own_beside (c ∷ columns) [] h = cc
-own_beside (c ∷ columns) (v ∷ row) h =
-    ((refl, first_of_two (fits_dtype c.1 v) (row_fits columns row) h), own_beside columns row (second_of_two (fits_dtype c.1 v) (row_fits columns row) h))
 
 items_beside :
     (columns : Columns) (row : List Cell) → IsTrue (row_fits columns row) → (items : List (List ℕ × Expr)) →

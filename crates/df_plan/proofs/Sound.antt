@@ -41,7 +41,8 @@ use Rattle.df_plan.specs.declared.plan.Plan.TheViews.{roll-Plan}
 use Rattle.df_value.specs.Choices.{either}
 use Rattle.df_plan.proofs.ColumnsFit.{column_fits, fits_both}
 use Rattle.df_plan.proofs.JoinSound.{joined_fits}
-use Rattle.df_plan.proofs.AggregatesFit.{aggregate_fits, cells_fit}
+use Rattle.df_ops.proofs.FitCells.{cells_fit}
+use Rattle.df_plan.proofs.AggregatesFit.{aggregate_fits}
 use Rattle.df_plan.proofs.Found.{IsTaken, IsColumn, then_ok, filter_found, select_found, with_found, group_found, join_found, checked_columns}
 use Rattle.df_plan.proofs.RowWiseSound.{first_of_two, second_of_two, both_true, map_all, filter_all, selected_fit, added_fit}
 

@@ -1,48 +1,32 @@
 -- The rows into which a column of rolling values, cumulative sums or ranks is put fit the result's columns.
-use Rattle.std.proofs.Common.{◌≡◌, ℕ, ◌+◌, Bool, true, false, cond, zero, suc, List, [], ◌∷◌, length, take, drop, map, refl}
-use Rattle.std.specs.Prelude.{ℤ, IsTrue, Ok, Err, Option, Some, None, nat_lt}
+use Rattle.std.proofs.Common.{◌≡◌, ℕ, ◌+◌, Bool, true, false, cond, zero, suc, List, [], ◌∷◌, length, take, map, refl}
+use Rattle.std.specs.Prelude.{ℤ, IsTrue, Ok, Err, Option, Some, None}
 use Rattle.std.specs.List.{list_all, range_with_len}
 use Rattle.df_value.specs.declared.cell.Cell.{Cell}
-use Rattle.df_value.specs.declared.cell.Cell.TheVariants as cell
 use Rattle.df_value.specs.declared.cell.CellType.{CellType}
 use Rattle.df_value.specs.declared.cell.CellType.TheVariants as dtype
 use Rattle.df_value.specs.Cells.{fits_dtype}
 use Rattle.df_value.specs.Rows.{row_fits, rows_fit, cell_at}
 use Rattle.df_value.specs.Schemas.{doubled_column_after, column_dtype}
-use Rattle.df_expr.specs.Value.{is_null}
-use Rattle.df_ops.specs.declared.min_max.MinMax.TheVariants as end
 use Rattle.df_plan.specs.declared.fault.PlanFault.{PlanFault}
 use Rattle.df_plan.specs.declared.fault.PlanFault.TheVariants as fault
 use Rattle.df_ops.specs.declared.ranks.RankKind.{RankKind}
 use Rattle.df_ops.specs.declared.ranks.RankKind.TheVariants as rank
 use Rattle.df_ops.specs.declared.windows.RollKind.{RollKind}
-use Rattle.df_ops.specs.declared.windows.RollKind.TheVariants as roll
-use Rattle.df_ops.specs.Aggregates.{count_of, last_cell, sum_of}
 use Rattle.df_value.specs.Schemas.{Columns}
 use Rattle.df_plan.specs.ItemChecks.{CheckResult, DtypeResult, key_dtype}
 use Rattle.df_ops.specs.NamedColumns.{with_columns}
 use Rattle.df_ops.specs.Ranks.{dense_rank_of, distinct_at, min_rank_of, ranks_of}
-use Rattle.df_ops.specs.RowWise.{named_cells, with_column_row, with_column_rows}
+use Rattle.df_ops.specs.RowWise.{with_column_row, with_column_rows}
 use Rattle.df_plan.specs.WindowChecks.{cum_sum_check, is_window, output_column_check, rank_check, rolling_check, int_column_dtype}
 use Rattle.df_ops.specs.Windows.{rolling_dtype}
-use Rattle.df_ops.specs.Windows.{rolling_cells, rolling_cell, window_value, cum_sum, cum_sum_at, window_of}
-use Rattle.df_plan.proofs.AggregatesFit.{extreme_fits}
-use Rattle.df_ops.proofs.Beside.{with_columns-beside}
-use Rattle.df_value.specs.Choices.{either}
+use Rattle.df_ops.specs.Windows.{rolling_cells, rolling_cell, cum_sum, cum_sum_at, window_of}
+use Rattle.df_ops.proofs.FitCells.{dense_fits, left_pass, min_fits, put_fits, running_fits, taken_pass, window_fits}
 use Rattle.df_plan.proofs.Found.{settled_is_at}
-use Rattle.df_plan.proofs.RowWiseSound.{FitsBeside, both_true, first_of_two, second_of_two, fits_row, own_beside}
+use Rattle.df_plan.proofs.RowWiseSound.{both_true, first_of_two, second_of_two}
 
 abbrev Rows : Type 0
 Rows = List (List Cell)
-
-put_fits :
-    (columns : Columns) (row : List Cell) → IsTrue (row_fits columns row) → (name : List ℕ) (t : CellType) (c : Cell) →
-    IsTrue (fits_dtype t c) → IsTrue (row_fits (with_columns columns ((name, t) ∷ [])) (with_column_row columns name row c))
-unfolding with_column_row
-put_fits columns row fits name t c h =
-    fits_row (with_columns columns ((name, t) ∷ [])) (with_columns (named_cells columns row) ((name, c) ∷ []))
-    (with_columns-beside FitsBeside (λ c v h. h.0) columns (named_cells columns row) (own_beside columns row fits)
-    ((name, t) ∷ []) ((name, c) ∷ []) ((refl, h), tt))
 
 pub puts_fit :
     (columns : Columns) (name : List ℕ) (t : CellType) (rows : Rows) (cells : List Cell) → IsTrue (rows_fit columns rows) →
@@ -59,31 +43,6 @@ each_passes : (q : Cell → Bool) (f : ℕ → Cell) → ((i : ℕ) → IsTrue (
 each_passes q f h a zero = refl
 each_passes q f h a (suc n) = both_true (q (f a)) (list_all q (map f (range_with_len (a + 1) n))) (h a) (each_passes q f h (a + 1) n)
 
-taken_pass : (q : Cell → Bool) (n : ℕ) (cs : List Cell) → IsTrue (list_all q cs) → IsTrue (list_all q (take n cs))
-taken_pass q zero cs h = refl
-taken_pass q (suc n) [] h = refl
-taken_pass q (suc n) (c ∷ cs) h =
-    both_true (q c) (list_all q (take n cs)) (first_of_two (q c) (list_all q cs) h) (taken_pass q n cs (second_of_two (q c) (list_all q cs) h))
-
-left_pass : (q : Cell → Bool) (n : ℕ) (cs : List Cell) → IsTrue (list_all q cs) → IsTrue (list_all q (drop n cs))
-left_pass q zero cs h = h
-left_pass q (suc n) [] h = refl
-left_pass q (suc n) (c ∷ cs) h = left_pass q n cs (second_of_two (q c) (list_all q cs) h)
-
-value_fits : (k : RollKind) (window : List Cell) → IsTrue (list_all (fits_dtype dtype.Int) window) → IsTrue (fits_dtype (rolling_dtype k) (window_value k window))
-value_fits roll.Sum window h = refl
-value_fits roll.Min window h = extreme_fits end.Min dtype.Int window h
-value_fits roll.Max window h = extreme_fits end.Max dtype.Int window h
-
-null_fits : (t : CellType) → IsTrue (fits_dtype t cell.Null)
-null_fits t = refl
-
-window_fits :
-    (k : RollKind) (m : ℕ) (window : List Cell) → IsTrue (list_all (fits_dtype dtype.Int) window) → IsTrue (fits_dtype (rolling_dtype k) (rolling_cell k m window))
-window_fits k m window h =
-    either (λ (c : Cell). IsTrue (fits_dtype (rolling_dtype k) c)) (nat_lt (count_of window) m) cell.Null (window_value k window)
-    (null_fits (rolling_dtype k)) (value_fits k window h)
-
 -- the rolling values of an Int column fit their type
 pub rolled_fits :
     (k : RollKind) (w m : ℕ) (cells : List Cell) → IsTrue (list_all (fits_dtype dtype.Int) cells) → IsTrue (list_all (fits_dtype (rolling_dtype k)) (rolling_cells k w m cells))
@@ -93,25 +52,15 @@ rolled_fits k w m cells h =
     (left_pass (fits_dtype dtype.Int) _ (take (i + 1) cells) (taken_pass (fits_dtype dtype.Int) (i + 1) cells h)))
     0 (length cells)
 
-running_fits : (cells : List Cell) → IsTrue (fits_dtype dtype.Wide (cum_sum_at cells))
-running_fits cells =
-    either (λ (c : Cell). IsTrue (fits_dtype dtype.Wide c)) (is_null (last_cell cells)) cell.Null (cell.Wide (sum_of cells)) refl refl
-
 pub sums_fit : (cells : List Cell) → IsTrue (list_all (fits_dtype dtype.Wide) (cum_sum cells))
 sums_fit cells =
     each_passes (fits_dtype dtype.Wide) (λ i. cum_sum_at (take (i + 1) cells)) (λ i. running_fits (take (i + 1) cells)) 0 (length cells)
-
-dense_fits : (distinct : Rows) (c : Cell) → IsTrue (fits_dtype dtype.Int (dense_rank_of distinct c))
-dense_fits distinct c = either (λ (c : Cell). IsTrue (fits_dtype dtype.Int c)) (is_null c) cell.Null _ refl refl
 
 each_dense_fits : (distinct : Rows) (place : Option ℕ) (rows : Rows) →
     IsTrue (list_all (fits_dtype dtype.Int) (map (λ r. dense_rank_of distinct (cell_at place r)) rows))
 each_dense_fits distinct place [] = refl
 each_dense_fits distinct place (r ∷ rows) =
     both_true (fits_dtype dtype.Int (dense_rank_of distinct (cell_at place r))) _ (dense_fits distinct (cell_at place r)) (each_dense_fits distinct place rows)
-
-min_fits : (place : Option ℕ) (others : Rows) (c : Cell) → IsTrue (fits_dtype dtype.Int (min_rank_of place others c))
-min_fits place others c = either (λ (c : Cell). IsTrue (fits_dtype dtype.Int c)) (is_null c) cell.Null _ refl refl
 
 each_min_fits : (among : Option ℕ) (others : Rows) (place : Option ℕ) (rows : Rows) →
     IsTrue (list_all (fits_dtype dtype.Int) (map (λ r. min_rank_of among others (cell_at place r)) rows))
