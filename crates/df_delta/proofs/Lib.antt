@@ -11,3 +11,4 @@ pub mod Rising
 pub mod Fitting
 pub mod Reached
 pub mod KeyedChanges
+pub mod FitRows
