@@ -1,5 +1,5 @@
 -- Rows below a tag, up to it and behind it, by their indexes.
-use Rattle.std.proofs.Common.{◌≡◌, ℕ, ◌+◌, ◌-◌, ◌<◌, ◌≤◌, min, max, Bool, true, false, not, List, [], ◌∷◌, length, map, take, drop, get_or, filter, sym, ap, ◌∙◌, arith}
+use Rattle.std.proofs.Common.{◌≡◌, ℕ, ◌+◌, ◌-◌, ◌<◌, ◌≤◌, min, Bool, true, false, not, List, [], ◌∷◌, length, map, take, drop, get_or, filter, sym, ap, ◌∙◌}
 use Rattle.std.specs.Prelude.{T}
 use Rattle.std.specs.List.{list_all}
 use Rattle.std.proofs.lemmas.List.{drop_all, drop_more, take_all}
@@ -41,12 +41,10 @@ before_no_entry rows entries at n past all =
 
 -- the tags that a change reaches, by indexes
 pub reached_run : (w : ℕ) (q : Tag) (rows : Rows) (from stop : ℕ) → IsUpperBound q rows from
-    → reached_by w q (take stop rows) ≡ q ∷ map (λ r. r.0) (drop from (take (from + min (stop - from) (max w 1 - 1)) rows))
+    → reached_by w q (take stop rows) ≡ q ∷ map (λ r. r.0) (drop from (take (from + min (stop - from) (w - 1)) rows))
 reached_run w q rows from stop h =
-    let same : w - 1 ≡ max w 1 - 1 = omega arith in
     ap (λ l. q ∷ map (λ r. r.0) (take (w - 1) l))
     (filter_back (λ r. is_below q r.0) (take stop rows) from
     (front_of_take (λ r. not (is_below q r.0)) rows from stop h.before)
     (back_of_take (λ r. is_below q r.0) rows from stop h.after))
     ∙ ap (λ l. q ∷ map (λ r. r.0) l) (take_between (w - 1) from stop rows)
-    ∙ ap (λ k. q ∷ map (λ r. r.0) (drop from (take (from + min (stop - from) k) rows))) same

@@ -16,3 +16,4 @@ pub mod WindowDiff
 pub mod ShiftedSums
 pub mod SumStarts
 pub mod Sums
+pub mod FitOutputs

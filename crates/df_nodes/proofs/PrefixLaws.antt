@@ -14,6 +14,7 @@ use Rattle.df_ops.specs.Places.{places_of}
 use Rattle.df_ops.specs.RowWise.{with_column_row}
 use Rattle.df_ops.specs.Tables.{rolling_table, with_column_table}
 use Rattle.df_ops.specs.Windows.{each_prefix, rolling_cell, rolling_dtype, window_of}
+use Rattle.df_ops.specs.declared.places.Place.{Place}
 use Rattle.df_ops.specs.declared.windows.RollKind.{RollKind}
 use Rattle.df_ops.proofs.PlacesFacts.{placed_column}
 use Rattle.df_column.specs.TagOrder.{tag_total}
@@ -25,8 +26,7 @@ use Rattle.df_delta.specs.Collected.{collected_list}
 use Rattle.df_delta.proofs.Collected.{entries-collected}
 use Rattle.df_nodes.specs.Outputs.{rolled}
 use Rattle.df_nodes.specs.Prefixes.{cells_up_to, rows_up_to, with_each_prefix}
-use Rattle.df_nodes.specs.Rolling.{rolling_output}
-use Rattle.df_nodes.specs.declared.rolling.Rolling.{Rolling}
+use Rattle.df_nodes.specs.Rolling.{put_at}
 use Rattle.df_nodes.proofs.Bounds.{up_to_bound}
 use Rattle.df_nodes.proofs.UpTo.{Rows, cells_in}
 
@@ -67,12 +67,12 @@ module _ (put : List Cell → Cell → List Cell) (f : List Cell → Cell) (inde
       ∙ ap (λ n. map (λ p. put p.0 p.1) (zip (finite.values t) (map (λ i. f (take (i + 1) (cells_in index es))) (range_with_len 0 n)))) long
 
 -- the rolling column, by the names of the schema
-pub rolled_is : (columns : List (List ℕ × CellType)) (name : List ℕ) (kind : RollKind) (column : List ℕ) (w m : ℕ) (r : Rolling)
-    → r.kind ≡ kind → r.w ≡ w → r.m ≡ m → r.index ≡ column_index column columns → r.places ≡ places_of columns ((name, rolling_dtype kind) ∷ [])
-    → (t : TaggedRows) → ◌≡◌ {A = TaggedRows} (rolling_output r t) (rolled columns name kind column w m t)
-rolled_is columns name kind column w m r is_kind is_w is_m is_index places t =
-    ap (λ (put : List Cell → Cell → List Cell). with_each_prefix put (λ cells. rolling_cell r.kind r.m (window_of r.w cells)) r.index t) (λ j row c. placed_column columns name (rolling_dtype kind) row c r.places places j)
-    ∙ (λ j. with_each_prefix (with_column_row columns name) (λ cells. rolling_cell (is_kind j) (is_m j) (window_of (is_w j) cells)) (is_index j) t)
+pub rolled_is : (columns : List (List ℕ × CellType)) (name : List ℕ) (kind : RollKind) (column : List ℕ) (w m : ℕ) (index : Option ℕ) (places : List Place)
+    → index ≡ column_index column columns → places ≡ places_of columns ((name, rolling_dtype kind) ∷ [])
+    → (t : TaggedRows) → ◌≡◌ {A = TaggedRows} (with_each_prefix (put_at places) (λ cells. rolling_cell kind m (window_of w cells)) index t) (rolled columns name kind column w m t)
+rolled_is columns name kind column w m index places is_index are t =
+    ap (λ (put : List Cell → Cell → List Cell). with_each_prefix put (λ cells. rolling_cell kind m (window_of w cells)) index t) (λ j row c. placed_column columns name (rolling_dtype kind) row c places are j)
+    ∙ ap (λ (i : Option ℕ). with_each_prefix (with_column_row columns name) (λ cells. rolling_cell kind m (window_of w cells)) i t) is_index
 
 pub rolled_rows : (columns : List (List ℕ × CellType)) (name : List ℕ) (kind : RollKind) (column : List ℕ) (w m : ℕ) (t : TaggedRows)
     → finite.values (rolled columns name kind column w m t) ≡ (rolling_table (record { columns = columns; rows = finite.values t }) name kind column w m).rows

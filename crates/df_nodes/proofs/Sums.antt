@@ -112,7 +112,7 @@ pub reached_rest : (q : Tag) (rows : Rows) (from stop : ℕ) → IsUpperBound q 
     → reached_by (length rows + 1) q (take stop rows) ≡ q ∷ map (λ r. r.0) (drop from (take (max from stop) rows))
 reached_rest q rows from stop h le =
     let within = h.within in
-    let e : from + min (stop - from) (max (length rows + 1) 1 - 1) ≡ max from stop = omega arith in
+    let e : from + min (stop - from) (length rows + 1 - 1) ≡ max from stop = omega arith in
     reached_run (length rows + 1) q rows from stop h ∙ ap (λ n. q ∷ map (λ r. r.0) (drop from (take n rows))) e
 
 module _ (places : List Place) (index : Option ℕ) where

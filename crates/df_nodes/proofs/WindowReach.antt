@@ -1,5 +1,5 @@
 -- The rows of an input that one change reaches, from a stretch of rows that has their windows.
-use Rattle.std.proofs.Common.{◌≡◌, ℕ, ◌+◌, ◌-◌, ◌<◌, ◌≤◌, max, List, [], ◌∷◌, ◌++◌, length, take, Option, Some, None, IfSome, IfNone, sym, ap, ◌∙◌, arith, append_assoc, length-drop, length-take}
+use Rattle.std.proofs.Common.{◌≡◌, ℕ, ◌+◌, ◌-◌, ◌<◌, ◌≤◌, List, [], ◌∷◌, ◌++◌, length, take, Option, Some, None, IfSome, IfNone, sym, ap, ◌∙◌, arith, append_assoc, length-drop, length-take}
 use Rattle.std.specs.FinMap as finite
 use Rattle.df_value.specs.declared.cell.Cell.{Cell}
 use Rattle.df_column.specs.Bounds.{IsUpperBound}
@@ -31,7 +31,7 @@ behind_place rows q i n h g =
     let in_g = g.within in
     omega arith
 
-module _ (r : Rolling) (u : TaggedRows) (q : Tag) (from start end : ℕ) (rows : List (List Cell)) (bound : IsUpperBound q (finite.entries u) from) (h : IsStretch (finite.values u) start end rows) (low : start ≡ from - max r.w 1) (high : from ≤ end) where
+module _ (r : Rolling) (u : TaggedRows) (q : Tag) (from start end : ℕ) (rows : List (List Cell)) (bound : IsUpperBound q (finite.entries u) from) (h : IsStretch (finite.values u) start end rows) (low : start ≡ from - r.w) (high : from ≤ end) where
   pub place_inside : (o : Option ℕ) → IfSome o (IsPlace tag_cmp (finite.entries u) q) → IfSome o (λ i. (start ≤ i) × (i < start + length rows))
   place_inside None p = tt
   place_inside (Some i) p =
@@ -40,13 +40,15 @@ module _ (r : Rolling) (u : TaggedRows) (q : Tag) (from start end : ℕ) (rows :
       let cut = length-drop start (take end (finite.values u)) in
       let front = length-take end (finite.values u) in
       let within = h.within in
+      let some = r.some in
       (omega arith, omega arith)
 
   pub found_row : (o : Option ℕ) → IfSome o (IsPlace tag_cmp (finite.entries u) q) → IfNone o (finite.get u q ≡ None) → new_row r start rows o ≡ finite.get (rolling_output r u) q
   found_row None p none = sym (no_row (put_at r.places) (rolling_value r) r.index u q none)
   found_row (Some i) p none =
       let at : from ≡ i + 1 = behind_place (finite.entries u) q i from bound (upper_at_place (finite.entries u) q i (finite.entries_sorted u) p) in
-      own_row r u start end i rows q h (omega arith) (omega arith) (λ some. omega arith) p
+      let some = r.some in
+      own_row r u start end i rows q h (omega arith) (omega arith) (λ behind. omega arith) p
 
 -- a change and the run behind it
 pub all_reached : (t u : TaggedRows) (made mid old : Notes) (q : Tag) (ps qs : List Tag) (new : Option (List Cell)) → mid ≡ with_change old q (finite.get t q) new → new ≡ finite.get u q

@@ -1,5 +1,5 @@
 -- What a rolling column gives at a row, from rows before it that are enough.
-use Rattle.std.proofs.Common.{◌≡◌, ℕ, ◌+◌, ◌-◌, ◌<◌, ◌≤◌, min, max, List, [], ◌∷◌, ◌++◌, length, map, take, drop, get_or, Option, Some, None, ◌⊎◌, inl, inr, refl, sym, ap, ◌∙◌, arith, append_assoc, length-drop, length-take, get_or-drop, get_or-take}
+use Rattle.std.proofs.Common.{◌≡◌, ℕ, ◌+◌, ◌-◌, ◌<◌, ◌≤◌, min, List, [], ◌∷◌, ◌++◌, length, map, take, drop, get_or, Option, Some, None, ◌⊎◌, inl, inr, refl, sym, ap, ◌∙◌, arith, append_assoc, length-drop, length-take, get_or-drop, get_or-take}
 use Rattle.std.specs.List.{cons_option}
 use Rattle.std.specs.Option.{option_map}
 use Rattle.std.specs.Cmp.{tied_itself}
@@ -42,7 +42,7 @@ module _ (r : Rolling) (u : TaggedRows) where
   row_with at = put_at r.places (get_or all at []) (rolling_value r (cells_of r.index (take (at + 1) all)))
 
   -- the same from a stretch of rows that has the window
-  from_stretch : (start end at : ℕ) (rows : List (List Cell)) → IsStretch all start end rows → start ≤ at → at < end → (0 < start → start + max r.w 1 ≤ at + 1) → last_row r (take (at - start + 1) rows) ≡ row_with at
+  from_stretch : (start end at : ℕ) (rows : List (List Cell)) → IsStretch all start end rows → start ≤ at → at < end → (0 < start → start + r.w ≤ at + 1) → last_row r (take (at - start + 1) rows) ≡ row_with at
   from_stretch start end at rows h low high enough =
       let front = take (at + 1) all in
       let long = length-take (at + 1) all in
@@ -58,7 +58,7 @@ module _ (r : Rolling) (u : TaggedRows) where
       ∙ ap (λ c. put_at r.places (get_or all at []) (rolling_cell r.kind r.m c))
       (ap (window_of r.w) (sym (drop-map (cell_at r.index) start front)) ∙ window_cut r.w start (cells_of r.index front) (λ some. let e = enough some in omega arith))
 
-  pub run_row : (start end at : ℕ) (rows : List (List Cell)) (q : Tag) → IsStretch all start end rows → start ≤ at → at < end → (0 < start → start + max r.w 1 ≤ at + 1)
+  pub run_row : (start end at : ℕ) (rows : List (List Cell)) (q : Tag) → IsStretch all start end rows → start ≤ at → at < end → (0 < start → start + r.w ≤ at + 1)
       → ((d : Tag × List Cell) → q ≡ (get_or (finite.entries u) at d).0) → new_row r start rows (Some at) ≡ finite.get (rolling_output r u) q
   run_row start end at rows q h low high enough is =
       let long = length-map (finite.entries u) (λ x. x.1) in
@@ -66,7 +66,7 @@ module _ (r : Rolling) (u : TaggedRows) where
       ap Some (from_stretch start end at rows h low high enough)
       ∙ sym (at_place (put_at r.places) (rolling_value r) r.index u at q (record { in_range = omega arith; here = λ d. ap (λ k. tag_cmp k q) (sym (is d)) ∙ tied_itself tag_total q }))
 
-  pub own_row : (start end at : ℕ) (rows : List (List Cell)) (q : Tag) → IsStretch all start end rows → start ≤ at → at < end → (0 < start → start + max r.w 1 ≤ at + 1)
+  pub own_row : (start end at : ℕ) (rows : List (List Cell)) (q : Tag) → IsStretch all start end rows → start ≤ at → at < end → (0 < start → start + r.w ≤ at + 1)
       → IsPlace tag_cmp (finite.entries u) q at → new_row r start rows (Some at) ≡ finite.get (rolling_output r u) q
   own_row start end at rows q h low high enough p = ap Some (from_stretch start end at rows h low high enough) ∙ sym (at_place (put_at r.places) (rolling_value r) r.index u at q p)
 

@@ -1,5 +1,5 @@
 -- A rolling column over tagged rows, and the rows at which it may change.
-use Rattle.std.specs.Prelude.{ℕ, ◌-◌, List, [], ◌∷◌, ◌++◌, filter, map, take, max}
+use Rattle.std.specs.Prelude.{ℕ, ◌-◌, List, [], ◌∷◌, ◌++◌, filter, map, take}
 use Rattle.df_value.specs.declared.cell.Cell.{Cell}
 use Rattle.df_expr.specs.declared.meter.Meter.{Meter}
 use Rattle.df_ops.specs.Aggregates.{cells_of}
@@ -46,7 +46,3 @@ reached w rows (c ∷ cs) = reached_by w c.0 (rows_before cs rows) ++ reached w 
 -- so many rows whose rolling value is taken
 abbrev pub windows : ℕ → Meter
 windows n = record { evals = 0; finishes = 0; probes = 0; windows = n }
-
--- how many rows a changed row reaches: itself and those behind it whose windows it may stand in
-abbrev pub reach_of : ℕ → ℕ
-reach_of w = max w 1

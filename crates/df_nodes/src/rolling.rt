@@ -1,23 +1,22 @@
 //! A rolling column among the cells of rows.
-ghost use Rattle.std.specs.Prelude.{◌≡◌, ◌+◌, ◌<◌, ◌^◌, length, IfOk};
+ghost use Rattle.std.specs.Prelude.{◌≡◌, ◌+◌, ◌<◌, ◌≤◌, ◌^◌, length, IfOk};
 ghost use Rattle.df_column.specs.Tables.{TaggedRows};
 ghost use Rattle.df_delta.specs.Work.{plus};
 ghost use Rattle.df_nodes.specs.Outputs.{rolled};
-ghost use Rattle.df_nodes.specs.Rolling.{rolling_output, windows};
-ghost use Rattle.df_nodes.specs.Stretches as stretches;
 
 use df_expr::Meter;
 use df_ops::{Place, RollKind, placed_row, places_with, rolling_dtype, rolling_last};
 use df_value::{List, Row, Schema, Text};
 use std::alloc::{AllocError, Global};
 
-/// What a rolling column takes of which cells, and where its own cell stands.
+/// What a rolling column takes of which cells, and where its own cell stands. Its window has at least one row.
 pub struct Rolling {
     pub kind: RollKind,
     pub index: Option<usize>,
     pub w: usize,
     pub m: usize,
     pub places: List<Place>,
+    ghost some: { 1 ≤ w },
 }
 
 // A body that owns one drops it by a call.
@@ -35,6 +34,9 @@ impl Drop for Rolling {
 }
 
 impl Rolling {
+    ghost use Rattle.df_nodes.specs.Rolling.{rolling_output, windows};
+    ghost use Rattle.df_nodes.specs.Stretches as stretches;
+
     /// The rolling values of a column of this schema over w rows, of which m are to be not null.
     pub fn new(
         alloc: Global,
@@ -45,6 +47,7 @@ impl Rolling {
         w: usize,
         m: usize,
     ) -> Result<Rolling, AllocError>
+        requires { 1 ≤ w }
         ensures output { IfOk result (λ r. (t : TaggedRows) →
             rolling_output r t ≡ rolled schema.now output.now kind column.now w m t) }
         ensures size { IfOk result (λ r. r.w ≡ w) }

@@ -77,6 +77,10 @@ impl LiveSum {
             × (n.output.rows ≡ sum_output n.places n.index finite.empty)) }
         ensures schemas { IfOk result (λ n. (n.input.schema ≡ schema.now)
             × (n.output.schema ≡ with_columns schema.now ((output.now, CellType.Wide) ∷ []))) }
+
+        // It takes rows of the schema.
+        ensures takes { IfOk result (λ n. (t : TaggedRows) → RowsFit schema.now t
+            → RowsFit n.input.schema t × RowsFit n.output.schema (sum_output n.places n.index t)) }
     {
         let places = places_with(alloc, schema.columns().as_slice(), output, CellType::Wide)?;
         let made = schema_with(alloc, schema, output, CellType::Wide)?;

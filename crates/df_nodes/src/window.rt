@@ -2,8 +2,9 @@
 ghost use Rattle.std.specs.Prelude.{◌≡◌, ◌+◌, ◌-◌, ◌*◌, ◌<◌, ◌≤◌, ◌^◌, ◌∷◌, ◌++◌, [], List, Option, Some, T, IfOk, IfSome, OnOk, drop, length, map, take};
 ghost use Rattle.std.specs.FinMap as finite;
 ghost use Rattle.std.specs.List.{list_all};
-ghost use Rattle.df_value.specs.Schemas.{IsSchema};
+ghost use Rattle.df_value.specs.Schemas.{IsSchema, column_dtype};
 ghost use Rattle.df_value.specs.declared.cell.Cell.{Cell};
+ghost use Rattle.df_value.specs.declared.cell.CellType.TheVariants as dtype;
 ghost use Rattle.df_ops.specs.NamedColumns.{with_columns};
 ghost use Rattle.df_ops.specs.Tables as tables;
 ghost use Rattle.df_ops.specs.Windows as windows_spec;
@@ -17,7 +18,7 @@ ghost use Rattle.df_delta.specs.Reached.{changes_at};
 ghost use Rattle.df_delta.specs.SameRows.{same_row, with_change};
 ghost use Rattle.df_delta.specs.Work.{IsBelow, IsWithin, plus};
 ghost use Rattle.df_nodes.specs.Outputs.{rolled};
-ghost use Rattle.df_nodes.specs.Rolling.{reach_of, reached_by, rolling_output, windows};
+ghost use Rattle.df_nodes.specs.Rolling.{reached_by, rolling_output, windows};
 ghost use Rattle.df_nodes.specs.Stretches as stretches;
 ghost use Rattle.df_nodes.specs.Stretches.{IsStretch};
 
@@ -73,8 +74,10 @@ impl LiveWindow {
         w: usize,
         m: usize,
     ) -> Result<LiveWindow, AllocError>
-        requires { IsSchema (with_columns schema.now
+        requires schema { IsSchema (with_columns schema.now
             ((output.now, windows_spec.rolling_dtype kind) ∷ [])) }
+        requires typed { column_dtype column.now schema.now ≡ Some dtype.Int }
+        requires some { 1 ≤ w }
         ensures output { IfOk result (λ n. (t : TaggedRows) → rolling_output n.rolling t
             ≡ rolled schema.now output.now kind column.now w m t) }
 
@@ -88,6 +91,10 @@ impl LiveWindow {
         ensures schemas { IfOk result (λ n. (n.input.schema ≡ schema.now)
             × (n.output.schema ≡ with_columns schema.now
             ((output.now, windows_spec.rolling_dtype kind) ∷ []))) }
+
+        // It takes rows of the schema.
+        ensures takes { IfOk result (λ n. (t : TaggedRows) → RowsFit schema.now t
+            → RowsFit n.input.schema t × RowsFit n.output.schema (rolling_output n.rolling t)) }
         ensures size { IfOk result (λ n. n.rolling.w ≡ w) }
     {
         let rolling = Rolling::new(alloc, schema, output, kind, column, w, m)?;
@@ -102,7 +109,7 @@ impl LiveWindow {
 
     /// The delta of the output where the input comes to be this table.
     fn changes(&self, input: &Table, delta: &Delta, meter: &mut Meter) -> Result<Delta, AllocError>
-        requires { IsBelow (plus meter.old (windows (2 ^ 64 * reach_of self.now.rolling.w))) (2 ^ 128) }
+        requires { IsBelow (plus meter.old (windows (2 ^ 64 * self.now.rolling.w))) (2 ^ 128) }
         ensures diff { IfOk result (λ r. (t : TaggedRows) → Fits t delta.now
             → self.now.output.rows ≡ rolling_output self.now.rolling t
             → input.now.rows ≡ applied t delta.now
@@ -110,9 +117,9 @@ impl LiveWindow {
             (rolling_output self.now.rolling (applied t delta.now)) r) }
         ensures grows { IsWithin meter.old meter.new }
         ensures counted { IsWithin meter.new
-            (plus meter.old (windows (finite.len delta.now * reach_of self.now.rolling.w))) }
+            (plus meter.old (windows (finite.len delta.now * self.now.rolling.w))) }
         ensures within { IsWithin meter.new
-            (plus meter.old (windows (2 ^ 64 * reach_of self.now.rolling.w))) }
+            (plus meter.old (windows (2 ^ 64 * self.now.rolling.w))) }
     {
         let changes = delta.entries();
         let mut entries = Vec::new(self.alloc);
@@ -133,7 +140,7 @@ impl LiveWindow {
         meter: &mut Meter,
     ) -> Result<(), AllocError>
         requires stop { stop ≤ finite.len input.now.rows }
-        requires counts { meter.old.windows + reach_of self.now.rolling.w < 2 ^ 128 }
+        requires counts { meter.old.windows + self.now.rolling.w < 2 ^ 128 }
         ensures added { OnOk result (map entry_change entries.new.items
             ≡ map entry_change entries.old.items ++ changes_at self.now.output.rows
             (rolling_output self.now.rolling input.now.rows)
@@ -142,9 +149,9 @@ impl LiveWindow {
             → OnOk result (T (list_all has_row entries.new.items)) }
         ensures grows { IsWithin meter.old meter.new }
         ensures counted { IsWithin meter.new
-            (plus meter.old (windows (reach_of self.now.rolling.w))) }
+            (plus meter.old (windows self.now.rolling.w)) }
     {
-        let reach = self.rolling.w.max(1);
+        let reach = self.rolling.w;
         let from = input.upper_bound(tag);
         let end = from + stop.saturating_sub(from).min(reach - 1);
         let start = from.saturating_sub(reach);
@@ -169,7 +176,7 @@ impl LiveWindow {
     ) -> Result<(), AllocError>
         requires stretch { IsStretch (finite.values input.now.rows) stretch.now.start end stretch.now.rows.items }
         requires from { stretch.now.start ≤ from }
-        requires wide { (0 < stretch.now.start) → stretch.now.start + reach_of self.now.rolling.w ≤ from + 1 }
+        requires wide { (0 < stretch.now.start) → stretch.now.start + self.now.rolling.w ≤ from + 1 }
         requires end { from ≤ end }
         requires counts { meter.old.windows + (end - from) < 2 ^ 128 }
         ensures added { OnOk result (map entry_change entries.new.items
@@ -256,10 +263,10 @@ impl LiveNode for LiveWindow {
     ghost LeadsTo = { λ n s t. (s.input.rows ≡ t)
         × (s.output.rows ≡ rolling_output n.rolling t) };
 
-    ghost budget = { λ n. windows (2 ^ 64 * reach_of n.rolling.w) };
+    ghost budget = { λ n. windows (2 ^ 64 * n.rolling.w) };
 
     ghost allowed = { λ n t u.
-        windows (finite.len (diff same_row t u) * reach_of n.rolling.w) };
+        windows (finite.len (diff same_row t u) * n.rolling.w) };
 
     fn prepare(
         &mut self,

@@ -1,9 +1,11 @@
-use Rattle.std.proofs.Common.{◌∙◌, [], ◌∷◌, ap, sym}
+use Rattle.std.proofs.Common.{◌∙◌, [], ◌∷◌, ap, refl, sym}
 use Rattle.std.specs.FinMap as finite
 use Rattle.df_value.specs.declared.cell.CellType.TheVariants as dtype
 use Rattle.df_ops.specs.Places.{places_of}
 use Rattle.df_ops.specs.Windows.{cum_sum_at}
+use Rattle.df_delta.proofs.FitRows.{fits_as}
 use Rattle.df_nodes.specs.Rolling.{put_at}
+use Rattle.df_nodes.proofs.FitOutputs.{summed_fits}
 use Rattle.df_nodes.proofs.PrefixValues.{over_none}
 use Rattle.df_nodes.proofs.Sums.{summed_is, summed_rows}
 use Rattle.df_nodes.proofs.sum.LiveSum.new.Goals as goal
@@ -19,3 +21,10 @@ returns-clause-rows c t = ap finite.values (returns-clause-output c t) ∙ summe
 
 pub returns-clause-over : goal.returns-clause-over
 returns-clause-over c = (c.in_ok-new.ensures.rows, c.in_ok-new-2.ensures.rows ∙ sym (over_none (put_at c.from_vec.result) cum_sum_at c.position.result))
+
+pub returns-clause-takes : goal.returns-clause-takes
+returns-clause-takes c t fit = (
+  fits_as _ _ t t (c.in_ok-new.ensures.schema ∙ c.in_ok-copy.ensures) refl fit,
+  fits_as _ _ _ _ (c.in_ok-new-2.ensures.schema ∙ c.in_ok-made.ensures) (returns-clause-output c t)
+      (summed_fits c.args.schema.now c.args.output.now t fit c.args.column.now),
+)

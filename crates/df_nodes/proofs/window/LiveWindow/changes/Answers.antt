@@ -6,7 +6,7 @@ use Rattle.df_column.specs.Changes.{applied}
 use Rattle.df_column.specs.Tables.{entry_change}
 use Rattle.df_delta.specs.Deltas.{has_row}
 use Rattle.df_delta.specs.Differences.{IsDiff}
-use Rattle.df_nodes.specs.Rolling.{reach_of, rolling_output}
+use Rattle.df_nodes.specs.Rolling.{rolling_output}
 use Rattle.df_nodes.proofs.WindowCounts.{fewer, grown, next_change, room}
 use Rattle.df_nodes.proofs.WindowDiff.{changes_of_entries, last_entry, next_entry, reached_delta, window_diff}
 use Rattle.df_nodes.proofs.window.LiveWindow.changes.Goals as goal
@@ -26,7 +26,7 @@ loop-at-init c =
 
 pub push_reached-requires-clause-counts : goal.push_reached-requires-clause-counts
 push_reached-requires-clause-counts c =
-    room c.loop-at.at (length c.entries-changes.result.now) (reach_of c.args.self.now.rolling.w) c.args.meter.now.windows c.loop-at.meter.windows c.loop-at-test.true (omega arith) c.requires.3 c.loop-at.invariant.counted.3
+    room c.loop-at.at (length c.entries-changes.result.now) c.args.self.now.rolling.w c.args.meter.now.windows c.loop-at.meter.windows c.loop-at-test.true (omega arith) c.requires.3 c.loop-at.invariant.counted.3
 
 pub returns-in_err-push_reached-clause-grows : goal.returns-in_err-push_reached-clause-grows
 returns-in_err-push_reached-clause-grows c = grown c.args.meter.now c.loop-at.meter c.push_reached.new.meter c.loop-at.invariant.grows c.push_reached.ensures.grows
@@ -34,14 +34,14 @@ returns-in_err-push_reached-clause-grows c = grown c.args.meter.now c.loop-at.me
 pub returns-in_err-push_reached-clause-counted : goal.returns-in_err-push_reached-clause-counted
 returns-in_err-push_reached-clause-counted c =
     let short = c.loop-at.invariant.short in
-    fewer (c.loop-at.at + 1) (finite.len c.args.delta.now) (reach_of c.args.self.now.rolling.w) c.args.meter.now c.push_reached.new.meter (omega arith)
-    (next_change c.args.meter.now c.loop-at.meter c.push_reached.new.meter c.loop-at.at (reach_of c.args.self.now.rolling.w) c.loop-at.invariant.counted c.push_reached.ensures.counted)
+    fewer (c.loop-at.at + 1) (finite.len c.args.delta.now) c.args.self.now.rolling.w c.args.meter.now c.push_reached.new.meter (omega arith)
+    (next_change c.args.meter.now c.loop-at.meter c.push_reached.new.meter c.loop-at.at c.args.self.now.rolling.w c.loop-at.invariant.counted c.push_reached.ensures.counted)
 
 pub returns-in_err-push_reached-clause-within : goal.returns-in_err-push_reached-clause-within
 returns-in_err-push_reached-clause-within c =
     let short : length c.entries-changes.result.now ≤ 2 ^ 64 = omega arith in
-    fewer (c.loop-at.at + 1) (2 ^ 64) (reach_of c.args.self.now.rolling.w) c.args.meter.now c.push_reached.new.meter (omega arith)
-    (next_change c.args.meter.now c.loop-at.meter c.push_reached.new.meter c.loop-at.at (reach_of c.args.self.now.rolling.w) c.loop-at.invariant.counted c.push_reached.ensures.counted)
+    fewer (c.loop-at.at + 1) (2 ^ 64) c.args.self.now.rolling.w c.args.meter.now c.push_reached.new.meter (omega arith)
+    (next_change c.args.meter.now c.loop-at.meter c.push_reached.new.meter c.loop-at.at c.args.self.now.rolling.w c.loop-at.invariant.counted c.push_reached.ensures.counted)
 
 pub loop-at-preserved : goal.loop-at-preserved
 loop-at-preserved c =
@@ -57,7 +57,7 @@ loop-at-preserved c =
       short = c.loop-at.invariant.short;
       rows = c.in_ok-push_reached.ensures.rows c.loop-at.invariant.rows;
       grows = grown c.args.meter.now c.loop-at.meter c.push_reached.new.meter c.loop-at.invariant.grows c.push_reached.ensures.grows;
-      counted = next_change c.args.meter.now c.loop-at.meter c.push_reached.new.meter c.loop-at.at (reach_of r.w) c.loop-at.invariant.counted c.push_reached.ensures.counted;
+      counted = next_change c.args.meter.now c.loop-at.meter c.push_reached.new.meter c.loop-at.at r.w c.loop-at.invariant.counted c.push_reached.ensures.counted;
     }
 
 pub from_entries-requires : goal.from_entries-requires
@@ -85,9 +85,9 @@ returns-clause-diff c t fits over after =
 pub returns-clause-counted : goal.returns-clause-counted
 returns-clause-counted c =
     let short = c.loop-at.invariant.short in
-    fewer c.loop-at.at (finite.len c.args.delta.now) (reach_of c.args.self.now.rolling.w) c.args.meter.now c.loop-at.meter (omega arith) c.loop-at.invariant.counted
+    fewer c.loop-at.at (finite.len c.args.delta.now) c.args.self.now.rolling.w c.args.meter.now c.loop-at.meter (omega arith) c.loop-at.invariant.counted
 
 pub returns-clause-within : goal.returns-clause-within
 returns-clause-within c =
     let short : length c.entries-changes.result.now ≤ 2 ^ 64 = omega arith in
-    fewer c.loop-at.at (2 ^ 64) (reach_of c.args.self.now.rolling.w) c.args.meter.now c.loop-at.meter (omega arith) c.loop-at.invariant.counted
+    fewer c.loop-at.at (2 ^ 64) c.args.self.now.rolling.w c.args.meter.now c.loop-at.meter (omega arith) c.loop-at.invariant.counted

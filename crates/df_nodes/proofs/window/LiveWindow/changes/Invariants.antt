@@ -5,7 +5,7 @@ use Rattle.std.specs.FinMap as finite
 use Rattle.df_column.specs.Tables.{entry_change}
 use Rattle.df_delta.specs.Deltas.{has_row}
 use Rattle.df_delta.specs.Work.{IsWithin, plus}
-use Rattle.df_nodes.specs.Rolling.{reach_of, rolling_output, windows}
+use Rattle.df_nodes.specs.Rolling.{rolling_output, windows}
 use Rattle.df_nodes.proofs.WindowDiff.{changes_of_entries}
 use Rattle.df_nodes.proofs.window.LiveWindow.changes.Given as goal
 
@@ -18,5 +18,5 @@ invariant-loop-at l =
       short : length l.changes ≡ finite.len l.delta;
       rows : T (list_all has_row l.entries.items);
       grows : IsWithin l.fn.meter l.meter;
-      counted : IsWithin l.meter (plus l.fn.meter (windows (l.at * reach_of l.self.rolling.w)));
+      counted : IsWithin l.meter (plus l.fn.meter (windows (l.at * l.self.rolling.w)));
     }

@@ -1,4 +1,4 @@
-use Rattle.std.proofs.Common.{◌+◌, ◌-◌, ◌≡◌, ◌∷◌, ap, ◌∙◌, sym, arith, max, min, map, drop, take}
+use Rattle.std.proofs.Common.{◌+◌, ◌-◌, ◌≡◌, ◌∷◌, ap, ◌∙◌, sym, arith, min, map, drop, take}
 use Rattle.std.specs.FinMap as finite
 use Rattle.std.proofs.lemmas.List.{length-map}
 use Rattle.df_column.specs.Tables.{entry_change}
@@ -41,7 +41,7 @@ returns-clause-added c =
     let within = c.upper_bound-from.ensures.within in
     let from = c.upper_bound-from.result in
     let end = c.upper_bound-from.result + c.min.result in
-    let e : c.min.result ≡ min (c.args.stop - from) (max r.w 1 - 1) = omega arith in
+    let e : c.min.result ≡ min (c.args.stop - from) (r.w - 1) = omega arith in
     all_reached c.args.self.now.output.rows (rolling_output r u)
     (map entry_change c.push_run.new.entries.items) (map entry_change c.push_at.new.entries.items) (map entry_change c.args.entries.now.items)
     c.args.tag (map (λ x. x.0) (drop from (take end (finite.entries u)))) (reached_by r.w c.args.tag (take c.args.stop (finite.entries u)))

@@ -4,22 +4,22 @@ use Rattle.df_column.specs.Tables.{TaggedRows}
 use Rattle.df_delta.specs.Deltas.{RowsFit}
 use Rattle.df_delta.specs.Work.{IsWithin, plus}
 use Rattle.df_delta.proofs.SameRows.{len-diff}
-use Rattle.df_nodes.specs.Rolling.{reach_of, windows}
+use Rattle.df_nodes.specs.Rolling.{windows}
 use Rattle.df_nodes.proofs.window.LiveWindowLiveNode.prepare.Goals as goal
 
 pub returns-in_err-changes-clause-meter : goal.returns-in_err-changes-clause-meter
 returns-in_err-changes-clause-meter c t h =
-    subst (λ (n : ℕ). IsWithin c.changes.new.meter (plus c.args.meter.now (windows (n * reach_of c.args.self.now.rolling.w))))
+    subst (λ (n : ℕ). IsWithin c.changes.new.meter (plus c.args.meter.now (windows (n * c.args.self.now.rolling.w))))
     (len-diff t c.args.delta.now h.lean h.fits) c.changes.ensures.counted
 
 pub returns-in_err-output-clause-meter : goal.returns-in_err-output-clause-meter
 returns-in_err-output-clause-meter c t h =
-    subst (λ (n : ℕ). IsWithin c.changes.new.meter (plus c.args.meter.now (windows (n * reach_of c.args.self.now.rolling.w))))
+    subst (λ (n : ℕ). IsWithin c.changes.new.meter (plus c.args.meter.now (windows (n * c.args.self.now.rolling.w))))
     (len-diff t c.args.delta.now h.lean h.fits) c.changes.ensures.counted
 
 pub returns-clause-meter : goal.returns-clause-meter
 returns-clause-meter c t h =
-    subst (λ (n : ℕ). IsWithin c.changes.new.meter (plus c.args.meter.now (windows (n * reach_of c.args.self.now.rolling.w))))
+    subst (λ (n : ℕ). IsWithin c.changes.new.meter (plus c.args.meter.now (windows (n * c.args.self.now.rolling.w))))
     (len-diff t c.args.delta.now h.lean h.fits) c.changes.ensures.counted
 
 -- the new input and the new output, where the old ones are those of t
