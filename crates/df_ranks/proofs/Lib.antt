@@ -13,3 +13,4 @@ pub mod DenseRanks
 pub mod CountsAfter
 pub mod RankDeltas
 pub mod RankTables
+mod FitRanks

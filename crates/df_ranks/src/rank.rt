@@ -4,6 +4,7 @@ ghost use Rattle.std.specs.FinMap as finite;
 ghost use Rattle.df_value.specs.Schemas.{IsSchema, column_index as index_of};
 ghost use Rattle.df_value.specs.declared.cell.CellType.TheVariants as dtype;
 ghost use Rattle.df_column.specs.Tables.{TaggedRows};
+ghost use Rattle.df_delta.specs.Deltas.{RowsFit};
 ghost use Rattle.df_delta.specs.Reached.{are_rising, changes_at};
 ghost use Rattle.df_delta.specs.Work.{no_work};
 ghost use Rattle.df_ops.specs.NamedColumns.{with_columns as columns_with};
@@ -83,6 +84,10 @@ impl LiveRank {
             n.output.schema ≡ columns_with schema.now ((output.now, dtype.Int) ∷ [])) }
         ensures over { IfOk result (λ n. IsRanked n.column.schema n.column.name n.column.kind
             n.column.index n.input n.output n.counts finite.empty) }
+
+        // It takes rows of the schema.
+        ensures takes { IfOk result (λ n. (t : TaggedRows) → RowsFit schema.now t
+            → RanksFit n.column.schema n.column.name n.column.kind n.column.index n.input n.output t) }
     {
         let made = schema_with_ranks(alloc, schema, output)?;
         let column = RankColumn::new(alloc, schema, output, column, kind)?;
