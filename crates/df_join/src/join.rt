@@ -3,6 +3,7 @@ ghost use Rattle.std.specs.Prelude.{◌≡◌, ◌+◌, ◌*◌, ◌≤◌, ◌<
 ghost use Rattle.std.specs.FinMap as finite;
 ghost use Rattle.df_column.specs.Changes.{applied};
 ghost use Rattle.df_column.specs.Tables.{TaggedRows};
+ghost use Rattle.df_delta.specs.Deltas.{RowsFit};
 ghost use Rattle.df_delta.specs.Diff.{diff};
 ghost use Rattle.df_delta.specs.Differences.{IsDiff};
 ghost use Rattle.df_delta.specs.Inputs.{MayFollowBoth};
@@ -98,6 +99,10 @@ impl LiveJoin {
         ensures scans { IfOk result (λ n. (n.left_scans ≡ left_scans) × (n.right_scans ≡ right_scans)) }
         ensures schemas { IfOk result (λ n. (n.left.empty.schema ≡ left.now)
             × (n.right.empty.schema ≡ right.now)) }
+
+        // It takes rows of the schemas, at tags of so many scans.
+        ensures takes { IfOk result (λ n. (l r : TaggedRows) → RowsFit left.now l → RowsFit right.now r
+            → HasKeys (IsTagOver left_scans) l → HasKeys (IsTagOver right_scans) r → AreInputs n l r) }
     {
         let indices = join_indices_of(
             alloc,

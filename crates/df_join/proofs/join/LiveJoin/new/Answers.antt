@@ -1,7 +1,8 @@
-use Rattle.std.proofs.Common.{◌≡◌, ap, ◌∙◌}
+use Rattle.std.proofs.Common.{◌≡◌, ap, refl, ◌∙◌}
 use Rattle.std.specs.FinMap as finite
 use Rattle.df_ops.specs.Joins.{join_indices_of}
 use Rattle.df_ops.specs.declared.join_columns.JoinIndices.{JoinIndices}
+use Rattle.df_delta.proofs.FitRows.{fits_as}
 use Rattle.df_join.specs.RowNotes.{joined_by_key}
 use Rattle.df_join.specs.Sides.{is_one}
 use Rattle.df_join.proofs.JoinRows.{values-join_table, joined_tags}
@@ -25,3 +26,11 @@ returns-clause-tags c l r left right = joined_tags (record { how = c.args.how; i
 
 pub returns-clause-over : goal.returns-clause-over
 returns-clause-over c = record { scans = c.requires; left = c.in_ok-new.ensures.over c.in_ok-indices.indices.left; right = c.in_ok-new-2.ensures.over c.in_ok-indices.indices.right }
+
+pub returns-clause-takes : goal.returns-clause-takes
+returns-clause-takes c l r f g h k = record {
+  left_fits = fits_as _ _ l l c.in_ok-new.ensures.schema refl f;
+  right_fits = fits_as _ _ r r c.in_ok-new-2.ensures.schema refl g;
+  left_tags = h;
+  right_tags = k;
+}
