@@ -137,7 +137,7 @@ pub fn rank(
         (ranked schema.now output.now kind (column_index column.now schema.now))
         (λ d. no_work)) }
 {
-    let node = LiveRank::new(alloc, schema, output, column, kind)?;
+    let node = LiveRank::new(alloc, schema, output, kind, column)?;
     Ok(LiveOperator::Rank(node))
 }
 

@@ -66,8 +66,8 @@ impl LiveRank {
         alloc: Global,
         schema: &Schema,
         output: &Text,
-        column: &Text,
         kind: RankKind,
+        column: &Text,
     ) -> Result<LiveRank, AllocError>
         requires { IsSchema (columns_with schema.now ((output.now, dtype.Int) ∷ [])) }
         ensures output { IfOk result (λ n. (t : TaggedRows) →

@@ -192,7 +192,7 @@ fn ranks(alloc: Global, kind: RankKind) -> Result<LiveRank, AllocError> {
     let schema = schema(alloc, CellType::Int)?;
     let output = Text::from_str(alloc, "r")?;
     let column = Text::from_str(alloc, "x")?;
-    let made = LiveRank::new(alloc, &schema, &output, &column, kind)?;
+    let made = LiveRank::new(alloc, &schema, &output, kind, &column)?;
     Ok(made)
 }
 
