@@ -7,7 +7,6 @@ use Rattle.std.specs.declared.boxed.Box.{Box}
 use Rattle.df_value.specs.Schemas.{Columns}
 use Rattle.df_expr.specs.declared.meter.Meter.{Meter}
 use Rattle.df_column.specs.Tables.{TaggedRows}
-use Rattle.df_delta.specs.Deltas.{RowsFit}
 use Rattle.df_delta.specs.Work.{plus}
 use Rattle.df_ops.specs.declared.plain_table.PlainTable.{PlainTable}
 use Rattle.df_plan.specs.Checks.{plan_check, plan_scans, plan_scans_step}
@@ -32,7 +31,7 @@ pub one_fresh :
     (schemas : List Columns) (i p : Plan) (input : Fresh) (schema : Columns) (b : Box LiveTree Global) (node : LiveOperator)
     (operator : TaggedRows → TaggedRows) (cost : ℕ → Meter) →
     b.value ≡ input.tree → IsFreshFor input i schemas → plan_check p schemas ≡ Ok schema → IsPlanOver schemas i p operator cost →
-    IsNodeOf node input.schema schema operator cost → ((frames : List TaggedRows) → AreEmpty frames → (meaning schemas i).gives frames ≡ finite.empty) →
+    IsNodeOf node input.schema operator cost → ((frames : List TaggedRows) → AreEmpty frames → (meaning schemas i).gives frames ≡ finite.empty) →
     IsFreshFor (record { tree = Operator b node; schema = schema; scans = input.scans }) p schemas
 one_fresh schemas i p input schema b node operator cost below h checks plan is none = record {
   scans = h.scans ∙ sym plan.scans;
@@ -46,9 +45,7 @@ one_fresh schemas i p input schema b node operator cost below h checks plan is n
   takes = λ frames are. (
     subst (λ t. Takes t frames) (sym below) (h.takes frames are),
     subst (operator_takes node) (sym (gives_below frames))
-        (is.takes ((meaning schemas i).gives frames)
-        (law_fits schemas frames are i input.schema h.schema h.few)
-        (subst (RowsFit schema) (ap (λ (m : Meaning). m.gives frames) plan.means) (law_fits schemas frames are p schema checks few))),
+        (is.takes ((meaning schemas i).gives frames) (law_fits schemas frames are i input.schema h.schema h.few)),
   );
   rows = λ frames are.
       ap finite.values (gives frames) ∙ ap (λ (t : PlainTable). t.rows) (law schemas frames are p few).table;

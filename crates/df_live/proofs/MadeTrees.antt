@@ -33,13 +33,13 @@ pub one_made :
     IfOk box (λ b. b.value ≡ input.tree) → IfOk parts (λ p. box ≡ Ok p.0) → IfOk parts (λ p. node ≡ Ok p.1) →
     IfOk r (λ made. IfOk parts (λ p. made ≡ record { tree = Operator p.0 p.1; schema = schema; scans = input.scans })) → OnOk r (IsOk parts) →
     IfOk r (λ made. (schemas : List Columns) (i p : Plan) (operator : TaggedRows → TaggedRows) (cost : ℕ → Meter) → IsFreshFor input i schemas →
-    plan_check p schemas ≡ Ok schema → IsPlanOver schemas i p operator cost → IfOk node (λ n. IsNodeOf n input.schema schema operator cost) → IsFreshFor made p schemas)
+    plan_check p schemas ≡ Ok schema → IsPlanOver schemas i p operator cost → IfOk node (λ n. IsNodeOf n input.schema operator cost) → IsFreshFor made p schemas)
 one_made input schema box node parts (Err e) boxed first second tree there = tt
 one_made input schema box node (Err e) (Ok f) boxed first second tree there = absurd (false≢true there)
 one_made input schema box node (Ok q) (Ok f) boxed first second tree there = λ schemas i p operator cost h checks plan is.
     subst (λ (made : Fresh). IsFreshFor made p schemas) (sym tree)
     (one_fresh schemas i p input schema q.0 q.1 operator cost (part (λ b. b.value ≡ input.tree) box q.0 boxed first) h checks plan
-    (part (λ n. IsNodeOf n input.schema schema operator cost) node q.1 is second) (λ frames empty. gives_none schemas frames empty i))
+    (part (λ n. IsNodeOf n input.schema operator cost) node q.1 is second) (λ frames empty. gives_none schemas frames empty i))
 
 -- a join of two inputs
 pub two_made :

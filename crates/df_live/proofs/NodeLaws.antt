@@ -34,7 +34,7 @@ use Rattle.df_join.specs.Spread.{HasKeys, IsTagOver}
 use Rattle.df_join.proofs.JoinRows.{joined_tags, values-join_table}
 use Rattle.df_nodes.specs.Outputs.{filtered, mapped, rolled, summed}
 use Rattle.df_nodes.specs.Prefixes.{cells_up_to}
-use Rattle.df_nodes.specs.Rolling.{reach_of, windows}
+use Rattle.df_nodes.specs.Rolling.{windows}
 use Rattle.df_nodes.proofs.PrefixLaws.{rolled_rows}
 use Rattle.df_nodes.proofs.SameOutputs.{mapped_rows}
 use Rattle.df_nodes.proofs.Sums.{summed_rows}
@@ -154,7 +154,7 @@ module _ (frames : List TaggedRows) (m : Meaning) (t : PlainTable) (h : IsLawful
   rolling_law name kind column w least =
       let rows = m.gives frames in
       one_law (with_columns m.columns ((name, rolling_dtype kind) ∷ [])) (rolled m.columns name kind column w least)
-      (λ d. windows (d * reach_of w)) (λ t. rolling_table t name kind column w least) (rolling_is name kind column w least rows)
+      (λ d. windows (d * w)) (λ t. rolling_table t name kind column w least) (rolling_is name kind column w least rows)
       (keys_collected (IsTagOver m.scans)
       (λ q row. Some (with_column_row m.columns name row (rolling_cell kind least (window_of w (cells_up_to (column_index column m.columns) rows q))))) rows)
 

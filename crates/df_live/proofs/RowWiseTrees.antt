@@ -22,13 +22,13 @@ use Rattle.df_delta.specs.Work.{evaluations}
 use Rattle.df_group.specs.GroupRows.{group_output}
 use Rattle.df_group.specs.Work.{finishes}
 use Rattle.df_nodes.specs.Outputs.{filtered, mapped}
-use Rattle.df_plan.specs.Checks.{CheckResult, check_step, columns_of, group_by_check, filter_check, plan_check, plan_scans, plan_scans_step, select_check, to_schema, to_schema_unless, added_columns_check, with_columns_check}
-use Rattle.df_plan.specs.ItemChecks.{ColumnResult, columns_after, expr_dtype_check, select_column_result, with_column, with_columns_column_result}
+use Rattle.df_plan.specs.Checks.{CheckResult, check_step, columns_of, plan_check, plan_scans, plan_scans_step, select_check, to_schema, to_schema_unless, added_columns_check, with_columns_check}
+use Rattle.df_plan.specs.ItemChecks.{ColumnResult, columns_after, select_column_result, with_column, with_columns_column_result}
 use Rattle.df_plan.specs.declared.fault.PlanFault.{PlanFault}
 use Rattle.df_plan.specs.declared.fault.PlanFault.TheVariants as fault
 use Rattle.df_plan.specs.declared.plan.Plan.{Plan}
 use Rattle.df_plan.specs.declared.plan.Plan.TheVariants as plans
-use Rattle.df_plan.proofs.Found.{checked_columns, filter_found, group_found, select_found, then_ok, with_found}
+use Rattle.df_plan.proofs.Found.{checked_columns, then_ok}
 use Rattle.df_live.specs.declared.building.Fresh.{Fresh}
 use Rattle.df_live.specs.declared.operator.LiveOperator.{LiveOperator}
 use Rattle.df_live.specs.Fresh.{IsFreshFor, IsNodeOf, IsPlanOver, nodes, nodes_step}
@@ -178,12 +178,6 @@ module _ (schemas : List Columns) (i p : Plan) (is cs : Columns) (below : plan_c
       (at_filter ℕ plan_scans_step p i e at) (at_filter ℕ nodes_step p i e at)
       (at_filter Meaning (meaning_step schemas) p i e at) (meant_columns schemas i is below)
 
-  pub filter_columns : (e : Expr) → p ≡ plans.Filter i e → is ≡ cs
-  filter_columns e at =
-      sym (filter_found is (expr_dtype_check e is) cs
-      (next_checks schemas i p is cs (λ columns. filter_check columns (expr_dtype_check e columns)) below checks
-      (at_filter CheckResult (check_step schemas) p i e at)))
-
   pub group_over :
       (keys : List (List ℕ)) (aggs : List (List ℕ × Agg)) → p ≡ plans.GroupBy i keys aggs →
       IsPlanOver schemas i p (group_output is (column_indices is keys) aggs) (λ d. finishes (2 * d))
@@ -192,12 +186,6 @@ module _ (schemas : List Columns) (i p : Plan) (is cs : Columns) (below : plan_c
       (λ columns. group_output columns (column_indices columns keys) aggs) (λ d. finishes (2 * d))
       (at_group ℕ plan_scans_step p i keys aggs at) (at_group ℕ nodes_step p i keys aggs at)
       (at_group Meaning (meaning_step schemas) p i keys aggs at) (meant_columns schemas i is below)
-
-  pub group_columns : (keys : List (List ℕ)) (aggs : List (List ℕ × Agg)) → p ≡ plans.GroupBy i keys aggs → group_by_columns is keys aggs ≡ cs
-  group_columns keys aggs at =
-      sym (group_found is keys aggs cs
-      (next_checks schemas i p is cs (λ columns. group_by_check columns keys aggs) below checks
-      (at_group CheckResult (check_step schemas) p i keys aggs at))).0
 
   pub select_over :
       (items : List (List ℕ × Expr)) → p ≡ plans.Select i items →
@@ -210,9 +198,6 @@ module _ (schemas : List Columns) (i p : Plan) (is cs : Columns) (below : plan_c
   select_fine : (items : List (List ℕ × Expr)) → p ≡ plans.Select i items → select_check is items ≡ Ok cs
   select_fine items at =
       next_checks schemas i p is cs (λ columns. select_check columns items) below checks (at_select CheckResult (check_step schemas) p i items at)
-
-  pub select_columns : (items : List (List ℕ × Expr)) → p ≡ plans.Select i items → map (item_column is) items ≡ cs
-  select_columns items at = sym (select_found is items cs (select_fine items at)).0
 
   pub select_items : (items : List (List ℕ × Expr)) → p ≡ plans.Select i items → length items ≤ 32
   select_items items at = select_few is items cs (select_fine items at)
@@ -229,21 +214,17 @@ module _ (schemas : List Columns) (i p : Plan) (is cs : Columns) (below : plan_c
   with_fine items at =
       next_checks schemas i p is cs (λ columns. with_columns_check columns items) below checks (at_with CheckResult (check_step schemas) p i items at)
 
-  pub added_columns : (items : List (List ℕ × Expr)) → p ≡ plans.WithColumns i items → with_columns_schema is items ≡ cs
-  added_columns items at = sym (with_found is items cs (with_fine items at)).0
-
   pub with_items : (items : List (List ℕ × Expr)) → p ≡ plans.WithColumns i items → length items ≤ 32
   with_items items at = with_few is items cs (with_fine items at)
 
--- a made tree of the node over the tree below, where the node's columns are those that the check found
+-- a made tree of the node over the tree below
 pub tree_over :
-    {E F : Type 0} (r : Result Fresh E) (node : Result LiveOperator F) (input : Fresh) (schemas : List Columns) (i p : Plan) (made schema : Columns)
+    {E F : Type 0} (r : Result Fresh E) (node : Result LiveOperator F) (input : Fresh) (schemas : List Columns) (i p : Plan) (schema : Columns)
     (operator : TaggedRows → TaggedRows) (cost : ℕ → Meter) →
     IfOk r (λ f.
     (schemas : List Columns) (i p : Plan) (operator : TaggedRows → TaggedRows) (cost : ℕ → Meter) → IsFreshFor input i schemas →
-    plan_check p schemas ≡ Ok schema → IsPlanOver schemas i p operator cost → IfOk node (λ n. IsNodeOf n input.schema schema operator cost) → IsFreshFor f p schemas) →
+    plan_check p schemas ≡ Ok schema → IsPlanOver schemas i p operator cost → IfOk node (λ n. IsNodeOf n input.schema operator cost) → IsFreshFor f p schemas) →
     IsFreshFor input i schemas → plan_check p schemas ≡ Ok schema → IsPlanOver schemas i p operator cost →
-    made ≡ schema → IfOk node (λ n. IsNodeOf n input.schema made operator cost) → IfOk r (λ f. IsFreshFor f p schemas)
-tree_over (Ok f) node input schemas i p made schema operator cost h below checks plan same is =
-    h schemas i p operator cost below checks plan (subst (λ (columns : Columns). IfOk node (λ n. IsNodeOf n input.schema columns operator cost)) same is)
-tree_over (Err e) node input schemas i p made schema operator cost h below checks plan same is = tt
+    IfOk node (λ n. IsNodeOf n input.schema operator cost) → IfOk r (λ f. IsFreshFor f p schemas)
+tree_over (Ok f) node input schemas i p schema operator cost h below checks plan is = h schemas i p operator cost below checks plan is
+tree_over (Err e) node input schemas i p schema operator cost h below checks plan is = tt

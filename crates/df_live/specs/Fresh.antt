@@ -42,11 +42,11 @@ nodes_step p = 1 + from_inputs 0 (λ left right. left + right) (inputs_of p)
 abbrev pub nodes : Plan → ℕ
 nodes p = fold-Plan ℕ nodes_step p
 
--- the node gives of rows of these columns what the operator does, at its cost, and stands over no rows
-pub record IsNodeOf (node : LiveOperator) (columns made : Columns) (operator : TaggedRows → TaggedRows) (cost : ℕ → Meter) : Type 0 where
+-- the node takes rows of these columns, of which it gives what the operator does, at its cost, and it stands over no rows
+pub record IsNodeOf (node : LiveOperator) (columns : Columns) (operator : TaggedRows → TaggedRows) (cost : ℕ → Meter) : Type 0 where
   pub gives : (t : TaggedRows) → operator_node.output node t ≡ operator t
   pub work : (t u : TaggedRows) → operator_node.allowed node t u ≡ cost (differences t u)
-  pub takes : (t : TaggedRows) → RowsFit columns t → RowsFit made (operator t) → operator_node.Takes node t
+  pub takes : (t : TaggedRows) → RowsFit columns t → operator_node.Takes node t
   pub over : operator_node.IsOver node finite.empty
   pub budgeted : IsAtMost (operator_node.budget node) (2 ^ 82)
 

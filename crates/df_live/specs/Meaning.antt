@@ -25,7 +25,7 @@ use Rattle.df_join.specs.Probes.{probes}
 use Rattle.df_join.specs.RowNotes.{joined_by_key}
 use Rattle.df_join.specs.Sides.{is_one}
 use Rattle.df_nodes.specs.Outputs.{filtered, mapped, rolled, summed}
-use Rattle.df_nodes.specs.Rolling.{reach_of, windows}
+use Rattle.df_nodes.specs.Rolling.{windows}
 use Rattle.df_ranks.specs.Ranked.{ranked}
 use Rattle.df_plan.specs.declared.plan.Plan.{Plan, fold-Plan}
 use Rattle.df_plan.specs.declared.plan.Plan.TheOpen.{Plan-F}
@@ -80,7 +80,7 @@ group_meaning m keys aggregates =
 -- the windows that end at the changed row and at those behind it in whose windows it stands
 abbrev pub rolling_meaning : Meaning → List ℕ → RollKind → List ℕ → ℕ → ℕ → Meaning
 rolling_meaning m name kind column w least =
-    over_one m (with_columns m.columns ((name, rolling_dtype kind) ∷ [])) (rolled m.columns name kind column w least) (λ d. windows (d * reach_of w))
+    over_one m (with_columns m.columns ((name, rolling_dtype kind) ∷ [])) (rolled m.columns name kind column w least) (λ d. windows (d * w))
 
 abbrev pub sum_meaning : Meaning → List ℕ → List ℕ → Meaning
 sum_meaning m name column = over_one m (with_columns m.columns ((name, dtype.Wide) ∷ [])) (summed m.columns name column) (λ d. no_work)

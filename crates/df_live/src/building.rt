@@ -52,7 +52,7 @@ pub fn over_one(
         (operator : TaggedRows → TaggedRows) (cost : ℕ → Meter)
         → IsFreshFor input i schemas → plan_check p schemas ≡ Ok schema
         → IsPlanOver schemas i p operator cost
-        → IfOk node (λ n. IsNodeOf n input.schema schema operator cost)
+        → IfOk node (λ n. IsNodeOf n input.schema operator cost)
         → IsFreshFor made p schemas) }
 {
     let Fresh {

@@ -1,15 +1,14 @@
 //! The node of each kind of operator, over no rows.
-ghost use Rattle.std.specs.Prelude.{◌*◌, ◌≤◌, ◌∷◌, [], IfOk, length, map};
-ghost use Rattle.df_value.specs.Schemas.{IsSchema, column_index};
+ghost use Rattle.std.specs.Prelude.{◌≡◌, ◌*◌, ◌≤◌, ◌∷◌, [], IfOk, Some, length};
+ghost use Rattle.df_value.specs.Schemas.{IsSchema, column_dtype, column_index};
 ghost use Rattle.df_value.specs.declared.cell.CellType.TheVariants as dtype;
 ghost use Rattle.df_delta.specs.Work.{evaluations, no_work};
 ghost use Rattle.df_group.specs.GroupRows.{group_output};
 ghost use Rattle.df_group.specs.Work.{finishes};
 ghost use Rattle.df_nodes.specs.Outputs.{filtered, mapped, rolled, summed};
-ghost use Rattle.df_nodes.specs.Rolling.{reach_of, windows};
+ghost use Rattle.df_nodes.specs.Rolling.{windows};
 ghost use Rattle.df_ops.specs.NamedColumns as named;
 ghost use Rattle.df_ops.specs.RowWise as row_wise;
-ghost use Rattle.df_ops.specs.Tables.{group_by_columns};
 ghost use Rattle.df_ops.specs.Windows.{rolling_dtype};
 ghost use Rattle.df_ranks.specs.Ranked.{ranked};
 ghost use Rattle.df_join.specs.RowNotes.{joined_by_key};
@@ -30,7 +29,7 @@ use std::alloc::{AllocError, Global};
 
 /// The node of a filter of rows of this schema.
 pub fn filter(alloc: Global, schema: &Schema, predicate: &Expr) -> Result<LiveOperator, AllocError>
-    ensures { IfOk result (λ n. IsNodeOf n schema.now schema.now
+    ensures { IfOk result (λ n. IsNodeOf n schema.now
         (filtered schema.now predicate.now) (λ d. evaluations (2 * d))) }
 {
     let node = LiveFilter::new(alloc, schema, predicate)?;
@@ -45,7 +44,6 @@ pub fn select(
 ) -> Result<LiveOperator, AllocError>
     requires { length items.now ≤ 32 }
     ensures { IfOk result (λ n. IsNodeOf n schema.now
-        (map (row_wise.item_column schema.now) items.now)
         (mapped (row_wise.select_row schema.now items.now))
         (λ d. evaluations (2 * d * length items.now))) }
 {
@@ -61,7 +59,6 @@ pub fn with_columns(
 ) -> Result<LiveOperator, AllocError>
     requires { length items.now ≤ 32 }
     ensures { IfOk result (λ n. IsNodeOf n schema.now
-        (row_wise.with_columns_schema schema.now items.now)
         (mapped (row_wise.with_columns_row schema.now items.now))
         (λ d. evaluations (2 * d * length items.now))) }
 {
@@ -77,7 +74,6 @@ pub fn group(
     aggregates: &[(Text, Agg)],
 ) -> Result<LiveOperator, AllocError>
     ensures { IfOk result (λ n. IsNodeOf n schema.now
-        (group_by_columns schema.now keys.now aggregates.now)
         (group_output schema.now (named.column_indices schema.now keys.now) aggregates.now)
         (λ d. finishes (2 * d))) }
 {
@@ -97,11 +93,12 @@ pub fn window(
 ) -> Result<LiveOperator, AllocError>
     requires schema { IsSchema (named.with_columns schema.now
         ((output.now, rolling_dtype kind) ∷ [])) }
+    requires typed { column_dtype column.now schema.now ≡ Some dtype.Int }
+    requires some { 1 ≤ w }
     requires few { w ≤ 65536 }
     ensures { IfOk result (λ n. IsNodeOf n schema.now
-        (named.with_columns schema.now ((output.now, rolling_dtype kind) ∷ []))
         (rolled schema.now output.now kind column.now w m)
-        (λ d. windows (d * reach_of w))) }
+        (λ d. windows (d * w))) }
 {
     let node = LiveWindow::new(alloc, schema, output, kind, column, w, m)?;
     Ok(LiveOperator::Window(node))
@@ -116,7 +113,6 @@ pub fn sum(
 ) -> Result<LiveOperator, AllocError>
     requires { IsSchema (named.with_columns schema.now ((output.now, dtype.Wide) ∷ [])) }
     ensures { IfOk result (λ n. IsNodeOf n schema.now
-        (named.with_columns schema.now ((output.now, dtype.Wide) ∷ []))
         (summed schema.now output.now column.now) (λ d. no_work)) }
 {
     let node = LiveSum::new(alloc, schema, output, column)?;
@@ -133,7 +129,6 @@ pub fn rank(
 ) -> Result<LiveOperator, AllocError>
     requires { IsSchema (named.with_columns schema.now ((output.now, dtype.Int) ∷ [])) }
     ensures { IfOk result (λ n. IsNodeOf n schema.now
-        (named.with_columns schema.now ((output.now, dtype.Int) ∷ []))
         (ranked schema.now output.now kind (column_index column.now schema.now))
         (λ d. no_work)) }
 {

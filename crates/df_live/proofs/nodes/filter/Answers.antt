@@ -12,7 +12,7 @@ returns c =
     record {
       gives = c.in_ok-node.ensures.output;
       work = λ t u. ap evaluations (once (differences t u) _ counts);
-      takes = λ t f g. tt;
+      takes = λ t f. tt;
       over = tt;
       budgeted = few_evaluations _ (subst (λ n. n ≤ 32) (sym counts) (omega arith));
     }

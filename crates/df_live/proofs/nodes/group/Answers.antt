@@ -7,7 +7,7 @@ unfolding is_operator_over operator_allowed operator_budget operator_output oper
 returns c = record {
   gives = c.in_ok-node.ensures.output;
   work = λ t u. refl;
-  takes = λ t f g. c.in_ok-node.ensures.takes t f;
+  takes = c.in_ok-node.ensures.takes;
   over = c.in_ok-node.ensures.over;
   budgeted = (omega arith, omega arith, omega arith, omega arith);
 }

@@ -1,6 +1,5 @@
 use Rattle.std.proofs.Common.{refl, arith}
 use Rattle.df_live.specs.Operators.{is_operator_over, operator_allowed, operator_budget, operator_output, operator_takes}
-use Rattle.df_live.proofs.NodeCosts.{fits_as}
 use Rattle.df_live.proofs.nodes.rank.Goals as goal
 
 pub returns : goal.returns
@@ -10,10 +9,7 @@ returns c =
     record {
       gives = n.output;
       work = λ t u. refl;
-      takes = λ t f g. record {
-        rows = fits_as _ _ t t n.input refl f;
-        ranks = fits_as _ _ _ _ n.columns (n.output t) g;
-      };
+      takes = n.takes;
       over = n.over;
       budgeted = (omega arith, omega arith, omega arith, omega arith);
     }

@@ -12,7 +12,7 @@ returns c =
     record {
       gives = c.in_ok-node.ensures.output;
       work = λ t u. ap (λ n. evaluations (2 * differences t u * n)) counts;
-      takes = λ t f g. tt;
+      takes = λ t f. tt;
       over = tt;
       budgeted = few_evaluations _ (subst (λ n. n ≤ 32) (sym counts) c.requires);
     }

@@ -3,7 +3,7 @@ use Rattle.std.proofs.lemmas.Result.{IfOk-weaker}
 use Rattle.df_value.specs.Schemas.{IsSchema}
 use Rattle.df_live.specs.Fresh.{IsFreshFor}
 use Rattle.df_live.proofs.PartColumns.{meant_columns}
-use Rattle.df_live.proofs.WindowTrees.{made_as, rank_columns, rank_over}
+use Rattle.df_live.proofs.WindowTrees.{rank_columns, rank_over}
 use Rattle.df_live.proofs.window_trees.rank_tree.Goals as goal
 
 pub rank-node-requires : goal.rank-node-requires
@@ -18,7 +18,6 @@ pub returns : goal.returns
 returns c =
     let a = c.args in
     let input = c.requires.input in
-    let made = rank_columns a.schemas.now a.plan.now a.below.now a.output.now a.kind a.column.now c.requires.is a.input.schema a.schema input.schema c.requires.checks in
     let over = rank_over a.schemas.now a.plan.now a.below.now a.output.now a.kind a.column.now c.requires.is a.input.schema (meant_columns a.schemas.now a.below.now a.input.schema input.schema) in
     IfOk-weaker c.over_one.result _ (λ made. IsFreshFor made a.plan.now a.schemas.now)
-    (λ r h. h a.schemas.now a.below.now a.plan.now _ _ input c.requires.checks over (IfOk-weaker c.rank-node.result _ _ (λ n k. made_as n a.input.schema _ a.schema _ _ made k) c.rank-node.ensures)) c.over_one.ensures
+    (λ r h. h a.schemas.now a.below.now a.plan.now _ _ input c.requires.checks over c.rank-node.ensures) c.over_one.ensures
