@@ -16,7 +16,7 @@ use Rattle.df_column.specs.declared.tag.Tag.{Tag}
 use Rattle.df_delta.specs.Deltas.{RowsFit}
 use Rattle.df_delta.specs.Differences.{IsDiff}
 use Rattle.df_catalogue.specs.FrameChanges.{TakesChunk}
-use Rattle.df_catalogue.specs.FrameTables.{at_tag, tagged_rows_of}
+use Rattle.df_catalogue.specs.FrameTables.{at_tag, row_tag, tagged_rows_of}
 use Rattle.df_catalogue.specs.Frames.{IsFrame, IsNumbered, chunk_numbers, with_chunk}
 use Rattle.df_catalogue.specs.Numbers.{has_number}
 use Rattle.df_catalogue.specs.Prepared.{delta_of_chunk}
@@ -62,6 +62,12 @@ tagged-cells : (n : ℕ) (rows : List (List Cell)) → map (λ (e : Tag × List 
 tagged-cells n [] = refl
 tagged-cells n (row ∷ rows) = ap (λ later. row ∷ later) (tagged-cells (n + 1) rows)
 
+-- a row numbered in turn
+tagged-at : (n : ℕ) (rows : List (List Cell)) (i : ℕ) (d : Tag × List Cell) → i < length rows → get_or (map at_tag (enumerate_from n rows)) i d ≡ at_tag (n + i, get_or rows i d.1)
+tagged-at n rows i d lt =
+    get_or-map at_tag (enumerate_from n rows) i (0, d.1) d (omega (arith, lt, length-enumerate_from n rows))
+    ∙ ap at_tag (get_or-enumerate_from n rows i (0, d.1) lt)
+
 -- rows numbered in turn stand from each index on under the number there
 tagged-stand :
     (n : ℕ) (rows : List (List Cell)) (low first len : ℕ) → low + len ≤ length rows → first ≡ n + low →
@@ -71,9 +77,7 @@ tagged-stand n rows low first len within number =
     let many : length (take len (drop low rows)) ≡ len = length-take-le len (drop low rows) (omega (arith, within, length-drop low rows)) in
     let there : (k : ℕ) → k < length (take len (drop low rows)) → low + k < length rows = λ k lt. omega (arith, lt, many, within) in
     let entry : (k : ℕ) (d : Tag × List Cell) → k < length (take len (drop low rows)) → get_or (map at_tag numbered) (low + k) d ≡ at_tag (n + (low + k), get_or rows (low + k) d.1) =
-    λ k d lt.
-    get_or-map at_tag numbered (low + k) (0, d.1) d (omega (arith, there k lt, length-enumerate_from n rows))
-    ∙ ap at_tag (get_or-enumerate_from n rows (low + k) (0, d.1) (there k lt)) in
+    λ k d lt. tagged-at n rows (low + k) d (there k lt) in
     record {
       numbers = λ k d lt. ap (λ (e : Tag × List Cell). e.0.first) (entry k d lt) ∙ omega (arith, number);
       rows_are = λ k d lt.
@@ -101,6 +105,10 @@ part-stored c sound t is low first len within number =
       stand =
           subst (λ es. StandFrom es low (first + 1) (rows_from t low len)) (sym entries)
           (subst (StandFrom (map at_tag (enumerate_from c.first c.rows)) low (first + 1)) (sym (part-rows c sound t is low len)) (tagged-stand c.first c.rows low first len within number));
+      tags = λ k d lt.
+          let same : c.first + (low + k) ≡ first + k = omega (arith, number) in
+          ap (λ (es : List (Tag × List Cell)). (get_or es (low + k) d).0) entries
+          ∙ (ap (λ (e : Tag × List Cell). e.0) (tagged-at c.first c.rows (low + k) d (omega (arith, lt, within))) ∙ ap row_tag same);
     }
 
 -- the delta of a chunk leads a frame that takes it to the frame with it

@@ -1,5 +1,5 @@
 -- What readers see of a state: the rows of its frames behind their numbers, and its views by name with their rows.
-use Rattle.std.specs.Prelude.{◌≡◌, ◌+◌, ℕ, List, length, map, Option, Some, option_and_then, option_map, unwrap_or, ok_or, find, slice_get, bytes_eq, Result}
+use Rattle.std.specs.Prelude.{◌≡◌, ◌+◌, ◌≤◌, ℕ, IsSomeAnd, List, length, map, Option, Some, option_and_then, option_map, unwrap_or, ok_or, find, slice_get, bytes_eq, Result}
 use Rattle.df_value.specs.declared.cell.Cell.{Cell}
 use Rattle.df_catalogue.specs.declared.fault.CatalogueFault.{CatalogueFault}
 use Rattle.df_catalogue.specs.declared.fault.CatalogueFault.TheVariants as fault
@@ -66,6 +66,10 @@ frame_numbers_in p f = ok_or (option_map (map (λ r. r.0)) (slice_get p.frames f
 
 abbrev pub frame_len_in : PictureParts → ℕ → Option ℕ
 frame_len_in p f = option_map length (slice_get p.frames f)
+
+-- a frame has so many rows from a place on
+abbrev pub ReachesIn : PictureParts → ℕ → ℕ → ℕ → Type 0
+ReachesIn p f place count = IsSomeAnd (frame_len_in p f) (λ n. place + count ≤ n)
 
 -- the row at a place of a frame, behind its number
 abbrev pub row_in : PictureParts → ℕ → ℕ → Option (ℕ × List Cell)

@@ -1,5 +1,5 @@
 //! Pictures: the tables of a catalogue at one moment.
-ghost use Rattle.std.specs.Prelude.{◌≡◌, ◌<◌, ◌≤◌, ◌+◌, true, IfOk, IfSome, bytes_eq, find, length, map, option_map, position, slice_get};
+ghost use Rattle.std.specs.Prelude.{◌≡◌, ◌↔◌, ◌<◌, ◌≤◌, ◌+◌, IfOk, IfSome, IsTrue, bytes_eq, find, length, map, option_map, position, slice_get};
 ghost use Rattle.std.specs.Option.{option_copied};
 ghost use Rattle.df_catalogue.specs.Answers.{AnswersMemoryLast};
 ghost use Rattle.df_catalogue.specs.FrameTables.{IsNumberedTable};
@@ -99,7 +99,8 @@ impl Picture {
     /// one, all below 2^32. It copies nothing and takes no memory, and looks for each block of rows once.
     pub fn are_rows(&self, frame: usize, place: usize, number: u32, rows: &[Row]) -> bool
         requires { number + length rows.now ≤ limits.row_numbers }
-        ensures { result ≡ true → pictures.AreRowsIn self.now frame place number rows.now }
+        ensures { IsTrue result ↔ (pictures.ReachesIn self.now frame place (length rows.now)
+            × pictures.AreRowsIn self.now frame place number rows.now) }
     {
         match self.frame_table(frame) {
             Some(table) => table.are_rows(place, row_tag(number).first, rows),
@@ -110,8 +111,9 @@ impl Picture {
     /// Whether the rows of a chunk stand in a frame from this place on, by rising number, under their numbers. It copies
     /// nothing and takes no memory.
     pub fn has_chunk(&self, frame: usize, place: usize, chunk: &StoredChunk) -> bool
-        ensures { result ≡ true →
-            pictures.AreRowsIn self.now frame place chunk.now.first chunk.now.rows }
+        ensures { IsTrue result ↔
+            (pictures.ReachesIn self.now frame place (length chunk.now.rows)
+            × pictures.AreRowsIn self.now frame place chunk.now.first chunk.now.rows) }
     {
         match self.frame_table(frame) {
             Some(table) => chunk.stands_in(table, place),

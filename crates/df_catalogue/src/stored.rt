@@ -3,6 +3,7 @@ ghost use Rattle.std.specs.Prelude.{◌≡◌, ◌+◌, ◌≤◌, length, true}
 ghost use Rattle.std.specs.Arc.{arc_value};
 ghost use Rattle.std.specs.FinMap as finite;
 ghost use Rattle.df_column.specs.RowRuns.{StandFrom};
+ghost use Rattle.df_catalogue.specs.FrameTables.{IsNumberedTable};
 ghost use Rattle.df_catalogue.specs.Stored.{IsStored, chunk_in};
 
 use df_column::Table;
@@ -68,9 +69,13 @@ impl StoredChunk {
 
     /// Whether its rows stand in a table from an index on, at the tags of their numbers. No cell is copied.
     pub(crate) fn stands_in(&self, table: &Table, at: usize) -> bool
+        requires { IsNumberedTable table.now.rows }
         ensures within { result ≡ true → at + length self.now.rows ≤ finite.len table.now.rows }
         ensures rows { result ≡ true →
             StandFrom (finite.entries table.now.rows) at (self.now.first + 1) self.now.rows }
+        ensures alike { at + length self.now.rows ≤ finite.len table.now.rows
+            → StandFrom (finite.entries table.now.rows) at (self.now.first + 1) self.now.rows
+            → result ≡ true }
     {
         table.has_rows_of(at, &self.table, self.low, self.len)
     }
