@@ -2,9 +2,9 @@
 """What one more row asks of memory behind a chunk of 65,536: one_row.py PROGRAM
 
 PROGRAM is dfshell. Under one view each, a filter, a group-by, a left join of the frame with itself and a rolling sum,
-each row of the chunk has a key of its own, and so has the row behind it. That row is accepted although the 8,192nd
-allocation behind the chunk is refused: a view that is computed anew asks for more. Prints how many allocations the row
-takes under each view, what differs, and a count.
+each row of the chunk has a key of its own, and so has the row behind it. That row takes some hundred allocations, and is
+accepted although one is refused at twice that number behind the chunk: a view that is computed anew, beside the meter or
+on it, asks for more. Prints how many allocations the row takes under each view, what differs, and a count.
 """
 
 import os
@@ -15,12 +15,12 @@ import tempfile
 import sessions
 
 ROWS = 65536
-REFUSED = 8192
-STEPS = {
-    "filter": '["filter", [">", ["col", "v"], 0]]',
-    "group-by": '["group_by", ["key"], ["n", "len"], ["total", "sum", "v"]]',
-    "self-join": '["join", "left", ["key"], "rows"]',
-    "rolling sum": '["rolling_sum", "s", "v", 2, 1]',
+# The step of each view, and how many allocations the row takes under it, as counted.
+VIEWS = {
+    "filter": ('["filter", [">", ["col", "v"], 0]]', 67),
+    "group-by": ('["group_by", ["key"], ["n", "len"], ["total", "sum", "v"]]', 100),
+    "self-join": ('["join", "left", ["key"], "rows"]', 101),
+    "rolling sum": ('["rolling_sum", "s", "v", 2, 1]', 100),
 }
 DOCUMENT = """[[frame]]
 name = "rows"
@@ -48,14 +48,15 @@ def allocations(runner, typed, library, counts):
 def tried(program, folder, library, name):
     """The allocations of the one row, and what differs."""
     made = pathlib.Path(folder, name.replace(" ", "_"))
-    made.with_suffix(".toml").write_text(DOCUMENT.replace("STEP", STEPS[name]))
+    step, counted = VIEWS[name]
+    made.with_suffix(".toml").write_text(DOCUMENT.replace("STEP", step))
     made.with_suffix(".session").write_text(transcript(True))
     runner = sessions.Runner(program, [], sessions.Session(str(made.with_suffix(".session"))))
     whole, short = (b"".join(part) for part in (runner.session.typed, runner.session.typed[:-1]))
     counts = str(made.with_suffix(".counts"))
     before = allocations(runner, short, library, counts)
     taken = allocations(runner, whole, library, counts) - before
-    output, error, status = runner.whole(whole, LD_PRELOAD=library, FAIL_ALLOC=str(before + REFUSED))
+    output, error, status = runner.whole(whole, LD_PRELOAD=library, FAIL_ALLOC=str(before + 2 * counted))
     if (output, error, status) != (b"ok\nok\n", b"", 0):
         runner.differs("with that allocation refused", b"ok\nok\n", output + error)
     return taken, runner.wrong
@@ -66,13 +67,13 @@ def main():
     wrong = 0
     with tempfile.TemporaryDirectory() as folder:
         library = sessions.failing_library(folder)
-        for name in STEPS:
+        for name in VIEWS:
             taken, reports = tried(program, folder, library, name)
             print(f"{name}: {taken} allocations")
             for report in reports:
                 print(report)
             wrong += len(reports)
-    print(f"{len(STEPS)} views, {wrong} otherwise")
+    print(f"{len(VIEWS)} views, {wrong} otherwise")
     return 1 if wrong else 0
 
 
