@@ -27,6 +27,13 @@ both_follow IsOver Takes l m r s d e over before after left right = record {
   fits_right = right.fits;
 }
 
+-- what holds of the inputs as the deltas make them holds of the inputs as they will be
+pub after_both :
+    (IsOver Takes P : TaggedRows → TaggedRows → Type 0) (l m r s : TaggedRows) (d e : Changes) → IsDiff l m d → IsDiff r s e → IsOver l r → Takes l r → Takes m s →
+    (MayFollowBoth IsOver Takes l d r e → P (applied l d) (applied r e)) → P m s
+after_both IsOver Takes P l m r s d e left right over before after h =
+    subst (λ x. P x s) left.gives (subst (λ y. P (applied l d) y) right.gives (h (both_follow IsOver Takes l m r s d e over before after left right)))
+
 pub join_within :
     (IsOver Takes : TaggedRows → TaggedRows → Type 0) (may : TaggedRows → TaggedRows → TaggedRows → TaggedRows → Meter)
     (m0 m1 m2 m3 a b : Meter) (l m r s : TaggedRows) (d e : Changes) →

@@ -1,4 +1,5 @@
 pub mod Scans
+pub mod StagedTrees
 pub mod KeptTags
 pub mod FitRows
 pub mod JoinSteps

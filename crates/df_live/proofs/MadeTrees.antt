@@ -20,11 +20,11 @@ use Rattle.df_live.proofs.FreshTrees.{one_fresh}
 use Rattle.df_live.proofs.NoRows.{gives_none}
 use Rattle.df_live.proofs.Parts.{within_limits}
 
-abbrev Made : Type 0 → Type 0
+abbrev pub Made : Type 0 → Type 0
 Made T = Result T AllocError
 
 -- what holds of a part where it was made
-part : {T : Type 0} (P : T → Type 0) (r : Made T) (x : T) → IfOk r P → r ≡ Ok x → P x
+pub part : {T : Type 0} (P : T → Type 0) (r : Made T) (x : T) → IfOk r P → r ≡ Ok x → P x
 part P r x h is = subst (λ q. IfOk q P) is h
 
 -- a node over one input

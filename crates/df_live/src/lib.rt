@@ -13,6 +13,7 @@ mod nodes;
 mod operator;
 mod row_wise_trees;
 mod scan;
+mod staging;
 mod tree;
 mod view;
 mod window_trees;

@@ -10,9 +10,11 @@ ghost use Rattle.df_live.specs.Trees.{IsOver, MayFollow, Takes, allowed, budget,
 use crate::joined::JoinOperator;
 use crate::operator::{LiveOperator, StagedOperator};
 use crate::scan::scanned;
+use crate::staging::{boxed, over_one, over_two};
 use df_delta::{Delta, LiveNode, TwoSidedNode};
 use df_expr::Meter;
 use df_join::StagedJoin;
+use df_value::then_drop;
 use std::alloc::{AllocError, Global};
 
 /// A live node for each node of a plan, over the trees of its inputs.
@@ -94,18 +96,19 @@ impl LiveTree {
                 Ok((StagedTree::Scan, changes))
             }
             LiveTree::Operator(input, node) => {
-                let (below, between) = input.prepare(alloc, frame, delta, meter)?;
-                let below = Box::new(alloc, below)?;
-                let (staged, changes) = node.prepare(&between, meter)?;
-                Ok((StagedTree::Operator(below, staged), changes))
+                let below = input.prepare(alloc, frame, delta, meter);
+                let (below, between) = boxed(alloc, below)?;
+                let made = over_one(below, node.prepare(&between, meter));
+                then_drop(made, between)
             }
             LiveTree::Join(left, right, node) => {
-                let (on_left, from_left) = left.prepare(alloc, frame, delta, meter)?;
-                let on_left = Box::new(alloc, on_left)?;
-                let (on_right, from_right) = right.prepare(alloc, frame, delta, meter)?;
-                let on_right = Box::new(alloc, on_right)?;
-                let (staged, changes) = node.prepare(&from_left, &from_right, meter)?;
-                Ok((StagedTree::Join(on_left, on_right, staged), changes))
+                let on_left = left.prepare(alloc, frame, delta, meter);
+                let (on_left, from_left) = boxed(alloc, on_left)?;
+                let on_right = right.prepare(alloc, frame, delta, meter);
+                let (on_right, from_right) = boxed(alloc, on_right)?;
+                let made = node.prepare(&from_left, &from_right, meter);
+                let made = over_two(on_left, on_right, made);
+                then_drop(then_drop(made, from_left), from_right)
             }
         }
     }
