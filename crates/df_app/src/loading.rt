@@ -7,6 +7,7 @@ ghost use Rattle.df_catalogue.specs.Ledgers as ledgers;
 ghost use Rattle.df_text.specs.Document.{IsDocument};
 ghost use Rattle.df_app.specs.Loading.{IsOutputOfLoad, IsSourceOf, headings_in};
 ghost use Rattle.df_app.specs.Ran.{IsFaultOfLoad};
+ghost use Rattle.df_versions.specs.Histories.{schemas_of};
 
 use crate::fault::RunFault;
 use crate::opening::{SourcedDocument, copy_schemas};
@@ -82,7 +83,9 @@ fn load_opened<
     chunk: usize,
     gate: &G,
 ) -> Result<Output, RunFault>
-    requires name { opened.0 ≡ J.book }
+    requires book { opened.0 ≡ J.book }
+    requires schemas { schemas_of opened.1.0 ≡ J.schemas }
+    requires frames { length J.schemas ≡ length sourced.now.document.frames }
     requires sound { IsDocument sourced.now.document }
     requires sources { length sourced.now.sources ≡ length sourced.now.document.frames }
     requires some { 1 ≤ chunk }
@@ -128,6 +131,7 @@ fn open_hall<Acc: Ledger, Del: Ledger, R: Wait>(
     requires few { length frames.now ≤ limits.most_frames }
     requires base { All (λ f. is_base f.schema ≡ true) frames.now }
     ensures desks { IfOk result (λ o. o.1.1 ≡ desks_spec.first_desks (length frames.now)) }
+    ensures schemas { IfOk result (λ o. length (schemas_of o.1.0) ≡ length frames.now) }
 {
     let schemas = List::from_vec(copy_schemas(alloc, frames)?);
     match OpenedHall::open(rt, alloc, accepted, deleted, schemas, 0) {

@@ -177,8 +177,8 @@ impl Frame {
             .find(|n| !self.has_row(*n))
     }
 
-    // The delta from the rows to those after a change that nothing in the frame refuses: made for it, and lean, or lent by
-    // the prepared chunk that it adds.
+    // The lean delta from the rows to those after a change that nothing in the frame refuses. That of a prepared chunk is
+    // lent by it.
     fn delta<'a>(
         &self,
         alloc: Global,

@@ -37,6 +37,7 @@ mod views;
 pub use catalogue::Catalogue;
 pub use change::Change;
 pub use desk::{Desk, PARTS_OF_LEDGER};
+pub use df_live::{LiveView, StagedView};
 pub use fault::{CatalogueFault, NewFault};
 pub use frame_change::FrameChange;
 pub use picture::Picture;

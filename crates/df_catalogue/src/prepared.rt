@@ -120,7 +120,7 @@ impl PreparedChunk {
         ensures value { delta_in result ≡ delta_of_chunk self.now }
         ensures sound { IsChunk self.now.schema self.now.first self.now.rows }
     {
-        // The chunk is sound also where nothing of it is read.
+        // The clause `sound` is a fact of the chunk's type, which a proof has where the chunk is read.
         let _ = &self.chunk;
         FrameDelta::Lent(self)
     }

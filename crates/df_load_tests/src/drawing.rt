@@ -1,4 +1,6 @@
 //! A worker that is free draws the next job, while another one is held.
+ghost use Rattle.std.specs.Prelude.{◌≡◌, length};
+
 use crate::hall_test::HallTest;
 use crate::pairs_load::PairsLoad;
 use df_catalogue::Desk;
@@ -45,7 +47,9 @@ pub fn load_while_held<
     Del: Ledger + Send + Sync,
     J: Naming + Send + Sync,
     R: Threads + Wait + Abort + Sync,
->(rt: &R, alloc: Global, hall: Hall<Acc, Del, J>, desks: Vec<Desk<Acc, Del>>) -> Result<(), Fail> {
+>(rt: &R, alloc: Global, hall: Hall<Acc, Del, J>, desks: Vec<Desk<Acc, Del>>) -> Result<(), Fail>
+    requires { length J.schemas ≡ 2 }
+{
     match PairsLoad::new(alloc, &["t"], [(3, 2), (0, 2)]) {
         Ok(load) => run_held(rt, alloc, hall, desks, &load),
         Err(_) => {
@@ -66,7 +70,9 @@ fn run_held<
     hall: Hall<Acc, Del, J>,
     desks: Vec<Desk<Acc, Del>>,
     load: &PairsLoad,
-) -> Result<(), Fail> {
+) -> Result<(), Fail>
+    requires { length J.schemas ≡ 2 }
+{
     let gate = HoldsFirst {
         last_passed: AtomicBool::new(false),
         opened: AtomicBool::new(false),

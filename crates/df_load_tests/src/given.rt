@@ -1,5 +1,5 @@
 //! What the tests are given: rows of one column `x`, and views of the first of two frames.
-ghost use Rattle.std.specs.Prelude.{◌≡◌, IfOk};
+ghost use Rattle.std.specs.Prelude.{◌≡◌, IfOk, length};
 ghost use Rattle.df_load_tests.specs.Pairs.{row_of};
 
 use df_ops::Agg;
@@ -15,7 +15,9 @@ pub fn schema(alloc: Global) -> Result<Schema, AllocError> {
 }
 
 /// The schemas of two frames.
-pub fn schemas(alloc: Global) -> Result<List<Schema>, AllocError> {
+pub fn schemas(alloc: Global) -> Result<List<Schema>, AllocError>
+    ensures { IfOk result (λ schemas. length schemas ≡ 2) }
+{
     let schemas = vec![in alloc; schema(alloc)?, schema(alloc)?]?;
     Ok(List::from_vec(schemas))
 }

@@ -1,6 +1,7 @@
 //! The tests of a hall, and how one is run: in a hall over two empty frames.
-ghost use Rattle.std.specs.Prelude.{◌≡◌};
+ghost use Rattle.std.specs.Prelude.{◌≡◌, length};
 ghost use Rattle.df_catalogue.specs.Ledgers as ledgers;
+ghost use Rattle.df_versions.specs.Histories.{schemas_of};
 
 use crate::closes::close_twice;
 use crate::drawing::load_while_held;
@@ -86,7 +87,9 @@ fn run_named<
     J: Naming + Send + Sync,
     R: Threads + Wait + Abort + Sync,
 >(rt: &R, alloc: Global, opened: OpenedHall<Acc, Del>, test: &HallTest) -> Result<(), Fail>
-    requires { opened.0 ≡ J.book }
+    requires book { opened.0 ≡ J.book }
+    requires schemas { schemas_of opened.1.0 ≡ J.schemas }
+    requires two { length J.schemas ≡ 2 }
 {
     let (hall, desks, readers) = opened.named::<J>();
     match test {

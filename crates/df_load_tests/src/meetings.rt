@@ -1,4 +1,6 @@
 //! Two workers run at once.
+ghost use Rattle.std.specs.Prelude.{◌≡◌, length};
+
 use crate::given::row;
 use crate::hall_test::HallTest;
 use crate::pairs_load::PairsLoad;
@@ -70,7 +72,9 @@ pub fn load_by_two<
     Del: Ledger + Send + Sync,
     J: Naming + Send + Sync,
     R: Threads + Wait + Abort + Sync,
->(rt: &R, alloc: Global, hall: Hall<Acc, Del, J>, desks: Vec<Desk<Acc, Del>>) -> Result<(), Fail> {
+>(rt: &R, alloc: Global, hall: Hall<Acc, Del, J>, desks: Vec<Desk<Acc, Del>>) -> Result<(), Fail>
+    requires { length J.schemas ≡ 2 }
+{
     match PairsLoad::new(alloc, &["t"], [(1, 2), (1, 2)]) {
         Ok(load) => run_by_two(rt, alloc, hall, desks, &load, &Meeting::new()),
         Err(_) => {
@@ -92,7 +96,9 @@ fn run_by_two<
     desks: Vec<Desk<Acc, Del>>,
     load: &PairsLoad,
     gate: &Meeting,
-) -> Result<(), Fail> {
+) -> Result<(), Fail>
+    requires { length J.schemas ≡ 2 }
+{
     let answer = load.run(rt, alloc, hall, desks, 2, gate);
     assert!(rt; gate.both_met());
     match answer {

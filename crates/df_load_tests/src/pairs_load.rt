@@ -1,5 +1,5 @@
 //! Loads of two sources of pairs.
-ghost use Rattle.std.specs.Prelude.{◌*◌};
+ghost use Rattle.std.specs.Prelude.{◌≡◌, ◌*◌, length};
 ghost use Rattle.df_load_tests.specs.Pairs.{pairs_of};
 ghost use Rattle.df_load_tests.specs.PairsLoads.{HaveFewJobs};
 
@@ -55,7 +55,9 @@ impl PairsLoad {
         desks: Vec<Desk<Acc, Del>>,
         workers: usize,
         gate: &G,
-    ) -> Result<Loaded<Acc, Del>, LoadFault<Acc, Del>> {
+    ) -> Result<Loaded<Acc, Del>, LoadFault<Acc, Del>>
+        requires { length J.schemas ≡ 2 }
+    {
         let views = self.views.as_slice();
         load_all(rt, alloc, hall, desks, views, &self.sources, workers, gate)
     }

@@ -1,4 +1,6 @@
 //! Loads that are refused: why, and what they leave.
+ghost use Rattle.std.specs.Prelude.{◌≡◌, length};
+
 use crate::given::{accepted, chunk, scan};
 use crate::hall_test::HallTest;
 use crate::pairs_load::PairsLoad;
@@ -111,7 +113,9 @@ pub fn refuse<
     hall: Hall<Acc, Del, J>,
     desks: Vec<Desk<Acc, Del>>,
     case: &RefusedLoad,
-) -> Result<(), Fail> {
+) -> Result<(), Fail>
+    requires { length J.schemas ≡ 2 }
+{
     let mut desks = desks;
     match prepared(rt, alloc, &hall, desks.as_mut_slice(), case) {
         Ok(load) => run_refused(rt, alloc, hall, desks, case, &load),
@@ -146,7 +150,9 @@ fn run_refused<
     desks: Vec<Desk<Acc, Del>>,
     case: &RefusedLoad,
     load: &PairsLoad,
-) -> Result<(), Fail> {
+) -> Result<(), Fail>
+    requires { length J.schemas ≡ 2 }
+{
     let answer = load.run(rt, alloc, hall, desks, 1, &OpenGate);
     assert!(rt;
         [load.sources[0].calls(), load.sources[1].calls()] == case.calls,

@@ -2,6 +2,7 @@
 use Rattle.std.proofs.Common.{◌≡◌, ◌∙◌, ◌≤◌, ◌<◌, ◌⊎◌, ⊎_elim, inl, ℕ, List, [], ◌∷◌, ap, arith, length, length-append, refl, subst, sym}
 use Rattle.std.specs.Prelude.{Option, Some, None, Result, Ok, Err, IfErr, OnErr, OnOk, slice_index_or, slice_set}
 use mathlib.Core.List.{IsPrefix}
+use Rattle.df_value.specs.declared.cell.CellType.{CellType}
 use Rattle.df_catalogue.specs.Changes.{after}
 use Rattle.df_catalogue.specs.declared.change.Change.{Change}
 use Rattle.df_catalogue.specs.declared.fault.CatalogueFault.{CatalogueFault}
@@ -41,8 +42,8 @@ one-state told c f h = omega (arith, ap length h.1.3 ∙ length-append h.1.0 (h.
 module _ {J : Type 0} where
   -- what the hall answers to whoever was told this last
   pub told-of :
-      (told : Option (List State)) (known : List State) (c : Change) (r : Result (List State) (ChangeFault J)) → IsKnown told known →
-      AnswersOverHistory (told_states told) c r → AnswersTold known c r
+      {schemas : List (List (List ℕ × CellType))} (told : Option (List State)) (known : List State) (c : Change) (r : Result (List State) (ChangeFault J)) → IsKnown told known →
+      AnswersOverHistory schemas (told_states told) c r → AnswersTold known c r
   told-of None known c (Ok now) k h = (h.answer.accepted, omega (arith, two-states now c h.answer.accepted, k))
   told-of (Some t) known c (Ok now) k h = (h.answer.accepted, subst (λ x. length x < length now) (sym k) h.answer.later)
   told-of None known c (Err (Refused f now)) k h =
@@ -62,23 +63,23 @@ module _ {J : Type 0} where
 
   -- the answer to a change, with the desks after it
   pub answered :
-      (told : Option (List State)) (floor : ℕ) (old : HallParts) (new : List DeskParts) (c : Change) (r : Result (List State) (ChangeFault J)) →
-      IsKnown told old.told → floor ≡ told_states told → AnswersOverHistory floor c r → AreAfter old.desks c r new →
+      {schemas : List (List (List ℕ × CellType))} (told : Option (List State)) (floor : ℕ) (old : HallParts) (new : List DeskParts) (c : Change) (r : Result (List State) (ChangeFault J)) →
+      IsKnown told old.told → floor ≡ told_states told → AnswersOverHistory schemas floor c r → AreAfter old.desks c r new →
       IsAnswered old c (Some r) (record old { desks = new })
-  answered told floor old new c (Ok now) k e h d =
-      (told-of told old.told c (Ok now) k (subst (λ n. AnswersOverHistory {J = J} n c (Ok now)) e h), λ i. record old { desks = d i })
-  answered told floor old new c (Err f) k e h d =
-      (told-of told old.told c (Err f) k (subst (λ n. AnswersOverHistory {J = J} n c (Err f)) e h), λ i. record old { desks = d i })
+  answered {schemas = schemas} told floor old new c (Ok now) k e h d =
+      (told-of told old.told c (Ok now) k (subst (λ n. AnswersOverHistory {J = J} schemas n c (Ok now)) e h), λ i. record old { desks = d i })
+  answered {schemas = schemas} told floor old new c (Err f) k e h d =
+      (told-of told old.told c (Err f) k (subst (λ n. AnswersOverHistory {J = J} schemas n c (Err f)) e h), λ i. record old { desks = d i })
 
   -- the same where the change went through the desk at this index
   pub desk-answered :
-      (told : Option (List State)) (floor : ℕ) (p : HallParts) (desks held : List DeskParts) (f : ℕ) (none new : DeskParts) (c : FrameChange)
+      {schemas : List (List (List ℕ × CellType))} (told : Option (List State)) (floor : ℕ) (p : HallParts) (desks held : List DeskParts) (f : ℕ) (none new : DeskParts) (c : FrameChange)
       (r : Result (List State) (ChangeFault J)) → IsKnown told p.told → floor ≡ told_states told → desks ≡ p.desks → InOrder p.desks →
       f < length p.desks → held ≡ slice_set desks f new →
-      AnswersOverHistory floor (change_of (slice_index_or desks f none).frame c) r →
+      AnswersOverHistory schemas floor (change_of (slice_index_or desks f none).frame c) r →
       OnOk r (new ≡ desk_after (slice_index_or desks f none) (change_of (slice_index_or desks f none).frame c)) →
       OnErr r (new ≡ slice_index_or desks f none) → IsAnswered p (change_of f c) (Some r) (record p { desks = held }) × InOrder held
-  desk-answered told floor p desks held f none new c r k e same order lt is h share kept =
+  desk-answered {schemas = schemas} told floor p desks held f none new c r k e same order lt is h share kept =
       let desk : DeskParts = slice_index_or desks f none in
       let ordered_desks : InOrder desks = subst InOrder (sym same) order in
       let within : f < length desks = omega (arith, lt, ap length same) in
@@ -88,8 +89,8 @@ module _ {J : Type 0} where
       let all : AreAfter desks (change_of f c) r held =
       subst (AreAfter desks (change_of f c) r) (sym is)
       (counted desks f none (change_of f c) r new within (desks-counted desks f c) counts kept) in
-      let told_answer : AnswersOverHistory {J = J} floor (change_of f c) r =
-      subst (λ i. AnswersOverHistory {J = J} floor (change_of i c) r) there h in (
+      let told_answer : AnswersOverHistory {J = J} schemas floor (change_of f c) r =
+      subst (λ i. AnswersOverHistory {J = J} schemas floor (change_of i c) r) there h in (
         answered told floor p held (change_of f c) r k e told_answer (subst (λ ds. AreAfter ds (change_of f c) r held) same all),
         ordered desks held (change_of f c) r all ordered_desks,
       )

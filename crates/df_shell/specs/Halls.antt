@@ -3,7 +3,8 @@
 use Rattle.std.specs.Prelude.{◌≡◌, ◌<◌, ◌⊎◌, ⊤, ℕ, List, None, Result, Err, length, slice_get}
 use Rattle.std.specs.Global.{Vec}
 use mathlib.Core.List.{IsPrefix}
-use Rattle.df_catalogue.specs.Desks.{DeskParts, desks_after}
+use Rattle.df_value.specs.declared.cell.CellType.{CellType}
+use Rattle.df_catalogue.specs.Desks.{AgreeWithBooks, DeskParts, desks_after}
 use Rattle.df_catalogue.specs.Pictures.{PictureParts}
 use Rattle.df_catalogue.specs.declared.change.Change.{Change}
 use Rattle.df_catalogue.specs.declared.change.Change.TheVariants.{Append, Delete, DropView, Register, Replace}
@@ -18,8 +19,9 @@ use Rattle.df_shell.specs.declared.refusal.Refusal.TheVariants as refusal
 use Rattle.df_shell.specs.declared.fault.ShellFault.{ShellFault}
 use Rattle.df_shell.specs.declared.fault.ShellFault.TheVariants as shell
 use Rattle.df_shell.specs.declared.refusal.VersionFault.TheVariants as version
-use Rattle.df_store.specs.Closing.{AreBooks, IsMissing, missing_frame}
+use Rattle.df_store.specs.Closing.{IsMissingAfter, missing_frame}
 use Rattle.df_versions.specs.Answered.{IsAccepted, IsRefusedAt}
+use Rattle.df_versions.specs.Histories.{IsLastState}
 use Rattle.df_versions.specs.Shown.{Shows}
 
 pub record HallParts : Type 0 where
@@ -74,12 +76,12 @@ IsAnswerOfHall old new d q result =
     ((v : ℕ × PictureParts) × IsTaken old new v × IsTold (text_of_version d new.desks v q) (refusal_with_hall q) result)
     ⊎ ((result ≡ Err (refusal.Version version.Missing)) × (new ≡ old))
 
--- Desks with which a hall was closed: their shares are the books of every frame of its last state, which the desks of all
--- frames together agree with.
-abbrev pub Closes : List DeskParts → Type 0
-Closes desks = (s : State) × (missing_frame desks s ≡ None) × AreBooks desks s
+-- Desks with which a hall over frames of these schemas was closed: their shares are the books of every frame of a state that it may
+-- come to, which the desks of all frames together agree with.
+abbrev pub Closes : List (List (List ℕ × CellType)) → List DeskParts → Type 0
+Closes schemas desks = (s : State) × IsLastState schemas s × (missing_frame desks s ≡ None) × AgreeWithBooks desks s
 
 -- the fault where it was not: the least frame of which they are not
-abbrev pub IsLeftOpen : List DeskParts → ShellFault → Type 0
-IsLeftOpen desks (shell.Missing frame) = IsMissing desks frame
-IsLeftOpen desks f = ⊥
+abbrev pub IsLeftOpen : List (List (List ℕ × CellType)) → List DeskParts → ShellFault → Type 0
+IsLeftOpen schemas desks (shell.Missing frame) = (history : List State) × IsMissingAfter schemas desks history frame
+IsLeftOpen schemas desks f = ⊥

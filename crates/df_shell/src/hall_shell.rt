@@ -2,6 +2,7 @@
 ghost use Rattle.std.specs.Prelude.{◌≡◌, ◌≢◌, ◌≤◌, length, map};
 ghost use Rattle.std.specs.List.{range_with_len};
 ghost use Rattle.df_catalogue.specs.Ledgers as ledgers;
+ghost use Rattle.df_versions.specs.Histories.{schemas_of};
 
 use crate::fault::ShellFault;
 use crate::hall_store::HallStore;
@@ -92,7 +93,8 @@ fn serve<Acc: Ledger, Del: Ledger, J: Naming, R: Wait, I: BufRead, W: Write>(
     input: &mut I,
     output: &mut W,
 ) -> Result<(), ShellFault>
-    requires name { opened.0 ≡ J.book }
+    requires book { opened.0 ≡ J.book }
+    requires schemas { schemas_of opened.1.0 ≡ J.schemas }
     requires opening { length opened.1.0 ≤ 1 }
     requires desks { map (λ d. d.frame) opened.1.1 ≡ range_with_len 0 (length opened.1.1) }
 {

@@ -80,8 +80,8 @@ impl<'r, R: Wait, Acc: Ledger, Del: Ledger, J: Naming> HallStore<'r, R, Acc, Del
     /// Closes the hall. The shares of its desks are the books of every frame, or the least frame of which they are not is
     /// the fault.
     pub fn close(self) -> Result<(), ShellFault>
-        ensures closed { OnOk result (Closes self.entry.desks) }
-        ensures missing { IfErr result (λ fault. IsLeftOpen self.entry.desks fault) }
+        ensures closed { OnOk result (Closes J.schemas self.entry.desks) }
+        ensures missing { IfErr result (λ fault. IsLeftOpen J.schemas self.entry.desks fault) }
     {
         let HallStore {
             rt,

@@ -1,13 +1,16 @@
 -- What the desks of workers count, and the outcomes that they brought.
 use Rattle.std.proofs.Common.{◌≡◌, ℕ, suc, ◌+◌, ◌<◌, ◌==◌, ◌∙◌, Bool, true, false, List, [], ◌∷◌, ◌++◌, length, get_or, set, refl, ap, sym, arith, sum_by}
-use Rattle.std.specs.Prelude.{if◌then◌else◌}
+use Rattle.std.specs.Prelude.{IfOk, Result, Err, if◌then◌else◌}
+use Rattle.std.proofs.lemmas.List.Elements.{All-nil}
+use Rattle.df_value.specs.declared.chunk.Piece.{Piece}
 use Rattle.std.proofs.lemmas.List.Sums.{sum_by-append, sum_by-cons, sum_by-set, sum_by_push}
 use Rattle.df_catalogue.specs.Desks.{DeskParts, parts_of}
 use Rattle.df_store.specs.declared.jobs.Outcome.{Outcome}
 use Rattle.df_store.specs.declared.worker.Worker.{Worker}
-use Rattle.df_store.specs.Closing.{AddsUp, HaveSameSums, deleted_at}
+use Rattle.df_store.specs.Closing.{AddsUp, HaveSameSums, accepted_at, deleted_at}
 use Rattle.df_store.specs.Halls.{having_accepted}
-use Rattle.df_store.specs.Workers.{AreCounted, HaveAccepted, all_without_accepted, desks_of, outcomes_in, rows_of, without_accepted}
+use Rattle.df_store.specs.Jobs.{AreOutcomes, IsOutcome}
+use Rattle.df_store.specs.Workers.{AreCounted, HaveAccepted, HaveDone, all_without_accepted, desks_of, entered_at, outcomes_in, rows_of, without_accepted}
 
 pub nothing-new : (desks : List DeskParts) (done : List Outcome) → AreCounted desks done desks done
 nothing-new desks done = record { same = λ frame. refl }
@@ -117,3 +120,38 @@ deleted-in-all given split after same left frame =
     ∙ (ap (deleted_at frame) left
     ∙ (deleted-left frame split
     ∙ same.same (λ d. if d.frame == frame then d.deleted else 0) (deleted-adds-up frame)))
+
+accepted-adds-up : (frame : ℕ) → AddsUp (λ d. if d.frame == frame then d.accepted else 0)
+accepted-adds-up frame d e same =
+    if-sum (d.frame == frame) d.accepted e.accepted
+    ∙ ap (λ n. (if d.frame == frame then d.accepted else 0) + (if n == frame then e.accepted else 0)) same
+
+-- what the workers did among whom the desks were split
+pub all-done :
+    {V E : Type 0} (items : V → List Outcome) (chunks : List (List (ℕ × Piece))) (given split after back : List DeskParts) (none os : List Outcome) (handed : Result V E) →
+    HaveSameSums given split → none ≡ [] → all_without_accepted after ≡ all_without_accepted split → AreCounted split none after os → back ≡ after → AreOutcomes chunks os →
+    IfOk handed (λ v. items v ≡ os) → HaveDone items chunks given back handed
+all-done items chunks given split after back none os handed same empty left counted is made all = record {
+  outcomes = os;
+  made = made;
+  accepted = λ frame.
+      let h : DeskParts → ℕ = λ d. if d.frame == frame then d.accepted else 0 in
+      let begun = same.same h (accepted-adds-up frame) in
+      let nothing : entered_at frame none ≡ 0 = ap (entered_at frame) empty in
+      let more = counted.same frame in
+      let back' = ap (accepted_at frame) is in
+      omega (arith, begun, nothing, more, back');
+  deleted = λ frame. ap (deleted_at frame) is ∙ deleted-in-all given split after same left frame;
+  all = all;
+}
+
+-- and where there are no workers
+pub nothing-done :
+    {V E : Type 0} (items : V → List Outcome) (chunks : List (List (ℕ × Piece))) (given back : List DeskParts) (e : E) → back ≡ given → HaveDone items chunks given back (Err e)
+nothing-done items chunks given back e is = record {
+  outcomes = [];
+  made = All-nil (IsOutcome chunks);
+  accepted = λ frame. let back' = ap (accepted_at frame) is in let none : entered_at frame [] ≡ 0 = refl in omega (arith, back', none);
+  deleted = λ frame. ap (deleted_at frame) is;
+  all = tt;
+}

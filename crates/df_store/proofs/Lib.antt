@@ -7,11 +7,16 @@ pub mod TotalsFacts
 pub mod JobFacts
 pub mod OutcomeFacts
 pub mod RowFacts
+pub mod SortedOrders
+pub mod BegunFacts
 pub mod ExpectedFacts
+pub mod UnlikeFacts
 pub mod JoinedFacts
 pub mod StoredFacts
 pub mod LostFacts
 pub mod LoadFacts
+pub mod LeftFacts
+pub mod RegisterFacts
 pub mod ViewFacts
 pub mod CrossingPlans
 pub mod CrossingTrees

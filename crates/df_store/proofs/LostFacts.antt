@@ -5,11 +5,13 @@ use Rattle.std.specs.Prelude.{All, ◌==◌, ◌⊎◌, if◌then◌else◌}
 use Rattle.std.specs.List.{range_with_len}
 use Rattle.std.specs.List.Sorted.{IsNonDecreasingBy, IsPermutation}
 use Rattle.std.proofs.lemmas.Bool.{ne_eqb, eq-eqb}
+use Rattle.std.proofs.lemmas.List.{length-map}
+use Rattle.std.proofs.lemmas.List.FromFn.{length-range_with_len}
 use Rattle.std.proofs.lemmas.List.Sorted.{sum_by-IsPermutation}
 use Rattle.std.proofs.lemmas.List.Sums.{sum_by-cons}
 use mathlib.Core.Logic.{inl, inr}
 use Rattle.df_store.specs.declared.jobs.Outcome.{Outcome}
-use Rattle.df_store.specs.Lost.{IsLost, outcomes_of}
+use Rattle.df_store.specs.Lost.{HaveOneEach, IsLost, outcomes_of}
 use Rattle.df_store.proofs.ListFacts.{same-default}
 
 is-one : (m n : ℕ) → m ≡ n → ◌≡◌ {A = ℕ} (if m == n then 1 else 0) 1
@@ -199,3 +201,15 @@ lost-of-order jobs job before after p l =
       not_one = λ e. l.not_one (same job ∙ e);
       before = λ k h. sym (same k) ∙ l.before k h;
     }
+
+-- where each outcome in the order of the jobs is of the job of its place, each job has exactly one
+pub one-each :
+    (before after seen : List Outcome) (counted jobs : ℕ) → IsPermutation before after → seen ≡ after → map (λ x. x.job) seen ≡ range_with_len 0 counted → counted ≡ jobs →
+    HaveOneEach jobs before
+one-each before after seen counted jobs p same is count k h =
+    let all : map (λ (x : Outcome). x.job) after ≡ range_with_len 0 counted = ap (map (λ (x : Outcome). x.job)) (sym same) ∙ is in
+    let len : length after ≡ counted = sym (length-map after (λ (x : Outcome). x.job)) ∙ (ap length all ∙ length-range_with_len 0 counted) in
+    let own : map (λ (x : Outcome). x.job) after ≡ range_with_len 0 (length after) = all ∙ ap (range_with_len 0) (sym len) in
+    let rise : Rise after (length after) = λ i d h l. let r = rise-from-all after 0 i d own l in omega (arith, r) in
+    sym (sum_by-IsPermutation (λ (o : Outcome). if o.job == k then 1 else 0) before after p)
+    ∙ one-before after (length after) k rise (omega (arith, h, len, count)) (omega (arith, h, len, count)) (λ i d m n. absurd (omega (arith, m, n)))

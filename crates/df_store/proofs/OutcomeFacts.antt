@@ -51,3 +51,9 @@ pub in-order :
     (chunks : List (List (ℕ × Piece))) (os : List Outcome) (n : ℕ) → AreOutcomes chunks os → map (λ x. x.job) os ≡ range_with_len 0 n →
     n ≡ length (jobs_of chunks) → map job_of os ≡ jobs_of chunks
 in-order chunks os n all e many = by-job chunks os os n (IsPermutation-refl os) all e many
+
+-- the same of outcomes that are read where they are lent
+pub compared :
+    (chunks : List (List (ℕ × Piece))) (os lent : List Outcome) (n : ℕ) → AreOutcomes chunks os → lent ≡ os → map (λ x. x.job) lent ≡ range_with_len 0 n →
+    n ≡ length (jobs_of chunks) → map job_of os ≡ jobs_of chunks
+compared chunks os lent n all value e many = in-order chunks os n all (ap (map (λ (o : Outcome). o.job)) (sym value) ∙ e) many

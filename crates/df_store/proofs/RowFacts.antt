@@ -4,10 +4,11 @@ use Rattle.std.specs.Prelude.{Option, Some, None, option_map, option_and_then, s
 use Rattle.std.specs.List.{enumerate_from}
 use Rattle.std.specs.List.Sorted.{IsPermutation}
 use mathlib.Core.Logic.{inl, inr}
-use Rattle.std.proofs.lemmas.Bool.{eqb-true}
+use Rattle.std.proofs.lemmas.Bool.{eq-eqb, eqb-true}
 use Rattle.std.proofs.lemmas.List.Sorted.{IsPermutation-map}
 use Rattle.df_value.specs.declared.cell.Cell.{Cell}
 use Rattle.df_value.specs.Chunks.{ChunkParts}
+use Rattle.df_value.specs.declared.chunk.Piece.{Piece}
 use Rattle.df_catalogue.specs.Pictures.{AreRowsIn, PictureParts, row_in}
 use Rattle.df_store.specs.declared.jobs.Outcome.{Outcome}
 use Rattle.df_store.specs.Expected.{rows_at}
@@ -19,7 +20,7 @@ nothing-behind : {X : Type 0} (xs : List X) → xs ++ [] ≡ xs
 nothing-behind [] = refl
 nothing-behind (x ∷ xs) = ap (λ ys. x ∷ ys) (nothing-behind xs)
 
-behind : {X : Type 0} (xs ys zs : List X) → xs ++ (ys ++ zs) ≡ (xs ++ ys) ++ zs
+pub behind : {X : Type 0} (xs ys zs : List X) → xs ++ (ys ++ zs) ≡ (xs ++ ys) ++ zs
 behind [] ys zs = refl
 behind (x ∷ xs) ys zs = ap (λ ws. x ∷ ws) (behind xs ys zs)
 
@@ -31,14 +32,14 @@ pub length-enumerate : {X : Type 0} (a : ℕ) (xs : List X) → length (enumerat
 length-enumerate a [] = refl
 length-enumerate a (x ∷ xs) = let h = length-enumerate (a + 1) xs in omega (arith, h)
 
-enumerate-at : {X : Type 0} (a : ℕ) (xs : List X) (k : ℕ) → slice_get (enumerate_from a xs) k ≡ option_map (λ x. (a + k, x)) (slice_get xs k)
+pub enumerate-at : {X : Type 0} (a : ℕ) (xs : List X) (k : ℕ) → slice_get (enumerate_from a xs) k ≡ option_map (λ x. (a + k, x)) (slice_get xs k)
 enumerate-at a [] k = refl
 enumerate-at a (x ∷ xs) zero = let e : a ≡ a + zero = omega arith in ap (λ n. Some (n, x)) e
 enumerate-at a (x ∷ xs) (suc k) =
     let e : (a + 1) + k ≡ a + suc k = omega arith in
     enumerate-at (a + 1) xs k ∙ ap (λ n. option_map (λ x. (n, x)) (slice_get xs k)) e
 
-append-cases : {X : Type 0} (xs ys : List X) (k : ℕ) (r : X) → slice_get (xs ++ ys) k ≡ Some r → (slice_get xs k ≡ Some r) ⊎ ((j : ℕ) × (k ≡ length xs + j) × (slice_get ys j ≡ Some r))
+pub append-cases : {X : Type 0} (xs ys : List X) (k : ℕ) (r : X) → slice_get (xs ++ ys) k ≡ Some r → (slice_get xs k ≡ Some r) ⊎ ((j : ℕ) × (k ≡ length xs + j) × (slice_get ys j ≡ Some r))
 append-cases [] ys k r h = inr (k, omega arith, h)
 append-cases (x ∷ xs) ys zero r h = inl h
 append-cases (x ∷ xs) ys (suc k) r h =
@@ -47,7 +48,7 @@ append-cases (x ∷ xs) ys (suc k) r h =
       | inr e ↦ (let same = e.1 in inr (e.0, omega (arith, same), e.2))
     ]
 
-map-some : {X Y : Type 0} (f : X → Y) (o : Option X) (y : Y) → option_map f o ≡ Some y → (x : X) × (o ≡ Some x) × (f x ≡ y)
+pub map-some : {X Y : Type 0} (f : X → Y) (o : Option X) (y : Y) → option_map f o ≡ Some y → (x : X) × (o ≡ Some x) × (f x ≡ y)
 map-some f None y h = absurd (cc)
 map-some f (Some x) y h = (x, refl, ap (λ o. unwrap_or o y) h)
 
@@ -59,9 +60,19 @@ chunk-stands p frame place c are = record {
       are.at k there.0 there.1 ∙ ap Some there.2;
 }
 
+-- and rows of the chunk that stand behind their numbers do so under numbers which rise
+pub chunk-found : (p : PictureParts) (frame place : ℕ) (c : ChunkParts) → HasRows p frame place (chunk_rows c) → AreRowsIn p frame place c.first c.rows
+chunk-found p frame place c has = record {
+  at = λ k row h. has.at k (c.first + k, row) (enumerate-at c.first c.rows k ∙ ap (option_map (λ x. (c.first + k, x))) h);
+}
+
 -- no rows stand anywhere
 pub none-stand : (p : PictureParts) (frame place : ℕ) (rows : List (ℕ × List Cell)) → rows ≡ [] → HasRows p frame place rows
 none-stand p frame place rows none = record { at = λ k r h. absurd (let e = ap (λ xs. slice_get xs k) (sym none) ∙ h in cc) }
+
+-- an outcome gives to its own frame the rows of what it made
+pub own-rows : (o : Outcome) (p : Piece) → p ≡ o.made → made_rows p ≡ job_rows o.frame (job_of o)
+own-rows o p is = ap made_rows is ∙ ap (λ b. if b then made_rows o.made else []) (sym (eq-eqb o.frame o.frame refl))
 
 -- these rows are the first ones of a frame
 abbrev pub Stand : PictureParts → ℕ → List (ℕ × List Cell) → Type 0
@@ -133,7 +144,7 @@ all-rows p frame rows os e many each =
     let stand = subst (λ xs. Stand p frame (rows_at frame xs)) whole (all-stand p frame os each (length os) (omega arith)) in
     same-items rows (rows_at frame os) (λ k. at-each p frame rows (rows_at frame os) k (slice_get (rows_at frame os) k) e many stand refl)
 
-flat-mapped : {X Y Z : Type 0} (f : Y → List Z) (h : X → Y) (xs : List X) → flat_map (λ x. f (h x)) xs ≡ flat_map f (map h xs)
+pub flat-mapped : {X Y Z : Type 0} (f : Y → List Z) (h : X → Y) (xs : List X) → flat_map (λ x. f (h x)) xs ≡ flat_map f (map h xs)
 flat-mapped f h [] = refl
 flat-mapped f h (x ∷ xs) = ap (λ zs. f (h x) ++ zs) (flat-mapped f h xs)
 

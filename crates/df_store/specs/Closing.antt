@@ -2,9 +2,10 @@
 use Rattle.std.specs.Prelude.{◌≡◌, ◌≢◌, ℕ, ◌+◌, ◌<◌, ◌≤◌, Bool, ◌&&◌, ◌==◌, List, [], ◌∷◌, length, map, sum_by, slice_index_or, Option, Some, None, if◌then◌else◌}
 use Rattle.df_catalogue.specs.declared.state.FrameState.{FrameState}
 use Rattle.df_catalogue.specs.declared.state.State.{State}
-use Rattle.df_catalogue.specs.Desks.{DeskParts, HaveAllParts, accepted_in, accepted_through, deleted_in, deleted_through, joined_desk}
+use Rattle.df_catalogue.specs.Desks.{AgreeWithBooks, DeskParts, joined_desk}
 use Rattle.df_catalogue.specs.States.{IsLegal}
-use Rattle.df_versions.specs.Histories.{IsHistory, last_state}
+use Rattle.df_value.specs.declared.cell.CellType.{CellType}
+use Rattle.df_versions.specs.Histories.{IsHistoryOver, IsLastState, last_state}
 use Rattle.df_store.specs.declared.totals.Totals.{Totals}
 
 -- how many rows were accepted through the desks of a frame
@@ -62,25 +63,25 @@ pub record AreJoined (before after : List DeskParts) : Type 0 where
 abbrev pub SameFrame : List DeskParts → ℕ → ℕ → Type 0
 SameFrame desks a b = (d e : DeskParts) → (slice_index_or desks a d).frame ≡ (slice_index_or desks b e).frame
 
--- desks that have every part of the ledgers that the first desks were given count exactly the rows that were accepted
--- and deleted, over all frames
-pub record AreBooks (desks : List DeskParts) (s : State) : Type 0 where
-  pub accepted : HaveAllParts desks s → accepted_through desks ≡ accepted_in s
-  pub deleted : HaveAllParts desks s → deleted_through desks ≡ deleted_in s
-
--- a lawful history ends with a state of which this is the least frame where the shares of the desks are not the books, and of
--- which desks with every part have the books
-pub record IsMissingAfter (desks : List DeskParts) (history : List State) (frame : ℕ) : Type 0 where
-  pub lawful : IsHistory history
+-- a lawful history over frames of these schemas ends with a legal state of which this is the least frame where the shares of
+-- the desks are not the books; over all frames they count no more than its books, and exactly these where they have every part
+pub record IsMissingAfter (schemas : List (List (List ℕ × CellType))) (desks : List DeskParts) (history : List State) (frame : ℕ) : Type 0 where
+  pub over : IsHistoryOver schemas history
   pub state : State
   pub last : last_state history ≡ Some state
-  pub missing : missing_frame desks state ≡ Some frame
-  pub books : AreBooks desks state
-
--- there is a legal state of which this is the least frame where the shares of the desks are not the books. What a lock
--- holds has no name in a clause, so nothing here ties that state to a hall
-pub record IsMissing (desks : List DeskParts) (frame : ℕ) : Type 0 where
-  pub state : State
   pub legal : IsLegal state
-  pub least : missing_frame desks state ≡ Some frame
-  pub books : AreBooks desks state
+  pub missing : missing_frame desks state ≡ Some frame
+  pub books : AgreeWithBooks desks state
+
+-- a legal state that a hall over frames of these schemas may come to, of which the shares of the desks are the books
+pub record IsSettledState (schemas : List (List (List ℕ × CellType))) (desks : List DeskParts) (s : State) : Type 0 where
+  pub last : IsLastState schemas s
+  pub legal : IsLegal s
+  pub settled : missing_frame desks s ≡ None
+
+-- or of which this is the least frame where they are not, although the desks agree with its books over all frames
+pub record IsUnsettledState (schemas : List (List (List ℕ × CellType))) (desks : List DeskParts) (s : State) (frame : ℕ) : Type 0 where
+  pub last : IsLastState schemas s
+  pub legal : IsLegal s
+  pub missing : missing_frame desks s ≡ Some frame
+  pub books : AgreeWithBooks desks s

@@ -1,6 +1,9 @@
 -- Which faults the registration of a view and a load of workers are answered with, and which of several comes first.
-use Rattle.std.specs.Prelude.{◌≢◌, ⊤, List, Option, Some, None, fold}
-use Rattle.df_catalogue.specs.declared.fault.CatalogueFault.TheVariants as catalogue_fault
+use Rattle.std.specs.Prelude.{◌≡◌, ◌⊎◌, ⊤, ℕ, List, Option, Some, None, fold, slice_get}
+use Rattle.df_plan.specs.CheckedParts.{CheckedParts}
+use Rattle.df_catalogue.specs.Refusals.{refusal_of}
+use Rattle.df_catalogue.specs.declared.change.Change.TheVariants.{Register}
+use Rattle.df_catalogue.specs.declared.state.State.{State}
 use Rattle.df_versions.specs.declared.fault.ChangeFault.{ChangeFault}
 use Rattle.df_versions.specs.declared.fault.ChangeFault.TheVariants as change
 use Rattle.df_store.specs.declared.fault.LoadCause.{LoadCause}
@@ -8,23 +11,32 @@ use Rattle.df_store.specs.declared.fault.LoadCause.TheVariants as load
 use Rattle.df_store.specs.declared.fault.Stop.{Stop}
 use Rattle.df_store.specs.declared.fault.Stop.TheVariants as stop
 
--- a hall answers this: refused memory has the fault of that name
-abbrev pub IsRegisterFault : {J : Type 0} → ChangeFault J → Type 0
-IsRegisterFault (change.Refused f told) = f ≢ catalogue_fault.Memory
-IsRegisterFault change.Memory = ⊤
-IsRegisterFault change.Spent = ⊤
-IsRegisterFault change.Ahead = ⊤
+-- the cause of a load where the registration of a view is answered so
+abbrev pub cause_of_register : {J : Type 0} → ChangeFault J → LoadCause
+cause_of_register (change.Refused f told) = load.Refused f
+cause_of_register change.Memory = load.Memory
+cause_of_register change.Spent = load.Spent
+cause_of_register change.Ahead = load.Ahead
 
--- the registration of views, before any chunk is made, is given up for this
-abbrev pub IsCauseOfRegister : LoadCause → Type 0
-IsCauseOfRegister (load.Refused f) = f ≢ catalogue_fault.Memory
-IsCauseOfRegister load.Memory = ⊤
-IsCauseOfRegister load.Spent = ⊤
-IsCauseOfRegister load.Ahead = ⊤
-IsCauseOfRegister (load.MissingDesk frame) = ⊥
-IsCauseOfRegister (load.Lost job) = ⊥
-IsCauseOfRegister (load.Unlike frame) = ⊥
-IsCauseOfRegister load.ViewsUnlike = ⊥
+-- the registration of a view is given up for this in this state, by a caller who was told of nothing
+abbrev pub IsCauseOfView : State → List ℕ × CheckedParts → LoadCause → Type 0
+IsCauseOfView s view (load.Refused f) = refusal_of s (Register view.0 view.1) ≡ Some f
+IsCauseOfView s view load.Memory = ⊤
+IsCauseOfView s view load.Spent = ⊤
+IsCauseOfView s view load.Ahead = ⊥
+IsCauseOfView s view (load.MissingDesk frame) = ⊥
+IsCauseOfView s view (load.Lost job) = ⊥
+IsCauseOfView s view (load.Unlike frame) = ⊥
+IsCauseOfView s view load.ViewsUnlike = ⊥
+
+-- the registration of one of these views is given up for this in this state
+abbrev pub IsCauseOfViews : State → List (List ℕ × CheckedParts) → LoadCause → Type 0
+IsCauseOfViews s views cause = (at : ℕ) × (view : List ℕ × CheckedParts) × (slice_get views at ≡ Some view) × IsCauseOfView s view cause
+
+-- what comes before the first job is given up for this, in the state that the registered views made: one of the views, or memory was
+-- refused
+abbrev pub IsCauseAtStart : State → List (List ℕ × CheckedParts) → LoadCause → Type 0
+IsCauseAtStart s views cause = (cause ≡ load.Memory) ⊎ IsCauseOfViews s views cause
 
 -- of two reasons why workers stopped, the one that a load answers: Memory, then Spent, then Ahead
 abbrev pub earlier_stop : Stop → Stop → Stop
@@ -40,7 +52,7 @@ earlier_of None next = next
 earlier_of (Some first) None = Some first
 earlier_of (Some first) (Some next) = Some (earlier_stop first next)
 
--- why any of these workers stopped, which stopped so or not at all
+-- of the reasons why these workers stopped the one that a load answers; none where none stopped
 abbrev pub first_stop : List (Option Stop) → Option Stop
 first_stop stops = fold earlier_of None stops
 

@@ -1,10 +1,11 @@
 -- What a hall answers to a change, and the shares of a desk after one that it accepted.
 use Rattle.std.specs.Prelude.{ℕ, ◌+◌, List, Result}
+use Rattle.df_value.specs.declared.cell.CellType.{CellType}
 use Rattle.df_catalogue.specs.Desks.{DeskParts}
 use Rattle.df_catalogue.specs.declared.change.Change.{Change}
 use Rattle.df_catalogue.specs.declared.state.State.{State}
 use Rattle.df_versions.specs.Answered.{AnswersChange}
-use Rattle.df_versions.specs.Histories.{IsHistory}
+use Rattle.df_versions.specs.Histories.{IsHistoryOver}
 use Rattle.df_versions.specs.declared.fault.ChangeFault.{ChangeFault}
 
 -- so many more rows were accepted through the desk
@@ -15,9 +16,10 @@ having_accepted rows d = record d { accepted = d.accepted + rows }
 abbrev pub having_deleted : ℕ → DeskParts → DeskParts
 having_deleted rows d = record d { deleted = d.deleted + rows }
 
--- a change is answered so after some lawful history, for a caller who was told of so many states. What a lock holds has
--- no name in a clause, so nothing here ties that history to a hall; what is told does
-pub record AnswersOverHistory {J : Type 0} (floor : ℕ) (c : Change) (result : Result (List State) (ChangeFault J)) : Type 0 where
+-- a change is answered so after some lawful history over frames of these schemas, for a caller who was told of so many
+-- states. What a lock holds has no name in a clause, so nothing more ties that history to a hall. What is told does, which
+-- is of the hall's own history
+pub record AnswersOverHistory {J : Type 0} (schemas : List (List (List ℕ × CellType))) (floor : ℕ) (c : Change) (result : Result (List State) (ChangeFault J)) : Type 0 where
   pub history : List State
-  pub lawful : IsHistory history
+  pub over : IsHistoryOver schemas history
   pub answer : AnswersChange history floor c result

@@ -1,6 +1,7 @@
 -- Jobs: each chunk of each source, numbered by frame and then by chunk.
-use Rattle.std.specs.Prelude.{◌≡◌, ◌+◌, ℕ, List, [], ◌∷◌, ◌++◌, ◌<◌, length, map, All, Some, option_map, slice_get, slice_index_or}
+use Rattle.std.specs.Prelude.{◌≡◌, ◌+◌, ⊤, ℕ, List, [], ◌∷◌, ◌++◌, ◌<◌, length, map, All, Some, option_map, slice_get, slice_index_or}
 use Rattle.df_value.specs.declared.chunk.Piece.{Piece}
+use Rattle.df_value.specs.declared.chunk.Piece.TheVariants.{Bad, Good}
 use Rattle.df_store.specs.declared.jobs.Outcome.{Outcome}
 
 -- the chunks of a source from a place on, each behind the number of its first row
@@ -44,3 +45,12 @@ AreOutcomes chunks os = All (λ o. IsOutcome chunks o) os
 -- so many jobs of one load at most
 abbrev pub most_jobs : ℕ
 most_jobs = 4294967296
+
+-- a good chunk begins with this number
+abbrev pub BeginsAt : ℕ → Piece → Type 0
+BeginsAt n (Good c) = c.first ≡ n
+BeginsAt n (Bad b) = ⊤
+
+-- the good chunks of outcomes begin with the numbers of their jobs
+abbrev pub AreBegun : List Outcome → Type 0
+AreBegun os = All (λ o. BeginsAt o.first o.made) os

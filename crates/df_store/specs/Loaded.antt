@@ -1,5 +1,5 @@
 -- What the loaders leave: the rows of good chunks at their numbers.
-use Rattle.std.specs.Prelude.{◌≡◌, ◌+◌, ◌==◌, ℕ, List, [], flat_map, Some, slice_get, if◌then◌else◌}
+use Rattle.std.specs.Prelude.{◌≡◌, ◌+◌, ◌<◌, ◌==◌, ℕ, List, [], flat_map, length, Some, slice_get, if◌then◌else◌}
 use Rattle.std.specs.List.{enumerate_from}
 use Rattle.std.specs.List.Sorted.{IsPermutation}
 use Rattle.df_value.specs.declared.cell.Cell.{Cell}
@@ -40,3 +40,15 @@ AreLoadedIn jobs p = (frame : ℕ) (rows : List (ℕ × List Cell)) → slice_ge
 -- each frame of a state is
 abbrev pub AreLoaded : List (ℕ × (ℕ × Piece)) → State → Type 0
 AreLoaded jobs s = (frame : ℕ) (f : FrameState) → slice_get s.frames frame ≡ Some f → IsLoaded frame jobs f.rows
+
+-- the least frame of a picture whose rows are not those that the jobs give to it, in any order of theirs
+pub record IsUnlikeIn (jobs : List (ℕ × (ℕ × Piece))) (p : PictureParts) (frame : ℕ) : Type 0 where
+  pub within : frame < length p.frames
+  pub unlike : (rows : List (ℕ × List Cell)) → slice_get p.frames frame ≡ Some rows → IsLoaded frame jobs rows → ⊥
+  pub before : (k : ℕ) (rows : List (ℕ × List Cell)) → k < frame → slice_get p.frames k ≡ Some rows → IsLoaded k jobs rows
+
+-- the least frame of a state whose rows are not
+pub record IsUnlike (jobs : List (ℕ × (ℕ × Piece))) (s : State) (frame : ℕ) : Type 0 where
+  pub within : frame < length s.frames
+  pub unlike : (f : FrameState) → slice_get s.frames frame ≡ Some f → IsLoaded frame jobs f.rows → ⊥
+  pub before : (k : ℕ) (f : FrameState) → k < frame → slice_get s.frames k ≡ Some f → IsLoaded k jobs f.rows

@@ -11,3 +11,7 @@ pub record IsLost (jobs : ℕ) (outcomes : List Outcome) (job : ℕ) : Type 0 wh
   pub within : job < jobs
   pub not_one : outcomes_of job outcomes ≢ 1
   pub before : (k : ℕ) → k < job → outcomes_of k outcomes ≡ 1
+
+-- each of so many jobs has exactly one of these outcomes
+abbrev pub HaveOneEach : ℕ → List Outcome → Type 0
+HaveOneEach jobs outcomes = (k : ℕ) → k < jobs → outcomes_of k outcomes ≡ 1

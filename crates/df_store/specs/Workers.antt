@@ -1,5 +1,5 @@
 -- Workers: what each of them holds, and the desks of all of them.
-use Rattle.std.specs.Prelude.{◌≡◌, ◌≤◌, ◌+◌, ◌*◌, ◌==◌, ℕ, All, List, [], flat_map, if◌then◌else◌, length, map, sum_by, vec_capacity}
+use Rattle.std.specs.Prelude.{◌≡◌, ◌≤◌, ◌+◌, ◌*◌, ◌==◌, ℕ, All, List, [], flat_map, if◌then◌else◌, IfOk, length, map, Result, sum_by, vec_capacity}
 use Rattle.df_catalogue.specs.Desks.{DeskParts}
 use Rattle.df_claims.specs.Seats.{ClaimsView, IsSeatOf}
 use Rattle.df_value.specs.Chunks.{ChunkParts}
@@ -7,10 +7,10 @@ use Rattle.df_value.specs.declared.chunk.Piece.{Piece}
 use Rattle.df_value.specs.declared.chunk.Piece.TheVariants.{Bad, Good}
 use Rattle.df_store.specs.declared.jobs.Outcome.{Outcome}
 use Rattle.df_store.specs.declared.pool.WorkerPool.{WorkerPool}
-use Rattle.df_store.specs.declared.worker.Incoming.{Incoming}
-use Rattle.df_store.specs.declared.worker.Incoming.TheVariants as incoming
+use Rattle.df_store.specs.declared.entering.Incoming.{Incoming}
+use Rattle.df_store.specs.declared.entering.Incoming.TheVariants as incoming
 use Rattle.df_store.specs.declared.worker.Worker.{Worker}
-use Rattle.df_store.specs.Closing.{accepted_at}
+use Rattle.df_store.specs.Closing.{accepted_at, deleted_at}
 use Rattle.df_store.specs.Jobs.{AreOutcomes}
 
 -- a worker draws jobs from these claims, has at most so many desks, and what it has done are outcomes of jobs
@@ -69,6 +69,16 @@ pub record HaveAccepted (frame rows : ℕ) (desks desks' : List DeskParts) : Typ
 -- that came brought into it
 pub record AreCounted (desks : List DeskParts) (done : List Outcome) (desks' : List DeskParts) (done' : List Outcome) : Type 0 where
   pub same : (frame : ℕ) → accepted_at frame desks' + entered_at frame done ≡ accepted_at frame desks + entered_at frame done'
+
+-- what workers have done in all: outcomes of jobs, whose rows were accepted through their desks, through which nothing was
+-- deleted. They are handed over, or a stop is
+pub record HaveDone {V E : Type 0} (items : V → List Outcome) (chunks : List (List (ℕ × Piece))) (desks desks' : List DeskParts) (handed : Result V E) :
+    Type 0 where
+  pub outcomes : List Outcome
+  pub made : AreOutcomes chunks outcomes
+  pub accepted : (frame : ℕ) → accepted_at frame desks' ≡ accepted_at frame desks + entered_at frame outcomes
+  pub deleted : (frame : ℕ) → deleted_at frame desks' ≡ deleted_at frame desks
+  pub all : IfOk handed (λ v. items v ≡ outcomes)
 
 -- the workers of a load, with room for the desks that they give back
 pub record IsPool {A D : Type 0} (claims : ClaimsView) (most : ℕ) (chunks : List (List (ℕ × Piece))) (p : WorkerPool A D) : Type 0 where

@@ -41,7 +41,7 @@ pub(crate) fn settle<Acc: Ledger, Del: Ledger>(
     ensures joined { IfErr result (λ e. closing.AreJoined desks.items e.desks.items) }
     ensures room { IfErr result (λ e. HasRoomFor limits.most_frames e.room) }
     ensures empty { IfErr result (λ e. Holds e.room []) }
-    ensures books { closing.AreBooks desks.items catalogue.state }
+    ensures books { desks_spec.AgreeWithBooks desks.items catalogue.state }
     ensures legal { IsLegal catalogue.state }
 {
     let mut catalogue = catalogue;
@@ -143,7 +143,7 @@ pub fn missing_frame<Acc: Ledger, Del: Ledger>(
     ensures same { catalogue.new ≡ catalogue.old }
     ensures desks { desks.new ≡ desks.old }
     ensures missing { result ≡ closing.missing_frame desks.old catalogue.old.state }
-    ensures books { closing.AreBooks desks.old catalogue.old.state }
+    ensures books { desks_spec.AgreeWithBooks desks.old catalogue.old.state }
     ensures legal { IsLegal catalogue.old.state }
 {
     catalogue.audit_all(desks);

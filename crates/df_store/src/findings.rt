@@ -1,7 +1,7 @@
 //! What a load left, compared once with its sources and with the views that were given.
 ghost use Rattle.std.specs.Prelude.{◌≡◌, ◌<◌, ℕ, IfErr, IfNone, IfOk, IfSome, filter_map, length, map};
-ghost use Rattle.df_store.specs.Jobs.{AreOutcomes, chunks_of, job_of, jobs_of};
-ghost use Rattle.df_store.specs.Loaded.{AreLoaded};
+ghost use Rattle.df_store.specs.Jobs.{AreBegun, AreOutcomes, chunks_of, job_of, jobs_of};
+ghost use Rattle.df_store.specs.Loaded.{AreLoaded, IsUnlike};
 ghost use Rattle.df_store.specs.Loads as loads;
 ghost use Rattle.df_store.specs.Refused.{refusal};
 ghost use Rattle.df_store.specs.Workers.{entered_at};
@@ -44,7 +44,8 @@ pub(crate) fn compare<Acc: Ledger, Del: Ledger, S: Source, G: Gate, R: Threads +
         ≡ loads.rows_of_jobs frame (jobs_of (chunks_of S.made S.start_of work.now.sources.now))) }
     ensures views { IfOk result (λ _. loads.headings_of catalogue.now.state ≡ views.now) }
     ensures difference { IfErr result (λ cause.
-        loads.IsDifference work.now.jobs outcomes.items views.now catalogue.now.state cause) }
+        loads.IsDifference (jobs_of (chunks_of S.made S.start_of work.now.sources.now))
+        outcomes.items views.now catalogue.now.state cause) }
 {
     let outcomes = in_order(work.sources, outcomes);
     let refused = refused_in(work.alloc, outcomes.as_slice())?;
@@ -71,11 +72,12 @@ fn unlike_frame<Acc: Ledger, Del: Ledger, R: Threads + Sync>(
     outcomes: Vec<Outcome>,
     threads: usize,
 ) -> Result<Option<usize>, AllocError>
-    requires { 0 < threads }
+    requires threads { 0 < threads }
+    requires begun { AreBegun outcomes.items }
     ensures loaded { IfOk result (λ unlike. IfNone unlike
         (AreLoaded (map job_of outcomes.items) catalogue.now.state)) }
-    ensures within { IfOk result (λ unlike. IfSome unlike
-        (λ frame. frame < length catalogue.now.state.frames)) }
+    ensures unlike { IfOk result (λ unlike. IfSome unlike
+        (IsUnlike (map job_of outcomes.items) catalogue.now.state)) }
 {
     let picture = catalogue.picture(alloc)?;
     first_unlike(

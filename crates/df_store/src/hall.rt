@@ -1,15 +1,16 @@
 //! The hall: a lock round a catalogue that publishes its versions.
 ghost use Rattle.std.specs.Prelude.{◌≡◌, [], None, IfErr, IfOk, OnErr, OnOk, Some, length, option_map};
 ghost use Rattle.df_catalogue.specs.declared.change.Change.TheVariants.{Append, Delete, DropView, Register, Replace};
-ghost use Rattle.df_catalogue.specs.Desks.{desk_after};
+ghost use Rattle.df_catalogue.specs.Desks.{AgreeWithBooks, desk_after};
 ghost use Rattle.df_catalogue.specs.FrameChanges.{change_of};
+ghost use Rattle.df_catalogue.specs.States.{IsLegal};
 ghost use Rattle.df_catalogue.specs.ViewChanges.{change_of_views};
 ghost use Rattle.df_store.specs.Closing as closing;
 ghost use Rattle.df_store.specs.Halls.{AnswersOverHistory, having_accepted, having_deleted};
 ghost use Rattle.df_store.specs.Rooms.{HasRoomFor, Holds};
 ghost use Rattle.df_value.specs.Limits as limits;
 ghost use Rattle.df_versions.specs.Answered.{told_states};
-ghost use Rattle.df_versions.specs.Histories.{IsHistory, last_state};
+ghost use Rattle.df_versions.specs.Histories.{IsHistoryOver, IsLastState, last_state};
 
 use crate::closing::{Unsettled, settle};
 use crate::totals::{Totals, TotalsRoom};
@@ -26,8 +27,8 @@ use std::sync::{Mutex, MutexGuard, Wait};
 /// the lock needs no fact of its own. An [`OpenedHall`](crate::OpenedHall) makes it.
 ///
 /// Threads share a hall by reference. Each call holds the lock from its first step to its last, so
-/// that calls come one after another, and nobody sees half of a change. A hall ends by [`Hall::close`] or
-/// [`Hall::end`], which wait until no reader is inside a step.
+/// that calls come one after another, and nobody sees half of a change. A hall ends by a [`Hall::close`] that is not
+/// refused or by [`Hall::end`], which wait until no reader is inside a step.
 pub struct Hall<Acc: Ledger, Del: Ledger, J: Naming> {
     catalogue: Mutex<VersionedCatalogue<Acc, Del, J>>,
     // For the totals of a close, which takes no memory.
@@ -44,15 +45,15 @@ pub struct Missing<Acc: Ledger, Del: Ledger, J: Naming> {
     pub hall: Hall<Acc, Del, J>,
     /// Everything that the given desks had, in one desk for each frame of which any was given.
     pub desks: Vec<Desk<Acc, Del>>,
-    /// The history of the hall, of the last state of which the shares are not the books. Contracts know it as some
-    /// beginning of the hall's history.
+    /// The history of the hall, of the last state of which the shares are not the books.
     pub told: Told<J>,
 }
 
 /// The calls that change the catalogue take last what the caller was told before, if anything, and answer the history up
-/// to their own change or refusal: longer than that, or [`ChangeFault::Ahead`].
+/// to their own change, which is longer than that, or up to the state that refused it, which is no shorter; where the
+/// hall's history is shorter, [`ChangeFault::Ahead`].
 impl<Acc: Ledger, Del: Ledger, J: Naming> Hall<Acc, Del, J> {
-    // A hall over this catalogue.
+    /// A hall over this catalogue.
     pub(crate) fn over(
         catalogue: VersionedCatalogue<Acc, Del, J>,
         room: TotalsRoom,
@@ -81,7 +82,7 @@ impl<Acc: Ledger, Del: Ledger, J: Naming> Hall<Acc, Del, J> {
         chunk: &Chunk,
         told: Option<&Told<J>>,
     ) -> Result<Told<J>, ChangeFault<J>>
-        ensures answer { AnswersOverHistory (told_states (option_map (λ t. t.now) told.entry))
+        ensures answer { AnswersOverHistory J.schemas (told_states (option_map (λ t. t.now) told.entry))
             (Append desk.old.frame chunk.now) result }
         ensures share { OnOk result
             (desk.new ≡ having_accepted (length chunk.now.rows) desk.old) }
@@ -100,7 +101,7 @@ impl<Acc: Ledger, Del: Ledger, J: Naming> Hall<Acc, Del, J> {
         numbers: &[u32],
         told: Option<&Told<J>>,
     ) -> Result<Told<J>, ChangeFault<J>>
-        ensures answer { AnswersOverHistory (told_states (option_map (λ t. t.now) told.entry))
+        ensures answer { AnswersOverHistory J.schemas (told_states (option_map (λ t. t.now) told.entry))
             (Delete desk.old.frame numbers.now) result }
         ensures share { OnOk result
             (desk.new ≡ having_deleted (length numbers.now) desk.old) }
@@ -119,7 +120,7 @@ impl<Acc: Ledger, Del: Ledger, J: Naming> Hall<Acc, Del, J> {
         rows: &[(u32, Row)],
         told: Option<&Told<J>>,
     ) -> Result<Told<J>, ChangeFault<J>>
-        ensures answer { AnswersOverHistory (told_states (option_map (λ t. t.now) told.entry))
+        ensures answer { AnswersOverHistory J.schemas (told_states (option_map (λ t. t.now) told.entry))
             (Replace desk.old.frame rows.now) result }
         ensures same_share { desk.new ≡ desk.old }
     {
@@ -135,7 +136,7 @@ impl<Acc: Ledger, Del: Ledger, J: Naming> Hall<Acc, Del, J> {
         plan: CheckedPlan,
         told: Option<&Told<J>>,
     ) -> Result<Told<J>, ChangeFault<J>>
-        ensures { AnswersOverHistory (told_states (option_map (λ t. t.now) told.entry))
+        ensures { AnswersOverHistory J.schemas (told_states (option_map (λ t. t.now) told.entry))
             (Register name plan) result }
     {
         self.change_views(rt, alloc, ViewChange::Register(name, plan), told)
@@ -149,7 +150,7 @@ impl<Acc: Ledger, Del: Ledger, J: Naming> Hall<Acc, Del, J> {
         name: &str,
         told: Option<&Told<J>>,
     ) -> Result<Told<J>, ChangeFault<J>>
-        ensures { AnswersOverHistory (told_states (option_map (λ t. t.now) told.entry))
+        ensures { AnswersOverHistory J.schemas (told_states (option_map (λ t. t.now) told.entry))
             (DropView name.now) result }
     {
         self.change_views(rt, alloc, ViewChange::Drop(name), told)
@@ -165,7 +166,7 @@ impl<Acc: Ledger, Del: Ledger, J: Naming> Hall<Acc, Del, J> {
         change: FrameChange,
         told: Option<&Told<J>>,
     ) -> Result<Told<J>, ChangeFault<J>>
-        ensures answer { AnswersOverHistory (told_states (option_map (λ t. t.now) told.entry))
+        ensures answer { AnswersOverHistory J.schemas (told_states (option_map (λ t. t.now) told.entry))
             (change_of desk.old.frame change.entry) result }
         ensures desk { OnOk result (desk.new ≡
             desk_after desk.old (change_of desk.old.frame change.entry)) }
@@ -185,7 +186,7 @@ impl<Acc: Ledger, Del: Ledger, J: Naming> Hall<Acc, Del, J> {
         change: ViewChange,
         told: Option<&Told<J>>,
     ) -> Result<Told<J>, ChangeFault<J>>
-        ensures { AnswersOverHistory (told_states (option_map (λ t. t.now) told.entry))
+        ensures { AnswersOverHistory J.schemas (told_states (option_map (λ t. t.now) told.entry))
             (change_of_views change.entry) result }
     {
         let mut catalogue = self.catalogue.lock(rt);
@@ -205,10 +206,11 @@ impl<Acc: Ledger, Del: Ledger, J: Naming> Hall<Acc, Del, J> {
         ensures settled { IfOk result (λ closed.
             closing.missing_frame desks.items closed.0.state ≡ None) }
         ensures totals { IfOk result (λ closed. closed.1 ≡ closing.totals_of closed.0.state) }
-        ensures books { IfOk result (λ closed. closing.AreBooks desks.items closed.0.state) }
-        ensures missing { IfErr result (λ missing. closing.IsMissing desks.items missing.frame) }
-        ensures told { IfErr result (λ missing.
-            closing.IsMissingAfter desks.items missing.told missing.frame) }
+        ensures books { IfOk result (λ closed. AgreeWithBooks desks.items closed.0.state) }
+        ensures legal { IfOk result (λ closed. IsLegal closed.0.state) }
+        ensures state { IfOk result (λ closed. IsLastState J.schemas closed.0.state) }
+        ensures missing { IfErr result (λ missing.
+            closing.IsMissingAfter J.schemas desks.items missing.told missing.frame) }
         ensures joined { IfErr result (λ missing.
             closing.AreJoined desks.items missing.desks.items) }
     {
@@ -232,6 +234,7 @@ impl<Acc: Ledger, Del: Ledger, J: Naming> Hall<Acc, Del, J> {
 
     /// The catalogue, and the room for its totals. Readers get no version from then on.
     pub(crate) fn into_catalogue<R: Wait>(self, rt: &R) -> (Catalogue<Acc, Del>, TotalsRoom)
+        ensures state { IsLastState J.schemas result.0.state }
         ensures room { HasRoomFor limits.most_frames result.1 }
         ensures empty { Holds result.1 [] }
     {
@@ -239,7 +242,8 @@ impl<Acc: Ledger, Del: Ledger, J: Naming> Hall<Acc, Del, J> {
         (versioned.end(rt), room)
     }
 
-    fn into_parts(self) -> (VersionedCatalogue<Acc, Del, J>, TotalsRoom)
+    /// What [`Hall::over`] was given.
+    pub(crate) fn into_parts(self) -> (VersionedCatalogue<Acc, Del, J>, TotalsRoom)
         ensures room { HasRoomFor limits.most_frames result.1 }
         ensures empty { Holds result.1 [] }
     {
@@ -253,13 +257,13 @@ fn reopened<Acc: Ledger, Del: Ledger, J: Naming>(
     unsettled: Unsettled<Acc, Del>,
     publisher: Publisher<J>,
 ) -> Missing<Acc, Del, J>
-    requires history { last_state publisher ≡ Some unsettled.catalogue.state }
+    requires last { last_state publisher ≡ Some unsettled.catalogue.state }
+    requires over { IsHistoryOver J.schemas publisher }
     requires room { HasRoomFor limits.most_frames unsettled.room }
     requires empty { Holds unsettled.room [] }
     ensures frame { result.frame ≡ unsettled.frame }
     ensures desks { result.desks ≡ unsettled.desks }
     ensures told { result.told ≡ publisher }
-    ensures lawful { IsHistory publisher }
 {
     let told = publisher.told();
     let Unsettled {

@@ -8,6 +8,7 @@
 
 mod closing;
 mod comparing;
+mod entering;
 mod expected;
 mod fault;
 mod findings;
@@ -27,6 +28,8 @@ mod views;
 mod worker;
 
 pub use closing::missing_frame;
+pub use df_claims::{ClaimSeat, Claims};
+pub use df_versions::{ChangeFault, Naming, OpenFault, Reader, Told, Version};
 pub use fault::LoadCause;
 pub use gate::{Gate, OpenGate};
 pub use hall::{Hall, Missing};

@@ -1,14 +1,19 @@
 //! Loading: workers bring the chunks of sources into a hall, and what they left is compared with the
 //! sources once.
-ghost use Rattle.std.specs.Prelude.{◌≡◌, ◌<◌, ◌≤◌, ℕ, Err, IfErr, IfNone, IfOk, IfSome, IsOkAnd, None, Ok, filter_map, length, option_map};
+ghost use Rattle.std.specs.Prelude.{◌≡◌, ◌<◌, ◌≤◌, [], ℕ, Err, IfErr, IfNone, IfOk, IfSome, IsErrAnd, IsOkAnd, MatchOption, None, Ok, Some, filter_map, length};
+ghost use Rattle.df_value.specs.Limits as limits;
 ghost use Rattle.df_catalogue.specs.States.{IsLegal};
+ghost use Rattle.df_catalogue.specs.declared.state.State.{State};
+ghost use Rattle.df_claims.specs.Seats.{AreAllSeats};
 ghost use Rattle.df_store.specs.Closing as closing;
-ghost use Rattle.df_store.specs.Faults.{IsCauseOfRegister};
+ghost use Rattle.df_store.specs.Faults.{IsCauseAtStart, IsCauseOfView, IsCauseOfViews};
 ghost use Rattle.df_store.specs.Jobs.{AreOutcomes, chunks_of, jobs_of, most_jobs};
 ghost use Rattle.df_store.specs.Loaded.{AreLoaded};
 ghost use Rattle.df_store.specs.Loads as loads;
 ghost use Rattle.df_store.specs.Refused.{refusal};
+ghost use Rattle.df_store.specs.Rooms.{HasRoomFor, Holds};
 ghost use Rattle.df_store.specs.Workers.{entered_at};
+ghost use Rattle.df_versions.specs.Histories.{IsLastState, last_state};
 
 use crate::closing::{Unsettled, settle};
 use crate::fault::{LoadCause, Stop};
@@ -18,13 +23,13 @@ use crate::hall::Hall;
 use crate::jobs::{Outcome, job_count};
 use crate::pool::do_jobs;
 use crate::refused::Refused;
-use crate::totals::Totals;
+use crate::totals::{Totals, TotalsRoom};
 use crate::worker::Work;
-use df_catalogue::{Catalogue, Desk};
-use df_claims::Claims;
+use df_catalogue::{Catalogue, Desk, ViewChange};
+use df_claims::{ClaimSeat, Claims};
 use df_plan::CheckedPlan;
 use df_value::{Duplicate, List, Source, Text};
-use df_versions::{Naming, Told};
+use df_versions::{Naming, Told, VersionedCatalogue};
 use std::alloc::Global;
 use std::sync::Wait;
 use std::sync::ledger::Ledger;
@@ -62,7 +67,7 @@ impl<Acc: Ledger, Del: Ledger> Drop for Loaded<Acc, Del> {
 /// A load that was refused.
 pub struct LoadFault<Acc: Ledger, Del: Ledger> {
     pub cause: LoadCause,
-    /// What the load left, with its totals; none where the gathered shares of the desks are not the
+    /// What the load left, with its totals; none exactly where the gathered shares of the desks are not the
     /// books, whatever the cause is. Each chunk that entered has entered whole.
     pub left: Option<(Catalogue<Acc, Del>, Totals)>,
 }
@@ -83,9 +88,9 @@ impl<Acc: Ledger, Del: Ledger> Drop for LoadFault<Acc, Del> {
 /// chunk, and commits the good ones through its own desk of the frame; only the commits hold the hall's lock. Where all
 /// chunks of a draw and a frame follow one another, they enter in one change, with blocks that were made before. After
 /// all workers have ended, what came of the jobs is compared with the sources and the views, once; at most as many threads
-/// look for the rows. Readers of the hall get no version from then on.
+/// as there are workers look for the rows. Readers of the hall get no version from then on.
 ///
-/// The causes of a fault are looked for in the order of [`LoadCause`]. A worker that is refused memory, or a further
+/// [`LoadCause`] says which cause of a fault comes before which. A worker that is refused memory, or a further
 /// version, stops, and the others go on: what has entered is then in [`LoadFault::left`]. A desk of few parts
 /// cannot be split for all workers, and the chunk of a worker without a desk of its frame is lost.
 pub fn load_all<
@@ -105,6 +110,7 @@ pub fn load_all<
     workers: usize,
     gate: &G,
 ) -> Result<Loaded<Acc, Del>, LoadFault<Acc, Del>>
+    requires sources { length sources.now ≡ length J.schemas }
     requires jobs { length (jobs_of (chunks_of S.made S.start_of sources.now))
         ≤ most_jobs }
     ensures loaded { IfOk result (λ load.
@@ -117,21 +123,23 @@ pub fn load_all<
     ensures totals { IfOk result (λ load.
         load.totals ≡ closing.totals_of load.catalogue.state) }
     ensures legal { IfOk result (λ load. IsLegal load.catalogue.state) }
-    ensures left { IfErr result (λ fault. IfSome fault.left (λ left.
+    ensures state { IfOk result (λ load. IsLastState J.schemas load.catalogue.state) }
+    ensures left { IfErr result (λ fault. MatchOption fault.left
+        (loads.IsNotLeft J.schemas (chunks_of S.made S.start_of sources.now) views.now
+        desks.items fault.cause)
+        (λ left. loads.IsLeft J.schemas (chunks_of S.made S.start_of sources.now) views.now
+        desks.items fault.cause left.0.state)) }
+    ensures left_totals { IfErr result (λ fault. IfSome fault.left (λ left.
         left.1 ≡ closing.totals_of left.0.state)) }
-    ensures cause { IfErr result (λ fault.
-        loads.IsCauseOf (chunks_of S.made S.start_of sources.now) views.now
-        (option_map (λ left. left.0.state) fault.left)
-        fault.cause) }
 {
-    if let Err(cause) = register_all(rt, alloc, &hall, views) {
-        return Err(given_up(rt, hall, desks, cause));
-    }
     let jobs = job_count(sources);
     let workers = workers.clamp(1, MOST_WORKERS);
-    let Ok((claims, seats)) = Claims::new(alloc, jobs, workers) else {
-        return Err(given_up(rt, hall, desks, LoadCause::Memory));
+    let (mut catalogue, room) = hall.into_parts();
+    let (claims, seats) = match begin(rt, alloc, &mut catalogue, views, jobs, workers) {
+        Ok(begun) => begun,
+        Err(cause) => return Err(given_up(rt, catalogue, room, desks, cause)),
     };
+    let hall = Hall::over(catalogue, room);
     let work = Work {
         alloc,
         sources,
@@ -153,35 +161,60 @@ fn jobs_at_once(jobs: u64, workers: usize) -> usize {
     share.clamp(1, MOST_AT_ONCE) as usize
 }
 
+// Registers copies of the views, and numbers the jobs for so many workers.
+fn begin<Acc: Ledger, Del: Ledger, J: Naming, R: Wait>(
+    rt: &R,
+    alloc: Global,
+    catalogue: &mut VersionedCatalogue<Acc, Del, J>,
+    views: &[(Text, CheckedPlan)],
+    jobs: u64,
+    workers: usize,
+) -> Result<(Claims, Vec<ClaimSeat>), LoadCause>
+    requires jobs { jobs ≤ most_jobs }
+    requires workers { (1 ≤ workers) × (workers ≤ 16) }
+    ensures count { IfOk result (λ begun. length begun.1.items ≡ workers) }
+    ensures seats { IfOk result (λ begun. AreAllSeats begun.0 begun.1.items) }
+    ensures cause { IfErr result (λ cause. (s : State) → last_state catalogue.new ≡ Some s
+        → IsCauseAtStart s views.now cause) }
+{
+    register_all(rt, alloc, catalogue, views)?;
+    match Claims::new(alloc, jobs, workers) {
+        Ok(begun) => Ok(begun),
+        Err(_) => Err(LoadCause::Memory),
+    }
+}
+
 // Registers copies of the views, in their order.
 fn register_all<Acc: Ledger, Del: Ledger, J: Naming, R: Wait>(
     rt: &R,
     alloc: Global,
-    hall: &Hall<Acc, Del, J>,
+    catalogue: &mut VersionedCatalogue<Acc, Del, J>,
     views: &[(Text, CheckedPlan)],
 ) -> Result<(), LoadCause>
-    ensures { IfErr result (λ cause. IsCauseOfRegister cause) }
+    ensures { IfErr result (λ cause. (s : State) → last_state catalogue.new ≡ Some s
+        → IsCauseOfViews s views.now cause) }
 {
-    for (name, plan) in views {
-        let name = name.copy(alloc)?;
-        let plan = plan.copy(alloc)?;
-        register_one(rt, alloc, hall, name, plan)?;
+    for at in 0..views.len() {
+        register_one(rt, alloc, catalogue, &views[at])?;
     }
     Ok(())
 }
 
-// Registers a view. No reader learns of it, so that nothing needs to be told.
+// Registers a copy of a view. No reader learns of it, so that nothing needs to be told.
 fn register_one<Acc: Ledger, Del: Ledger, J: Naming, R: Wait>(
     rt: &R,
     alloc: Global,
-    hall: &Hall<Acc, Del, J>,
-    name: Text,
-    plan: CheckedPlan,
+    catalogue: &mut VersionedCatalogue<Acc, Del, J>,
+    view: &(Text, CheckedPlan),
 ) -> Result<(), LoadCause>
-    ensures { IfErr result (λ cause. IsCauseOfRegister cause) }
+    ensures { IfErr result (λ cause. (s : State) → last_state catalogue.new ≡ Some s
+        → IsCauseOfView s view.now cause) }
 {
+    let name = view.0.copy(alloc)?;
+    let plan = view.1.copy(alloc)?;
+    let change = ViewChange::Register(name, plan);
     let nothing: Option<Told<J>> = None;
-    match hall.register(rt, alloc, name, plan, nothing.as_ref()) {
+    match catalogue.change_views(rt, alloc, change, nothing.as_ref()) {
         Ok(told) => {
             drop(told);
             Ok(())
@@ -193,17 +226,24 @@ fn register_one<Acc: Ledger, Del: Ledger, J: Naming, R: Wait>(
 // The fault of a load of which no chunk has entered.
 fn given_up<Acc: Ledger, Del: Ledger, J: Naming, R: Wait>(
     rt: &R,
-    hall: Hall<Acc, Del, J>,
+    catalogue: VersionedCatalogue<Acc, Del, J>,
+    room: TotalsRoom,
     desks: Vec<Desk<Acc, Del>>,
     cause: LoadCause,
 ) -> LoadFault<Acc, Del>
+    requires room { HasRoomFor limits.most_frames room }
+    requires empty { Holds room [] }
     ensures cause { result.cause ≡ cause }
-    ensures left { IfSome result.left (λ left. left.1 ≡ closing.totals_of left.0.state) }
+    ensures left { IfSome result.left (λ left. (last_state catalogue ≡ Some left.0.state)
+        × closing.IsSettledState J.schemas desks.items left.0.state) }
+    ensures not_left { IfNone result.left ((s : State) × (frame : ℕ)
+        × (last_state catalogue ≡ Some s)
+        × closing.IsUnsettledState J.schemas desks.items s frame) }
+    ensures totals { IfSome result.left (λ left. left.1 ≡ closing.totals_of left.0.state) }
 {
-    let (catalogue, room) = hall.into_catalogue(rt);
     LoadFault {
         cause,
-        left: settle(catalogue, desks, room).ok(),
+        left: settle(catalogue.end(rt), desks, room).ok(),
     }
 }
 
@@ -235,12 +275,18 @@ fn finish<Acc: Ledger, Del: Ledger, J: Naming, S: Source, G: Gate, R: Threads + 
     ensures totals { IfOk result (λ load.
         load.totals ≡ closing.totals_of load.catalogue.state) }
     ensures legal { IfOk result (λ load. IsLegal load.catalogue.state) }
+    ensures state { IfOk result (λ load. IsLastState J.schemas load.catalogue.state) }
     ensures left { IfErr result (λ fault. IfSome fault.left (λ left.
+        closing.IsSettledState J.schemas desks.items left.0.state)) }
+    ensures cause { IfErr result (λ fault. IfSome fault.left (λ left.
+        loads.IsCauseAtEnd (λ os. os.items)
+        (jobs_of (chunks_of S.made S.start_of work.now.sources.now)) views.now left.0.state
+        entered fault.cause)) }
+    ensures not_left { IfErr result (λ fault. IfNone fault.left ((s : State) × (frame : ℕ)
+        × closing.IsUnsettledState J.schemas desks.items s frame
+        × loads.IsCauseUnsettled frame fault.cause)) }
+    ensures left_totals { IfErr result (λ fault. IfSome fault.left (λ left.
         left.1 ≡ closing.totals_of left.0.state)) }
-    ensures cause { IfErr result (λ fault.
-        loads.IsCauseOf (chunks_of S.made S.start_of work.now.sources.now) views.now
-        (option_map (λ left. left.0.state) fault.left)
-        fault.cause) }
 {
     let (catalogue, room) = hall.into_catalogue(rt);
     let findings = match entered {
@@ -259,8 +305,8 @@ fn conclude<Acc: Ledger, Del: Ledger>(
     ensures refused { IfOk result (λ load. findings ≡ Ok load.refused) }
     ensures left { IfErr result (λ fault. IfSome fault.left (λ left. settled ≡ Ok left)) }
     ensures cause { IfErr result (λ fault. IfSome fault.left (λ _. findings ≡ Err fault.cause)) }
-    ensures missing { IfErr result (λ fault. IfNone fault.left
-        (loads.IsCauseUnsettled fault.cause)) }
+    ensures missing { IfErr result (λ fault. IfNone fault.left (IsErrAnd settled (λ unsettled.
+        loads.IsCauseUnsettled unsettled.frame fault.cause))) }
 {
     match settled {
         Ok((catalogue, totals)) => match findings {

@@ -5,6 +5,7 @@ ghost use Rattle.df_catalogue.specs.Ledgers as ledgers;
 ghost use Rattle.df_catalogue.specs.States.{opening_of};
 ghost use Rattle.df_store.specs.Rooms.{HasRoomFor, Holds};
 ghost use Rattle.df_value.specs.Limits as limits;
+ghost use Rattle.df_versions.specs.Histories.{schemas_of};
 ghost use Rattle.df_versions.specs.Openings.{open_fault};
 ghost use Rattle.df_versions.specs.declared.fault.OpenFault.TheVariants as open_fault_of;
 
@@ -87,7 +88,8 @@ impl<Acc: Ledger, Del: Ledger> OpenedHall<Acc, Del> {
 
     /// The hall, the desks and the readers, under a name of the history. It waits for nobody and takes no memory.
     pub fn named<J: Naming>(self) -> NamedHall<Acc, Del, J>
-        requires { self.0 ≡ J.book }
+        requires book { self.0 ≡ J.book }
+        requires schemas { schemas_of self.1.0 ≡ J.schemas }
         ensures desks { result.1.items ≡ self.1.1 }
         ensures readers { All (λ r. r ≡ (J.book, (self.1.0, self.1.0))) result.2.items }
         ensures count { length result.2.items ≡ self.2 }

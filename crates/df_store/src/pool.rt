@@ -2,9 +2,9 @@
 ghost use Rattle.std.specs.Prelude.{◌≡◌, ℕ, ◌+◌, ◌<◌, ◌≤◌, ◌*◌, ◌++◌, [], All, IfErr, IfOk, None, length, map, vec_capacity};
 ghost use Rattle.df_catalogue.specs.Desks as desks_spec;
 ghost use Rattle.df_claims.specs.Seats.{IsSeatOf};
-ghost use Rattle.df_store.specs.Closing.{HaveSameSums, accepted_at, deleted_at};
+ghost use Rattle.df_store.specs.Closing.{HaveSameSums};
 ghost use Rattle.df_store.specs.Jobs.{AreOutcomes, chunks_of};
-ghost use Rattle.df_store.specs.Workers.{AreCounted, IsIdle, IsPool, IsWorker, all_without_accepted, desks_of, entered_at, outcomes_in};
+ghost use Rattle.df_store.specs.Workers.{AreCounted, HaveDone, IsIdle, IsPool, IsWorker, all_without_accepted, desks_of, outcomes_in};
 ghost use Rattle.df_store.specs.Faults.{earlier_of, first_stop};
 
 use crate::fault::Stop;
@@ -104,8 +104,6 @@ impl<Acc: Ledger, Del: Ledger> WorkerPool<Acc, Del> {
             (chunks_of S.made S.start_of work.now.sources.now) self }
         ensures desks { result.0.items ≡ desks_of self.workers.items }
         ensures outcomes { IfOk result.1 (λ os. os.items ≡ outcomes_in self.workers.items) }
-        ensures sound { IfOk result.1 (λ os.
-            AreOutcomes (chunks_of S.made S.start_of work.now.sources.now) os.items) }
         ensures running { IfOk result.1 (λ _. All (λ w. w.stopped ≡ None) self.workers.items) }
     {
         let WorkerPool { workers, gathered } = self;
@@ -137,11 +135,8 @@ pub(crate) fn do_jobs<
     requires seats { All (IsSeatOf work.now.claims.now) seats.items }
     requires desks { length desks.items ≤ work.now.desks }
     ensures parts { desks_spec.parts_of result.0.items ≡ desks_spec.parts_of desks.items }
-    ensures counted { IfOk result.1 (λ os. (frame : ℕ) → accepted_at frame result.0.items
-        ≡ accepted_at frame desks.items + entered_at frame os.items) }
-    ensures deleted { (frame : ℕ) → deleted_at frame result.0.items ≡ deleted_at frame desks.items }
-    ensures outcomes { IfOk result.1 (λ os.
-        AreOutcomes (chunks_of S.made S.start_of work.now.sources.now) os.items) }
+    ensures done { HaveDone (λ os. os.items) (chunks_of S.made S.start_of work.now.sources.now)
+        desks.items result.0.items result.1 }
 {
     let mut pool = match WorkerPool::new(work, seats, desks) {
         Ok(pool) => pool,

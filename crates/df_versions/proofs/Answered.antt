@@ -1,5 +1,6 @@
 -- What changes of a catalogue that publishes its versions answer.
 use Rattle.std.proofs.Common.{◌≡◌, ◌∙◌, ℕ, ◌≤◌, List, arith, [], ◌∷◌, ◌++◌, ap, subst, sym, append_assoc, Result, Ok, Err, Some, None, OnOk, OnErr, length, length-append, IsSomeAnd}
+use Rattle.df_value.specs.declared.cell.CellType.{CellType}
 use Rattle.df_catalogue.specs.declared.state.State.{State}
 use Rattle.df_catalogue.specs.declared.change.Change.{Change}
 use Rattle.df_catalogue.specs.declared.fault.CatalogueFault.{CatalogueFault}
@@ -9,11 +10,11 @@ use Rattle.df_catalogue.specs.Changes.{after}
 use Rattle.df_catalogue.specs.Pictures.{next_state}
 use Rattle.df_catalogue.specs.Refusals.{refusal_of}
 use Rattle.df_catalogue.specs.StagedChanges.{IsStagedFor}
-use Rattle.df_versions.specs.Histories.{IsHistory, last_state}
+use Rattle.df_versions.specs.Histories.{IsHistory, IsHistoryOver, last_state}
 use Rattle.df_versions.specs.Answered.{IsAccepted, IsRefusedAt, IsReady, IsReason, IsUnpublished, IsUnready, AnswersChange, AnswersNext, ChangesHistory, Reports}
 use Rattle.df_versions.specs.declared.fault.ChangeFault.{ChangeFault}
 use Rattle.df_versions.specs.declared.fault.ChangeFault.TheVariants.{Ahead, Spent, Refused, Memory}
-use Rattle.df_versions.proofs.Histories.{ends_split, last_state-more}
+use Rattle.df_versions.proofs.Histories.{ends_split, last_state-more, over-longer}
 use Rattle.df_versions.proofs.Staged.{staged-next}
 
 -- a history that was made longer by what the change makes of its last state
@@ -87,6 +88,14 @@ module _ {J : Type 0} where
   pub unready-answers : (log self : List State) (c : Change) (floor : ℕ) (r : ChangeFault J) → log ≡ self → IsUnready log floor r → AnswersChange self floor c (Err r)
   unready-answers log self c floor r is h =
       subst (λ (l : List State). AnswersChange l floor c (Err r)) is (record { accepted = tt; later = tt; refused = unready-reason log c floor r h })
+
+  -- the history is still over the same schemas where a staged change was entered
+  pub entered-over :
+      (schemas : List (List (List ℕ × CellType))) (log log' : List State) (next : State) (r : Result (List State) (ChangeFault J)) → IsHistoryOver schemas log →
+      AnswersNext log next r → ChangesHistory log r log' → IsHistoryOver schemas log'
+  entered-over schemas log log' next (Ok t) over h changes =
+      subst (IsHistoryOver schemas) (sym (changes.told ∙ h.added)) (over-longer schemas log next over (subst IsHistory h.added h.lawful))
+  entered-over schemas log log' next (Err f) over h changes = subst (IsHistoryOver schemas) (sym changes.same) over
 
   -- the history still ends with the catalogue's state where a staged change was entered
   pub entered-ends :

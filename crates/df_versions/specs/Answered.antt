@@ -26,7 +26,7 @@ abbrev pub IsRefusedAt : List State → Change → CatalogueFault → Type 0
 IsRefusedAt history c f =
     IsHistory history × ((before : List State) × (s : State) × (refusal_of s c ≡ Some f) × (history ≡ before ++ s ∷ []))
 
--- a history is no shorter than what a caller was told of, and one more state has a number
+-- a history is no shorter than what a caller was told of, and short enough that one more state has a number
 abbrev pub IsReady : List State → ℕ → Type 0
 IsReady history floor = (floor ≤ length history) × (length history < 2 ^ 64 - 1)
 
@@ -35,7 +35,7 @@ abbrev pub IsFree : List State → Change → Type 0
 IsFree history c = (s : State) × (last_state history ≡ Some s) × (refusal_of s c ≡ None)
 
 module _ {J : Type 0} where
-  -- why no change is made of a catalogue with this history, whatever it is, for a caller who was told of so many states
+  -- why a catalogue with this history is not changed, whatever the change is, for a caller who was told of so many states
   abbrev pub IsUnready : List State → ℕ → ChangeFault J → Type 0
   IsUnready history floor Ahead = length history < floor
   IsUnready history floor Spent = (floor ≤ length history) × (length history ≡ 2 ^ 64 - 1)

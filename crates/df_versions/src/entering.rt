@@ -4,7 +4,7 @@ ghost use Rattle.std.specs.Prelude.{◌≡◌, Some, IfErr, IsSomeAnd, OnErr, On
 ghost use Rattle.df_catalogue.specs.StagedChanges.{counted_desk, counts_staged};
 ghost use Rattle.df_catalogue.specs.Pictures.{next_state};
 ghost use Rattle.df_versions.specs.Answered.{AnswersNext, ChangesHistory, IsReady, IsUnready, Reports, told_states};
-ghost use Rattle.df_versions.specs.Histories.{IsHistory, MayFollow};
+ghost use Rattle.df_versions.specs.Histories.{IsHistoryOver, MayFollow};
 
 use crate::fault::{ChangeFault, PublishFault};
 use crate::history::Naming;
@@ -47,7 +47,7 @@ pub(crate) fn check_ready<J: Naming>(
         (told_states (option_map (λ t. t.now) told.entry))) }
     ensures unready { IfErr result (IsUnready publisher.now
         (told_states (option_map (λ t. t.now) told.entry))) }
-    ensures lawful { IsHistory publisher.now }
+    ensures over { IsHistoryOver J.schemas publisher.now }
 {
     let states = publisher.len();
     if states_told(told) > states {

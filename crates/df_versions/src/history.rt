@@ -49,15 +49,24 @@ impl Play<State, u64> for AddState {
     ghost then = { Adds };
 }
 
-/// Which history it is: contracts see its name alone. Each call of a program picks one, at `Brand`.
+/// Which history it is: contracts see its name, and the schemas of the frames of its states. Each call of a program picks
+/// one, at `Brand`.
 pub trait Naming {
+    ghost use Rattle.std.specs.Prelude.{ℕ, List};
+    ghost use Rattle.df_value.specs.declared.cell.CellType.{CellType};
     ghost use Rattle.logbook.specs.Pages.{Book};
 
     ghost book: { Book };
+
+    ghost schemas: { List (List (List ℕ × CellType)) };
 }
 
 impl Naming for Brand {
+    ghost use Rattle.std.specs.Prelude.{[]};
+
     ghost book = { record { number = 0; log_name = 0; cells_name = 0 } };
+
+    ghost schemas = { [] };
 }
 
 /// The word of a history, its length.

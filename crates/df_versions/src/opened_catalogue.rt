@@ -4,7 +4,7 @@ ghost use Rattle.df_catalogue.specs.Desks.{first_desks};
 ghost use Rattle.df_catalogue.specs.Ledgers as ledgers;
 ghost use Rattle.df_catalogue.specs.States.{opening_of};
 ghost use Rattle.df_catalogue.specs.declared.fault.NewFault.TheVariants as catalogue_fault;
-ghost use Rattle.df_versions.specs.Histories.{IsOpening};
+ghost use Rattle.df_versions.specs.Histories.{IsOpening, schemas_of};
 ghost use Rattle.df_versions.specs.Openings.{open_fault, opening_refused};
 ghost use Rattle.df_versions.specs.declared.fault.OpenFault.TheVariants as open_fault_of;
 
@@ -122,7 +122,8 @@ impl<Acc: Ledger, Del: Ledger> OpenedCatalogue<Acc, Del> {
         Vec<Desk<Acc, Del>>,
         Vec<Reader>,
     )
-        requires { self.0 ≡ J.book }
+        requires book { self.0 ≡ J.book }
+        requires schemas { schemas_of self.1.0 ≡ J.schemas }
         ensures catalogue { result.0 ≡ self.1.0 }
         ensures desks { result.1.items ≡ self.1.1 }
         ensures readers { All (λ r. r ≡ (J.book, (self.1.0, self.1.0))) result.2.items }

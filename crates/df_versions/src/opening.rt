@@ -2,7 +2,7 @@
 ghost use Rattle.std.specs.Prelude.{◌≡◌, ◌+◌, ◌<◌, ◌≤◌, ◌^◌, ◌∷◌, [], All, IfOk, None, OnOk, drop, length};
 ghost use Rattle.df_catalogue.specs.Pictures.{picture_of};
 ghost use Rattle.left_right.specs.Sides.{view};
-ghost use Rattle.df_versions.specs.Histories.{IsOpening};
+ghost use Rattle.df_versions.specs.Histories.{IsHistoryOver, IsOpening, schemas_of};
 ghost use Rattle.df_versions.specs.Newest.{newest};
 
 use crate::history::{Head, History, Naming, open};
@@ -25,12 +25,13 @@ pub struct OpenedVersions {
 }
 
 impl Model for OpenedVersions {
-    ghost use Rattle.std.specs.Prelude.{◌≡◌, ◌<◌, ◌∷◌, [], ℕ, List, All, length};
+    ghost use Rattle.std.specs.Prelude.{◌≡◌, ◌∷◌, [], ℕ, List, All, length};
     ghost use Rattle.std.specs.Coded.{codes};
     ghost use Rattle.logbook.specs.Pages.{Book, book_coded};
     ghost use Rattle.left_right.specs.Sides.{view as view_of};
     ghost use Rattle.df_catalogue.specs.declared.state.State.{State};
     ghost use Rattle.df_catalogue.specs.contracts.state.State as state_type;
+    ghost use Rattle.df_versions.specs.Histories.{IsHistoryOver, schemas_of};
     ghost use Rattle.df_versions.specs.HistoryRule.{head_of};
 
     ghost Value = { Book × List State × ℕ };
@@ -39,7 +40,8 @@ impl Model for OpenedVersions {
 
     ghost view = { λ o. (o.history.0, o.history.1, length o.readers.items) };
 
-    ghost invariant = { λ o. (o.head ≡ head_of o.history.0) × (0 < length o.history.1)
+    ghost invariant = { λ o. (o.head ≡ head_of o.history.0)
+        × IsHistoryOver (schemas_of o.history.1) o.history.1
         × (o.writer.desk.shown.value.history ≡ o.history)
         × ((view_of o.writer.desk.place).known ≡ o.history ∷ [])
         × All (λ r. r ≡ (o.history.0, (o.history.1, o.history.1))) o.readers.items };
@@ -128,8 +130,10 @@ impl OpenedVersions {
 
     /// The publisher and the readers, under a name of the history. It waits for nobody and takes no memory.
     pub fn named<J: Naming>(self) -> (Publisher<J>, Vec<Reader>)
-        requires { self.0 ≡ J.book }
+        requires book { self.0 ≡ J.book }
+        requires schemas { schemas_of self.1 ≡ J.schemas }
         ensures publisher { result.0 ≡ self.1 }
+        ensures over { IsHistoryOver J.schemas self.1 }
         ensures readers { All (λ r. r ≡ (J.book, (self.1, self.1))) result.1.items }
         ensures count { length result.1.items ≡ self.2 }
     {

@@ -2,7 +2,7 @@
 ghost use Rattle.std.specs.Prelude.{◌≡◌, ◌++◌, ◌∷◌, ◌-◌, ◌^◌, [], None, drop, IfErr, IfOk, IsErr, ◌<◌, length};
 ghost use Rattle.df_catalogue.specs.Pictures.{picture_of};
 ghost use Rattle.left_right.specs.Sides.{view};
-ghost use Rattle.df_versions.specs.Histories.{IsHistory, MayFollow};
+ghost use Rattle.df_versions.specs.Histories.{IsHistory, IsHistoryOver, MayFollow};
 ghost use Rattle.df_versions.specs.HistoryRule.{head_of};
 ghost use Rattle.df_versions.specs.Newest.{newest};
 ghost use Rattle.df_versions.specs.declared.fault.PublishFault.TheVariants as publish_fault;
@@ -64,10 +64,11 @@ pub struct Publisher<J: Naming> {
 }
 
 impl<J: Naming> Model for Publisher<J> {
-    ghost use Rattle.std.specs.Prelude.{◌≡◌, ◌<◌, List, length};
+    ghost use Rattle.std.specs.Prelude.{◌≡◌, List};
     ghost use Rattle.std.specs.Coded.{coded_list};
     ghost use Rattle.df_catalogue.specs.declared.state.State.{State};
     ghost use Rattle.df_catalogue.specs.contracts.state.State as state_type;
+    ghost use Rattle.df_versions.specs.Histories.{IsHistoryOver};
     ghost use Rattle.df_versions.specs.HistoryRule.{head_of};
 
     ghost Value = { List State };
@@ -78,14 +79,14 @@ impl<J: Naming> Model for Publisher<J> {
 
     // The history is that of this name, and the newest version that is published ends it.
     ghost invariant = { λ p. (p.history.0 ≡ J.book) × (p.head ≡ head_of J.book)
-        × (p.writer.desk.shown.value.history ≡ p.history) × (0 < length p.history.1) };
+        × (p.writer.desk.shown.value.history ≡ p.history) × IsHistoryOver J.schemas p.history.1 };
 }
 
 impl<J: Naming> Publisher<J> {
     pub(crate) fn over(head: Head, history: History, writer: VersionWriter) -> Publisher<J>
         requires book { history.0 ≡ J.book }
         requires head { head ≡ head_of history.0 }
-        requires some { 0 < length history.1 }
+        requires over { IsHistoryOver J.schemas history.1 }
         requires shown { writer.desk.shown.value.history ≡ history }
         ensures { result ≡ history.1 }
     {
@@ -111,7 +112,7 @@ impl<J: Naming> Publisher<J> {
     /// How many states the history has.
     pub fn len(&self) -> u64
         ensures length { result ≡ length self.now }
-        ensures lawful { IsHistory self.now }
+        ensures over { IsHistoryOver J.schemas self.now }
     {
         self.history.len()
     }
@@ -119,9 +120,8 @@ impl<J: Naming> Publisher<J> {
     /// The history so far.
     pub fn told(&self) -> Told<J>
         ensures told { result ≡ self.now }
-        ensures lawful { IsHistory self.now }
+        ensures over { IsHistoryOver J.schemas self.now }
     {
-        let _states = self.history.len();
         Told::of(self.history.again())
     }
 
@@ -151,7 +151,6 @@ impl<J: Naming> Publisher<J> {
         };
         let history = extended::<X, M, R>(rt, &self.history, &self.head, about);
         let told = history.again();
-        let _states = told.len();
         put(
             rt,
             &mut self.writer,

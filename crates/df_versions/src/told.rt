@@ -1,13 +1,13 @@
 //! What the caller of a change is told.
-ghost use Rattle.std.specs.Prelude.{◌≡◌, ◌+◌, ◌<◌, length};
+ghost use Rattle.std.specs.Prelude.{◌≡◌, ◌+◌, length};
 ghost use Rattle.std.specs.List.{AllByRecursion};
 ghost use Rattle.df_catalogue.specs.States.{IsLegal};
-ghost use Rattle.df_versions.specs.Histories.{IsHistory};
+ghost use Rattle.df_versions.specs.Histories.{IsHistoryOver};
 
 use crate::history::{History, Naming};
 use std::marker::{Model, PhantomData};
 
-/// The history up to a change, or up to the state that refused it. A reader that learns it sees no version from before.
+/// The history up to a change, up to the state that refused one, or up to that of a close that was refused. A reader that learns it sees no version from before.
 /// Contracts see the states.
 pub struct Told<J: Naming> {
     history: History,
@@ -24,10 +24,11 @@ impl<J: Naming> Drop for Told<J> {
 }
 
 impl<J: Naming> Model for Told<J> {
-    ghost use Rattle.std.specs.Prelude.{◌≡◌, ◌<◌, List, length};
+    ghost use Rattle.std.specs.Prelude.{◌≡◌, List};
     ghost use Rattle.std.specs.Coded.{coded_list};
     ghost use Rattle.df_catalogue.specs.declared.state.State.{State};
     ghost use Rattle.df_catalogue.specs.contracts.state.State as state_type;
+    ghost use Rattle.df_versions.specs.Histories.{IsHistoryOver};
 
     ghost Value = { List State };
 
@@ -35,13 +36,13 @@ impl<J: Naming> Model for Told<J> {
 
     ghost view = { λ t. t.history.1 };
 
-    ghost invariant = { λ t. (t.history.0 ≡ J.book) × (0 < length t.history.1) };
+    ghost invariant = { λ t. (t.history.0 ≡ J.book) × IsHistoryOver J.schemas t.history.1 };
 }
 
 impl<J: Naming> Told<J> {
     pub(crate) fn of(history: History) -> Told<J>
         requires book { history.0 ≡ J.book }
-        requires some { 0 < length history.1 }
+        requires over { IsHistoryOver J.schemas history.1 }
         ensures { result ≡ history.1 }
     {
         Told {
@@ -77,7 +78,7 @@ impl<J: Naming> Told<J> {
     /// The number of the version that its history ends with. All states of the history are legal.
     pub fn number(&self) -> u64
         ensures number { result + 1 ≡ length self.now }
-        ensures lawful { IsHistory self.now }
+        ensures over { IsHistoryOver J.schemas self.now }
         ensures legal { AllByRecursion IsLegal self.now }
     {
         self.history.len() - 1

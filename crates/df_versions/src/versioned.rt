@@ -3,7 +3,7 @@ ghost use Rattle.std.specs.Prelude.{◌≡◌, Some, OnErr, OnOk, length, option
 ghost use Rattle.df_catalogue.specs.Desks.{desk_after};
 ghost use Rattle.df_catalogue.specs.FrameChanges.{change_of};
 ghost use Rattle.df_catalogue.specs.ViewChanges.{change_of_views};
-ghost use Rattle.df_versions.specs.Histories.{IsHistory, last_state};
+ghost use Rattle.df_versions.specs.Histories.{IsHistoryOver, last_state};
 
 use crate::entering::{check_ready, enter_rows, enter_views, report};
 use crate::fault::ChangeFault;
@@ -27,7 +27,7 @@ impl<Acc: Ledger, Del: Ledger, J: Naming> Model for VersionedCatalogue<Acc, Del,
     ghost use Rattle.std.specs.Coded.{coded_list};
     ghost use Rattle.df_catalogue.specs.declared.state.State.{State};
     ghost use Rattle.df_catalogue.specs.contracts.state.State as state_type;
-    ghost use Rattle.df_versions.specs.Histories.{last_state};
+    ghost use Rattle.df_versions.specs.Histories.{IsHistoryOver, last_state};
 
     ghost Value = { List State };
 
@@ -36,12 +36,13 @@ impl<Acc: Ledger, Del: Ledger, J: Naming> Model for VersionedCatalogue<Acc, Del,
     ghost view = { λ v. v.publisher };
 
     // The history ends with the catalogue's state.
-    ghost invariant = { λ v. last_state v.publisher ≡ Some v.catalogue.state };
+    ghost invariant = { λ v. (last_state v.publisher ≡ Some v.catalogue.state)
+        × IsHistoryOver J.schemas v.publisher };
 }
 
 /// The calls that change the catalogue publish the version after the change, and answer the history up to it. Each takes
-/// last what the caller was told before, if anything: what it answers is longer, or says that this is newer than what is
-/// here.
+/// last what the caller was told before, if anything: at Ok it answers more states than that, at a refusal of the catalogue
+/// no fewer, and where there are fewer states here [`ChangeFault::Ahead`].
 impl<Acc: Ledger, Del: Ledger, J: Naming> VersionedCatalogue<Acc, Del, J> {
     ghost use Rattle.df_versions.specs.Answered.{AnswersChange, ChangesHistory, told_states};
 
@@ -50,7 +51,8 @@ impl<Acc: Ledger, Del: Ledger, J: Naming> VersionedCatalogue<Acc, Del, J> {
         catalogue: Catalogue<Acc, Del>,
         publisher: Publisher<J>,
     ) -> VersionedCatalogue<Acc, Del, J>
-        requires { last_state publisher ≡ Some catalogue.state }
+        requires last { last_state publisher ≡ Some catalogue.state }
+        requires over { IsHistoryOver J.schemas publisher }
         ensures { result ≡ publisher }
     {
         VersionedCatalogue {
@@ -62,7 +64,8 @@ impl<Acc: Ledger, Del: Ledger, J: Naming> VersionedCatalogue<Acc, Del, J> {
     /// What [`VersionedCatalogue::over`] was given.
     pub fn into_parts(self) -> (Catalogue<Acc, Del>, Publisher<J>)
         ensures publisher { result.1 ≡ self }
-        ensures state { last_state result.1 ≡ Some result.0.state }
+        ensures state { last_state self ≡ Some result.0.state }
+        ensures over { IsHistoryOver J.schemas self }
     {
         let VersionedCatalogue {
             catalogue,
@@ -74,14 +77,15 @@ impl<Acc: Ledger, Del: Ledger, J: Naming> VersionedCatalogue<Acc, Del, J> {
     /// How many states its history has.
     pub fn len(&self) -> u64
         ensures length { result ≡ length self.now }
-        ensures lawful { IsHistory self.now }
+        ensures over { IsHistoryOver J.schemas self.now }
     {
         self.publisher.len()
     }
 
     /// Waits until no reader is inside a step, and gives the catalogue back. Readers get no version from then on.
     pub fn end<R: Wait>(self, rt: &R) -> Catalogue<Acc, Del>
-        ensures { last_state self ≡ Some result.state }
+        ensures state { last_state self ≡ Some result.state }
+        ensures over { IsHistoryOver J.schemas self }
     {
         let VersionedCatalogue {
             catalogue,
@@ -107,7 +111,7 @@ impl<Acc: Ledger, Del: Ledger, J: Naming> VersionedCatalogue<Acc, Del, J> {
         ensures desk { OnOk result (desk.new ≡
             desk_after desk.old (change_of desk.old.frame change.entry)) }
         ensures same_desk { OnErr result (desk.new ≡ desk.old) }
-        ensures lawful { IsHistory self.old }
+        ensures over { IsHistoryOver J.schemas self.old }
     {
         check_ready(&self.publisher, told)?;
         match self.catalogue.stage_frame_change(alloc, desk, change) {
@@ -135,7 +139,7 @@ impl<Acc: Ledger, Del: Ledger, J: Naming> VersionedCatalogue<Acc, Del, J> {
         ensures answer { AnswersChange self.old (told_states (option_map (λ t. t.now) told.entry))
             (change_of_views change.entry) result }
         ensures history { ChangesHistory self.old result self.new }
-        ensures lawful { IsHistory self.old }
+        ensures over { IsHistoryOver J.schemas self.old }
     {
         check_ready(&self.publisher, told)?;
         match self.catalogue.stage_view_change(alloc, change) {

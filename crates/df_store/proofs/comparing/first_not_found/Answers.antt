@@ -7,5 +7,5 @@ pub loop-frame-preserved : goal.loop-frame-preserved
 loop-frame-preserved c = λ frame h.
     elim (place-cases frame c.loop-frame.frame (omega (arith, h))) [
       | inl low ↦ c.loop-frame.invariant frame low
-      | inr e ↦ subst (λ f. HasAll c.args.picture.now f c.args.all.now (get_or c.args.counts.now f 0)) (sym e) (c.has_all.ensures c.if-not-has_all.false)
+      | inr e ↦ subst (λ f. HasAll c.args.picture.now f c.args.all.now (get_or c.args.counts.now f 0)) (sym e) (c.has_all.ensures.0 c.if-not-has_all.false)
     ]

@@ -1,11 +1,27 @@
-use Rattle.std.proofs.Common.{◌∙◌, subst}
-use Rattle.df_catalogue.specs.Pictures.{AreRowsIn}
-use Rattle.df_store.proofs.RowFacts.{chunk-stands}
+use Rattle.std.proofs.Common.{◌≡◌, ◌∙◌, ap, length, subst, sym}
+use Rattle.df_catalogue.specs.Pictures.{AreRowsIn, ReachesIn}
+use Rattle.df_store.proofs.RowFacts.{chunk-found, chunk-stands, length-enumerate}
 use Rattle.df_store.proofs.comparing.has_typed.Goals as goal
 
 pub returns : goal.returns
-returns c = λ h.
+returns c =
     let p = c.args.picture.now in
-    let first = subst (λ n. AreRowsIn p c.args.frame c.args.place n c.as_slice.result.now) c.first.ensures ((c.are_rows.ensures.0 h).1) in
-    chunk-stands p c.args.frame c.args.place c.args.chunk.now
-    (subst (AreRowsIn p c.args.frame c.args.place c.args.chunk.now.first) (c.as_slice.ensures ∙ c.rows.ensures.value) first)
+    let frame = c.args.frame in
+    let place = c.args.place in
+    let chunk = c.args.chunk.now in
+    let rows : c.as_slice.result.now ≡ chunk.rows = c.as_slice.ensures ∙ c.rows.ensures.value in
+    let many = length-enumerate chunk.first chunk.rows in (
+      λ h.
+          let there = c.are_rows.ensures.0 h in
+          record {
+            reach = subst (ReachesIn p frame place) (ap length rows ∙ sym many) there.0;
+            has =
+                chunk-stands p frame place chunk
+                (subst (AreRowsIn p frame place chunk.first) rows (subst (λ n. AreRowsIn p frame place n c.as_slice.result.now) c.first.ensures there.1));
+          },
+      λ stand. c.are_rows.ensures.1 (
+        subst (ReachesIn p frame place) (sym (ap length rows ∙ sym many)) stand.reach,
+        subst (λ n. AreRowsIn p frame place n c.as_slice.result.now) (sym c.first.ensures)
+            (subst (AreRowsIn p frame place chunk.first) (sym rows) (chunk-found p frame place chunk stand.has)),
+      ),
+    )

@@ -1,18 +1,24 @@
 use Rattle.std.proofs.Common.{◌∙◌, ap}
 use Rattle.df_catalogue.specs.Desks.{parts_of}
-use Rattle.df_store.specs.Closing.{deleted_at}
-use Rattle.df_store.specs.Workers.{desks_of}
-use Rattle.df_store.proofs.CountFacts.{deleted-in-all, parts-in-all}
+use Rattle.df_store.specs.Jobs.{chunks_of}
+use Rattle.df_store.specs.Workers.{desks_of, outcomes_in}
+use Rattle.df_store.proofs.CountFacts.{all-done, nothing-done, parts-in-all}
+use Rattle.df_store.proofs.WorkerFacts.{all-outcomes}
 use Rattle.df_store.proofs.pool.do_jobs.Goals as goal
+
+pub returns-in-Err-clause-done : goal.returns-in-Err-clause-done
+returns-in-Err-clause-done g c =
+    nothing-done (λ os. os.items) (chunks_of g.S.Source.made g.S.Source.start_of c.args.work.now.sources.now) c.args.desks.items c.in-Err.desks.items _ c.in-Err.ensures.back
 
 pub returns-clause-parts : goal.returns-clause-parts
 returns-clause-parts g c =
     ap parts_of c.end.ensures.desks
     ∙ parts-in-all c.args.desks.items (desks_of c.in-Ok.pool.workers.items) (desks_of c.run_pool.new.pool.workers.items) c.in-Ok.ensures.sums c.run_pool.ensures.desks
 
-pub returns-clause-deleted : goal.returns-clause-deleted
-returns-clause-deleted g c = λ frame.
-    let split = desks_of c.in-Ok.pool.workers.items in
-    let after = desks_of c.run_pool.new.pool.workers.items in
-    ap (deleted_at frame) c.end.ensures.desks
-    ∙ deleted-in-all c.args.desks.items split after c.in-Ok.ensures.sums c.run_pool.ensures.desks frame
+pub returns-clause-done : goal.returns-clause-done
+returns-clause-done g c =
+    let chunks = chunks_of g.S.Source.made g.S.Source.start_of c.args.work.now.sources.now in
+    let workers = c.run_pool.new.pool.workers.items in
+    all-done (λ os. os.items) chunks c.args.desks.items (desks_of c.in-Ok.pool.workers.items) (desks_of workers) c.end.result.0.items (outcomes_in c.in-Ok.pool.workers.items)
+    (outcomes_in workers) c.end.result.1 c.in-Ok.ensures.sums c.in-Ok.ensures.nothing_done c.run_pool.ensures.desks c.run_pool.ensures.counted c.end.ensures.desks
+    (all-outcomes c.args.work.now.claims.now c.args.work.now.desks chunks workers c.run_pool.ensures.pool.workers) c.end.ensures.outcomes

@@ -1,12 +1,11 @@
-use Rattle.std.proofs.Common.{◌∙◌, List, ap, length, map, subst, sym, arith}
+use Rattle.std.proofs.Common.{◌∙◌, List, ap, length, map, arith}
 use Rattle.std.proofs.lemmas.Result.{IfOk-weaker}
 use Rattle.std.specs.Prelude.{Option}
 use Rattle.df_store.specs.declared.fault.Stop.{Stop}
 use Rattle.df_store.specs.declared.worker.Worker.{Worker}
-use Rattle.df_store.specs.Jobs.{AreOutcomes, chunks_of}
-use Rattle.df_store.specs.Workers.{desks_of, outcomes_in}
+use Rattle.df_store.specs.Workers.{desks_of}
 use Rattle.df_store.proofs.ListFacts.{put-back}
-use Rattle.df_store.proofs.WorkerFacts.{all-outcomes, all-running, few-desks}
+use Rattle.df_store.proofs.WorkerFacts.{all-running, few-desks}
 use Rattle.df_store.proofs.pool.WorkerPool.end.Goals as goal
 
 pub take_desks-requires : goal.take_desks-requires
@@ -16,17 +15,6 @@ take_desks-requires g c =
     let none = ap length c.requires.gathered in
     let room = c.requires.room in
     omega (arith, few, all, none, room)
-
-pub returns-clause-sound : goal.returns-clause-sound
-returns-clause-sound g c =
-    let chunks = chunks_of g.S.Source.made g.S.Source.start_of c.args.work.now.sources.now in
-    let lent = ap length c.as_mut_slice.ensures.value in
-    let n = c.as_mut_slice.ensures.len in
-    let same = c.take_desks.ensures.count in
-    let back = put-back c.args.self.workers.len c.take_desks.new.workers c.args.self.workers.items (omega (arith, same, n)) (omega (arith, lent, n)) in
-    let all = ap outcomes_in back ∙ (c.take_desks.ensures.outcomes ∙ ap outcomes_in c.as_mut_slice.ensures.value) in
-    IfOk-weaker c.outcomes_of.result _ _ (λ os e. subst (λ made. AreOutcomes chunks made) (sym (e ∙ all)) (all-outcomes c.args.work.now.claims.now c.args.work.now.desks chunks c.args.self.workers.items c.requires.workers))
-    c.outcomes_of.ensures.outcomes
 
 pub returns-clause-running : goal.returns-clause-running
 returns-clause-running g c =

@@ -3,15 +3,15 @@ use Rattle.std.proofs.lemmas.Result.{on_ok_weaker}
 use Rattle.df_catalogue.specs.FrameChanges.{change_of}
 use Rattle.df_catalogue.specs.Pictures.{next_state}
 use Rattle.df_catalogue.proofs.StagedFacts.{staged-frame, whole-desk}
-use Rattle.df_versions.specs.Histories.{IsHistory}
-use Rattle.df_versions.proofs.Answered.{entered-ends, reported-answers, staged-answers}
+use Rattle.df_versions.specs.Histories.{IsHistoryOver}
+use Rattle.df_versions.proofs.Answered.{entered-ends, entered-over, reported-answers, staged-answers}
 use Rattle.df_versions.proofs.Staged.{staged-follows}
 use Rattle.df_versions.proofs.versioned.VersionedCatalogue.change_rows.Goals as goal
 
 pub enter_rows-requires-clause-next : goal.enter_rows-requires-clause-next
 enter_rows-requires-clause-next g c =
     let s = c.in-Ok.ensures.staged in
-    staged-follows c.self.inside.publisher c.self.inside.catalogue c.stage_frame_change.new.self (change_of c.args.desk.now.frame c.args.change) c.self.invariant s.sound s.accepted s.staged
+    staged-follows c.self.inside.publisher c.self.inside.catalogue c.stage_frame_change.new.self (change_of c.args.desk.now.frame c.args.change) c.self.invariant.0 s.sound s.accepted s.staged
 
 pub enter_rows-requires-clause-frame : goal.enter_rows-requires-clause-frame
 enter_rows-requires-clause-frame g c =
@@ -19,14 +19,16 @@ enter_rows-requires-clause-frame g c =
 
 pub invariant_of-self : goal.invariant_of-self
 invariant_of-self g c =
-    let e = c.enter_rows.ensures in
-    entered-ends c.self.inside.publisher c.enter_rows.new.publisher c.self.inside.catalogue.state c.stage_frame_change.new.self.state c.enter_rows.new.catalogue.state (next_state c.stage_frame_change.new.self) c.enter_rows.result
-    c.self.invariant c.in-Ok.ensures.staged.state e.answer e.history e.committed e.same
+    let e = c.enter_rows.ensures in (
+      entered-ends c.self.inside.publisher c.enter_rows.new.publisher c.self.inside.catalogue.state c.stage_frame_change.new.self.state c.enter_rows.new.catalogue.state (next_state c.stage_frame_change.new.self) c.enter_rows.result
+          c.self.invariant.0 c.in-Ok.ensures.staged.state e.answer e.history e.committed e.same,
+      entered-over g.J.Naming.schemas c.self.inside.publisher c.enter_rows.new.publisher (next_state c.stage_frame_change.new.self) c.enter_rows.result c.self.invariant.1 e.answer e.history,
+    )
 
 pub returns-in-Ok-clause-answer : goal.returns-in-Ok-clause-answer
 returns-in-Ok-clause-answer g c =
     let s = c.in-Ok.ensures.staged in
-    staged-answers c.self.inside.publisher c.args.self.now c.self.inside.catalogue c.stage_frame_change.new.self (change_of c.args.desk.now.frame c.args.change) _ c.enter_rows.result c.self.view_is c.self.invariant s.accepted s.staged c.in_ok-check_ready.ensures.ready c.enter_rows.ensures.answer
+    staged-answers c.self.inside.publisher c.args.self.now c.self.inside.catalogue c.stage_frame_change.new.self (change_of c.args.desk.now.frame c.args.change) _ c.enter_rows.result c.self.view_is c.self.invariant.0 s.accepted s.staged c.in_ok-check_ready.ensures.ready c.enter_rows.ensures.answer
 
 pub returns-in-Ok-clause-desk : goal.returns-in-Ok-clause-desk
 returns-in-Ok-clause-desk g c =
@@ -35,12 +37,12 @@ returns-in-Ok-clause-desk g c =
     (whole-desk {U = Unit {0}} _ tt c.self.inside.catalogue c.stage_frame_change.new.self c.args.desk.now.frame c.args.change c.args.desk.now c.enter_rows.new.desk c.in-Ok.ensures.staged counted).counted)
     c.enter_rows.ensures.desk
 
-pub returns-in-Ok-clause-lawful : goal.returns-in-Ok-clause-lawful
-returns-in-Ok-clause-lawful g c = subst IsHistory c.self.view_is c.check_ready.ensures.lawful
+pub returns-in-Ok-clause-over : goal.returns-in-Ok-clause-over
+returns-in-Ok-clause-over g c = subst (IsHistoryOver g.J.Naming.schemas) c.self.view_is c.self.invariant.1
 
 pub returns-in-Err-clause-answer : goal.returns-in-Err-clause-answer
 returns-in-Err-clause-answer g c =
-    reported-answers c.self.inside.publisher c.args.self.now c.self.inside.catalogue.state (change_of c.args.desk.now.frame c.args.change) _ c.in-Err.fault c.report.result c.self.view_is c.self.invariant c.in-Err.ensures.staged.refused c.in_ok-check_ready.ensures.ready c.report.ensures
+    reported-answers c.self.inside.publisher c.args.self.now c.self.inside.catalogue.state (change_of c.args.desk.now.frame c.args.change) _ c.in-Err.fault c.report.result c.self.view_is c.self.invariant.0 c.in-Err.ensures.staged.refused c.in_ok-check_ready.ensures.ready c.report.ensures
 
-pub returns-in-Err-clause-lawful : goal.returns-in-Err-clause-lawful
-returns-in-Err-clause-lawful g c = subst IsHistory c.self.view_is c.check_ready.ensures.lawful
+pub returns-in-Err-clause-over : goal.returns-in-Err-clause-over
+returns-in-Err-clause-over g c = subst (IsHistoryOver g.J.Naming.schemas) c.self.view_is c.self.invariant.1

@@ -3,7 +3,7 @@ use Rattle.std.specs.Prelude.{vec_capacity}
 use Rattle.df_value.specs.declared.chunk.Piece.{Piece}
 use Rattle.df_store.specs.Jobs.{AreOutcomes}
 use Rattle.df_store.specs.Workers.{AreCounted, all_without_accepted}
-use Rattle.df_store.proofs.worker.enter_each.Given as goal
+use Rattle.df_store.proofs.entering.enter_each.Given as goal
 
 abbrev pub invariant-loop-outcome : goal.invariant-loop-outcome
 invariant-loop-outcome g l = record {

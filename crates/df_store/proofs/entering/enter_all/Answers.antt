@@ -3,7 +3,7 @@ use Rattle.std.specs.Prelude.{IfSome, if◌then◌else◌}
 use Rattle.df_store.specs.Joined.{IsJoined}
 use Rattle.df_store.specs.Workers.{HaveAccepted}
 use Rattle.df_store.proofs.JoinedFacts.{joined-counted}
-use Rattle.df_store.proofs.worker.enter_all.Goals as goal
+use Rattle.df_store.proofs.entering.enter_all.Goals as goal
 
 pub returns-then-branch-clause-counted : goal.returns-then-branch-clause-counted
 returns-then-branch-clause-counted g c =

@@ -6,7 +6,7 @@ use Rattle.df_store.specs.Halls.{having_accepted}
 use Rattle.df_store.specs.Workers.{chunk_of, without_accepted}
 use Rattle.df_store.proofs.CountFacts.{one-committed}
 use Rattle.df_store.proofs.WorkerFacts.{keys-set}
-use Rattle.df_store.proofs.worker.enter_chunk.Goals as goal
+use Rattle.df_store.proofs.entering.enter_chunk.Goals as goal
 
 -- a chunk brings as many rows into a desk's share of those that were accepted, and none into that of the deleted ones
 appended : (d : DeskParts) (frame : ℕ) (chunk : ChunkParts) → desk_after d (Append frame chunk) ≡ having_accepted (length chunk.rows) d

@@ -1,0 +1,220 @@
+-- What a load that was refused leaves.
+use Rattle.std.proofs.Common.{◌≡◌, ℕ, ◌+◌, ◌<◌, ◌==◌, ◌&&◌, ◌∙◌, Bool, List, [], ◌∷◌, length, refl, ap, sym, subst, arith, inl, inr}
+use Rattle.std.proofs.lemmas.List.Elements.{All-nil}
+use Rattle.std.specs.Prelude.{IfErr, IfNone, IfOk, IfSome, IsErrAnd, MatchOption, Option, Result, Err, None, Ok, Some, if◌then◌else◌}
+use Rattle.core.specs.Result.{result_ok}
+use Rattle.df_value.specs.declared.cell.CellType.{CellType}
+use Rattle.df_value.specs.declared.chunk.Piece.{Piece}
+use Rattle.df_plan.specs.CheckedParts.{CheckedParts}
+use Rattle.df_catalogue.specs.declared.state.FrameState.{FrameState}
+use Rattle.df_catalogue.specs.declared.state.State.{State}
+use Rattle.df_catalogue.specs.Desks.{AgreeWithBooks, DeskParts, parts_of}
+use Rattle.df_catalogue.specs.States.{IsLegal}
+use Rattle.df_versions.specs.Histories.{IsLastState, last_state}
+use Rattle.df_store.specs.declared.fault.LoadCause.{LoadCause}
+use Rattle.df_store.specs.declared.fault.Stop.{Stop}
+use Rattle.df_store.specs.declared.jobs.Outcome.{Outcome}
+use Rattle.df_store.specs.Closing.{IsSettledState, IsUnsettledState, accepted_at, deleted_at, is_settled, missing_frame, missing_from}
+use Rattle.df_store.specs.Faults.{IsCauseAtStart}
+use Rattle.df_store.specs.Jobs.{AreOutcomes, IsOutcome, jobs_of}
+use Rattle.df_store.specs.Loads.{IsCauseAtEnd, IsCauseLeft, IsCauseNotLeft, IsCauseUnsettled, IsDifference, IsLeft, IsNotLeft, is_accounted, unaccounted_frame, unaccounted_from}
+use Rattle.df_store.specs.Workers.{HaveDone, entered_at}
+
+-- where the desks that come back have the rows of outcomes beside those of the desks that were given, the least frame where
+-- their shares are not the books is the least one that is not accounted for
+accounted-same :
+    (desks back : List DeskParts) (os : List Outcome) → ((frame : ℕ) → accepted_at frame back ≡ accepted_at frame desks + entered_at frame os) →
+    ((frame : ℕ) → deleted_at frame back ≡ deleted_at frame desks) → (n : ℕ) (frames : List FrameState) →
+    missing_from back n frames ≡ unaccounted_from desks os n frames
+accounted-same desks back os accepted deleted n [] = refl
+accounted-same desks back os accepted deleted n (f ∷ fs) =
+    let here : is_settled back n f ≡ is_accounted desks os n f =
+    ap (λ a. (a == length f.accepted) && (deleted_at n back == length f.deleted)) (accepted n)
+    ∙ ap (λ d. (accepted_at n desks + entered_at n os == length f.accepted) && (d == length f.deleted)) (deleted n) in
+    ap (λ b. if b then missing_from back (n + 1) fs else Some n) here
+    ∙ ap (λ m. if is_accounted desks os n f then m else Some n) (accounted-same desks back os accepted deleted (n + 1) fs)
+
+module _ (schemas : List (List (List ℕ × CellType))) (chunks : List (List (ℕ × Piece))) (views : List (List ℕ × CheckedParts)) (desks : List DeskParts) where
+  left-of :
+      (back : List DeskParts) (os : List Outcome) (cause : LoadCause) (s : State) → AreOutcomes chunks os →
+      ((frame : ℕ) → accepted_at frame back ≡ accepted_at frame desks + entered_at frame os) → ((frame : ℕ) → deleted_at frame back ≡ deleted_at frame desks) →
+      IsSettledState schemas back s → IsCauseLeft (jobs_of chunks) views os s cause → IsLeft schemas chunks views desks cause s
+  left-of back os cause s made accepted deleted settled is = record {
+    last = settled.last;
+    legal = settled.legal;
+    outcomes = os;
+    made = made;
+    accounted = sym (accounted-same desks back os accepted deleted 0 s.frames) ∙ settled.settled;
+    why = is;
+  }
+
+  not-left-of :
+      (back : List DeskParts) (os : List Outcome) (cause : LoadCause) (s : State) (frame : ℕ) → AreOutcomes chunks os → parts_of back ≡ parts_of desks →
+      ((frame : ℕ) → accepted_at frame back ≡ accepted_at frame desks + entered_at frame os) → ((frame : ℕ) → deleted_at frame back ≡ deleted_at frame desks) →
+      IsUnsettledState schemas back s frame → IsCauseNotLeft views os s frame cause → IsNotLeft schemas chunks views desks cause
+  not-left-of back os cause s frame made parts accepted deleted unsettled is = record {
+    outcomes = os;
+    made = made;
+    gathered = back;
+    parts = parts;
+    accepted = accepted;
+    deleted = deleted;
+    state = s;
+    frame = frame;
+    unsettled = unsettled;
+    why = is;
+  }
+
+  no-outcomes : AreOutcomes chunks []
+  no-outcomes = All-nil (IsOutcome chunks)
+
+  nothing-entered : (frame : ℕ) → accepted_at frame desks ≡ accepted_at frame desks + entered_at frame []
+  nothing-entered frame = let none : entered_at frame [] ≡ 0 = refl in omega (arith, none)
+
+  -- a load that was given up before its first job
+  pub given-up :
+      {L : Type 0} (state_of : L → State) (history : List State) (cause : LoadCause) (left : Option L) →
+      ((s : State) → last_state history ≡ Some s → IsCauseAtStart s views cause) →
+      IfSome left (λ l. (last_state history ≡ Some (state_of l)) × IsSettledState schemas desks (state_of l)) →
+      IfNone left ((s : State) × (frame : ℕ) × (last_state history ≡ Some s) × IsUnsettledState schemas desks s frame) →
+      MatchOption left (IsNotLeft schemas chunks views desks cause) (λ l. IsLeft schemas chunks views desks cause (state_of l))
+  given-up state_of history cause (Some l) is settled unsettled =
+      left-of desks [] cause (state_of l) no-outcomes nothing-entered (λ frame. refl) settled.1 (inl (refl, is (state_of l) settled.0))
+  given-up state_of history cause None is settled unsettled =
+      not-left-of desks [] cause unsettled.0 unsettled.1 no-outcomes refl nothing-entered (λ frame. refl) unsettled.3 (inl (refl, is unsettled.0 unsettled.2))
+
+  cause-left :
+      {V : Type 0} (items : V → List Outcome) (s : State) (entered : Result V Stop) (cause : LoadCause) (os : List Outcome) →
+      IfOk entered (λ v. items v ≡ os) → IsCauseAtEnd items (jobs_of chunks) views s entered cause → IsCauseLeft (jobs_of chunks) views os s cause
+  cause-left items s (Ok v) cause os is h = inr (inr (subst (λ (o : List Outcome). IsDifference (jobs_of chunks) o views s cause) is h))
+  cause-left items s (Err stop) cause os is h = inr (inl (stop, h))
+
+  -- what a load that came to its end left
+  ended :
+      {L V : Type 0} (state_of : L → State) (items : V → List Outcome) (back : List DeskParts) (entered : Result V Stop) (cause : LoadCause)
+      (left : Option L) → parts_of back ≡ parts_of desks → HaveDone items chunks desks back entered →
+      IfSome left (λ l. IsSettledState schemas back (state_of l)) → IfSome left (λ l. IsCauseAtEnd items (jobs_of chunks) views (state_of l) entered cause) →
+      IfNone left ((s : State) × (frame : ℕ) × IsUnsettledState schemas back s frame × IsCauseUnsettled frame cause) →
+      MatchOption left (IsNotLeft schemas chunks views desks cause) (λ l. IsLeft schemas chunks views desks cause (state_of l))
+  ended state_of items back entered cause (Some l) parts done settled is unsettled =
+      left-of back done.outcomes cause (state_of l) done.made done.accepted done.deleted settled
+      (cause-left items (state_of l) entered cause done.outcomes done.all is)
+  ended state_of items back entered cause None parts done settled is unsettled =
+      not-left-of back done.outcomes cause unsettled.0 unsettled.1 done.made parts done.accepted done.deleted unsettled.2 (inr unsettled.3)
+
+  -- the same of its answer
+  pub ended-so :
+      {A F L V : Type 0} (state_of : L → State) (items : V → List Outcome) (cause_of : F → LoadCause) (left_of : F → Option L) (back : List DeskParts)
+      (entered : Result V Stop) (result : Result A F) → parts_of back ≡ parts_of desks → HaveDone items chunks desks back entered →
+      IfErr result (λ f. IfSome (left_of f) (λ l. IsSettledState schemas back (state_of l))) →
+      IfErr result (λ f. IfSome (left_of f) (λ l. IsCauseAtEnd items (jobs_of chunks) views (state_of l) entered (cause_of f))) →
+      IfErr result (λ f. IfNone (left_of f) ((s : State) × (frame : ℕ) × IsUnsettledState schemas back s frame × IsCauseUnsettled frame (cause_of f))) →
+      IfErr result (λ f. MatchOption (left_of f) (IsNotLeft schemas chunks views desks (cause_of f)) (λ l. IsLeft schemas chunks views desks (cause_of f) (state_of l)))
+  ended-so state_of items cause_of left_of back entered (Ok a) parts done settled is unsettled = tt
+  ended-so state_of items cause_of left_of back entered (Err f) parts done settled is unsettled =
+      ended state_of items back entered (cause_of f) (left_of f) parts done settled is unsettled
+
+settled-one :
+    {C : Type 0} (state_of : C → State) (schemas : List (List (List ℕ × CellType))) (desks : List DeskParts) (catalogue c : C) → c ≡ catalogue →
+    missing_frame desks (state_of catalogue) ≡ None → IsLegal (state_of catalogue) → IsLastState schemas (state_of catalogue) → IsSettledState schemas desks (state_of c)
+settled-one state_of schemas desks catalogue c same none legal last =
+    subst (λ x. IsSettledState schemas desks (state_of x)) (sym same) (record { last = last; legal = legal; settled = none })
+
+-- a hall that was given up with the state of this catalogue, where the desks were settled
+pub given-left :
+    {C T U : Type 0} (state_of : C → State) (schemas : List (List (List ℕ × CellType))) (desks : List DeskParts) (history : List State) (catalogue : C)
+    (r : Result (C × T) U) (left : Option (C × T)) → left ≡ result_ok r → last_state history ≡ Some (state_of catalogue) →
+    IfOk r (λ _. missing_frame desks (state_of catalogue) ≡ None) → IfOk r (λ x. x.0 ≡ catalogue) → IsLegal (state_of catalogue) →
+    IsLastState schemas (state_of catalogue) → IfSome left (λ l. (last_state history ≡ Some (state_of l.0)) × IsSettledState schemas desks (state_of l.0))
+given-left state_of schemas desks history catalogue (Ok l) left is ends none same legal last =
+    subst (λ o. IfSome o (λ l. (last_state history ≡ Some (state_of l.0)) × IsSettledState schemas desks (state_of l.0))) (sym is)
+    (ends ∙ ap (λ c. Some (state_of c)) (sym same), settled-one state_of schemas desks catalogue l.0 same none legal last)
+given-left state_of schemas desks history catalogue (Err u) left is ends none same legal last =
+    subst (λ o. IfSome o (λ l. (last_state history ≡ Some (state_of l.0)) × IsSettledState schemas desks (state_of l.0))) (sym is) tt
+
+-- and where they were not
+pub given-not-left :
+    {C T U : Type 0} (state_of : C → State) (frame_of : U → ℕ) (schemas : List (List (List ℕ × CellType))) (desks : List DeskParts) (history : List State)
+    (catalogue : C) (r : Result (C × T) U) (left : Option (C × T)) → left ≡ result_ok r → last_state history ≡ Some (state_of catalogue) →
+    IfErr r (λ u. missing_frame desks (state_of catalogue) ≡ Some (frame_of u)) → AgreeWithBooks desks (state_of catalogue) → IsLegal (state_of catalogue) →
+    IsLastState schemas (state_of catalogue) →
+    IfNone left ((s : State) × (frame : ℕ) × (last_state history ≡ Some s) × IsUnsettledState schemas desks s frame)
+given-not-left state_of frame_of schemas desks history catalogue (Ok l) left is ends missing books legal last =
+    subst (λ o. IfNone o ((s : State) × (frame : ℕ) × (last_state history ≡ Some s) × IsUnsettledState schemas desks s frame)) (sym is) tt
+given-not-left state_of frame_of schemas desks history catalogue (Err u) left is ends missing books legal last =
+    subst (λ o. IfNone o ((s : State) × (frame : ℕ) × (last_state history ≡ Some s) × IsUnsettledState schemas desks s frame)) (sym is)
+    (state_of catalogue, frame_of u, ends, record { last = last; legal = legal; missing = missing; books = books })
+
+-- the same of a load that came to its end
+settled-left :
+    {C T U : Type 0} (state_of : C → State) (schemas : List (List (List ℕ × CellType))) (desks : List DeskParts) (catalogue : C) (r : Result (C × T) U) (left : Option (C × T)) →
+    IfSome left (λ l. r ≡ Ok l) → IfOk r (λ _. missing_frame desks (state_of catalogue) ≡ None) → IfOk r (λ x. x.0 ≡ catalogue) → IsLegal (state_of catalogue) →
+    IsLastState schemas (state_of catalogue) → IfSome left (λ l. IsSettledState schemas desks (state_of l.0))
+settled-left state_of schemas desks catalogue r (Some l) is none same legal last =
+    settled-one state_of schemas desks catalogue l.0 (subst (λ x. IfOk x (λ y. y.0 ≡ catalogue)) is same)
+    (subst (λ x. IfOk x (λ _. missing_frame desks (state_of catalogue) ≡ None)) is none) legal last
+settled-left state_of schemas desks catalogue r None is none same legal last = tt
+
+pub settled-answer :
+    {A F C T U : Type 0} (state_of : C → State) (left_of : F → Option (C × T)) (schemas : List (List (List ℕ × CellType))) (desks : List DeskParts) (catalogue : C)
+    (r : Result (C × T) U) (result : Result A F) → IfErr result (λ f. IfSome (left_of f) (λ l. r ≡ Ok l)) →
+    IfOk r (λ _. missing_frame desks (state_of catalogue) ≡ None) → IfOk r (λ x. x.0 ≡ catalogue) → IsLegal (state_of catalogue) →
+    IsLastState schemas (state_of catalogue) → IfErr result (λ f. IfSome (left_of f) (λ l. IsSettledState schemas desks (state_of l.0)))
+settled-answer state_of left_of schemas desks catalogue r (Ok a) is none same legal last = tt
+settled-answer state_of left_of schemas desks catalogue r (Err f) is none same legal last =
+    settled-left state_of schemas desks catalogue r (left_of f) is none same legal last
+
+unsettled-left :
+    {C T U : Type 0} (state_of : C → State) (frame_of : U → ℕ) (schemas : List (List (List ℕ × CellType))) (desks : List DeskParts) (catalogue : C)
+    (r : Result (C × T) U) (left : Option (C × T)) (P : ℕ → Type 0) →
+    IfNone left (IsErrAnd r (λ u. P (frame_of u))) → IfErr r (λ u. missing_frame desks (state_of catalogue) ≡ Some (frame_of u)) →
+    AgreeWithBooks desks (state_of catalogue) → IsLegal (state_of catalogue) → IsLastState schemas (state_of catalogue) →
+    IfNone left ((s : State) × (frame : ℕ) × IsUnsettledState schemas desks s frame × P frame)
+unsettled-left state_of frame_of schemas desks catalogue r (Some l) P is missing books legal last = tt
+unsettled-left state_of frame_of schemas desks catalogue (Ok x) None P is missing books legal last = absurd is
+unsettled-left state_of frame_of schemas desks catalogue (Err u) None P is missing books legal last =
+    (state_of catalogue, frame_of u, record { last = last; legal = legal; missing = missing; books = books }, is)
+
+pub unsettled-answer :
+    {A F C T U : Type 0} (state_of : C → State) (frame_of : U → ℕ) (left_of : F → Option (C × T)) (cause_of : F → LoadCause)
+    (schemas : List (List (List ℕ × CellType))) (desks : List DeskParts) (catalogue : C) (r : Result (C × T) U) (result : Result A F) →
+    IfErr result (λ f. IfNone (left_of f) (IsErrAnd r (λ u. IsCauseUnsettled (frame_of u) (cause_of f)))) →
+    IfErr r (λ u. missing_frame desks (state_of catalogue) ≡ Some (frame_of u)) → AgreeWithBooks desks (state_of catalogue) → IsLegal (state_of catalogue) →
+    IsLastState schemas (state_of catalogue) →
+    IfErr result (λ f. IfNone (left_of f) ((s : State) × (frame : ℕ) × IsUnsettledState schemas desks s frame × IsCauseUnsettled frame (cause_of f)))
+unsettled-answer state_of frame_of left_of cause_of schemas desks catalogue r (Ok a) is missing books legal last = tt
+unsettled-answer state_of frame_of left_of cause_of schemas desks catalogue r (Err f) is missing books legal last =
+    unsettled-left state_of frame_of schemas desks catalogue r (left_of f) (λ frame. IsCauseUnsettled frame (cause_of f)) is missing books legal last
+
+-- the cause of a load that left something is what was found in it
+found-in :
+    {C T U X : Type 0} (state_of : C → State) (catalogue : C) (r : Result (C × T) U) (findings : Result X LoadCause) (P : State → LoadCause → Type 0) (cause : LoadCause)
+    (left : Option (C × T)) → IfSome left (λ l. r ≡ Ok l) → IfOk r (λ x. x.0 ≡ catalogue) → IfSome left (λ _. findings ≡ Err cause) →
+    IfErr findings (P (state_of catalogue)) → IfSome left (λ l. P (state_of l.0) cause)
+found-in state_of catalogue r findings P cause None is same found why = tt
+found-in state_of catalogue r findings P cause (Some l) is same found why =
+    let same' : l.0 ≡ catalogue = subst (λ x. IfOk x (λ y. y.0 ≡ catalogue)) is same in
+    let why' : P (state_of catalogue) cause = subst (λ x. IfErr x (P (state_of catalogue))) found why in
+    subst (λ c. P (state_of c) cause) (sym same') why'
+
+pub found-answer :
+    {A F C T U X : Type 0} (state_of : C → State) (left_of : F → Option (C × T)) (cause_of : F → LoadCause) (catalogue : C) (r : Result (C × T) U)
+    (findings : Result X LoadCause) (P : State → LoadCause → Type 0) (result : Result A F) → IfErr result (λ f. IfSome (left_of f) (λ l. r ≡ Ok l)) →
+    IfOk r (λ x. x.0 ≡ catalogue) → IfErr result (λ f. IfSome (left_of f) (λ _. findings ≡ Err (cause_of f))) →
+    IfErr findings (P (state_of catalogue)) → IfErr result (λ f. IfSome (left_of f) (λ l. P (state_of l.0) (cause_of f)))
+found-answer state_of left_of cause_of catalogue r findings P (Ok a) is same found why = tt
+found-answer state_of left_of cause_of catalogue r findings P (Err f) is same found why =
+    found-in state_of catalogue r findings P (cause_of f) (left_of f) is same found why
+
+-- outcomes that are handed over
+pub handed-outcomes :
+    {V E : Type 0} (items : V → List Outcome) (chunks : List (List (ℕ × Piece))) (desks back : List DeskParts) (handed : Result V E) → HaveDone items chunks desks back handed →
+    IfOk handed (λ v. AreOutcomes chunks (items v))
+handed-outcomes items chunks desks back (Ok v) done = subst (AreOutcomes chunks) (sym done.all) done.made
+handed-outcomes items chunks desks back (Err e) done = tt
+
+pub handed-rows :
+    {V E : Type 0} (items : V → List Outcome) (chunks : List (List (ℕ × Piece))) (desks back : List DeskParts) (handed : Result V E) → HaveDone items chunks desks back handed →
+    IfOk handed (λ v. (frame : ℕ) → accepted_at frame back ≡ accepted_at frame desks + entered_at frame (items v))
+handed-rows items chunks desks back (Ok v) done = λ frame. done.accepted frame ∙ ap (λ o. accepted_at frame desks + entered_at frame o) (sym done.all)
+handed-rows items chunks desks back (Err e) done = tt

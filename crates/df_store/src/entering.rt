@@ -1,0 +1,187 @@
+//! The commits of a worker: chunks enter their frames through its desks, and the outcomes that stand are kept.
+ghost use Rattle.std.specs.Prelude.{◌≡◌, ◌<◌, ◌≤◌, ◌+◌, ◌++◌, ◌∷◌, [], ℕ, List, IfOk, IfSome, OnErr, OnOk, if◌then◌else◌, length, slice_index_or, vec_capacity};
+ghost use Rattle.df_catalogue.specs.Desks.{DeskParts, desk_after};
+ghost use Rattle.df_catalogue.specs.declared.change.Change.TheVariants.{Append};
+ghost use Rattle.df_value.specs.declared.chunk.Piece.{Piece};
+ghost use Rattle.df_store.specs.Jobs.{AreOutcomes};
+ghost use Rattle.df_store.specs.Joined.{IsJoined};
+ghost use Rattle.df_store.specs.Workers.{AreCounted, HaveAccepted, all_without_accepted, chunk_of};
+
+use crate::fault::Stop;
+use crate::jobs::Outcome;
+use crate::joining::Joined;
+use crate::made::KeptPiece;
+use core::mem;
+use df_catalogue::{Desk, FrameChange, PreparedChunk};
+use df_value::{Chunk, Piece};
+use df_versions::{ChangeFault, Naming, Told, VersionedCatalogue};
+use std::alloc::Global;
+use std::sync::Wait;
+use std::sync::ledger::Ledger;
+
+/// What a worker commits: a chunk, or one whose blocks it has made.
+#[derive(Clone, Copy)]
+pub(crate) enum Incoming<'a> {
+    Chunk(&'a Chunk),
+    Prepared(&'a PreparedChunk),
+}
+
+/// Commits the good chunks of these outcomes, and keeps the outcomes that stand. The chunk that has the rows of all of
+/// them, if there is one, enters in one change; where it is refused, each chunk enters by itself, as far as it can.
+pub(crate) fn enter_all<Acc: Ledger, Del: Ledger, J: Naming, R: Wait>(
+    rt: &R,
+    alloc: Global,
+    catalogue: &mut VersionedCatalogue<Acc, Del, J>,
+    desks: &mut Vec<Desk<Acc, Del>>,
+    made: &mut Vec<Outcome>,
+    joined: &mut Option<Joined>,
+    done: &mut Vec<Outcome>,
+    told: &mut Option<Told<J>>,
+) -> Result<(), Stop>
+    requires room { length done.old.items + length made.old.items ≤ vec_capacity done.old }
+    requires joined { IfSome joined.old (IsJoined made.old.items) }
+    ensures desks { all_without_accepted desks.new.items ≡ all_without_accepted desks.old.items }
+    ensures counted { AreCounted desks.old.items done.old.items desks.new.items done.new.items }
+    ensures done { (chunks : List (List (ℕ × Piece))) → AreOutcomes chunks made.old.items →
+        AreOutcomes chunks done.old.items → AreOutcomes chunks done.new.items }
+{
+    if let Some(joined) = joined {
+        let incoming = Incoming::Prepared(&joined.chunk);
+        if enter_chunk(rt, alloc, catalogue, desks, joined.frame, incoming, told)? {
+            keep_all(mem::replace(&mut joined.stored, Vec::new(alloc)), done);
+            return Ok(());
+        }
+    }
+    enter_each(
+        rt,
+        alloc,
+        catalogue,
+        desks,
+        mem::replace(made, Vec::new(alloc)),
+        done,
+        told,
+    )
+}
+
+// Adds outcomes to those that are done.
+fn keep_all(outcomes: Vec<Outcome>, done: &mut Vec<Outcome>)
+    requires { length done.old.items + length outcomes.items ≤ vec_capacity done.old }
+    ensures { done.new.items ≡ done.old.items ++ outcomes.items }
+{
+    for outcome in outcomes {
+        done.push_reserved(outcome);
+    }
+}
+
+// Commits the good chunks of these outcomes in their order, and keeps the outcomes that stand.
+fn enter_each<Acc: Ledger, Del: Ledger, J: Naming, R: Wait>(
+    rt: &R,
+    alloc: Global,
+    catalogue: &mut VersionedCatalogue<Acc, Del, J>,
+    desks: &mut Vec<Desk<Acc, Del>>,
+    made: Vec<Outcome>,
+    done: &mut Vec<Outcome>,
+    told: &mut Option<Told<J>>,
+) -> Result<(), Stop>
+    requires { length done.old.items + length made.items ≤ vec_capacity done.old }
+    ensures desks { all_without_accepted desks.new.items ≡ all_without_accepted desks.old.items }
+    ensures counted { AreCounted desks.old.items done.old.items desks.new.items done.new.items }
+    ensures done { (chunks : List (List (ℕ × Piece))) → AreOutcomes chunks made.items →
+        AreOutcomes chunks done.old.items → AreOutcomes chunks done.new.items }
+{
+    for outcome in made {
+        if enter(rt, alloc, catalogue, desks, &outcome, told)? {
+            done.push_reserved(outcome);
+        }
+    }
+    Ok(())
+}
+
+// Commits the chunk of an outcome, if it is good, and tells whether the outcome stands: that of a bad chunk does, which
+// changes nothing, and that of a good one where it enters.
+fn enter<Acc: Ledger, Del: Ledger, J: Naming, R: Wait>(
+    rt: &R,
+    alloc: Global,
+    catalogue: &mut VersionedCatalogue<Acc, Del, J>,
+    desks: &mut Vec<Desk<Acc, Del>>,
+    outcome: &Outcome,
+    told: &mut Option<Told<J>>,
+) -> Result<bool, Stop>
+    ensures desks { all_without_accepted desks.new.items ≡ all_without_accepted desks.old.items }
+    ensures counted { IfOk result (λ stands. AreCounted desks.old.items [] desks.new.items
+        (if stands then outcome.now ∷ [] else [])) }
+    ensures refused { OnErr result (desks.new.items ≡ desks.old.items) }
+{
+    match outcome.made.kept() {
+        KeptPiece::Typed(Piece::Good(chunk)) => {
+            let incoming = Incoming::Chunk(chunk);
+            enter_chunk(rt, alloc, catalogue, desks, outcome.frame, incoming, told)
+        }
+        KeptPiece::Typed(Piece::Bad(_)) => Ok(true),
+        // None comes here: jobs make typed pieces.
+        KeptPiece::Stored(_) => Ok(false),
+    }
+}
+
+// Commits a chunk through a desk of a frame, and tells whether it entered. It does not where the catalogue refuses it, or
+// no desk here is of the frame.
+fn enter_chunk<Acc: Ledger, Del: Ledger, J: Naming, R: Wait>(
+    rt: &R,
+    alloc: Global,
+    catalogue: &mut VersionedCatalogue<Acc, Del, J>,
+    desks: &mut Vec<Desk<Acc, Del>>,
+    frame: usize,
+    chunk: Incoming<'_>,
+    told: &mut Option<Told<J>>,
+) -> Result<bool, Stop>
+    ensures desks { all_without_accepted desks.new.items ≡ all_without_accepted desks.old.items }
+    ensures accepted { IfOk result (λ entered. HaveAccepted frame
+        (if entered then length (chunk_of chunk.entry).rows else 0) desks.old.items desks.new.items) }
+    ensures refused { OnErr result (desks.new.items ≡ desks.old.items) }
+{
+    let Some(at) = desk_of(desks.as_slice(), frame) else {
+        return Ok(false);
+    };
+    match append(rt, alloc, catalogue, &mut desks[at], chunk, told.as_ref()) {
+        Ok(next) => {
+            *told = Some(next);
+            Ok(true)
+        }
+        Err(ChangeFault::Refused(_, _)) => Ok(false),
+        Err(ChangeFault::Memory) => Err(Stop::Memory),
+        Err(ChangeFault::Spent) => Err(Stop::Spent),
+        Err(ChangeFault::Ahead) => Err(Stop::Ahead),
+    }
+}
+
+// Appends what comes to the desk's frame.
+fn append<Acc: Ledger, Del: Ledger, J: Naming, R: Wait>(
+    rt: &R,
+    alloc: Global,
+    catalogue: &mut VersionedCatalogue<Acc, Del, J>,
+    desk: &mut Desk<Acc, Del>,
+    chunk: Incoming<'_>,
+    told: Option<&Told<J>>,
+) -> Result<Told<J>, ChangeFault<J>>
+    ensures desk { OnOk result (desk.new ≡
+        desk_after desk.old (Append desk.old.frame (chunk_of chunk.entry))) }
+    ensures same_desk { OnErr result (desk.new ≡ desk.old) }
+{
+    match chunk {
+        Incoming::Chunk(chunk) => {
+            catalogue.change_rows(rt, alloc, desk, FrameChange::Append(chunk), told)
+        }
+        Incoming::Prepared(chunk) => {
+            catalogue.change_rows(rt, alloc, desk, FrameChange::Prepared(chunk), told)
+        }
+    }
+}
+
+// The place of the first desk of a frame.
+fn desk_of<Acc: Ledger, Del: Ledger>(desks: &[Desk<Acc, Del>], frame: usize) -> Option<usize>
+    ensures within { IfSome result (λ at. at < length desks.now) }
+    ensures found { IfSome result (λ at. (d : DeskParts) →
+        (slice_index_or desks.now at d).frame ≡ frame) }
+{
+    desks.iter().position(|desk| desk.frame() == frame)
+}
