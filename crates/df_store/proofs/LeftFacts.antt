@@ -1,5 +1,5 @@
 -- What a load that was refused leaves.
-use Rattle.std.proofs.Common.{◌≡◌, ℕ, ◌+◌, ◌<◌, ◌==◌, ◌&&◌, ◌∙◌, Bool, List, [], ◌∷◌, length, refl, ap, sym, subst, arith, inl, inr}
+use Rattle.std.proofs.Common.{◌≡◌, ℕ, ◌+◌, ◌<◌, ◌==◌, ◌&&◌, ◌∙◌, List, [], ◌∷◌, length, refl, ap, sym, subst, arith, inl, inr}
 use Rattle.std.proofs.lemmas.List.Elements.{All-nil}
 use Rattle.std.specs.Prelude.{IfErr, IfNone, IfOk, IfSome, IsErrAnd, MatchOption, Option, Result, Err, None, Ok, Some, if◌then◌else◌}
 use Rattle.core.specs.Result.{result_ok}
@@ -17,7 +17,7 @@ use Rattle.df_store.specs.declared.jobs.Outcome.{Outcome}
 use Rattle.df_store.specs.Closing.{IsSettledState, IsUnsettledState, accepted_at, deleted_at, is_settled, missing_frame, missing_from}
 use Rattle.df_store.specs.Faults.{IsCauseAtStart}
 use Rattle.df_store.specs.Jobs.{AreOutcomes, IsOutcome, jobs_of}
-use Rattle.df_store.specs.Loads.{IsCauseAtEnd, IsCauseLeft, IsCauseNotLeft, IsCauseUnsettled, IsDifference, IsLeft, IsNotLeft, is_accounted, unaccounted_frame, unaccounted_from}
+use Rattle.df_store.specs.Loads.{IsCauseAtEnd, IsCauseLeft, IsCauseNotLeft, IsCauseUnsettled, IsDifference, IsLeft, IsNotLeft, is_accounted, unaccounted_from}
 use Rattle.df_store.specs.Workers.{HaveDone, entered_at}
 
 -- where the desks that come back have the rows of outcomes beside those of the desks that were given, the least frame where
@@ -146,24 +146,6 @@ given-not-left state_of frame_of schemas desks history catalogue (Err u) left is
     (state_of catalogue, frame_of u, ends, record { last = last; legal = legal; missing = missing; books = books })
 
 -- the same of a load that came to its end
-settled-left :
-    {C T U : Type 0} (state_of : C → State) (schemas : List (List (List ℕ × CellType))) (desks : List DeskParts) (catalogue : C) (r : Result (C × T) U) (left : Option (C × T)) →
-    IfSome left (λ l. r ≡ Ok l) → IfOk r (λ _. missing_frame desks (state_of catalogue) ≡ None) → IfOk r (λ x. x.0 ≡ catalogue) → IsLegal (state_of catalogue) →
-    IsLastState schemas (state_of catalogue) → IfSome left (λ l. IsSettledState schemas desks (state_of l.0))
-settled-left state_of schemas desks catalogue r (Some l) is none same legal last =
-    settled-one state_of schemas desks catalogue l.0 (subst (λ x. IfOk x (λ y. y.0 ≡ catalogue)) is same)
-    (subst (λ x. IfOk x (λ _. missing_frame desks (state_of catalogue) ≡ None)) is none) legal last
-settled-left state_of schemas desks catalogue r None is none same legal last = tt
-
-pub settled-answer :
-    {A F C T U : Type 0} (state_of : C → State) (left_of : F → Option (C × T)) (schemas : List (List (List ℕ × CellType))) (desks : List DeskParts) (catalogue : C)
-    (r : Result (C × T) U) (result : Result A F) → IfErr result (λ f. IfSome (left_of f) (λ l. r ≡ Ok l)) →
-    IfOk r (λ _. missing_frame desks (state_of catalogue) ≡ None) → IfOk r (λ x. x.0 ≡ catalogue) → IsLegal (state_of catalogue) →
-    IsLastState schemas (state_of catalogue) → IfErr result (λ f. IfSome (left_of f) (λ l. IsSettledState schemas desks (state_of l.0)))
-settled-answer state_of left_of schemas desks catalogue r (Ok a) is none same legal last = tt
-settled-answer state_of left_of schemas desks catalogue r (Err f) is none same legal last =
-    settled-left state_of schemas desks catalogue r (left_of f) is none same legal last
-
 unsettled-left :
     {C T U : Type 0} (state_of : C → State) (frame_of : U → ℕ) (schemas : List (List (List ℕ × CellType))) (desks : List DeskParts) (catalogue : C)
     (r : Result (C × T) U) (left : Option (C × T)) (P : ℕ → Type 0) →
@@ -185,26 +167,6 @@ pub unsettled-answer :
 unsettled-answer state_of frame_of left_of cause_of schemas desks catalogue r (Ok a) is missing books legal last = tt
 unsettled-answer state_of frame_of left_of cause_of schemas desks catalogue r (Err f) is missing books legal last =
     unsettled-left state_of frame_of schemas desks catalogue r (left_of f) (λ frame. IsCauseUnsettled frame (cause_of f)) is missing books legal last
-
--- the cause of a load that left something is what was found in it
-found-in :
-    {C T U X : Type 0} (state_of : C → State) (catalogue : C) (r : Result (C × T) U) (findings : Result X LoadCause) (P : State → LoadCause → Type 0) (cause : LoadCause)
-    (left : Option (C × T)) → IfSome left (λ l. r ≡ Ok l) → IfOk r (λ x. x.0 ≡ catalogue) → IfSome left (λ _. findings ≡ Err cause) →
-    IfErr findings (P (state_of catalogue)) → IfSome left (λ l. P (state_of l.0) cause)
-found-in state_of catalogue r findings P cause None is same found why = tt
-found-in state_of catalogue r findings P cause (Some l) is same found why =
-    let same' : l.0 ≡ catalogue = subst (λ x. IfOk x (λ y. y.0 ≡ catalogue)) is same in
-    let why' : P (state_of catalogue) cause = subst (λ x. IfErr x (P (state_of catalogue))) found why in
-    subst (λ c. P (state_of c) cause) (sym same') why'
-
-pub found-answer :
-    {A F C T U X : Type 0} (state_of : C → State) (left_of : F → Option (C × T)) (cause_of : F → LoadCause) (catalogue : C) (r : Result (C × T) U)
-    (findings : Result X LoadCause) (P : State → LoadCause → Type 0) (result : Result A F) → IfErr result (λ f. IfSome (left_of f) (λ l. r ≡ Ok l)) →
-    IfOk r (λ x. x.0 ≡ catalogue) → IfErr result (λ f. IfSome (left_of f) (λ _. findings ≡ Err (cause_of f))) →
-    IfErr findings (P (state_of catalogue)) → IfErr result (λ f. IfSome (left_of f) (λ l. P (state_of l.0) (cause_of f)))
-found-answer state_of left_of cause_of catalogue r findings P (Ok a) is same found why = tt
-found-answer state_of left_of cause_of catalogue r findings P (Err f) is same found why =
-    found-in state_of catalogue r findings P (cause_of f) (left_of f) is same found why
 
 -- outcomes that are handed over
 pub handed-outcomes :

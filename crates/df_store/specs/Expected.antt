@@ -20,8 +20,8 @@ pub record IsExpected (before : List Outcome) (o : Outcome) (e : Expected) : Typ
 abbrev pub most_of_usize : ℕ
 most_of_usize = 2 ^ 64 - 1
 
--- so many rows are given to a frame, or at least the greatest count, and where it is less each of the outcomes is expected behind
--- those before it
+-- the count is how many rows the outcomes give to a frame, or the greatest usize if that is less; below that one, each of the
+-- outcomes is expected behind those before it
 pub record IsCounted (frame : ℕ) (os : List Outcome) (es : List Expected) (count : ℕ) : Type 0 where
   pub rows : count ≡ min (length (rows_at frame os)) most_of_usize
   pub each : count < most_of_usize → (at : ℕ) (d : Outcome) (e : Expected) → at < length os → (slice_index_or os at d).frame ≡ frame →

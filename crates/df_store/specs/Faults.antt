@@ -33,8 +33,7 @@ IsCauseOfView s view load.ViewsUnlike = ⊥
 abbrev pub IsCauseOfViews : State → List (List ℕ × CheckedParts) → LoadCause → Type 0
 IsCauseOfViews s views cause = (at : ℕ) × (view : List ℕ × CheckedParts) × (slice_get views at ≡ Some view) × IsCauseOfView s view cause
 
--- what comes before the first job is given up for this, in the state that the registered views made: one of the views, or memory was
--- refused
+-- what comes before the first job is given up for this: memory, or the registration of one of the views in this state
 abbrev pub IsCauseAtStart : State → List (List ℕ × CheckedParts) → LoadCause → Type 0
 IsCauseAtStart s views cause = (cause ≡ load.Memory) ⊎ IsCauseOfViews s views cause
 

@@ -3,7 +3,7 @@ ghost use Rattle.std.specs.Prelude.{◌≡◌, ℕ, ◌+◌, ◌<◌, ◌≤◌,
 ghost use Rattle.df_catalogue.specs.Desks as desks_spec;
 ghost use Rattle.df_claims.specs.Seats.{IsSeatOf};
 ghost use Rattle.df_store.specs.Closing.{HaveSameSums};
-ghost use Rattle.df_store.specs.Jobs.{AreOutcomes, chunks_of};
+ghost use Rattle.df_store.specs.Jobs.{chunks_of};
 ghost use Rattle.df_store.specs.Workers.{AreCounted, HaveDone, IsIdle, IsPool, IsWorker, all_without_accepted, desks_of, outcomes_in};
 ghost use Rattle.df_store.specs.Faults.{earlier_of, first_stop};
 

@@ -7,8 +7,8 @@ ghost use Rattle.df_versions.specs.Histories.{IsHistoryOver};
 use crate::history::{History, Naming};
 use std::marker::{Model, PhantomData};
 
-/// The history up to a change, up to the state that refused one, or up to that of a close that was refused. A reader that learns it sees no version from before.
-/// Contracts see the states.
+/// The history up to a change, or up to the state that refused one or that a refused close found. A reader that learns it
+/// sees no version from before. Contracts see the states.
 pub struct Told<J: Naming> {
     history: History,
     of: PhantomData<J>,
