@@ -15,7 +15,7 @@ same-or-not (suc k) (suc i) = elim (same-or-not k i) [
   | inr n ↦ inr (λ e. n (omega (arith, e)))
 ]
 
-before-or-not : (k i : ℕ) → (k < i) ⊎ (i ≤ k)
+pub before-or-not : (k i : ℕ) → (k < i) ⊎ (i ≤ k)
 before-or-not k zero = inr (omega arith)
 before-or-not zero (suc i) = inl (omega arith)
 before-or-not (suc k) (suc i) = elim (before-or-not k i) [

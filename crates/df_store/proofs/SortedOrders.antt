@@ -7,14 +7,7 @@ use Rattle.std.specs.List.Sorted.{IsPermutation}
 use Rattle.std.proofs.lemmas.Bool.{eqb-true}
 use Rattle.std.proofs.lemmas.List.Sorted.{Contains-permutation, IsPermutation-sym, sum_by-IsPermutation}
 use Rattle.std.proofs.lemmas.List.Sums.{sum_by-cons, sum_by-append}
-
-before-or-not : (k i : ℕ) → (k < i) ⊎ (i ≤ k)
-before-or-not k zero = inr (omega arith)
-before-or-not zero (suc i) = inl (omega arith)
-before-or-not (suc k) (suc i) = elim (before-or-not k i) [
-  | inl l ↦ inl (omega (arith, l))
-  | inr l ↦ inr (omega (arith, l))
-]
+use Rattle.df_store.proofs.FirstFacts.{before-or-not}
 
 true-or-not : (b : Bool) → (b ≡ true) ⊎ (b ≡ false)
 true-or-not true = inl refl

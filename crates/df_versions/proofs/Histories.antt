@@ -5,7 +5,7 @@ use Rattle.std.specs.List.{AllByRecursion}
 use Rattle.df_catalogue.specs.declared.state.State.{State}
 use Rattle.df_catalogue.specs.States.{IsLegal}
 use Rattle.df_catalogue.proofs.Legal.{legal-after}
-use Rattle.df_versions.specs.Histories.{Step, Steps, IsHistory, IsHistoryOver, MayFollow, last_of, last_state, schemas_of}
+use Rattle.df_versions.specs.Histories.{Step, Steps, IsHistory, IsHistoryOver, MayFollow, last_of, last_state}
 
 steps-snoc : (o : State) (later : List State) (t : State) → Steps o later → Step (last_of o later) t → Steps o (later ++ t ∷ [])
 steps-snoc o [] t h step = (step, tt)
@@ -19,13 +19,6 @@ history-more (o ∷ later) t h may = (h.0, steps-snoc o later t h.1 may)
 pub over-longer : (schemas : List (List (List ℕ × CellType))) (log : List State) (t : State) → IsHistoryOver schemas log → IsHistory (log ++ t ∷ []) → IsHistoryOver schemas (log ++ t ∷ [])
 over-longer schemas [] t h lawful = absurd (omega (arith, h.begun))
 over-longer schemas (o ∷ later) t h lawful = record { lawful = lawful; begun = omega arith; of_schemas = h.of_schemas }
-
-pub over-more : (schemas : List (List (List ℕ × CellType))) (log : List State) (t : State) → IsHistoryOver schemas log → MayFollow log t → IsHistoryOver schemas (log ++ t ∷ [])
-over-more schemas log t h may = over-longer schemas log t h (history-more log t h.lawful may)
-
--- a history over some schemas is over those that are the same
-pub over-same : (schemas : List (List (List ℕ × CellType))) (log : List State) → schemas_of log ≡ schemas → IsHistoryOver (schemas_of log) log → IsHistoryOver schemas log
-over-same schemas log is h = subst (λ s. IsHistoryOver s log) is h
 
 last-snoc : (o : State) (later : List State) (t : State) → last_of o (later ++ t ∷ []) ≡ t
 last-snoc o [] t = refl
