@@ -384,7 +384,7 @@ shrinks "a file that is emptied" 2 "" "sales: F5 region" 0
 # Each prefix of documents, and of a frame's file.
 modelled() {
   local runs otherwise
-  "$here/model.py" "$program" "$@" > modelled || echo "0 1" >> modelled
+  "$here/prefixes.py" "$program" "$@" > modelled || echo "0 1" >> modelled
   read -r runs otherwise < <(tail -n 1 modelled)
   head -n -1 modelled
   cases=$((cases + runs))

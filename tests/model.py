@@ -1,24 +1,14 @@
-#!/usr/bin/env python3
-"""A second dfviews, written apart from the first, and small: it says what the program answers to each prefix
-of a document, or of a frame's file.
+"""A second dfviews, written apart from the first, and small: what the program prints of a document.
 
-    model.py PROGRAM DOCUMENT         runs PROGRAM over each prefix of DOCUMENT
-    model.py PROGRAM DOCUMENT FILE    runs PROGRAM over DOCUMENT and each prefix of FILE, a frame's path
-
-DOCUMENT.stdout, where it is there, has to be the model's own output for the whole. Prints what went otherwise,
-and ends with a line of two numbers: the runs, and those that went otherwise.
-
-The model knows only what the documents of hostile.sh have: no CSV quotes, no names to escape, narrow
-characters, and of the steps those below. Python 3.11 or later, its own library alone (tomllib is TOML 1.0; these
-documents have nothing that TOML 1.1 reads otherwise).
+It knows each step, expression and aggregate, and computes every view anew with Python's own lists and numbers. Of CSV it
+knows what tests write: fields without quotes (siege.py has the records of its own files). A table is a dict of columns,
+each a type and its cells; null is None, a mean a pair of a sum and a count. Python 3.11 or later, its own library alone
+(tomllib is TOML 1.0; the documents of the tests have nothing that TOML 1.1 reads otherwise).
 """
 
-import os
 import re
-import subprocess
-import sys
-import tempfile
 import tomllib
+import unicodedata
 
 RECORDS_OF_CHUNK = 1000
 
@@ -41,7 +31,7 @@ def tree_of(document):
     return tree
 
 
-# Frames. A table is a dict of columns, each a type and its cells; null is None.
+# Frames.
 
 
 def records_of(frame, csv):
@@ -76,23 +66,78 @@ def cell_of(kind, field):
     raise ValueError(field)
 
 
-def loaded(frame, csv):
-    """The frame's table, and the lines of its refused chunks."""
-    records = records_of(frame, csv)
+def loaded(frame, records, size=RECORDS_OF_CHUNK):
+    """The table of a frame's records, which come in chunks of a size, and the lines of the chunks that are refused."""
     rows, refused = [], []
-    for first in range(0, len(records), RECORDS_OF_CHUNK):
+    for first in range(0, len(records), size):
         chunk = []
         try:
-            for number, fields in enumerate(records[first : first + RECORDS_OF_CHUNK], first + 1):
+            for number, fields in enumerate(records[first : first + size], first + 1):
                 row = []
                 for (name, kind), field in zip(frame["columns"], fields):
                     row.append(cell_of(kind, field))
                 chunk.append(row)
             rows += chunk
         except ValueError:
-            refused.append(f"refused {frame['name']} {first}: record {number}, column {name}\n")
+            refused.append(f"refused {escaped(frame['name'])} {first}: record {number}, column {escaped(name)}\n")
     table = {name: (kind, [row[n] for row in rows]) for n, (name, kind) in enumerate(frame["columns"])}
     return table, refused
+
+
+# Expressions.
+
+
+def wrapped(number):
+    return (number + 2**63) % 2**64 - 2**63
+
+
+def conjunction(a, b):
+    return False if False in (a, b) else None if None in (a, b) else True
+
+
+def strict(operation):
+    """The operation where both operands are there, else null."""
+    return lambda a, b: None if a is None or b is None else operation(a, b)
+
+
+# Python compares texts by code points, which is the order of their UTF-8 bytes.
+OPERATIONS = {
+    "+": strict(lambda a, b: wrapped(a + b)),
+    "-": strict(lambda a, b: wrapped(a - b)),
+    "*": strict(lambda a, b: wrapped(a * b)),
+    "==": strict(lambda a, b: a == b),
+    "!=": strict(lambda a, b: a != b),
+    "<": strict(lambda a, b: a < b),
+    "<=": strict(lambda a, b: a <= b),
+    ">": strict(lambda a, b: a > b),
+    ">=": strict(lambda a, b: a >= b),
+    "eq_missing": lambda a, b: a == b,
+    "fill_null": lambda a, b: b if a is None else a,
+    "&": conjunction,
+    "|": lambda a, b: negation(conjunction(negation(a), negation(b))),
+    "~": lambda a: negation(a),
+    "is_null": lambda a: a is None,
+    "is_not_null": lambda a: a is not None,
+}
+
+
+def negation(a):
+    return None if a is None else not a
+
+
+def column_of(table, expression):
+    """The type and the cells of an expression."""
+    rows = height(table)
+    if not isinstance(expression, list):
+        return {bool: "Bool", int: "Int", str: "Text"}[type(expression)], [expression] * rows
+    word, *operands = expression
+    if word == "col":
+        return table[operands[0]]
+    if word == "null":
+        return operands[0], [None] * rows
+    columns = [column_of(table, operand) for operand in operands]
+    kind = {"+": "Int", "-": "Int", "*": "Int", "fill_null": columns[0][0]}.get(word, "Bool")
+    return kind, [OPERATIONS[word](*cells) for cells in zip(*(cells for _, cells in columns))]
 
 
 # Steps.
@@ -107,39 +152,58 @@ def taken(table, rows):
 
 
 def filtered(table, predicate):
-    word, (_, name), least = predicate
-    assert word == ">"
-    cells = table[name][1]
-    return taken(table, [n for n, cell in enumerate(cells) if cell is not None and cell > least])
+    return taken(table, [n for n, holds in enumerate(column_of(table, predicate)[1]) if holds])
 
 
 def selected(table, *items):
-    return {name: table[column] for name, (_, column) in items}
+    return {name: column_of(table, expression) for name, expression in items}
+
+
+def with_columns(table, *items):
+    return table | {name: column_of(table, expression) for name, expression in items}
+
+
+def mean_of(cells):
+    return (sum(cells), len(cells)) if cells else None
+
+
+def aggregate(table, groups, word, column=None):
+    """The type and the cells of an aggregate over groups of rows."""
+    if word == "len":
+        return "Int", [len(rows) for rows in groups]
+    kind, cells = table[column]
+    every = [[cells[n] for n in rows] for rows in groups]
+    known = [[cell for cell in group if cell is not None] for group in every]
+    kind = {"count": "Int", "n_unique": "Int", "sum": "Wide", "mean": "Frac"}.get(word, kind)
+    if word in ("first", "last"):
+        return kind, [group[{"first": 0, "last": -1}[word]] for group in every]
+    if word in ("min", "max"):
+        return kind, [{"min": min, "max": max}[word](group, default=None) for group in known]
+    if word == "n_unique":
+        return kind, [len(set(group)) for group in every]
+    return kind, [{"count": len, "sum": sum, "mean": mean_of}[word](group) for group in known]
 
 
 def grouped(table, keys, *aggregates):
     groups = {}
     for n in range(height(table)):
         groups.setdefault(tuple(table[key][1][n] for key in keys), []).append(n)
-    result = taken({key: table[key] for key in keys}, [rows[0] for rows in groups.values()])
-    for output, word, *column in aggregates:
-        if word == "len":
-            result[output] = ("Int", [len(rows) for rows in groups.values()])
-        else:
-            assert word == "sum"
-            cells = table[column[0]][1]
-            result[output] = ("Wide", [sum(cells[n] or 0 for n in rows) for rows in groups.values()])
-    return result
+    rows = list(groups.values())
+    result = taken({key: table[key] for key in keys}, [group[0] for group in rows])
+    return result | {output: aggregate(table, rows, *words) for output, *words in aggregates}
 
 
 def joined(table, kind, keys, right, nulls_equal=None):
-    assert kind == "left" and not (set(right) - set(keys)) & set(table)
+    places = {}
+    for m in range(height(right)):
+        places.setdefault(tuple(right[key][1][m] for key in keys), []).append(m)
     pairs = []
     for n in range(height(table)):
-        key = [table[key][1][n] for key in keys]
-        matches = [m for m in range(height(right)) if (nulls_equal or None not in key) and key == [right[k][1][m] for k in keys]]
-        pairs += [(n, m) for m in matches or [None]]
+        key = tuple(table[key][1][n] for key in keys)
+        matches = places.get(key, []) if nulls_equal or None not in key else []
+        pairs += [(n, m) for m in matches or ([None] if kind == "left" else [])]
     rest = {name: column for name, column in right.items() if name not in keys}
+    rest = {f"{name}_right" if name in table else name: column for name, column in rest.items()}
     return taken(table, [n for n, _ in pairs]) | taken(rest, [m for _, m in pairs])
 
 
@@ -154,41 +218,83 @@ def rolled(table, word, output, column, window, wanted=None):
 
 
 def summed_up(table, output, column):
-    cells = table[column][1]
-    sums = [None if cell is None else sum(c or 0 for c in cells[: n + 1]) for n, cell in enumerate(cells)]
+    sums, total = [], 0
+    for cell in table[column][1]:
+        total += cell or 0
+        sums.append(None if cell is None else total)
     return table | {output: ("Wide", sums)}
 
 
 def ranked(table, output, kind, column):
     cells = table[column][1]
-    # Python compares texts by code points, which is the order of their UTF-8 bytes.
     order = sorted(cell for cell in cells if cell is not None)
     order = {"dense": sorted(set(order)), "min": order}[kind]
-    return table | {output: ("Int", [None if cell is None else order.index(cell) + 1 for cell in cells])}
+    places = {}
+    for place, cell in enumerate(order, 1):
+        places.setdefault(cell, place)
+    return table | {output: ("Int", [places.get(cell) for cell in cells])}
+
+
+def right_side(side, frames):
+    """The right side of a join: a frame's name, or a name with steps, as a table of TOML or a pair."""
+    if isinstance(side, str):
+        return frames[side]
+    start, steps = side if isinstance(side, tuple) else (side["from"], side.get("steps", []))
+    return viewed(start, steps, frames)
 
 
 def stepped(table, step, frames):
     word, *items = step
     if word == "join":
-        return joined(table, items[0], items[1], frames[items[2]], *items[3:])
+        return joined(table, items[0], items[1], right_side(items[2], frames), *items[3:])
     if word.startswith("rolling_"):
         return rolled(table, word, *items)
-    steps = {"filter": filtered, "select": selected, "group_by": grouped, "cum_sum": summed_up, "rank": ranked}
+    steps = {"filter": filtered, "select": selected, "with_columns": with_columns, "group_by": grouped, "cum_sum": summed_up, "rank": ranked}
     return steps[word](table, *items)
+
+
+def viewed(start, steps, frames):
+    """The table of a view over these frames."""
+    table = frames[start]
+    for step in steps:
+        table = stepped(table, step, frames)
+    return table
 
 
 # The output.
 
 
+def escaped(text):
+    return "".join(f"\\x{ord(c):02x}" if c < " " or c == "\x7f" else "\\\\" if c == "\\" else c for c in text)
+
+
+def width(text):
+    return sum(2 if unicodedata.east_asian_width(c) in "WF" else 1 for c in text)
+
+
+def shown(cell):
+    if isinstance(cell, tuple):
+        return f"{cell[0]}/{cell[1]}"
+    if isinstance(cell, str):
+        return escaped(cell)
+    return {None: "null", True: "true", False: "false"}[cell] if cell is None or isinstance(cell, bool) else str(cell)
+
+
 def printed(name, table):
-    show = {None: "null", True: "true", False: "false"}
     columns = []
     for header, (kind, cells) in table.items():
-        texts = [header] + [show[c] if c is None or isinstance(c, bool) else str(c) for c in cells]
-        width = max(map(len, texts))
-        columns.append([text.ljust(width) if kind == "Text" else text.rjust(width) for text in texts])
-    lines = [f"{name} ({height(table)} x {len(table)})"] + ["  ".join(line) for line in zip(*columns)]
+        texts = [escaped(header)] + [shown(cell) for cell in cells]
+        widest = max(map(width, texts))
+        fills = [" " * (widest - width(text)) for text in texts]
+        columns.append([text + fill if kind == "Text" else fill + text for text, fill in zip(texts, fills)])
+    lines = [f"{escaped(name)} ({height(table)} x {len(table)})"] + ["  ".join(line) for line in zip(*columns)]
     return "".join(line + "\n" for line in lines)
+
+
+def output(tables, refused):
+    """What is printed of the tables of views, each behind its name, and of the lines of refused chunks."""
+    parts = [printed(name, table) for name, table in tables]
+    return "\n".join(parts + ["".join(refused)] * bool(refused))
 
 
 def answer(document, file_of):
@@ -198,60 +304,9 @@ def answer(document, file_of):
         frames, refused = {}, []
         for frame in tree.get("frame", []):
             csv = frame["text"].encode() if "text" in frame else file_of(frame["path"])
-            frames[frame["name"]], lines = loaded(frame, csv)
+            frames[frame["name"]], lines = loaded(frame, records_of(frame, csv))
             refused += lines
     except Fault as fault:
         return 2, b"", f"dfviews: {fault}\n".encode()
-    parts = []
-    for view in tree.get("view", []):
-        table = frames[view["from"]]
-        for step in view.get("steps", []):
-            table = stepped(table, step, frames)
-        parts.append(printed(view["name"], table))
-    if refused:
-        parts.append("".join(refused))
-    return (1 if refused else 0), "\n".join(parts).encode(), b""
-
-
-# The runs.
-
-
-def contents(path):
-    with open(path, "rb") as file:
-        return file.read()
-
-
-def main(program, document_path, file_path=None):
-    program = os.path.realpath(program)
-    document = contents(document_path)
-    whole = contents(file_path or document_path)
-    runs = wrong = 0
-
-    def check(case, want, got):
-        nonlocal runs, wrong
-        runs += 1
-        if want != got:
-            wrong += 1
-            print(f"otherwise at {case}: {got}, not {want}")
-
-    expected = document_path + ".stdout"
-    if os.path.exists(expected):
-        check("the model", contents(expected), answer(document, contents)[1])
-    with tempfile.TemporaryDirectory() as folder:
-        for length in range(len(whole) + 1):
-            prefix = whole[:length]
-            if file_path:
-                with open(os.path.join(folder, os.path.basename(file_path)), "wb") as file:
-                    file.write(prefix)
-                want = answer(document, lambda _: prefix)
-            else:
-                want = answer(prefix, contents)
-            given = document if file_path else prefix
-            run = subprocess.run([program], input=given, capture_output=True, cwd=folder, check=False)
-            got = (run.returncode, run.stdout, run.stderr)
-            check(f"{length} bytes of {file_path or document_path}", want, got)
-    print(runs, wrong)
-
-
-if __name__ == "__main__":
-    main(*sys.argv[1:])
+    tables = [(view["name"], viewed(view["from"], view.get("steps", []), frames)) for view in tree.get("view", [])]
+    return (1 if refused else 0), output(tables, refused).encode(), b""

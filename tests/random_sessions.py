@@ -116,10 +116,7 @@ class Frame:
 
 def shown(view, frames):
     name, start, steps = view
-    tables = {frame.name: frame.table() for frame in frames}
-    table = tables[start]
-    for step in steps:
-        table = model.stepped(table, step, tables)
+    table = model.viewed(start, steps, {frame.name: frame.table() for frame in frames})
     return f"show {name}\n", model.printed(name, table)
 
 
@@ -142,13 +139,13 @@ def document(views):
     return DOCUMENT + "".join(parts)
 
 
-def run(program, text, turns):
-    """Whether the shell answers as the model does, over the document of this text."""
+def run(words, text, turns):
+    """Whether the shell, started by these words, answers as the model does, over the document of this text."""
     with tempfile.NamedTemporaryFile("w", suffix=".toml") as file:
         file.write(text)
         file.flush()
         typed = "".join(command for command, _ in turns)
-        ended = subprocess.run([program, file.name], input=typed, capture_output=True, text=True, check=False, timeout=120)
+        ended = subprocess.run([*words, file.name], input=typed, capture_output=True, text=True, check=False, timeout=120)
     want = "".join(answer for _, answer in turns)
     if ended.returncode == 0 and not ended.stderr and ended.stdout == want:
         return True
@@ -166,7 +163,7 @@ def main():
     for n in range(sessions):
         source = random.Random(seed + n)
         views, changes, most = (VIEWS, 60, 12) if n % 2 == 0 else ([], 40, 700)
-        if not run(program, document(views), session(source, views, changes, most)):
+        if not run([program], document(views), session(source, views, changes, most)):
             print(f"session of seed {seed + n} differs")
             wrong += 1
     print(f"{sessions} sessions, {wrong} differ")
