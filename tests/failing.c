@@ -1,9 +1,10 @@
-// A library to preload under the program: it makes one allocation, one read of standard input or of a file,
-// or one write to standard output fail, as if the system had refused it.
+// A library to preload under the program: it makes one allocation, one read of standard input or of a file, one write to
+// standard output, or the start of one thread fail, as if the system had refused it.
 //
-// FAIL_ALLOC, FAIL_READ, FAIL_FILE_READ, FAIL_WRITE: the number of the call that fails, from 1. EMPTY_WRITE: the
-// number of the write that takes no byte. SHORT: reads and writes of several bytes move one. SHRINK, SHRINK_TO: a file, and the size to which it is cut before the second
-// read of a file. COUNTS: a file that gets the numbers of these calls at the end.
+// FAIL_ALLOC, FAIL_READ, FAIL_FILE_READ, FAIL_WRITE, FAIL_THREAD: the number of the call that fails, from 1.
+// FAIL_EVERY_THREAD: no thread starts. EMPTY_WRITE: the number of the write that takes no byte. SHORT: reads and writes of
+// several bytes move one. SHRINK, SHRINK_TO: a file, and the size to which it is cut before the second read of a file.
+// COUNTS: a file that gets the numbers of these calls at the end.
 //
 // It stands on no header, so that the toolchain's own compiler is enough: the numbers are those of Linux on
 // x86-64.
@@ -11,7 +12,7 @@
 typedef __SIZE_TYPE__ size_t;
 typedef long ssize_t;
 
-enum { CALL_READ = 0, CALL_WRITE = 1, CALL_EXIT_GROUP = 231, NO_MEMORY = 12, INPUT_OUTPUT = 5, WRITE_CREATE_EMPTY = 01 | 0100 | 01000 };
+enum { CALL_READ = 0, CALL_WRITE = 1, CALL_EXIT_GROUP = 231, TRY_AGAIN = 11, NO_MEMORY = 12, INPUT_OUTPUT = 5, WRITE_CREATE_EMPTY = 01 | 0100 | 01000 };
 
 extern char *getenv(const char *name);
 extern long atol(const char *text);
@@ -19,6 +20,7 @@ extern int snprintf(char *line, size_t size, const char *format, ...);
 extern int open(const char *path, int flags, ...);
 extern int truncate(const char *path, long size);
 extern long syscall(long number, ...);
+extern void *dlsym(void *library, const char *name);
 extern int *__errno_location(void);
 
 extern void *__libc_malloc(size_t size);
@@ -26,7 +28,7 @@ extern void *__libc_calloc(size_t count, size_t size);
 extern void *__libc_realloc(void *block, size_t size);
 extern void *__libc_memalign(size_t align, size_t size);
 
-static long allocs, reads, file_reads, writes;
+static long allocs, reads, file_reads, writes, threads;
 
 static long number(const char *name) {
     const char *text = getenv(name);
@@ -86,11 +88,19 @@ ssize_t write(int file, const void *bytes, size_t size) {
     return syscall(CALL_WRITE, file, bytes, file == 1 ? moved(size) : size);
 }
 
+typedef int start(void *thread, const void *settings, void *(*work)(void *), void *given);
+
+int pthread_create(void *thread, const void *settings, void *(*work)(void *), void *given) {
+    if (refused(&threads, "FAIL_THREAD") || number("FAIL_EVERY_THREAD")) return TRY_AGAIN;
+    void *next = (void *)-1L;
+    return ((start *)dlsym(next, "pthread_create"))(thread, settings, work, given);
+}
+
 __attribute__((destructor)) static void count(void) {
     const char *path = getenv("COUNTS");
     if (!path) return;
-    char line[80];
-    int length = snprintf(line, sizeof line, "%ld %ld %ld %ld\n", allocs, reads, file_reads, writes);
+    char line[100];
+    int length = snprintf(line, sizeof line, "%ld %ld %ld %ld %ld\n", allocs, reads, file_reads, writes, threads);
     int file = open(path, WRITE_CREATE_EMPTY, 0600);
     if (file >= 0) syscall(CALL_WRITE, file, line, (size_t)length);
 }

@@ -1,10 +1,11 @@
 #!/usr/bin/env bash
-# Runs a program over a document with each allocation, read and write refused in turn:
+# Runs a program over a document with each allocation, read, write and start of a thread refused in turn:
 # refusals.sh PROGRAM DOCUMENT WORDS.., where DOCUMENT.stdout is its whole output with these words and DOCUMENT.status, if
 # it is there, the status that goes with it. A refused allocation ends in
 # `dfviews: memory` or leaves the output as it is; a refused read of the document is V10, one of a frame's file F1
-# and a refused write, or one that takes no byte, `write`, with nothing or a prefix of the output written. Prints what
-# went otherwise, and ends with a count.
+# and a refused write, or one that takes no byte, `write`, with nothing or a prefix of the output written. A thread that does
+# not start leaves the output as it is: the kit's library does its work in the thread that would have started it. Prints
+# what went otherwise, and ends with a count.
 set -u
 program=$1
 document=$2
@@ -39,7 +40,7 @@ other() {
 
 run COUNTS="$work/counts"
 whole || other "no refusal"
-read -r allocs reads file_reads writes < "$work/counts"
+read -r allocs reads file_reads writes threads < "$work/counts"
 for n in $(seq 1 "$allocs"); do
   run FAIL_ALLOC="$n"
   whole || { faulted memory && [ ! -s "$work/out" ]; } || other "allocation $n"
@@ -58,9 +59,15 @@ for n in $(seq 1 "$writes"); do
   run EMPTY_WRITE="$n"
   faulted write || other "write $n, which takes no byte"
 done
+for n in $(seq 1 "$threads"); do
+  run FAIL_THREAD="$n"
+  whole || other "thread $n"
+done
+run FAIL_EVERY_THREAD=1
+whole || other "no thread"
 run SHORT=1 COUNTS="$work/counts"
 whole || other "short reads and writes"
-read -r _ reads file_reads writes < "$work/counts"
+read -r _ reads file_reads writes _ < "$work/counts"
 for n in $(seq 1 "$reads"); do
   run SHORT=1 FAIL_READ="$n"
   { faulted V10 && [ ! -s "$work/out" ]; } || other "short read $n"
@@ -75,5 +82,5 @@ for n in $(seq 1 "$writes"); do
   run SHORT=1 EMPTY_WRITE="$n"
   faulted write || other "short write $n, which takes no byte"
 done
-echo "$document ${words[*]}: $allocs allocations, $reads reads, $file_reads of files and $writes writes refused in turn, $wrong otherwise"
+echo "$document ${words[*]}: $allocs allocations, $reads reads, $file_reads of files, $writes writes and $threads threads refused in turn, $wrong otherwise"
 [ "$wrong" -eq 0 ]
