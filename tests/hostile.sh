@@ -390,10 +390,11 @@ modelled() {
   cases=$((cases + runs))
   wrong=$((wrong + otherwise))
 }
+for name in by_region windows joins aggregates expressions steps; do modelled "$here/../examples/$name.toml"; done
 printf '%s' "$csv" > sales.csv
-modelled "$here/../examples/by_region.toml"
-modelled "$here/../examples/windows.toml"
 modelled of_file.toml sales.csv
+"$here/as_files.py" "$here/../examples/windows.toml" .
+for place in 0 1; do modelled windows.toml "windows_$place.csv"; done
 
 echo "hostile hands: $cases runs, $wrong otherwise"
 [ "$wrong" -eq 0 ]

@@ -2,16 +2,19 @@
 """What the program answers to each prefix of a document, or of a frame's file, compared with model.py.
 
     prefixes.py PROGRAM DOCUMENT         runs PROGRAM over each prefix of DOCUMENT
-    prefixes.py PROGRAM DOCUMENT FILE    runs PROGRAM over DOCUMENT and each prefix of FILE, a frame's path
+    prefixes.py PROGRAM DOCUMENT FILE    runs PROGRAM over DOCUMENT and each prefix of FILE, a frame's path; the files of
+                                         other frames are whole
 
 DOCUMENT.stdout, where it is there, has to be the model's own output for the whole. Prints what went otherwise,
 and ends with a line of two numbers: the runs, and those that went otherwise.
 """
 
 import os
+import shutil
 import subprocess
 import sys
 import tempfile
+import tomllib
 
 import model
 
@@ -38,12 +41,15 @@ def main(program, document_path, file_path=None):
     if os.path.exists(expected):
         check("the model", contents(expected), model.answer(document, contents)[1])
     with tempfile.TemporaryDirectory() as folder:
+        for frame in tomllib.loads(document.decode())["frame"] if file_path else []:
+            if "path" in frame:
+                shutil.copy(frame["path"], folder)
         for length in range(len(whole) + 1):
             prefix = whole[:length]
             if file_path:
                 with open(os.path.join(folder, os.path.basename(file_path)), "wb") as file:
                     file.write(prefix)
-                want = model.answer(document, lambda _: prefix)
+                want = model.answer(document, lambda path: prefix if path == file_path else contents(path))
             else:
                 want = model.answer(prefix, contents)
             given = document if file_path else prefix

@@ -24,7 +24,7 @@ use crate::jobs::{Outcome, job_count};
 use crate::pool::do_jobs;
 use crate::refused::Refused;
 use crate::totals::{Totals, TotalsRoom};
-use crate::worker::Work;
+use crate::worker::{MOST_AT_ONCE, Work};
 use df_catalogue::{Catalogue, Desk, ViewChange};
 use df_claims::{ClaimSeat, Claims};
 use df_plan::CheckedPlan;
@@ -37,9 +37,6 @@ use std::thread::Threads;
 
 // The most workers of a load.
 const MOST_WORKERS: usize = 16;
-
-/// The most jobs that a worker draws at once.
-const MOST_AT_ONCE: u64 = 32;
 
 /// A catalogue that was loaded.
 pub struct Loaded<Acc: Ledger, Del: Ledger> {
@@ -154,8 +151,8 @@ pub fn load_all<
     finish(rt, hall, desks, &work, views, outcomes)
 }
 
-// How many jobs each of so many workers draws at once: so many that a lock is taken seldom, and so few that each worker
-// draws several times.
+// How many jobs each of so many workers draws at once, at the least: so many that a lock is taken seldom, and so few that
+// each worker draws several times.
 fn jobs_at_once(jobs: u64, workers: usize) -> usize {
     let share = jobs / (workers.clamp(1, MOST_WORKERS) as u64 * 4);
     share.clamp(1, MOST_AT_ONCE) as usize

@@ -9,7 +9,7 @@ use crate::fault::Stop;
 use crate::gate::Gate;
 use crate::hall::Hall;
 use crate::jobs::{Outcome, make};
-use crate::joining::{count_of_first_frame, join};
+use crate::joining::{count_of_first_chunk, join};
 use df_catalogue::Desk;
 use df_claims::{ClaimSeat, Claims};
 use df_value::Source;
@@ -58,8 +58,20 @@ pub(crate) struct Work<'a, S, G> {
     pub(crate) workers: usize,
     /// The most desks that a worker may have.
     pub(crate) desks: usize,
-    /// How many jobs a worker draws at once.
+    /// How many jobs a worker draws at once, at the least.
     pub(crate) at_once: usize,
+}
+
+/// The most jobs that a worker draws at once.
+pub(crate) const MOST_AT_ONCE: u64 = 64;
+
+impl<S, G> Work<'_, S, G> {
+    // How many jobs a worker draws at once where so many were drawn before. A commit may change every row of a view: where
+    // each brings half as many rows as stand, all commits together change three times as many as the last one.
+    fn jobs_behind(&self, drawn: u64) -> usize {
+        let half = (drawn / 2).min(MOST_AT_ONCE);
+        self.at_once.max(half as usize)
+    }
 }
 
 impl<Acc: Ledger, Del: Ledger> Worker<Acc, Del> {
@@ -110,7 +122,8 @@ impl<Acc: Ledger, Del: Ledger> Worker<Acc, Del> {
         }
     }
 
-    // Does the next jobs that it draws, and tells whether there were any. Those of each frame are committed together.
+    // Does the next jobs that it draws, and tells whether there were any. Those of one frame are committed together, as far
+    // as one chunk has room for them.
     fn do_next<J: Naming, S: Source, G: Gate, R: Wait>(
         &mut self,
         rt: &R,
@@ -135,7 +148,7 @@ impl<Acc: Ledger, Del: Ledger> Worker<Acc, Del> {
             return Ok(false);
         }
         while !left.is_empty() {
-            let others = left.split_off(count_of_first_frame(left.as_slice()))?;
+            let others = left.split_off(count_of_first_chunk(left.as_slice()))?;
             self.commit(rt, hall, work, left, told)?;
             left = others;
         }
@@ -198,8 +211,12 @@ impl<Acc: Ledger, Del: Ledger> Worker<Acc, Del> {
         ensures desks { self.new.desks ≡ self.old.desks }
         ensures done { self.new.done ≡ self.old.done }
     {
-        let mut jobs = Vec::with_capacity(work.alloc, work.at_once)?;
-        for _ in 0..work.at_once {
+        let mut jobs = Vec::new(work.alloc);
+        let Some(first) = work.claims.next(&mut self.seat) else {
+            return Ok(jobs);
+        };
+        jobs.push(first)?;
+        for _ in 1..work.jobs_behind(first) {
             let Some(job) = work.claims.next(&mut self.seat) else {
                 return Ok(jobs);
             };
