@@ -6,9 +6,9 @@ use Rattle.std.specs.List.Sorted.{IsPermutation}
 use Rattle.std.proofs.lemmas.Bool.{and_from, and_parts, ltb-true}
 use Rattle.std.proofs.lemmas.List.Sorted.{Contains-permutation, IsPermutation-sym}
 use Rattle.df_value.specs.declared.cell.Cell.{Cell}
-use Rattle.df_catalogue.specs.declared.state.FrameState.{FrameState}
-use Rattle.df_catalogue.specs.Frames.{IsNumbered}
-use Rattle.df_catalogue.specs.Numbers.{has_number, is_rising}
+use Rattle.df_frame.specs.declared.state.FrameState.{FrameState}
+use Rattle.df_frame.specs.Frames.{IsNumbered}
+use Rattle.df_frame.specs.Numbers.{has_number, is_rising}
 
 abbrev pub Rows : Type 0
 Rows = List (ℕ × List Cell)

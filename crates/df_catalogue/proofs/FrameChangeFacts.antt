@@ -14,26 +14,30 @@ use Rattle.df_delta.specs.Deltas.{Changes}
 use Rattle.df_delta.specs.Differences.{IsDiff}
 use Rattle.df_live.specs.Frames.{changed}
 use Rattle.df_catalogue.specs.declared.state.State.{State}
-use Rattle.df_catalogue.specs.declared.state.FrameState.{FrameState}
+use Rattle.df_frame.specs.declared.state.FrameState.{FrameState}
 use Rattle.df_catalogue.specs.declared.views.View.{View}
 use Rattle.df_catalogue.specs.declared.change.Change.TheVariants as change
-use Rattle.df_catalogue.specs.declared.frame_change.FrameChange.{FrameChange}
-use Rattle.df_catalogue.specs.declared.frame_change.FrameChange.TheVariants.{Append, Delete, Prepared, Replace}
+use Rattle.df_frame.specs.declared.frame_change.FrameChange.{FrameChange}
+use Rattle.df_frame.specs.declared.frame_change.FrameChange.TheVariants.{Append, Delete, Prepared, Replace}
 use Rattle.df_catalogue.specs.declared.fault.CatalogueFault.{CatalogueFault}
 use Rattle.df_catalogue.specs.declared.fault.CatalogueFault.TheVariants as fault
 use Rattle.df_catalogue.specs.Changes.{accepted_rows, after, change_at, deleted_rows, refreshed_views, view_over, IsSound}
 use Rattle.df_catalogue.specs.Desks.{DeskParts, accepted_in, deleted_in, desk_after, desks_after}
-use Rattle.df_catalogue.specs.FrameChanges.{change_of, frame_after, FrameTakes, TakesChunk, TakesNumbers}
-use Rattle.df_catalogue.specs.FrameParts.{FrameParts, schemas_of, states_of}
-use Rattle.df_catalogue.specs.Frames.{rows_of, IsFrame, IsNumbered}
-use Rattle.df_catalogue.specs.FrameTables.{tagged_rows_of}
+use Rattle.df_catalogue.specs.FrameChanges.{change_of}
+use Rattle.df_frame.specs.FrameChanges as of_frame
+use Rattle.df_frame.specs.FrameChanges.{frame_after, FrameTakes, TakesChunk, TakesNumbers}
+use Rattle.df_frame.specs.FrameParts.{FrameParts, schemas_of, states_of}
+use Rattle.df_frame.specs.Frames.{rows_of, IsFrame, IsNumbered}
+use Rattle.df_frame.specs.FrameTables.{tagged_rows_of}
 use Rattle.df_catalogue.specs.LiveViews.{headings, tagged_frames, view_state, AreChangesOf, AreLive}
 use Rattle.df_catalogue.specs.Parts.{state_of, IsCatalogue}
-use Rattle.df_catalogue.specs.Refusals.{refusal_of, append_refusal, delete_refusal, first_reason, doubled_number_after, first_not_live, numbers_refusal, replace_refusal}
+use Rattle.df_catalogue.specs.Refusals.{refusal_of, append_refusal, delete_refusal, first_reason, numbers_refusal, replace_refusal}
+use Rattle.df_frame.specs.Refusals.{doubled_number_after, first_not_live}
 use Rattle.df_catalogue.specs.States.{IsLegal, IsPlanOver}
 use Rattle.df_catalogue.specs.Transitions.{IsTransitionOfDesk, IsTransitionOfDesks}
-use Rattle.df_catalogue.proofs.Counting.{deleted-more, sum-change}
-use Rattle.df_catalogue.proofs.FrameFacts.{accepted-more, numbered-at, numbered-with_chunk, numbered-with_replaced_rows, numbered-without_rows}
+use Rattle.df_catalogue.proofs.Books.{sum-change}
+use Rattle.df_catalogue.proofs.SoundFrames.{numbered-at}
+use Rattle.df_frame.proofs.FrameChangeFacts.{frame-accepted, frame-deleted}
 use Rattle.df_catalogue.proofs.Legal.{append-accepted, legal-after, replace-accepted}
 use Rattle.df_catalogue.proofs.LiveFacts.{are-changes, headings-plans, is-change, tagged-changed, views-live}
 use Rattle.df_catalogue.proofs.StateFacts.{change-set}
@@ -131,12 +135,24 @@ changeable-of frames views t f g c x same place h free lent =
     changeable (state_of (schemas_of frames) (states_of frames) views) f c x.state h (free-of _ t f g c same place free)
     (lent-map (λ y. y.state) frames f x lent)
 
--- a frame is sound after it
-pub numbered-after : (f : ℕ) (c : FrameChange) (x : FrameState) → IsSound (change_of f c) → IsNumbered x → FrameTakes x c → IsNumbered (frame_after x c)
-numbered-after f (Append chunk) x sound h takes = numbered-with_chunk chunk.now x h sound.numbered takes.0 takes.1
-numbered-after f (Prepared chunk) x sound h takes = numbered-with_chunk chunk.now x h sound.numbered takes.0 takes.1
-numbered-after f (Delete ns) x sound h takes = numbered-without_rows ns.now x h
-numbered-after f (Replace rows) x sound h takes = numbered-with_replaced_rows rows.now x h
+-- the change of a catalogue that it is adds and takes out as many rows, and is sound where it is
+pub accepted-of : (f : ℕ) (c : FrameChange) → of_frame.accepted_rows c ≡ accepted_rows (change_of f c)
+accepted-of f (Append chunk) = refl
+accepted-of f (Prepared chunk) = refl
+accepted-of f (Delete ns) = refl
+accepted-of f (Replace rows) = refl
+
+pub deleted-of : (f : ℕ) (c : FrameChange) → of_frame.deleted_rows c ≡ deleted_rows (change_of f c)
+deleted-of f (Append chunk) = refl
+deleted-of f (Prepared chunk) = refl
+deleted-of f (Delete ns) = refl
+deleted-of f (Replace rows) = refl
+
+pub sound-of : (f : ℕ) (c : FrameChange) → of_frame.IsSound c → IsSound (change_of f c)
+sound-of f (Append chunk) h = h
+sound-of f (Prepared chunk) h = h
+sound-of f (Delete ns) h = h
+sound-of f (Replace rows) h = h
 
 -- what it makes of a state
 pub after-frame :
@@ -169,21 +185,6 @@ fits-after frames views f c x h sound free known lent =
     let sound-frames : AllZip IsFrame (schemas_of frames) (change_at f (λ y. frame_after y c) (states_of frames)) =
     subst (λ (t : State). AllZip IsFrame t.schemas t.frames) (after-frame s f c) legal.frames in
     (sound-after frames f (λ y. frame_after y c) x sound-frames lent within).fitting
-
-pub frame-accepted :
-    (f : ℕ) (c : FrameChange) (x : FrameState) → length (frame_after x c).accepted ≡ length x.accepted + accepted_rows (change_of f c)
-frame-accepted f (Append chunk) x = accepted-more chunk.now x
-frame-accepted f (Prepared chunk) x = accepted-more chunk.now x
-frame-accepted f (Delete ns) x = omega arith
-frame-accepted f (Replace rows) x = omega arith
-
-pub frame-deleted :
-    (f : ℕ) (c : FrameChange) (x : FrameState) → IsNumbered x → FrameTakes x c →
-    length (frame_after x c).deleted ≡ length x.deleted + deleted_rows (change_of f c)
-frame-deleted f (Append chunk) x sound takes = omega arith
-frame-deleted f (Prepared chunk) x sound takes = omega arith
-frame-deleted f (Delete ns) x sound takes = deleted-more x ns.now sound takes.0 takes.1
-frame-deleted f (Replace rows) x sound takes = omega arith
 
 -- new rows leave a desk as it is
 pub replace-desk : (d : DeskParts) (f : ℕ) (rows : List (ℕ × List Cell)) → desk_after d (change.Replace f rows) ≡ d
@@ -230,10 +231,12 @@ booked s f c x h =
     let change : FrameState → FrameState = λ x. frame_after x c in record {
       accepted =
           ap accepted_in (after-frame s f c)
-          ∙ sum-change (λ y. length y.accepted) (accepted_rows (change_of f c)) f change s.frames x h.at (frame-accepted f c x);
+          ∙ sum-change (λ y. length y.accepted) (accepted_rows (change_of f c)) f change s.frames x h.at
+          (frame-accepted c x ∙ ap (λ k. length x.accepted + k) (accepted-of f c));
       deleted =
           ap deleted_in (after-frame s f c)
-          ∙ sum-change (λ y. length y.deleted) (deleted_rows (change_of f c)) f change s.frames x h.at (frame-deleted f c x h.numbered h.takes);
+          ∙ sum-change (λ y. length y.deleted) (deleted_rows (change_of f c)) f change s.frames x h.at
+          (frame-deleted c x h.numbered h.takes ∙ ap (λ k. length x.deleted + k) (deleted-of f c));
     }
 
 -- the schemas and states of the frames, of which one is changed and keeps its schema

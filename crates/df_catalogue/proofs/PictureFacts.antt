@@ -6,10 +6,10 @@ use Rattle.std.proofs.lemmas.Option.{slice_get-map}
 use Rattle.df_value.specs.declared.cell.Cell.{Cell}
 use Rattle.df_catalogue.specs.declared.fault.CatalogueFault.TheVariants as fault
 use Rattle.df_catalogue.specs.declared.picture.PicturedView.{PicturedView}
-use Rattle.df_catalogue.specs.declared.state.FrameState.{FrameState}
+use Rattle.df_frame.specs.declared.state.FrameState.{FrameState}
 use Rattle.df_catalogue.specs.declared.state.State.{State}
 use Rattle.df_catalogue.specs.declared.state.ViewState.{ViewState}
-use Rattle.df_catalogue.specs.Frames.{IsFrame}
+use Rattle.df_frame.specs.Frames.{IsFrame}
 use Rattle.df_catalogue.specs.LiveViews.{view_state}
 use Rattle.df_catalogue.specs.Pictures.{AreNumberedTables, PictureParts, frame_len_in, frame_numbers_in, frame_rows_in, named_rows, named_rows_in, numbered_rows_in, picture_of, rows_in, value_in, view_rows_in}
 use Rattle.df_catalogue.specs.Reads.{frame_numbers_of, frame_rows_of, live_of, view_rows_of}
@@ -19,11 +19,11 @@ use Rattle.df_column.specs.Tables.{TableParts}
 use Rattle.df_plan.specs.CheckedParts.{CheckedParts}
 use Rattle.df_plan.specs.Meaning.{table_of}
 use Rattle.std.specs.FinMap as finite
-use Rattle.df_catalogue.specs.FrameParts.{FrameParts, schemas_of, states_of}
-use Rattle.df_catalogue.specs.FrameTables.{IsNumberedTable, table_parts, tagged_rows_of}
+use Rattle.df_frame.specs.FrameParts.{FrameParts, schemas_of, states_of}
+use Rattle.df_frame.specs.FrameTables.{IsNumberedTable, table_parts, tagged_rows_of}
 use Rattle.df_catalogue.specs.Parts.{state_of}
 use Rattle.df_catalogue.proofs.Loops.{mapped-more}
-use Rattle.df_catalogue.proofs.FrameTableFacts.{Rows, frame-numbered, numbered-cells, numbered-table, table-tags}
+use Rattle.df_frame.proofs.FrameTableFacts.{Rows, frame-numbered, numbered-cells, numbered-table, table-tags}
 use Rattle.std.specs.List.{AllZip}
 use Rattle.std.specs.Option.{IfSome}
 

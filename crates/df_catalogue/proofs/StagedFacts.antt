@@ -8,8 +8,8 @@ use Rattle.df_catalogue.specs.declared.change.Change.{Change}
 use Rattle.df_catalogue.specs.declared.change.Change.TheVariants.{Register}
 use Rattle.df_catalogue.specs.declared.fault.CatalogueFault.{CatalogueFault}
 use Rattle.df_catalogue.specs.declared.fault.CatalogueFault.TheVariants as fault
-use Rattle.df_catalogue.specs.declared.frame_change.FrameChange.{FrameChange}
-use Rattle.df_catalogue.specs.declared.frame_change.FrameChange.TheVariants.{Append, Delete, Prepared, Replace}
+use Rattle.df_frame.specs.declared.frame_change.FrameChange.{FrameChange}
+use Rattle.df_frame.specs.declared.frame_change.FrameChange.TheVariants.{Append, Delete, Prepared, Replace}
 use Rattle.df_catalogue.specs.declared.staging.StagedFrame.{StagedFrame}
 use Rattle.df_catalogue.specs.declared.staging.Staging.{Staging}
 use Rattle.df_catalogue.specs.declared.staging.Staging.TheVariants.{Rows}
@@ -22,7 +22,7 @@ use Rattle.df_catalogue.specs.Answers.{RefusedBy}
 use Rattle.df_catalogue.specs.Changes as changes
 use Rattle.df_catalogue.specs.Desks.{DeskParts, desk_after}
 use Rattle.df_catalogue.specs.FrameChanges.{change_of}
-use Rattle.df_catalogue.specs.FrameParts.{FrameParts, schemas_of, states_of}
+use Rattle.df_frame.specs.FrameParts.{FrameParts, schemas_of, states_of}
 use Rattle.df_catalogue.specs.Parts.{state_of}
 use Rattle.df_catalogue.specs.Refusals.{refusal_of}
 use Rattle.df_catalogue.specs.StagedChanges.{counted_desk, counts_of, counts_staged, IsCommit, IsStagedChange, IsStagedFor}

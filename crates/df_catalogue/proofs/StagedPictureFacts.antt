@@ -9,12 +9,12 @@ use Rattle.df_live.specs.declared.view.StagedView.{StagedView}
 use Rattle.df_plan.specs.Meaning.{table_of}
 use Rattle.df_catalogue.specs.declared.picture.PicturedView.{PicturedView}
 use Rattle.df_catalogue.specs.declared.staging.StagedFrame.{StagedFrame}
-use Rattle.df_catalogue.specs.declared.state.FrameState.{FrameState}
+use Rattle.df_frame.specs.declared.state.FrameState.{FrameState}
 use Rattle.df_catalogue.specs.declared.views.View.{View}
 use Rattle.df_catalogue.specs.Changes.{refreshed_views}
-use Rattle.df_catalogue.specs.FrameParts.{FrameParts, schemas_of, states_of}
-use Rattle.df_catalogue.specs.FrameTables.{table_parts}
-use Rattle.df_catalogue.specs.Frames.{rows_of}
+use Rattle.df_frame.specs.FrameParts.{FrameParts, schemas_of, states_of}
+use Rattle.df_frame.specs.FrameTables.{table_parts}
+use Rattle.df_frame.specs.Frames.{rows_of}
 use Rattle.df_catalogue.specs.LiveViews.{tagged_frames, view_state, AreStaged}
 use Rattle.df_catalogue.specs.Pictures.{AreNumberedTables, PictureParts, named_rows, named_rows_in, numbered_rows_in, picture_of, planned_rows, rows_in}
 use Rattle.df_catalogue.specs.Staging.{frames_with, state_with_rows, IsStagedFrame}

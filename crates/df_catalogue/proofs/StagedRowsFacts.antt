@@ -7,18 +7,19 @@ use Rattle.df_delta.specs.Deltas.{Changes}
 use Rattle.df_delta.specs.Differences.{IsDiff}
 use Rattle.df_delta.specs.Work.{IsWithin}
 use Rattle.df_live.specs.Frames.{changed}
-use Rattle.df_catalogue.specs.declared.frame_change.FrameChange.{FrameChange}
-use Rattle.df_catalogue.specs.declared.frame_change.FrameChange.TheVariants.{Append, Delete, Prepared, Replace}
+use Rattle.df_frame.specs.declared.frame_change.FrameChange.{FrameChange}
+use Rattle.df_frame.specs.declared.frame_change.FrameChange.TheVariants.{Append, Delete, Prepared, Replace}
 use Rattle.df_catalogue.specs.declared.staging.StagedFrame.{StagedFrame}
-use Rattle.df_catalogue.specs.declared.state.FrameState.{FrameState}
+use Rattle.df_frame.specs.declared.state.FrameState.{FrameState}
 use Rattle.df_catalogue.specs.declared.state.RowCounts.{RowCounts}
 use Rattle.df_catalogue.specs.declared.state.State.{State}
 use Rattle.df_catalogue.specs.declared.views.View.{View}
 use Rattle.df_catalogue.specs.Changes.{accepted_rows, after, change_at, deleted_rows, refreshed_views, IsSound}
 use Rattle.df_catalogue.specs.Desks.{accepted_in, deleted_in}
-use Rattle.df_catalogue.specs.FrameChanges.{change_of, frame_after}
-use Rattle.df_catalogue.specs.FrameParts.{FrameParts, schemas_of, states_of}
-use Rattle.df_catalogue.specs.FrameTables.{tagged_rows_of}
+use Rattle.df_catalogue.specs.FrameChanges.{change_of}
+use Rattle.df_frame.specs.FrameChanges.{frame_after}
+use Rattle.df_frame.specs.FrameParts.{FrameParts, schemas_of, states_of}
+use Rattle.df_frame.specs.FrameTables.{tagged_rows_of}
 use Rattle.df_catalogue.specs.LiveViews.{plans, tagged_frames, view_state, AreChangesOf, AreStaged, HaveRoom}
 use Rattle.df_catalogue.specs.Parts.{state_of}
 use Rattle.df_catalogue.specs.Refusals.{refusal_of}

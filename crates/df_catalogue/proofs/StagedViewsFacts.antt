@@ -12,7 +12,7 @@ use Rattle.df_catalogue.specs.declared.state.State.{State}
 use Rattle.df_catalogue.specs.declared.state.ViewState.{ViewState}
 use Rattle.df_catalogue.specs.declared.views.View.{View}
 use Rattle.df_catalogue.specs.Changes.{after}
-use Rattle.df_catalogue.specs.FrameParts.{FrameParts, schemas_of, states_of}
+use Rattle.df_frame.specs.FrameParts.{FrameParts, schemas_of, states_of}
 use Rattle.df_catalogue.specs.LiveViews.{tagged_frames, view_state}
 use Rattle.df_catalogue.specs.Parts.{state_of, IsCatalogue}
 use Rattle.df_catalogue.specs.Refusals.{refusal_of}

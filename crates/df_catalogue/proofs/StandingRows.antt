@@ -7,9 +7,9 @@ use Rattle.df_value.specs.declared.cell.Cell.{Cell}
 use Rattle.df_column.specs.RowRuns.{StandFrom}
 use Rattle.df_column.specs.Tables.{TaggedRows}
 use Rattle.df_column.specs.declared.tag.Tag.{Tag}
-use Rattle.df_catalogue.specs.FrameTables.{at_tag, numbered_row, numbered_rows}
+use Rattle.df_frame.specs.FrameTables.{at_tag, numbered_row, numbered_rows}
 use Rattle.df_catalogue.specs.Pictures.{AreRowsIn, PictureParts, ReachesIn, row_in}
-use Rattle.df_catalogue.proofs.FrameTableFacts.{some_entry, table-length, tag-at-place}
+use Rattle.df_frame.proofs.FrameTableFacts.{some_entry, table-length, tag-at-place}
 
 -- rows that stand in the table of a picture's frame from a place on are the frame's from there on
 pub rows-stand :

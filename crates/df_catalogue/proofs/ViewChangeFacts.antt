@@ -7,7 +7,7 @@ use Rattle.df_column.specs.Tables.{TaggedRows}
 use Rattle.df_plan.specs.Checks.{plan_check}
 use Rattle.df_live.specs.Views.{IsLive}
 use Rattle.df_catalogue.specs.declared.state.State.{State}
-use Rattle.df_catalogue.specs.declared.state.FrameState.{FrameState}
+use Rattle.df_frame.specs.declared.state.FrameState.{FrameState}
 use Rattle.df_catalogue.specs.declared.state.ViewState.{ViewState}
 use Rattle.df_catalogue.specs.declared.views.View.{View}
 use Rattle.df_catalogue.specs.declared.change.Change.TheVariants.{Register, DropView}

@@ -11,8 +11,8 @@ use Rattle.df_live.specs.Views.{most_work, work}
 use Rattle.df_catalogue.specs.declared.change.Change.{Change}
 use Rattle.df_catalogue.specs.declared.change.Change.TheVariants.{Append, Delete, Replace, Register, DropView}
 use Rattle.df_catalogue.specs.declared.fault.CatalogueFault.{CatalogueFault}
-use Rattle.df_catalogue.specs.declared.frame_change.FrameChange.{FrameChange}
-use Rattle.df_catalogue.specs.declared.frame_change.FrameChange.TheVariants as RowsOf
+use Rattle.df_frame.specs.declared.frame_change.FrameChange.{FrameChange}
+use Rattle.df_frame.specs.declared.frame_change.FrameChange.TheVariants as RowsOf
 use Rattle.df_catalogue.specs.declared.state.CatalogueParts.{CatalogueParts}
 use Rattle.df_catalogue.specs.declared.state.State.{State}
 use Rattle.df_catalogue.specs.declared.views.View.{View}

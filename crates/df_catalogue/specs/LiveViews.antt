@@ -6,10 +6,10 @@ use Rattle.df_delta.specs.Deltas.{Changes}
 use Rattle.df_plan.specs.CheckedParts.{CheckedParts}
 use Rattle.df_live.specs.Views.{HasRoomFor, IsChangeOf, IsLive, LeadsTo}
 use Rattle.df_live.specs.declared.view.StagedView.{StagedView}
-use Rattle.df_catalogue.specs.declared.state.FrameState.{FrameState}
+use Rattle.df_frame.specs.declared.state.FrameState.{FrameState}
 use Rattle.df_catalogue.specs.declared.state.ViewState.{ViewState}
 use Rattle.df_catalogue.specs.declared.views.View.{View}
-use Rattle.df_catalogue.specs.FrameTables.{tagged_rows_of}
+use Rattle.df_frame.specs.FrameTables.{tagged_rows_of}
 
 -- what callers see of a view
 abbrev pub view_state : View → ViewState

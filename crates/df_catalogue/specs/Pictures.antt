@@ -14,7 +14,7 @@ use Rattle.df_plan.specs.CheckedParts.{CheckedParts}
 use Rattle.df_plan.specs.Meaning.{table_of}
 use Rattle.std.specs.FinMap as finite
 use Rattle.std.specs.List.{AllByRecursion}
-use Rattle.df_catalogue.specs.FrameTables.{IsNumberedTable, numbered_rows}
+use Rattle.df_frame.specs.FrameTables.{IsNumberedTable, numbered_rows}
 use Rattle.df_catalogue.specs.States.{IsLegal}
 
 -- the rows of each frame behind their numbers, by rising number, and each view's name with its rows, in order of

@@ -7,7 +7,7 @@ use Rattle.df_catalogue.specs.declared.state.State.{State}
 use Rattle.df_catalogue.specs.declared.state.ViewState.{ViewState}
 use Rattle.df_catalogue.specs.declared.fault.CatalogueFault.{CatalogueFault}
 use Rattle.df_catalogue.specs.declared.fault.CatalogueFault.TheVariants as fault
-use Rattle.df_catalogue.specs.Frames.{is_row_at, rows_of, numbers_of}
+use Rattle.df_frame.specs.Frames.{is_row_at, rows_of, numbers_of}
 
 -- the rows of a frame, and their numbers
 abbrev pub frame_rows_of : State → ℕ → Result (List (List Cell)) CatalogueFault

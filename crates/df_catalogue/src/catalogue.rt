@@ -4,16 +4,16 @@ ghost use Rattle.df_catalogue.specs.New as new_spec;
 ghost use Rattle.df_catalogue.specs.Desks as desks_spec;
 ghost use Rattle.df_catalogue.specs.Ledgers as ledgers;
 ghost use Rattle.df_value.specs.Limits as limits;
-ghost use Rattle.df_catalogue.specs.FrameParts.{empty_parts};
+ghost use Rattle.df_frame.specs.FrameParts.{empty_parts};
 ghost use Rattle.df_catalogue.specs.States.{opening_of, IsLegal};
 ghost use Rattle.df_delta.specs.Work.{no_work};
 
 use crate::desk::{Desk, audit_all};
 use crate::fault::NewFault;
-use crate::frame::Frame;
 use crate::staging::Staging;
 use crate::views::View;
 use df_expr::Meter;
+use df_frame::Frame;
 use df_value::{List, MOST_FRAMES, Schema};
 use std::alloc::{AllocError, Global};
 use std::marker::Model;
@@ -62,7 +62,7 @@ impl<Acc: Ledger, Del: Ledger> Drop for Catalogue<Acc, Del> {
 
 impl<Acc: Ledger, Del: Ledger> Model for Catalogue<Acc, Del> {
     ghost use Rattle.df_catalogue.specs.declared.state.CatalogueParts.{CatalogueParts};
-    ghost use Rattle.df_catalogue.specs.FrameParts.{schemas_of, states_of};
+    ghost use Rattle.df_frame.specs.FrameParts.{schemas_of, states_of};
     ghost use Rattle.df_catalogue.specs.Parts.{state_of};
     ghost use Rattle.df_catalogue.specs.Staging.{IsSoundCatalogue, staged_parts};
     ghost use Rattle.std.specs.Coded.{codes};

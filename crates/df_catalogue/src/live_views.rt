@@ -5,15 +5,15 @@ ghost use Rattle.df_column.specs.Tables.{TaggedRows};
 ghost use Rattle.df_delta.specs.Work.{IsBelow, IsWithin, no_work, plus};
 ghost use Rattle.df_live.specs.Frames.{changed};
 ghost use Rattle.df_live.specs.Views.{HasRoomFor, IsChangeOf, IsLive, LeadsTo, most_work, work};
-ghost use Rattle.df_catalogue.specs.FrameTables.{table_parts};
+ghost use Rattle.df_frame.specs.FrameTables.{table_parts};
 ghost use Rattle.df_catalogue.specs.LiveViews.{AreChangesOf, AreLive, AreStaged, HaveRoom, headings, plans};
 ghost use Rattle.df_catalogue.specs.Work.{work_of_all};
 
-use crate::frame::Frame;
 use crate::views::View;
 use df_column::Table;
 use df_delta::Delta;
 use df_expr::Meter;
+use df_frame::Frame;
 use df_live::StagedView;
 use std::alloc::{AllocError, Global};
 

@@ -2,17 +2,15 @@
 ghost use Rattle.std.specs.Prelude.{◌≡◌, ◌↔◌, ◌<◌, ◌≤◌, ◌+◌, IfOk, IfSome, IsTrue, bytes_eq, find, length, map, option_map, position, slice_get};
 ghost use Rattle.std.specs.Option.{option_copied};
 ghost use Rattle.df_catalogue.specs.Answers.{AnswersMemoryLast};
-ghost use Rattle.df_catalogue.specs.FrameTables.{IsNumberedTable};
+ghost use Rattle.df_frame.specs.FrameTables.{IsNumberedTable};
 ghost use Rattle.df_catalogue.specs.LiveViews.{view_state};
 ghost use Rattle.df_catalogue.specs.Pictures as pictures;
 ghost use Rattle.df_value.specs.Limits as limits;
 
-use crate::deltas::row_tag;
 use crate::fault::CatalogueFault;
-use crate::row_numbers::row_numbers;
-use crate::stored::StoredChunk;
 use crate::views::View;
 use df_column::Table;
+use df_frame::{StoredChunk, row_numbers, row_tag};
 use df_plan::{CheckedPlan, evaluate};
 use df_value::{Duplicate, List, Row, Text};
 use std::alloc::{AllocError, Global};

@@ -1,9 +1,9 @@
 //! Whether schemas are the same.
 ghost use Rattle.std.specs.Prelude.{◌≡◌};
-ghost use Rattle.df_catalogue.specs.FrameParts.{schemas_of};
+ghost use Rattle.df_frame.specs.FrameParts.{schemas_of};
 ghost use Rattle.df_catalogue.specs.Schemas as schemas_spec;
 
-use crate::frame::Frame;
+use df_frame::Frame;
 use df_value::{Schema, same};
 
 /// Whether two schemas are the same.

@@ -2,19 +2,19 @@
 ghost use Rattle.std.specs.Prelude.{◌≡◌, ◌<◌, ◌++◌, ◌∷◌, [], ℕ, IfOk, List, length, map, remove};
 ghost use Rattle.std.specs.List.{AllZip};
 ghost use Rattle.df_column.specs.Tables.{TaggedRows};
-ghost use Rattle.df_catalogue.specs.FrameParts.{schemas_of, states_of};
-ghost use Rattle.df_catalogue.specs.Frames.{IsFrame};
+ghost use Rattle.df_frame.specs.FrameParts.{schemas_of, states_of};
+ghost use Rattle.df_frame.specs.Frames.{IsFrame};
 ghost use Rattle.df_catalogue.specs.LiveViews.{AreStaged};
 ghost use Rattle.df_catalogue.specs.Parts.{state_of};
 ghost use Rattle.df_catalogue.specs.Pictures.{named_rows_in, next_state, picture_of, planned_rows};
 ghost use Rattle.df_catalogue.specs.Staging.{IsStagedFrame, IsStaging, staged_state, state_with_rows};
 
 use crate::catalogue::Catalogue;
-use crate::frame::Frame;
 use crate::live_views::shared_tables;
 use crate::picture::{Picture, PicturedView, pictured_view, pictured_views};
 use crate::staging::{StagedFrame, Staging};
 use crate::views::View;
+use df_frame::Frame;
 use df_live::StagedView;
 use df_value::Duplicate;
 use std::alloc::{AllocError, Global};

@@ -2,9 +2,9 @@
 ghost use Rattle.std.specs.Prelude.{◌≡◌, None, Some};
 ghost use Rattle.df_catalogue.specs.Staging as staging;
 
-use crate::frame::Frame;
 use crate::views::View;
 use df_expr::Meter;
+use df_frame::Frame;
 use df_live::StagedView;
 
 /// One frame after a change of its rows, what each view prepared for it, what the views counted, and

@@ -10,7 +10,7 @@ use Rattle.df_catalogue.specs.Reads.{view_named, view_names_of, view_rows_of}
 use Rattle.df_catalogue.specs.States.{IsLegal, value_over}
 use Rattle.df_catalogue.specs.declared.fault.CatalogueFault.{CatalogueFault}
 use Rattle.df_catalogue.specs.declared.fault.CatalogueFault.TheVariants as fault
-use Rattle.df_catalogue.specs.declared.state.FrameState.{FrameState}
+use Rattle.df_frame.specs.declared.state.FrameState.{FrameState}
 use Rattle.df_catalogue.specs.declared.state.State.{State}
 use Rattle.df_catalogue.specs.declared.state.ViewState.{ViewState}
 use Rattle.df_shell.specs.Checks.{differs, first_differing}

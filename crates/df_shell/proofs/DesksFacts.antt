@@ -8,8 +8,8 @@ use Rattle.std.proofs.lemmas.Option.{slice_get-get_or}
 use Rattle.df_catalogue.specs.Changes.{change_at}
 use Rattle.df_catalogue.specs.Desks.{DeskParts, desk_after, desks_after, first_desk, first_desks}
 use Rattle.df_catalogue.specs.declared.change.Change.{Change}
-use Rattle.df_catalogue.specs.declared.frame_change.FrameChange.{FrameChange}
-use Rattle.df_catalogue.specs.declared.frame_change.FrameChange.TheVariants as Rows
+use Rattle.df_frame.specs.declared.frame_change.FrameChange.{FrameChange}
+use Rattle.df_frame.specs.declared.frame_change.FrameChange.TheVariants as Rows
 use Rattle.df_catalogue.specs.declared.view_change.ViewChange.{ViewChange}
 use Rattle.df_catalogue.specs.declared.view_change.ViewChange.TheVariants as Views
 use Rattle.df_catalogue.specs.FrameChanges.{change_of}

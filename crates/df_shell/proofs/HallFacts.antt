@@ -7,7 +7,7 @@ use Rattle.df_catalogue.specs.Changes.{after}
 use Rattle.df_catalogue.specs.declared.change.Change.{Change}
 use Rattle.df_catalogue.specs.declared.fault.CatalogueFault.{CatalogueFault}
 use Rattle.df_catalogue.specs.declared.state.State.{State}
-use Rattle.df_catalogue.specs.declared.frame_change.FrameChange.{FrameChange}
+use Rattle.df_frame.specs.declared.frame_change.FrameChange.{FrameChange}
 use Rattle.df_catalogue.specs.Desks.{DeskParts, desk_after, desks_after}
 use Rattle.df_catalogue.specs.FrameChanges.{change_of}
 use Rattle.df_catalogue.proofs.FrameChangeFacts.{desks-counted}

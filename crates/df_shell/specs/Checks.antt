@@ -3,7 +3,7 @@ use Rattle.std.specs.Prelude.{◌++◌, ℕ, Bool, not, List, Option, Some, None
 use Rattle.std.specs.Cmp.Lexicographic.{pointwise}
 use Rattle.df_value.specs.Rows.{row_eq}
 use Rattle.df_catalogue.specs.States.{value_over}
-use Rattle.df_catalogue.specs.declared.state.FrameState.{FrameState}
+use Rattle.df_frame.specs.declared.state.FrameState.{FrameState}
 use Rattle.df_catalogue.specs.declared.state.State.{State}
 use Rattle.df_catalogue.specs.declared.state.ViewState.{ViewState}
 use Rattle.df_print.specs.Printed.{escaped_text}

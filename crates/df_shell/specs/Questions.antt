@@ -1,10 +1,10 @@
 -- The texts that questions are answered with.
 use Rattle.std.specs.Prelude.{◌≡◌, ◌++◌, ℕ, List, Option, Some, None, Result, MatchResult, codes, decimal, flat_map, length, option_map, slice_get}
 use Rattle.std.specs.Global.{Vec}
-use Rattle.df_catalogue.specs.Frames.{numbers_of, rows_of}
+use Rattle.df_frame.specs.Frames.{numbers_of, rows_of}
 use Rattle.df_catalogue.specs.Reads.{view_named, view_names_of}
 use Rattle.df_catalogue.specs.declared.fault.CatalogueFault.TheVariants as fault
-use Rattle.df_catalogue.specs.declared.state.FrameState.{FrameState}
+use Rattle.df_frame.specs.declared.state.FrameState.{FrameState}
 use Rattle.df_catalogue.specs.declared.state.CatalogueParts.{CatalogueParts}
 use Rattle.df_catalogue.specs.declared.state.State.{State}
 use Rattle.df_catalogue.specs.declared.state.ViewState.{ViewState}

@@ -12,9 +12,9 @@ use Rattle.df_catalogue.specs.contracts.staging.StagedFrame as StagedFrame
 use Rattle.df_catalogue.specs.contracts.staging.Staging as Staging
 use Rattle.df_catalogue.specs.contracts.views.View as View
 use Rattle.df_catalogue.specs.contracts.catalogue.Catalogue as Catalogue
-use Rattle.df_catalogue.specs.contracts.frame.Frame as Frame
-use Rattle.df_catalogue.specs.contracts.frame.Frame.TheInside as FrameInside
-use Rattle.df_catalogue.proofs.ranges.Ranges.TheSendSync as ranges
+use Rattle.df_frame.specs.contracts.frame.Frame as Frame
+use Rattle.df_frame.specs.contracts.frame.Frame.TheInside as FrameInside
+use Rattle.df_frame.proofs.ranges.Ranges.TheSendSync as ranges
 use Rattle.df_versions.specs.declared.history.Naming.{Ghosts as Names}
 use Rattle.df_versions.proofs.Crosses.{versioned_send}
 use Rattle.df_store.specs.contracts.hall.Hall as Hall

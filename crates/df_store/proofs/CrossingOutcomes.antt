@@ -3,8 +3,8 @@ use denote.Param.Send.{IsSend, sendable}
 use Rattle.std.proofs.Crossing.{crosses}
 use Rattle.df_value.proofs.chunk.Piece.TheSendSync as piece
 use Rattle.df_column.proofs.Crossing.{table_send, table_sync}
-use Rattle.df_catalogue.specs.contracts.stored.StoredChunk as StoredChunk
-use Rattle.df_catalogue.specs.contracts.stored.StoredChunk.TheInside as StoredInside
+use Rattle.df_frame.specs.contracts.stored.StoredChunk as StoredChunk
+use Rattle.df_frame.specs.contracts.stored.StoredChunk.TheInside as StoredInside
 use Rattle.df_store.specs.contracts.made.KeptPiece as KeptPiece
 use Rattle.df_store.specs.contracts.made.Made as Made
 use Rattle.df_store.specs.contracts.made.Made.TheInside as MadeInside

@@ -1,7 +1,7 @@
 -- Totals that are put in a frame at a time.
 use Rattle.std.proofs.Common.{◌≡◌, ℕ, ◌+◌, ◌<◌, ◌≤◌, ◌∙◌, List, [], ◌∷◌, ◌++◌, map, length, take, ap, sym, arith}
 use Rattle.std.specs.Prelude.{Some, slice_get}
-use Rattle.df_catalogue.specs.declared.state.FrameState.{FrameState}
+use Rattle.df_frame.specs.declared.state.FrameState.{FrameState}
 use Rattle.df_store.specs.declared.totals.TotalsRoom.{TotalsRoom}
 use Rattle.df_store.specs.Rooms.{HasRoomFor, Holds}
 use Rattle.df_store.proofs.ListFacts.{item-at, map-more, take-one-more}

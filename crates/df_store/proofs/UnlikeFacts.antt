@@ -10,12 +10,12 @@ use Rattle.df_value.specs.Limits as limits
 use Rattle.df_value.specs.declared.cell.Cell.{Cell}
 use Rattle.df_value.specs.declared.chunk.Piece.{Piece}
 use Rattle.df_value.specs.declared.chunk.Piece.TheVariants.{Bad, Good}
-use Rattle.df_catalogue.specs.Frames.{IsFrame, IsNumbered}
-use Rattle.df_catalogue.specs.Numbers.{has_number, is_rising}
+use Rattle.df_frame.specs.Frames.{IsFrame, IsNumbered}
+use Rattle.df_frame.specs.Numbers.{has_number, is_rising}
 use Rattle.df_catalogue.specs.Pictures.{IsPictureOfLegal, PictureParts, picture_of}
-use Rattle.df_catalogue.specs.declared.state.FrameState.{FrameState}
+use Rattle.df_frame.specs.declared.state.FrameState.{FrameState}
 use Rattle.df_catalogue.specs.declared.state.State.{State}
-use Rattle.df_catalogue.proofs.Rising.{rising-filter}
+use Rattle.df_frame.proofs.Rising.{rising-filter}
 use Rattle.df_nodes.proofs.Filters.{filter_length}
 use Rattle.df_store.specs.declared.expected.Expected.{Expected}
 use Rattle.df_store.specs.declared.jobs.Outcome.{Outcome}

@@ -8,7 +8,7 @@ use Rattle.df_value.specs.declared.chunk.Piece.{Piece}
 use Rattle.df_value.specs.declared.chunk.Piece.TheVariants.{Good, Bad}
 use Rattle.df_catalogue.specs.Pictures.{PictureParts, row_in}
 use Rattle.df_catalogue.specs.declared.state.State.{State}
-use Rattle.df_catalogue.specs.declared.state.FrameState.{FrameState}
+use Rattle.df_frame.specs.declared.state.FrameState.{FrameState}
 
 -- the rows of a chunk behind their numbers
 abbrev pub chunk_rows : ChunkParts → List (ℕ × List Cell)

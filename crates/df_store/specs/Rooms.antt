@@ -1,6 +1,6 @@
 -- Room for totals, which is there before the first change, so that a close takes no memory.
 use Rattle.std.specs.Prelude.{◌≡◌, ℕ, ◌+◌, ◌≤◌, List, map, vec_len, vec_capacity, length}
-use Rattle.df_catalogue.specs.declared.state.FrameState.{FrameState}
+use Rattle.df_frame.specs.declared.state.FrameState.{FrameState}
 use Rattle.df_store.specs.declared.totals.TotalsRoom.{TotalsRoom}
 
 -- the totals of so many more frames go in without an allocation

@@ -2,7 +2,7 @@
 ghost use Rattle.std.specs.Prelude.{◌≡◌, ◌+◌, ◌<◌, ◌≤◌, ◌==◌, ◌^◌, None, Some, [], IfErr, IfNone, IfOk, IfSome, length, slice_get, if◌then◌else◌};
 ghost use Rattle.df_catalogue.specs.Desks as desks_spec;
 ghost use Rattle.df_catalogue.specs.States.{IsLegal};
-ghost use Rattle.df_catalogue.specs.declared.state.FrameState.{FrameState};
+ghost use Rattle.df_frame.specs.declared.state.FrameState.{FrameState};
 ghost use Rattle.df_store.specs.Closing as closing;
 ghost use Rattle.df_store.specs.Rooms.{HasRoomFor, Holds};
 ghost use Rattle.df_value.specs.Limits as limits;

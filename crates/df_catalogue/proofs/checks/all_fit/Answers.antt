@@ -1,6 +1,6 @@
 use Rattle.std.proofs.Common.{◌∙◌, sym}
 use Rattle.df_value.specs.Rows.{row_fits}
-use Rattle.df_catalogue.proofs.Members.{all-map}
+use Rattle.df_catalogue.proofs.AllPass.{all-map}
 use Rattle.df_catalogue.proofs.checks.all_fit.Goals as goal
 
 pub returns : goal.returns

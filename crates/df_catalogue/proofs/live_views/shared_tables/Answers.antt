@@ -1,5 +1,5 @@
 use Rattle.df_catalogue.proofs.Loops.{mapped-more}
-use Rattle.df_catalogue.specs.FrameTables.{table_parts}
+use Rattle.df_frame.specs.FrameTables.{table_parts}
 use Rattle.df_catalogue.proofs.live_views.shared_tables.Goals as goal
 
 pub loop-frame-preserved : goal.loop-frame-preserved

@@ -1,5 +1,5 @@
 use Rattle.std.proofs.Common.{◌≡◌, take, map}
-use Rattle.df_catalogue.specs.FrameTables.{table_parts}
+use Rattle.df_frame.specs.FrameTables.{table_parts}
 use Rattle.df_catalogue.proofs.live_views.shared_tables.Given as goal
 
 abbrev pub invariant-loop-frame : goal.invariant-loop-frame

@@ -2,7 +2,7 @@ use Rattle.std.proofs.Common.{◌≡◌, ℕ, ◌+◌, ◌<◌, ◌∙◌, true,
 use Rattle.std.specs.Prelude.{◌&&◌}
 use Rattle.std.proofs.lemmas.List.{length-map}
 use Rattle.df_value.specs.declared.cell.CellType.{CellType}
-use Rattle.df_catalogue.specs.FrameParts.{schemas_of}
+use Rattle.df_frame.specs.FrameParts.{schemas_of}
 use Rattle.df_catalogue.specs.Schemas.{schema_eq, schemas_eq}
 use Rattle.df_catalogue.proofs.FrameChangeFacts.{lent-map}
 use Rattle.df_catalogue.proofs.schemas.are_schemas.Goals as goal

@@ -1,5 +1,5 @@
 use Rattle.std.proofs.Common.{◌≡◌, length, drop}
-use Rattle.df_catalogue.specs.FrameParts.{schemas_of}
+use Rattle.df_frame.specs.FrameParts.{schemas_of}
 use Rattle.df_catalogue.specs.Schemas.{schemas_eq}
 use Rattle.df_catalogue.proofs.schemas.are_schemas.Given as goal
 

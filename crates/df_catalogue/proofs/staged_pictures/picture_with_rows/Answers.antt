@@ -1,6 +1,6 @@
 use Rattle.std.proofs.Common.{◌∙◌, subst, sym}
 use Rattle.std.specs.Prelude.{slice_set}
-use Rattle.df_catalogue.specs.FrameParts.{states_of}
+use Rattle.df_frame.specs.FrameParts.{states_of}
 use Rattle.df_catalogue.specs.LiveViews.{tagged_frames, AreStaged}
 use Rattle.df_catalogue.specs.Staging.{frames_with}
 use Rattle.df_catalogue.proofs.StagedPictureFacts.{rows-numbered, rows-pictured}

@@ -1,7 +1,7 @@
 use Rattle.std.proofs.Common.{◌≡◌, ◌≤◌, ◌∙◌, List, [], ◌∷◌, length, map, refl, ap, arith}
 use Rattle.std.proofs.lemmas.List.{take_all}
-use Rattle.df_catalogue.specs.FrameParts.{FrameParts, states_of}
-use Rattle.df_catalogue.specs.Frames.{rows_of}
+use Rattle.df_frame.specs.FrameParts.{FrameParts, states_of}
+use Rattle.df_frame.specs.Frames.{rows_of}
 use Rattle.df_catalogue.specs.States.{tables_of_frames}
 use Rattle.df_catalogue.proofs.Loops.{mapped-more}
 use Rattle.df_catalogue.proofs.views.frame_rows.Goals as goal

@@ -1,5 +1,5 @@
 use Rattle.std.proofs.Common.{◌≡◌, map, take}
-use Rattle.df_catalogue.specs.Frames.{rows_of}
+use Rattle.df_frame.specs.Frames.{rows_of}
 use Rattle.df_catalogue.proofs.views.frame_rows.Given as goal
 
 abbrev pub invariant-loop-frame : goal.invariant-loop-frame

@@ -1,6 +1,6 @@
 use Rattle.std.proofs.Common.{◌≡◌, ℕ, ◌+◌, ◌<◌, ◌∙◌, Bool, true, false, List, drop, length, refl, ap, sym, arith}
 use Rattle.std.specs.Prelude.{Option, Some, slice_get, if◌then◌else◌}
-use Rattle.df_catalogue.specs.declared.state.FrameState.{FrameState}
+use Rattle.df_frame.specs.declared.state.FrameState.{FrameState}
 use Rattle.df_catalogue.specs.Desks.{DeskParts}
 use Rattle.df_store.specs.Closing.{is_settled, missing_from}
 use Rattle.df_store.proofs.ListFacts.{item-at}

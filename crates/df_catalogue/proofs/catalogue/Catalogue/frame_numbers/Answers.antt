@@ -2,7 +2,7 @@ use Rattle.std.proofs.Common.{◌∙◌, sym, ap}
 use Rattle.std.specs.Prelude.{Ok, ok_or, option_map}
 use Rattle.std.specs.Option.{option_copied}
 use Rattle.df_catalogue.specs.declared.fault.CatalogueFault.TheVariants as fault
-use Rattle.df_catalogue.specs.Frames.{numbers_of}
+use Rattle.df_frame.specs.Frames.{numbers_of}
 use Rattle.df_catalogue.proofs.catalogue.Catalogue.frame_numbers.Goals as goal
 
 pub returns-in_ok-numbers-in-Some-clause-answer : goal.returns-in_ok-numbers-in-Some-clause-answer

@@ -1,5 +1,5 @@
 use Rattle.std.proofs.Common.{◌∙◌, ap, map}
-use Rattle.df_catalogue.specs.FrameTables.{table_parts}
+use Rattle.df_frame.specs.FrameTables.{table_parts}
 use Rattle.df_catalogue.specs.Pictures.{picture_of}
 use Rattle.df_catalogue.proofs.PictureFacts.{state-seen, tables-numbered}
 use Rattle.df_catalogue.proofs.StateFacts.{state-of}

@@ -5,12 +5,13 @@ use Rattle.df_catalogue.specs.declared.staging.StagedFrame.{StagedFrame}
 use Rattle.df_catalogue.specs.declared.staging.Staging.TheVariants.{Rows}
 use Rattle.df_catalogue.specs.declared.state.State.{State}
 use Rattle.df_delta.specs.Differences.{IsDiff}
-use Rattle.df_catalogue.specs.FrameChanges.{change_of, frame_after}
-use Rattle.df_catalogue.specs.FrameTables.{tagged_rows_of}
-use Rattle.df_catalogue.specs.FrameParts.{schemas_of, states_of}
+use Rattle.df_catalogue.specs.FrameChanges.{change_of}
+use Rattle.df_frame.specs.FrameChanges.{frame_after}
+use Rattle.df_frame.specs.FrameTables.{tagged_rows_of}
+use Rattle.df_frame.specs.FrameParts.{schemas_of, states_of}
 use Rattle.df_catalogue.specs.LiveViews.{tagged_frames, AreStaged}
 use Rattle.df_catalogue.specs.Staging.{staged_parts}
-use Rattle.df_catalogue.proofs.FrameChangeFacts.{changeable-of, fits-after, free-of, views-kept}
+use Rattle.df_catalogue.proofs.FrameChangeFacts.{accepted-of, changeable-of, deleted-of, fits-after, free-of, sound-of, views-kept}
 use Rattle.df_catalogue.proofs.StagedRowsFacts.{rows-after, rows-counts, rows-led, rows-sound, rows-work, IsRowsOf}
 use Rattle.df_catalogue.proofs.StagedFacts.{rows-for, staged-some}
 use Rattle.df_catalogue.proofs.StagingFacts.{none-staged, nothing-staged, something-staged}
@@ -31,7 +32,7 @@ pub changed-requires-clause-fits : goal.changed-requires-clause-fits
 changed-requires-clause-fits g c =
     let known = changeable-of _ _ _ _ _ c.args.change c.index.result.now (state-of c.self.view_is) refl c.self.invariant.parts.legal c.requires.free c.index.ensures in
     let free = free-of _ _ _ _ c.args.change (state-of c.self.view_is) refl c.requires.free in
-    fits-after _ _ c.args.frame c.args.change c.index.result.now c.self.invariant.parts.legal (c.accepted_rows-accepted.ensures.sound c.args.frame) free known c.index.ensures
+    fits-after _ _ c.args.frame c.args.change c.index.result.now c.self.invariant.parts.legal (sound-of c.args.frame c.args.change c.accepted_rows-accepted.ensures.sound) free known c.index.ensures
 
 pub invariant_of-self : goal.invariant_of-self
 invariant_of-self g c =
@@ -80,7 +81,7 @@ invariant_of-self-2 g c =
     let free = free-of _ _ _ _ c.args.change (state-of c.self.view_is) refl c.requires.free in
     let is : IsRowsOf parts.frames.items parts.views.items c.args.change c.index.result.now rows = record {
       legal = c.self.invariant.parts.legal;
-      sound = c.accepted_rows-accepted.ensures.sound c.args.frame;
+      sound = sound-of c.args.frame c.args.change c.accepted_rows-accepted.ensures.sound;
       free = free;
       known = known;
       lent = c.index.ensures;
@@ -93,7 +94,7 @@ invariant_of-self-2 g c =
     let same_views = ap (λ (s : State). s.views) kept.0 in
     let leads = subst (AreStaged c.prepare_all.new.views.items c.in_ok-views.views.items) led.1 (c.in_ok-views.ensures.staged (tagged_frames (states_of parts.frames.items)) c.self.invariant.parts.live led.0) in
     let sound = rows-sound parts.frames.items parts.views.items c.prepare_all.new.views.items c.args.change c.index.result.now rows is same_views
-    (c.accepted_rows-accepted.ensures.value c.args.frame) (c.deleted_rows-deleted.ensures c.args.frame) c.in_ok-views.ensures.count leads c.in_ok-views.ensures.room in
+    (c.accepted_rows-accepted.ensures.value ∙ accepted-of c.args.frame c.args.change) (c.deleted_rows-deleted.ensures ∙ deleted-of c.args.frame c.args.change) c.in_ok-views.ensures.count leads c.in_ok-views.ensures.room in
     something-staged _ _ _ _ (Rows rows) _ _ _ _ c.stage.ensures kept.1 sound
 
 pub returns-clause-state : goal.returns-clause-state
@@ -111,7 +112,7 @@ returns-clause-legal g c =
     kept.1.legal
 
 pub returns-clause-sound : goal.returns-clause-sound
-returns-clause-sound g c = c.accepted_rows-accepted.ensures.sound c.args.frame
+returns-clause-sound g c = sound-of c.args.frame c.args.change c.accepted_rows-accepted.ensures.sound
 
 pub returns-clause-staged : goal.returns-clause-staged
 returns-clause-staged g c =
@@ -130,7 +131,7 @@ returns-clause-staged g c =
     let free = free-of _ _ _ _ c.args.change (state-of c.self.view_is) refl c.requires.free in
     let is : IsRowsOf parts.frames.items parts.views.items c.args.change c.index.result.now rows = record {
       legal = c.self.invariant.parts.legal;
-      sound = c.accepted_rows-accepted.ensures.sound c.args.frame;
+      sound = sound-of c.args.frame c.args.change c.accepted_rows-accepted.ensures.sound;
       free = free;
       known = known;
       lent = c.index.ensures;
@@ -143,10 +144,10 @@ returns-clause-staged g c =
     let same_views = ap (λ (s : State). s.views) kept.0 in
     let leads = subst (AreStaged c.prepare_all.new.views.items c.in_ok-views.views.items) led.1 (c.in_ok-views.ensures.staged (tagged_frames (states_of parts.frames.items)) c.self.invariant.parts.live led.0) in
     let sound = rows-sound parts.frames.items parts.views.items c.prepare_all.new.views.items c.args.change c.index.result.now rows is same_views
-    (c.accepted_rows-accepted.ensures.value c.args.frame) (c.deleted_rows-deleted.ensures c.args.frame) c.in_ok-views.ensures.count leads c.in_ok-views.ensures.room in
+    (c.accepted_rows-accepted.ensures.value ∙ accepted-of c.args.frame c.args.change) (c.deleted_rows-deleted.ensures ∙ deleted-of c.args.frame c.args.change) c.in_ok-views.ensures.count leads c.in_ok-views.ensures.room in
     let after = rows-after parts.frames.items parts.views.items c.prepare_all.new.views.items c.args.change c.index.result.now rows is same_views in
     let counted = rows-work parts.frames.items parts.views.items c.prepare_all.new.views.items c.args.change c.index.result.now rows c.get.result.now c.prepare_all.new.meter is same_views led.1
     (c.in_ok-views.ensures.work (tagged_frames (states_of parts.frames.items)) c.self.invariant.parts.live led.0) in
     staged-some parts.frames.items c.prepare_all.new.views.items parts.work _ (Rows rows) c.args.self.now (change_of c.args.frame c.args.change) c.stage.ensures
     (rows-for parts.frames.items parts.views.items c.prepare_all.new.views.items parts.work rows c.args.self.now c.args.change (state-of c.self.view_is) after sound.legal counted
-    (rows-counts c.args.frame c.args.change _ _ (c.accepted_rows-accepted.ensures.value c.args.frame) (c.deleted_rows-deleted.ensures c.args.frame)))
+    (rows-counts c.args.frame c.args.change _ _ (c.accepted_rows-accepted.ensures.value ∙ accepted-of c.args.frame c.args.change) (c.deleted_rows-deleted.ensures ∙ deleted-of c.args.frame c.args.change)))

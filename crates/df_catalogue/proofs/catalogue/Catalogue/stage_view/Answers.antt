@@ -2,7 +2,7 @@ use Rattle.std.proofs.Common.{◌<◌, ◌∙◌, ap, length, arith}
 use Rattle.std.specs.Prelude.{option_map, vec_capacity}
 use Rattle.df_catalogue.specs.declared.change.Change.TheVariants.{Register}
 use Rattle.df_catalogue.specs.declared.staging.Staging.TheVariants.{NewView}
-use Rattle.df_catalogue.specs.FrameParts.{schemas_of, states_of}
+use Rattle.df_frame.specs.FrameParts.{schemas_of, states_of}
 use Rattle.df_catalogue.specs.Parts.{state_of}
 use Rattle.df_catalogue.specs.Staging.{staged_parts}
 use Rattle.df_catalogue.proofs.StagedFacts.{staged-some}

@@ -4,8 +4,8 @@ use Rattle.df_live.specs.Frames.{AreFrames}
 use Rattle.df_live.specs.Tables.{tables_of}
 use Rattle.df_live.specs.Views.{IsLive}
 use Rattle.df_catalogue.specs.declared.state.State.{State}
-use Rattle.df_catalogue.specs.FrameParts.{schemas_of, states_of}
-use Rattle.df_catalogue.specs.FrameTables.{table_parts}
+use Rattle.df_frame.specs.FrameParts.{schemas_of, states_of}
+use Rattle.df_frame.specs.FrameTables.{table_parts}
 use Rattle.df_catalogue.specs.LiveViews.{tagged_frames}
 use Rattle.df_catalogue.proofs.LiveFacts.{are-frames, tables-rows, tables-schemas}
 use Rattle.df_catalogue.proofs.StateFacts.{state-of}

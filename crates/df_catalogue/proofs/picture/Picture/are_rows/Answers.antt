@@ -4,7 +4,7 @@ use Rattle.std.specs.FinMap as finite
 use Rattle.std.specs.Option.{IfSome, option_copied}
 use Rattle.df_column.specs.RowRuns.{StandFrom}
 use Rattle.df_column.specs.declared.tag.Tag.{Tag}
-use Rattle.df_catalogue.specs.FrameTables.{IsNumberedTable, numbered_rows}
+use Rattle.df_frame.specs.FrameTables.{IsNumberedTable, numbered_rows}
 use Rattle.df_catalogue.specs.Pictures.{numbered_rows_in}
 use Rattle.df_catalogue.proofs.StandingRows.{rows-found, rows-stand, table-reached, table-reaches}
 use Rattle.df_catalogue.proofs.picture.Picture.are_rows.Goals as goal

@@ -1,6 +1,6 @@
 use Rattle.std.proofs.Common.{◌∙◌, Some, ap, length}
 use Rattle.std.specs.Prelude.{option_map}
-use Rattle.df_catalogue.proofs.FrameTableFacts.{table-length}
+use Rattle.df_frame.proofs.FrameTableFacts.{table-length}
 use Rattle.df_catalogue.proofs.picture.Picture.frame_len.Goals as goal
 
 pub returns : goal.returns

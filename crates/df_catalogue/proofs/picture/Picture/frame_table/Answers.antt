@@ -2,7 +2,7 @@ use Rattle.std.proofs.Common.{◌∙◌, ap, subst, sym}
 use Rattle.std.specs.Prelude.{option_map, slice_get}
 use Rattle.std.specs.Option.{IfSome}
 use Rattle.std.proofs.lemmas.Option.{slice_get-map}
-use Rattle.df_catalogue.specs.FrameTables.{IsNumberedTable}
+use Rattle.df_frame.specs.FrameTables.{IsNumberedTable}
 use Rattle.df_catalogue.specs.Pictures.{numbered_rows_in}
 use Rattle.df_catalogue.proofs.PartFacts.{item-copied}
 use Rattle.df_catalogue.proofs.PictureFacts.{numbered-at}

@@ -1,7 +1,7 @@
 use Rattle.std.proofs.Common.{◌≡◌, ◌∙◌, Some, ap, length, subst, sym}
 use Rattle.std.specs.Prelude.{option_map, slice_get}
 use Rattle.std.specs.Option.{IfSome, option_copied}
-use Rattle.df_catalogue.specs.FrameTables.{IsNumberedTable, numbered_rows}
+use Rattle.df_frame.specs.FrameTables.{IsNumberedTable, numbered_rows}
 use Rattle.df_catalogue.specs.Pictures.{numbered_rows_in}
 use Rattle.df_catalogue.proofs.StandingRows.{rows-found, rows-stand, table-reached, table-reaches}
 use Rattle.df_catalogue.proofs.picture.Picture.has_chunk.Goals as goal

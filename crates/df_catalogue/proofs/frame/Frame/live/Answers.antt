@@ -1,8 +1,0 @@
-use Rattle.std.proofs.Common.{◌∙◌, length, ap}
-use Rattle.df_catalogue.specs.FrameParts.{FrameParts}
-use Rattle.df_catalogue.proofs.FrameTableFacts.{table-length}
-use Rattle.df_catalogue.proofs.frame.Frame.live.Goals as goal
-
-pub returns : goal.returns
-returns c =
-    c.len.ensures.value ∙ (table-length c.self.inside.table.rows ∙ ap (λ (f : FrameParts). length f.state.rows) c.self.view_is)

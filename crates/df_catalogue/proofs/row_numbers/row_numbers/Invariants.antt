@@ -1,6 +1,0 @@
-use Rattle.std.proofs.Common.{◌≡◌, map, take}
-use Rattle.df_catalogue.specs.FrameTables.{numbered_rows}
-use Rattle.df_catalogue.proofs.row_numbers.row_numbers.Given as goal
-
-abbrev pub invariant-loop-place : goal.invariant-loop-place
-invariant-loop-place l = l.numbers.items ≡ take l.place (map (λ r. r.0) (numbered_rows l.table.rows))

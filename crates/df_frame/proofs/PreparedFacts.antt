@@ -1,0 +1,117 @@
+-- The rows of a chunk by themselves.
+use Rattle.std.proofs.Common.{◌≡◌, ◌+◌, ◌<◌, ◌≤◌, ◌∙◌, ℕ, false, List, [], ◌∷◌, None, drop, get_or, length, map, take, ap, sym, subst, refl, arith}
+use Rattle.std.specs.Prelude.{find, nat_lt}
+use Rattle.std.specs.List.{enumerate_from}
+use Rattle.std.proofs.lemmas.Bool.{le-ltb}
+use Rattle.std.proofs.lemmas.List.{append-nil, get_or-drop, get_or-map, get_or-take, length-drop, length-map, length-take-le}
+use Rattle.std.proofs.lemmas.List.FromFn.{get_or-enumerate_from, length-enumerate_from}
+use Rattle.std.specs.FinMap as finite
+use Rattle.df_value.specs.Chunks.{ChunkParts, IsChunk}
+use Rattle.df_value.specs.Limits as limits
+use Rattle.df_value.specs.declared.cell.Cell.{Cell}
+use Rattle.df_column.specs.Changes.{applied}
+use Rattle.df_column.specs.RowRuns.{StandFrom}
+use Rattle.df_column.specs.Tables.{TableParts}
+use Rattle.df_column.specs.declared.tag.Tag.{Tag}
+use Rattle.df_delta.specs.Deltas.{RowsFit}
+use Rattle.df_delta.specs.Differences.{IsDiff}
+use Rattle.df_frame.specs.FrameChanges.{TakesChunk}
+use Rattle.df_frame.specs.FrameTables.{at_tag, row_tag, tagged_rows_of}
+use Rattle.df_frame.specs.Frames.{IsFrame, IsNumbered, chunk_numbers, with_chunk, empty_frame}
+use Rattle.df_frame.specs.Numbers.{has_number}
+use Rattle.df_frame.specs.Prepared.{delta_of_chunk}
+use Rattle.df_frame.specs.Stored.{IsStored, rows_from}
+use Rattle.df_frame.specs.declared.state.FrameState.{FrameState}
+use Rattle.df_frame.proofs.FrameFacts.{empty-sound, frame-with_chunk, numbered-with_chunk}
+use Rattle.df_frame.proofs.FrameTableFacts.{appended-diff, empty-table, table-entries, table-fits}
+
+-- a frame that has accepted nothing refuses no number, and has room for a chunk
+nothing-taken : (ns : List ℕ) → find (λ n. has_number [] n) ns ≡ None
+nothing-taken [] = refl
+nothing-taken (n ∷ ns) = nothing-taken ns
+
+has-room : (n : ℕ) → n ≤ limits.most_rows_of_chunk → nat_lt limits.most_rows_of_frame (0 + n) ≡ false
+has-room n few = le-ltb limits.most_rows_of_frame (0 + n) (omega (arith, few))
+
+-- the frame that takes a chunk alone is sound
+alone-sound : (c : ChunkParts) → IsChunk c.schema c.first c.rows → IsFrame c.schema (with_chunk c empty_frame)
+alone-sound c sound =
+    frame-with_chunk c.schema c empty_frame sound.fitting sound.numbered (empty-sound c.schema) (nothing-taken (chunk_numbers c)) (has-room (length c.rows) sound.short)
+
+-- and its table is what the chunk's delta makes of a table without rows
+alone-table : (c : ChunkParts) → IsChunk c.schema c.first c.rows → applied finite.empty (delta_of_chunk c) ≡ tagged_rows_of (with_chunk c empty_frame)
+alone-table c sound =
+    ap (λ t. applied t (delta_of_chunk c)) empty-table
+    ∙ (appended-diff c empty_frame (empty-sound c.schema).numbered (alone-sound c sound).numbered (nothing-taken (chunk_numbers c))).gives
+
+-- a chunk's rows fit its schema also where they stand alone
+pub chunk-fits : (c : ChunkParts) → IsChunk c.schema c.first c.rows → RowsFit c.schema (applied finite.empty (delta_of_chunk c))
+chunk-fits c sound =
+    let after = alone-sound c sound in
+    subst (RowsFit c.schema) (sym (alone-table c sound)) (table-fits c.schema (with_chunk c empty_frame) after.numbered after.fitting)
+
+-- there each stands at the tag of its number
+pub chunk-entries : (c : ChunkParts) → IsChunk c.schema c.first c.rows → finite.entries (applied finite.empty (delta_of_chunk c)) ≡ map at_tag (enumerate_from c.first c.rows)
+chunk-entries c sound =
+    ap finite.entries (alone-table c sound)
+    ∙ (table-entries (with_chunk c empty_frame) (alone-sound c sound).numbered
+    ∙ ap (map at_tag) (append-nil (enumerate_from c.first c.rows)))
+
+tagged-cells : (n : ℕ) (rows : List (List Cell)) → map (λ (e : Tag × List Cell). e.1) (map at_tag (enumerate_from n rows)) ≡ rows
+tagged-cells n [] = refl
+tagged-cells n (row ∷ rows) = ap (λ later. row ∷ later) (tagged-cells (n + 1) rows)
+
+-- a row numbered in turn
+tagged-at : (n : ℕ) (rows : List (List Cell)) (i : ℕ) (d : Tag × List Cell) → i < length rows → get_or (map at_tag (enumerate_from n rows)) i d ≡ at_tag (n + i, get_or rows i d.1)
+tagged-at n rows i d lt =
+    get_or-map at_tag (enumerate_from n rows) i (0, d.1) d (omega (arith, lt, length-enumerate_from n rows))
+    ∙ ap at_tag (get_or-enumerate_from n rows i (0, d.1) lt)
+
+-- rows numbered in turn stand from each index on under the number there
+tagged-stand :
+    (n : ℕ) (rows : List (List Cell)) (low first len : ℕ) → low + len ≤ length rows → first ≡ n + low →
+    StandFrom (map at_tag (enumerate_from n rows)) low (first + 1) (take len (drop low rows))
+tagged-stand n rows low first len within number =
+    let numbered = enumerate_from n rows in
+    let many : length (take len (drop low rows)) ≡ len = length-take-le len (drop low rows) (omega (arith, within, length-drop low rows)) in
+    let there : (k : ℕ) → k < length (take len (drop low rows)) → low + k < length rows = λ k lt. omega (arith, lt, many, within) in
+    let entry : (k : ℕ) (d : Tag × List Cell) → k < length (take len (drop low rows)) → get_or (map at_tag numbered) (low + k) d ≡ at_tag (n + (low + k), get_or rows (low + k) d.1) =
+    λ k d lt. tagged-at n rows (low + k) d (there k lt) in
+    record {
+      numbers = λ k d lt. ap (λ (e : Tag × List Cell). e.0.first) (entry k d lt) ∙ omega (arith, number);
+      rows_are = λ k d lt.
+          ap (λ (e : Tag × List Cell). e.1) (entry k d lt)
+          ∙ sym (get_or-take len (drop low rows) k d.1 (omega (arith, lt, many)) ∙ get_or-drop low rows k d.1);
+    }
+
+-- what stands in the table of a chunk from an index on are rows of the chunk
+pub part-rows :
+    (c : ChunkParts) → IsChunk c.schema c.first c.rows → (t : TableParts) → t.rows ≡ applied finite.empty (delta_of_chunk c) → (low len : ℕ) →
+    rows_from t low len ≡ take len (drop low c.rows)
+part-rows c sound t is low len =
+    ap (λ rows. take len (drop low rows)) (ap finite.values is ∙ (ap (map (λ e. e.1)) (chunk-entries c sound) ∙ tagged-cells c.first c.rows))
+
+-- and are there under their numbers
+pub part-stored :
+    (c : ChunkParts) → IsChunk c.schema c.first c.rows → (t : TableParts) → t.rows ≡ applied finite.empty (delta_of_chunk c) → (low first len : ℕ) →
+    low + len ≤ length c.rows → first ≡ c.first + low → IsStored t first low len
+part-stored c sound t is low first len within number =
+    let entries : finite.entries t.rows ≡ map at_tag (enumerate_from c.first c.rows) = ap finite.entries is ∙ chunk-entries c sound in
+    let many = length-map (enumerate_from c.first c.rows) at_tag in
+    let long = length-enumerate_from c.first c.rows in
+    record {
+      within = omega (arith, within, finite.len-entries t.rows, ap length entries, many, long);
+      stand =
+          subst (λ es. StandFrom es low (first + 1) (rows_from t low len)) (sym entries)
+          (subst (StandFrom (map at_tag (enumerate_from c.first c.rows)) low (first + 1)) (sym (part-rows c sound t is low len)) (tagged-stand c.first c.rows low first len within number));
+      tags = λ k d lt.
+          let same : c.first + (low + k) ≡ first + k = omega (arith, number) in
+          ap (λ (es : List (Tag × List Cell)). (get_or es (low + k) d).0) entries
+          ∙ (ap (λ (e : Tag × List Cell). e.0) (tagged-at c.first c.rows (low + k) d (omega (arith, lt, within))) ∙ ap row_tag same);
+    }
+
+-- the delta of a chunk leads a frame that takes it to the frame with it
+pub prepared-diff :
+    (c : ChunkParts) (f : FrameState) → IsChunk c.schema c.first c.rows → IsNumbered f → TakesChunk f c →
+    IsDiff (tagged_rows_of f) (tagged_rows_of (with_chunk c f)) (delta_of_chunk c)
+prepared-diff c f sound numbered takes = appended-diff c f numbered (numbered-with_chunk c f numbered sound.numbered takes.0 takes.1) takes.0

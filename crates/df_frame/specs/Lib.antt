@@ -1,0 +1,9 @@
+pub mod Numbers
+pub mod Ranges
+pub mod Frames
+pub mod FrameParts
+pub mod FrameTables
+pub mod Refusals
+pub mod Prepared
+pub mod FrameChanges
+pub mod Stored
