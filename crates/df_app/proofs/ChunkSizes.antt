@@ -16,14 +16,17 @@ use Rattle.df_plan.specs.CheckedParts.{CheckedParts}
 use Rattle.df_text.specs.Document.{document_of}
 use Rattle.df_text.specs.declared.document.FrameSpec.{FrameSpec}
 use Rattle.df_text.specs.declared.document.Views.{Views}
-use Rattle.df_app.specs.declared.fault.RunFault.{RunFault}
-use Rattle.df_app.specs.declared.fault.RunFault.TheVariants as fault
+use Rattle.df_document.specs.declared.fault.DocumentFault.{DocumentFault}
+use Rattle.df_document.specs.declared.fault.DocumentFault.TheVariants as fault
 use Rattle.df_app.specs.declared.outcome.Outcome.{Outcome}
 use Rattle.df_app.specs.declared.outcome.Outcome.TheVariants as outcome
 use Rattle.df_app.specs.declared.outcome.Output.{Output}
-use Rattle.df_app.specs.declared.opening.OpenedDocument.{OpenedDocument}
+use Rattle.df_document.specs.declared.opening.OpenedDocument.{OpenedDocument}
 use Rattle.df_app.specs.ChunkSizes.{IsSameUnlessRefused}
-use Rattle.df_app.specs.Output.{Contents, of_records, records_in, pieces_in, results_after, refused_line, refused_in, outcome_of, paired, text_from, printed_view, plans_of, opened_in, opened_from, of_document, output_made, output_of, refused_block, most_bytes_of_document}
+use Rattle.df_document.specs.Files.{Contents}
+use Rattle.df_document.specs.Opening.{of_records, records_in, pieces_in, results_after, plans_of, opened_in, opened_from, of_document, most_bytes_of_document}
+use Rattle.df_document.specs.Refused.{refused_line, refused_in, paired}
+use Rattle.df_app.specs.Output.{outcome_of, text_from, printed_view, output_by, output_made, output_of, refused_block}
 
 -- the pieces of one file in two sizes
 abbrev AreSizes : ℕ → ℕ → List Piece → List Piece → Type 0
@@ -43,7 +46,7 @@ sizes_push k l (r ∷ rs) [] p q h is = absurd h
 sizes_push k l (r ∷ rs) (s ∷ ss) p q h is = (h.0, sizes_push k l rs ss p q h.1 is)
 
 -- the same fault, or the same files
-abbrev AreReadings : ℕ → ℕ → Result (List (List Piece)) RunFault → Result (List (List Piece)) RunFault → Type 0
+abbrev AreReadings : ℕ → ℕ → Result (List (List Piece)) DocumentFault → Result (List (List Piece)) DocumentFault → Type 0
 AreReadings k l (Ok ps) (Ok qs) = AllSizes k l ps qs
 AreReadings k l (Ok ps) (Err g) = ⊥
 AreReadings k l (Err f) (Ok qs) = ⊥
@@ -52,7 +55,7 @@ AreReadings k l (Err f) (Err g) = f ≡ g
 -- one file more
 one_more :
     (k l : ℕ) (f : FrameSpec) (records : Result FieldRows CsvFault) (ps qs : List (List Piece))
-    (next next' : List (List Piece) → Result (List (List Piece)) RunFault) →
+    (next next' : List (List Piece) → Result (List (List Piece)) DocumentFault) →
     ((xs ys : List (List Piece)) → AllSizes k l xs ys → AreReadings k l (next xs) (next' ys)) → AllSizes k l ps qs →
     AreReadings k l (then_next (of_records k f records) (λ p. next (ps ++ p ∷ []))) (then_next (of_records l f records) (λ q. next' (qs ++ q ∷ [])))
 one_more k l f (Ok records) ps qs next next' each h =
@@ -161,41 +164,39 @@ same_made document plans k l some others ps qs h =
           (nothing_refused l document.frames qs (sym (all_good k l some others ps qs h) ∙ good))) (sym same),
     )
 
-abbrev opened_as : Views → List CheckedParts → List (List Piece) → Result OpenedDocument RunFault
+abbrev opened_as : Views → List CheckedParts → List (List Piece) → Result OpenedDocument DocumentFault
 opened_as document plans pieces = Ok (record { document = document; plans = plans; pieces = pieces })
 
 from_readings :
-    (document : Views) (plans : List CheckedParts) (k l : ℕ) → 0 < k → 0 < l → (r s : Result (List (List Piece)) RunFault) → AreReadings k l r s →
+    (document : Views) (plans : List CheckedParts) (k l : ℕ) → 0 < k → 0 < l → (r s : Result (List (List Piece)) DocumentFault) → AreReadings k l r s →
     IsSameUnlessRefused
-    (then_next (then_next r (opened_as document plans)) (λ o. Ok (output_made k o)))
-    (then_next (then_next s (opened_as document plans)) (λ o. Ok (output_made l o)))
+    (output_by k (then_next r (opened_as document plans)))
+    (output_by l (then_next s (opened_as document plans)))
 from_readings document plans k l some others (Ok ps) (Ok qs) h = same_made document plans k l some others ps qs h
 from_readings document plans k l some others (Ok ps) (Err g) h = absurd h
 from_readings document plans k l some others (Err f) (Ok qs) h = absurd h
-from_readings document plans k l some others (Err f) (Err g) h = ap Err (sym h)
+from_readings document plans k l some others (Err f) (Err g) h = ap (λ (x : DocumentFault). output_by l (Err x)) (sym h)
 
 -- the document with its frames read in this size
-abbrev opened_with : Views → Contents → ℕ → List CheckedParts → Result OpenedDocument RunFault
+abbrev opened_with : Views → Contents → ℕ → List CheckedParts → Result OpenedDocument DocumentFault
 opened_with document contents k plans =
     then_next (results_after (pieces_in contents k) [] document.frames) (opened_as document plans)
 
-by_plans : (document : Views) (contents : Contents) (k l : ℕ) → 0 < k → 0 < l → (r : Result (List CheckedParts) RunFault) →
-    IsSameUnlessRefused (then_next (then_next r (opened_with document contents k)) (λ o. Ok (output_made k o)))
-    (then_next (then_next r (opened_with document contents l)) (λ o. Ok (output_made l o)))
+by_plans : (document : Views) (contents : Contents) (k l : ℕ) → 0 < k → 0 < l → (r : Result (List CheckedParts) DocumentFault) →
+    IsSameUnlessRefused (output_by k (then_next r (opened_with document contents k))) (output_by l (then_next r (opened_with document contents l)))
 by_plans document contents k l some others (Ok plans) =
     from_readings document plans k l some others (results_after (pieces_in contents k) [] document.frames) (results_after (pieces_in contents l) [] document.frames)
     (all_read contents k l document.frames [] [] tt)
 by_plans document contents k l some others (Err f) = refl
 
-by_document : (contents : Contents) (k l : ℕ) → 0 < k → 0 < l → (d : Result Views RunFault) →
-    IsSameUnlessRefused (then_next (then_next d (λ document. opened_in document contents k)) (λ o. Ok (output_made k o)))
-    (then_next (then_next d (λ document. opened_in document contents l)) (λ o. Ok (output_made l o)))
+by_document : (contents : Contents) (k l : ℕ) → 0 < k → 0 < l → (d : Result Views DocumentFault) →
+    IsSameUnlessRefused (output_by k (then_next d (λ document. opened_in document contents k))) (output_by l (then_next d (λ document. opened_in document contents l)))
 by_document contents k l some others (Ok document) = by_plans document contents k l some others (plans_of document)
 by_document contents k l some others (Err f) = refl
 
 by_bytes : (b : Bool) (bytes : List ℕ) (contents : Contents) (k l : ℕ) → 0 < k → 0 < l →
-    IsSameUnlessRefused (then_next (cond b (Err fault.TooLarge) (opened_from bytes contents k)) (λ o. Ok (output_made k o)))
-    (then_next (cond b (Err fault.TooLarge) (opened_from bytes contents l)) (λ o. Ok (output_made l o)))
+    IsSameUnlessRefused (output_by k (cond b (Err fault.TooLarge) (opened_from bytes contents k)))
+    (output_by l (cond b (Err fault.TooLarge) (opened_from bytes contents l)))
 by_bytes true bytes contents k l some others = refl
 by_bytes false bytes contents k l some others = by_document contents k l some others (of_document (document_of bytes))
 

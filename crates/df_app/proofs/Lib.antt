@@ -1,7 +1,5 @@
 pub mod Ran
-pub mod PlaceFacts
 mod OptionFacts
-pub mod Unread
 pub mod ChunkSizes
 pub mod RisingRows
 pub mod SourceRows

@@ -35,23 +35,30 @@ use Rattle.df_store.specs.Refused.{refusal}
 use Rattle.df_text.specs.Document.{document_of}
 use Rattle.df_text.specs.declared.document.ViewSpec.{ViewSpec}
 use Rattle.df_text.specs.declared.document.Views.{Views}
-use Rattle.df_app.specs.Loading.{IsOutputOfLoad, IsSourceOf, headings_in, jobs_of_sources, line_of, opened_with, outcome_of_load, pieces_of_sources, text_of_load}
-use Rattle.df_app.specs.Output.{Contents, KnowsFiles, of_document, of_plan, opened_from, opened_in, opened_of, output_made, output_of, paired, pieces_in, plan_of, plans_of, printed_view, refused_block, results_after, schemas_of, text_from}
-use Rattle.df_app.specs.Ran.{IsFaultBefore, IsFaultOfLoad, IsOpening, IsOutput, LeavesFiles}
+use Rattle.df_document.specs.Sources.{IsSourceOf, opened_with, pieces_of_sources}
+use Rattle.df_app.specs.Loading.{IsOutputOfLoad, headings_in, jobs_of_sources, line_of, outcome_of_load, text_of_load}
+use Rattle.df_document.specs.Answers.{IsOpening, KnowsFiles}
+use Rattle.df_document.specs.Files.{Contents}
+use Rattle.df_document.specs.Opening.{of_document, of_plan, opened_from, opened_in, opened_of, pieces_in, plan_of, plans_of, results_after, schemas_of}
+use Rattle.df_document.specs.Refused.{paired}
+use Rattle.df_app.specs.Output.{output_by, output_of, printed_view, refused_block, text_from}
+use Rattle.df_app.specs.Ran.{IsFaultBefore, IsFaultOfLoad, IsOutput, LeavesFiles}
+use Rattle.df_document.specs.declared.fault.DocumentFault.{DocumentFault}
+use Rattle.df_document.specs.declared.fault.DocumentFault.TheVariants as document
 use Rattle.df_app.specs.declared.fault.RunFault.{RunFault}
 use Rattle.df_app.specs.declared.fault.RunFault.TheVariants as fault
-use Rattle.df_app.specs.declared.opening.OpenedDocument.{OpenedDocument}
-use Rattle.df_app.specs.declared.opening.SourcedDocument.{SourcedDocument}
+use Rattle.df_document.specs.declared.opening.OpenedDocument.{OpenedDocument}
+use Rattle.df_document.specs.declared.opening.SourcedDocument.{SourcedDocument}
 use Rattle.df_app.specs.declared.outcome.Output.{Output}
 use Rattle.df_app.proofs.LoadedText.{AllStart, jobs_behind, lines-are, outcome-is}
 use Rattle.df_app.proofs.LoadedViews.{views-are}
 use Rattle.df_app.proofs.Ran.{made_of_opened}
 
-then-ok : {A B : Type 0} (r : Result A RunFault) (f : A → Result B RunFault) (y : B) → then_next r f ≡ Ok y → (x : A) × ((r ≡ Ok x) × (f x ≡ Ok y))
+then-ok : {A B : Type 0} (r : Result A DocumentFault) (f : A → Result B DocumentFault) (y : B) → then_next r f ≡ Ok y → (x : A) × ((r ≡ Ok x) × (f x ≡ Ok y))
 then-ok (Ok x) f y h = (x, (refl, h))
 then-ok (Err e) f y h = absurd (cc)
 
-unless : (b : Bool) (r : Result OpenedDocument RunFault) (o : OpenedDocument) → cond b (Err fault.TooLarge) r ≡ Ok o → r ≡ Ok o
+unless : (b : Bool) (r : Result OpenedDocument DocumentFault) (o : OpenedDocument) → cond b (Err document.TooLarge) r ≡ Ok o → r ≡ Ok o
 unless true r o h = absurd (cc)
 unless false r o h = h
 
@@ -128,11 +135,7 @@ gave_loaded None contents chunk d o gave many each written = gave
 gave_loaded (Some b) contents chunk d o gave many each written = λ knows. loaded-output b contents chunk d o (gave knows) many each written
 
 before-load : (b : List ℕ) (contents : Contents) (chunk : ℕ) (f : RunFault) → IsOk (output_of b contents chunk) → IsFaultOfLoad f → IsFaultBefore b contents chunk f
-before-load b contents chunk fault.ReadFault opens is = absurd is
-before-load b contents chunk fault.TooLarge opens is = absurd is
-before-load b contents chunk (fault.Views f) opens is = absurd is
-before-load b contents chunk (fault.Plan view f) opens is = absurd is
-before-load b contents chunk (fault.Csv frame f) opens is = absurd is
+before-load b contents chunk (fault.Document f) opens is = absurd is
 before-load b contents chunk (fault.Load cause) opens is = opens
 before-load b contents chunk fault.Write opens is = absurd is
 before-load b contents chunk fault.Memory opens is = tt
@@ -140,7 +143,7 @@ before-load b contents chunk fault.Memory opens is = tt
 -- a document that opens has an output
 has-output : (b : List ℕ) (contents : Contents) (chunk : ℕ) (o : OpenedDocument) → opened_of b contents chunk ≡ Ok o → IsOk (output_of b contents chunk)
 has-output b contents chunk o e =
-    subst (λ (r : Result OpenedDocument RunFault). IsOk (then_next r (λ (x : OpenedDocument). Ok (output_made chunk x)))) (sym e) refl
+    subst (λ (r : Result OpenedDocument DocumentFault). IsOk (output_by chunk r)) (sym e) refl
 
 -- or whose sources could not be loaded
 gave_no_load : (bytes : Option (List ℕ)) (contents : Contents) (chunk : ℕ) (d : SourcedDocument) (f : RunFault) → IsFaultOfLoad f →
@@ -150,11 +153,7 @@ gave_no_load None contents chunk d f is gave = gave
 gave_no_load (Some b) contents chunk d f is gave = λ knows. before-load b contents chunk f (has-output b contents chunk (opened_with d) (gave knows)) is
 
 left_by_load : {F : Type 0} (old new : F) (f : RunFault) → IsFaultOfLoad f → LeavesFiles old new f
-left_by_load old new fault.ReadFault is = absurd is
-left_by_load old new fault.TooLarge is = absurd is
-left_by_load old new (fault.Views f) is = absurd is
-left_by_load old new (fault.Plan view f) is = absurd is
-left_by_load old new (fault.Csv frame f) is = absurd is
+left_by_load old new (fault.Document f) is = absurd is
 left_by_load old new (fault.Load cause) is = tt
 left_by_load old new fault.Write is = absurd is
 left_by_load old new fault.Memory is = tt

@@ -15,8 +15,10 @@ use Rattle.df_store.specs.Jobs.{jobs_from, numbered}
 use Rattle.df_store.specs.Jobs as jobs
 use Rattle.df_store.specs.Refused.{refusal}
 use Rattle.df_text.specs.declared.document.FrameSpec.{FrameSpec}
-use Rattle.df_app.specs.Loading.{jobs_of_sources, line_in_frame, line_of, outcome_of_load, pieces_of_sources}
-use Rattle.df_app.specs.Output.{outcome_of, paired, refused_in, refused_line}
+use Rattle.df_document.specs.Sources.{pieces_of_sources}
+use Rattle.df_app.specs.Loading.{jobs_of_sources, line_in_frame, line_of, outcome_of_load}
+use Rattle.df_document.specs.Refused.{paired, refused_in, refused_line}
+use Rattle.df_app.specs.Output.{outcome_of}
 use Rattle.df_app.specs.declared.outcome.Outcome.TheVariants as outcome
 
 -- the jobs of one source

@@ -21,8 +21,10 @@ use Rattle.df_catalogue.specs.States.{IsLegal, IsPlanOver, tables_of_frames, val
 use Rattle.df_store.specs.Loaded.{AreLoaded, IsLoaded, job_rows, made_rows}
 use Rattle.df_store.specs.Loads.{headings_of}
 use Rattle.df_text.specs.declared.document.ViewSpec.{ViewSpec}
-use Rattle.df_app.specs.Loading.{headings_in, jobs_of_sources, pieces_of_sources, printed_in, rows_or_none}
-use Rattle.df_app.specs.Output.{paired, printed_view}
+use Rattle.df_document.specs.Sources.{pieces_of_sources}
+use Rattle.df_app.specs.Loading.{headings_in, jobs_of_sources, printed_in, rows_or_none}
+use Rattle.df_document.specs.Refused.{paired}
+use Rattle.df_app.specs.Output.{printed_view}
 use Rattle.df_app.proofs.RisingRows.{Rise, frame-rises, ordered}
 use Rattle.df_app.proofs.SourceRows.{cells-of-pieces, source-rises, source-rows}
 

@@ -1,5 +1,5 @@
 pub mod CommandLine
-pub mod Files
+pub mod Faults
 pub mod Output
 pub mod Loading
 pub mod Ran

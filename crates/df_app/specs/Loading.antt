@@ -1,7 +1,6 @@
--- A document with a source of each frame's records, and what a run writes of the catalogue that they were loaded into.
-use Rattle.std.specs.Prelude.{◌≡◌, ◌≤◌, ℕ, List, [], ◌∷◌, ◌++◌, length, map, codes, filter_map, flat_map, slice_get, Option, Some, None, Result, Ok, Err}
+-- What a run writes of the catalogue into which the sources of a document were loaded.
+use Rattle.std.specs.Prelude.{◌≡◌, ℕ, List, [], ◌∷◌, ◌++◌, map, codes, filter_map, flat_map, slice_get, Option, Some, None, Result, Ok, Err}
 use Rattle.std.specs.List.{join_by}
-use Rattle.df_value.specs.Limits.{most_rows_of_frame}
 use Rattle.df_value.specs.declared.cell.Cell.{Cell}
 use Rattle.df_value.specs.declared.chunk.Piece.{Piece}
 use Rattle.df_csv.specs.Sources as csv_sources
@@ -19,41 +18,12 @@ use Rattle.df_store.specs.Loads.{headings_of}
 use Rattle.df_store.specs.Refused.{refusal}
 use Rattle.df_text.specs.declared.document.FrameSpec.{FrameSpec}
 use Rattle.df_text.specs.declared.document.ViewSpec.{ViewSpec}
-use Rattle.df_app.specs.Output.{paired, refused_block, refused_line}
-use Rattle.df_app.specs.declared.fault.RunFault.{RunFault}
-use Rattle.df_app.specs.declared.opening.OpenedDocument.{OpenedDocument}
-use Rattle.df_app.specs.declared.opening.SourcedDocument.{SourcedDocument}
+use Rattle.df_document.specs.Refused.{paired, refused_line}
+use Rattle.df_app.specs.Output.{refused_block}
+use Rattle.df_document.specs.declared.opening.SourcedDocument.{SourcedDocument}
 use Rattle.df_app.specs.declared.outcome.Outcome.{Outcome}
 use Rattle.df_app.specs.declared.outcome.Outcome.TheVariants as outcome
 use Rattle.df_app.specs.declared.outcome.Output.{Output}
-
--- the pieces that sources make
-abbrev pub pieces_of_sources : List CsvParts → List (List Piece)
-pieces_of_sources sources = map csv_sources.chunks_of sources
-
--- a document with these sources, opened
-abbrev pub opened_with : SourcedDocument → OpenedDocument
-opened_with d = record { document = d.document; plans = d.plans; pieces = pieces_of_sources d.sources }
-
--- or the fault
-abbrev pub opened_by : Result SourcedDocument RunFault → Result OpenedDocument RunFault
-opened_by (Ok d) = Ok (opened_with d)
-opened_by (Err f) = Err f
-
--- the pieces of the sources, or the fault
-abbrev pub pieces_by : Result (List CsvParts) RunFault → Result (List (List Piece)) RunFault
-pieces_by (Ok sources) = Ok (pieces_of_sources sources)
-pieces_by (Err f) = Err f
-
--- the pieces of one source, or the fault
-abbrev pub pieces_by_one : Result CsvParts RunFault → Result (List Piece) RunFault
-pieces_by_one (Ok source) = Ok (csv_sources.chunks_of source)
-pieces_by_one (Err f) = Err f
-
--- a source whose pieces have so many records, and that has no more of them than a frame accepts
-pub record IsSourceOf (chunk : ℕ) (source : CsvParts) : Type 0 where
-  pub size : source.size ≡ chunk
-  pub few : length source.records ≤ most_rows_of_frame
 
 -- the views of a document by name and plan
 abbrev pub headings_in : List ViewSpec → List CheckedParts → List (List ℕ × CheckedParts)

@@ -1,44 +1,33 @@
 -- What a run did, of a document and of files that are known, to a writer.
-use Rattle.std.specs.Prelude.{◌≡◌, ◌≢◌, ◌<◌, ◌≤◌, ℕ, List, ⊤, length, take, Option, IsOk, Result, Ok, Err}
+use Rattle.std.specs.Prelude.{◌≡◌, ◌≢◌, ◌<◌, ℕ, List, ⊤, length, take, Option, IsOk, Result, Ok, Err}
 use Rattle.std.specs.Io.KnownBytes.{Appends, Keeps}
+use Rattle.df_document.specs.Answers as opening
+use Rattle.df_document.specs.Answers.{IsFaultOfOpening}
+use Rattle.df_document.specs.Files.{Contents}
+use Rattle.df_document.specs.declared.fault.DocumentFault.TheVariants as document_fault
 use Rattle.df_app.specs.declared.fault.RunFault.{RunFault}
 use Rattle.df_app.specs.declared.fault.RunFault.TheVariants as fault
 use Rattle.df_app.specs.declared.outcome.Outcome.{Outcome}
 use Rattle.df_app.specs.declared.outcome.Output.{Output}
-use Rattle.df_csv.specs.declared.fault.CsvFault.TheVariants as csv
-use Rattle.df_app.specs.declared.opening.OpenedDocument.{OpenedDocument}
-use Rattle.df_app.specs.Output.{most_bytes_of_document, Contents, MayFailFrom, opened_of, output_of}
+use Rattle.df_app.specs.Output.{output_of}
 
--- What a fault says that comes before anything is written. But for a failed read of the document or of a file and for
--- want of memory, it is the fault that the bytes have in the place of an output. A file of which a read fails is there,
--- and is that of a frame to which the run comes. That frames which were read cannot be loaded, no clause rules out; then the
+-- What a fault says that comes before anything is written. One of the document says what a fault of its opening says; that
+-- memory was refused is one of the run alone. That frames which were read cannot be loaded, no clause rules out; then the
 -- document has an output.
 abbrev pub IsFaultBefore : List ℕ → Contents → ℕ → RunFault → Type 0
-IsFaultBefore bytes contents chunk fault.ReadFault = ⊤
-IsFaultBefore bytes contents chunk (fault.Csv frame csv.ReadFault) =
-    output_of bytes contents chunk ≢ Err (fault.Csv frame csv.ReadFault) → (length bytes ≤ most_bytes_of_document) × MayFailFrom bytes contents chunk frame
-IsFaultBefore bytes contents chunk fault.Memory = ⊤
+IsFaultBefore bytes contents chunk (fault.Document f) = (f ≢ document_fault.Memory) × IsFaultOfOpening bytes contents chunk f
 IsFaultBefore bytes contents chunk (fault.Load cause) = IsOk (output_of bytes contents chunk)
 IsFaultBefore bytes contents chunk fault.Write = ⊥
-IsFaultBefore bytes contents chunk f = output_of bytes contents chunk ≡ Err f
+IsFaultBefore bytes contents chunk fault.Memory = ⊤
 
 -- memory was refused to a load, or what was read cannot be loaded
 abbrev pub IsFaultOfLoad : RunFault → Type 0
-IsFaultOfLoad fault.ReadFault = ⊥
-IsFaultOfLoad fault.TooLarge = ⊥
-IsFaultOfLoad (fault.Views f) = ⊥
-IsFaultOfLoad (fault.Plan view f) = ⊥
-IsFaultOfLoad (fault.Csv frame f) = ⊥
+IsFaultOfLoad (fault.Document f) = ⊥
 IsFaultOfLoad (fault.Load cause) = ⊤
 IsFaultOfLoad fault.Write = ⊥
 IsFaultOfLoad fault.Memory = ⊤
 
--- what the bytes of a document and of its files gave: the document, opened, or a fault
-abbrev pub IsOpening : List ℕ → Contents → ℕ → Result OpenedDocument RunFault → Type 0
-IsOpening bytes contents chunk (Ok o) = opened_of bytes contents chunk ≡ Ok o
-IsOpening bytes contents chunk (Err f) = IsFaultBefore bytes contents chunk f
-
--- or its output, or a fault
+-- what the bytes of a document and of its files gave: its output, or a fault
 abbrev pub IsOutput : List ℕ → Contents → ℕ → Result Output RunFault → Type 0
 IsOutput bytes contents chunk (Ok o) = output_of bytes contents chunk ≡ Ok o
 IsOutput bytes contents chunk (Err f) = IsFaultBefore bytes contents chunk f
@@ -67,11 +56,7 @@ KeepsUnlessWrite old new f = Keeps old new
 
 -- at a fault of the document, of its views or of their plans the files are as they were: none was opened
 abbrev pub LeavesFiles : {F : Type 0} → F → F → RunFault → Type 0
-LeavesFiles old new fault.ReadFault = new ≡ old
-LeavesFiles old new fault.TooLarge = new ≡ old
-LeavesFiles old new (fault.Views f) = new ≡ old
-LeavesFiles old new (fault.Plan view f) = new ≡ old
-LeavesFiles old new (fault.Csv frame f) = ⊤
-LeavesFiles old new fault.Memory = ⊤
+LeavesFiles old new (fault.Document f) = opening.LeavesFiles old new f
 LeavesFiles old new (fault.Load cause) = ⊤
 LeavesFiles old new fault.Write = ⊤
+LeavesFiles old new fault.Memory = ⊤

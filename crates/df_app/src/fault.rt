@@ -1,32 +1,19 @@
 //! Why a run fails.
 ghost use Rattle.std.specs.Prelude.{◌≡◌};
+ghost use Rattle.df_app.specs.Faults.{run_fault_of};
 ghost use Rattle.df_app.specs.declared.fault.RunFault.TheVariants.{Memory as OutOfMemory};
 
-use df_plan::PlanFault;
+use df_document::DocumentFault;
 use df_store::LoadCause;
-use df_text::{CsvFault, ViewsFault};
-use df_value::Text;
 use std::alloc::{AllocError, AllocFailed};
 use thiserror::Error;
 
 /// Why a run fails. Each name that the fault's text prints is kept here.
 #[derive(Debug, PartialEq, Eq, Drop, Error)]
 pub enum RunFault {
-    /// A read of the document failed.
-    #[error("the document cannot be read")]
-    ReadFault,
-    /// The document has more than 1,048,576 bytes.
-    #[error("the document has more than 1048576 bytes")]
-    TooLarge,
-    /// The bytes are no view document.
+    /// The document does not open, for another cause than memory.
     #[error("{0}")]
-    Views(ViewsFault),
-    /// The plan of the view of this name does not check.
-    #[error("view {0:?}: {1}")]
-    Plan(Text, PlanFault),
-    /// The CSV of the frame of this name cannot be read.
-    #[error("frame {0:?}: {1}")]
-    Csv(Text, CsvFault),
+    Document(DocumentFault),
     /// The frames were read and could not be loaded, for another cause than memory. No clause says
     /// that it never comes.
     #[error("{0}")]
@@ -37,6 +24,17 @@ pub enum RunFault {
     /// Memory was refused.
     #[error("out of memory")]
     Memory,
+}
+
+impl From<DocumentFault> for RunFault {
+    ghost from_gives = { λ f e. e ≡ run_fault_of f };
+
+    fn from(fault: DocumentFault) -> RunFault {
+        match fault {
+            DocumentFault::Memory => RunFault::Memory,
+            fault => RunFault::Document(fault),
+        }
+    }
 }
 
 impl From<AllocError> for RunFault {

@@ -5,18 +5,19 @@ ghost use Rattle.df_value.specs.Schemas.{is_base};
 ghost use Rattle.df_catalogue.specs.Desks as desks_spec;
 ghost use Rattle.df_catalogue.specs.Ledgers as ledgers;
 ghost use Rattle.df_text.specs.Document.{IsDocument};
-ghost use Rattle.df_app.specs.Loading.{IsOutputOfLoad, IsSourceOf, headings_in};
+ghost use Rattle.df_document.specs.Sources.{IsSourceOf};
+ghost use Rattle.df_app.specs.Loading.{IsOutputOfLoad, headings_in};
 ghost use Rattle.df_app.specs.Ran.{IsFaultOfLoad};
 ghost use Rattle.df_versions.specs.Histories.{schemas_of};
 
 use crate::fault::RunFault;
-use crate::opening::{SourcedDocument, copy_schemas};
 use crate::outcome::Output;
 use crate::output::output;
+use df_document::{SourcedDocument, copy_schemas};
 use df_plan::CheckedPlan;
 use df_store::{Gate, LoadCause, OpenedHall, load_all};
 use df_text::{FrameSpec, ViewSpec};
-use df_value::{Duplicate, List, Text};
+use df_value::{Duplicate, Text};
 use df_versions::{Naming, OpenFault};
 use std::alloc::{AllocError, Global};
 use std::marker::Brand;
@@ -133,7 +134,7 @@ fn open_hall<Acc: Ledger, Del: Ledger, R: Wait>(
     ensures desks { IfOk result (λ o. o.1.1 ≡ desks_spec.first_desks (length frames.now)) }
     ensures schemas { IfOk result (λ o. length (schemas_of o.1.0) ≡ length frames.now) }
 {
-    let schemas = List::from_vec(copy_schemas(alloc, frames)?);
+    let schemas = copy_schemas(alloc, frames)?;
     match OpenedHall::open(rt, alloc, accepted, deleted, schemas, 0) {
         Ok(opened) => Ok(opened),
         Err(OpenFault::Memory) => Err(AllocError),

@@ -2,15 +2,15 @@
 ghost use Rattle.std.specs.Prelude.{◌≡◌, ◌≤◌, ℕ, IfErr, IfSome};
 ghost use Rattle.df_value.specs.Limits.{most_rows_of_chunk};
 ghost use Rattle.df_app.specs.ChunkSizes.{IsSameUnlessRefused};
-ghost use Rattle.df_app.specs.Output.{KnowsFiles, output_of};
+ghost use Rattle.df_document.specs.Answers.{KnowsFiles};
+ghost use Rattle.df_app.specs.Output.{output_of};
 ghost use Rattle.df_app.specs.Ran.{IsOutput, KeepsUnlessWrite, IsRunOn, IsWriting, LeavesFiles};
 
 use crate::fault::RunFault;
-use crate::files::Files;
 use crate::loading::load_output;
-use crate::opening::open_sources;
 use crate::outcome::{Outcome, Output};
 use df_catalogue::PARTS_OF_LEDGER;
+use df_document::{Files, open_sources};
 use df_store::Gate;
 use df_text::write_text;
 use std::alloc::Global;
@@ -94,7 +94,7 @@ fn read_output<V: Read, F: Files, G: Gate + Sync, R: Threads + Wait + Sync>(
             chunk,
             gate,
         ),
-        Err(fault) => Err(fault),
+        Err(fault) => Err(RunFault::from(fault)),
     }
 }
 

@@ -1,6 +1,6 @@
 -- The texts of refusals. The codes are this project's own.
 use Rattle.std.specs.Prelude.{◌++◌, ℕ, List, codes, decimal}
-use Rattle.df_app.specs.Texts.{csv_text}
+use Rattle.df_document.specs.Texts.{csv_text}
 use Rattle.df_catalogue.specs.declared.fault.CatalogueFault.{CatalogueFault}
 use Rattle.df_catalogue.specs.declared.fault.CatalogueFault.TheVariants as store
 use Rattle.df_catalogue.specs.declared.fault.NewFault.{NewFault}

@@ -4,8 +4,8 @@ ghost use Rattle.df_shell.specs.declared.fault.ShellFault.TheVariants as fault;
 
 use crate::refusal::Refusal;
 use crate::refusal_texts::{new_text, refusal_text};
-use df_app::{RunFault, fault_text};
 use df_catalogue::NewFault;
+use df_document::{DocumentFault, document_fault_text};
 use std::alloc::{AllocError, AllocFailed, Global};
 use thiserror::Error;
 
@@ -14,7 +14,7 @@ use thiserror::Error;
 pub enum ShellFault {
     /// The document does not open, as a run over it would not.
     #[error("{0}")]
-    Document(RunFault),
+    Document(DocumentFault),
     /// The document's frames are refused. Those of a document that opens are not.
     #[error("{0}")]
     Frames(NewFault),
@@ -38,7 +38,7 @@ pub enum ShellFault {
 /// The text of a fault, as the program prints it behind `dfshell: `.
 pub fn shell_fault_text(alloc: Global, fault: &ShellFault) -> Result<String, AllocError> {
     match fault {
-        ShellFault::Document(fault) => fault_text(alloc, fault),
+        ShellFault::Document(fault) => document_fault_text(alloc, fault),
         ShellFault::Frames(fault) => new_text(alloc, *fault),
         ShellFault::Store(refusal) => refusal_text(alloc, refusal),
         ShellFault::Read => String::from_str(alloc, "read"),
@@ -48,10 +48,10 @@ pub fn shell_fault_text(alloc: Global, fault: &ShellFault) -> Result<String, All
     }
 }
 
-impl From<RunFault> for ShellFault {
+impl From<DocumentFault> for ShellFault {
     ghost from_gives = { λ f e. e ≡ fault.Document f };
 
-    fn from(fault: RunFault) -> ShellFault {
+    fn from(fault: DocumentFault) -> ShellFault {
         ShellFault::Document(fault)
     }
 }

@@ -6,12 +6,12 @@ ghost use Rattle.df_versions.specs.Histories.{schemas_of};
 
 use crate::fault::ShellFault;
 use crate::hall_store::HallStore;
-use crate::opening::{copy_schemas, fill};
+use crate::opening::fill;
 use crate::prepared::{Prepared, prepare};
 use crate::refusal::{Refusal, VersionFault};
 use crate::session::{Session, answer_from};
-use df_app::Files;
 use df_catalogue::{Desk, NewFault, PARTS_OF_LEDGER};
+use df_document::{Files, copy_schemas};
 use df_store::{Hall, OpenedHall};
 use df_value::{List, Piece};
 use df_versions::{Naming, OpenFault, Reader};

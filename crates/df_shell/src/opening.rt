@@ -11,9 +11,9 @@ use crate::fault::ShellFault;
 use crate::store::Store;
 use crate::view_store::ViewStore;
 use df_catalogue::{Catalogue, Change};
-use df_text::FrameSpec;
-use df_value::{Duplicate, List, Piece, Schema};
-use std::alloc::{AllocError, Global};
+use df_document::copy_schemas;
+use df_value::{Duplicate, List, Piece};
+use std::alloc::Global;
 use std::sync::ledger::{Blank, Ledger};
 
 /// The store of a document, with the rows of these pieces and all of the document's views.
@@ -59,17 +59,6 @@ pub fn fill<S: ViewStore>(
 {
     enter_frames(alloc, store, pieces)?;
     register_views(alloc, store, definitions)
-}
-
-/// The schemas of frames.
-pub fn copy_schemas(alloc: Global, frames: &[FrameSpec]) -> Result<List<Schema>, AllocError>
-    ensures { IfOk result (λ schemas. schemas ≡ map (λ f. f.schema) frames.now) }
-{
-    let mut schemas = Vec::with_capacity(alloc, frames.len())?;
-    for frame in frames {
-        schemas.push(frame.schema.copy(alloc)?)?;
-    }
-    Ok(List::from_vec(schemas))
 }
 
 fn enter_frames<S: ViewStore>(

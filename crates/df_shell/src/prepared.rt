@@ -2,7 +2,7 @@
 use crate::definitions::Definitions;
 use crate::fault::ShellFault;
 use crate::session::Buffers;
-use df_app::{Files, OpenedDocument, open_document, refused_lines};
+use df_document::{Files, OpenedDocument, open_document, refused_lines};
 use df_value::{List, Piece};
 use std::alloc::Global;
 use std::io::Read;

@@ -4,7 +4,7 @@
 
 mod system_files;
 
-use df_app::RunFault;
+use df_document::DocumentFault;
 use df_shell::{ShellFault, run_hall_shell, run_shell, shell_fault_text};
 use std::io::BufReader;
 use std::process::ExitCode;
@@ -84,7 +84,7 @@ fn answer_commands<R: Threads + Wait + Sync>(
 ) -> Result<(), ShellFault> {
     let alloc = rt.alloc();
     let Some(mut document) = open(rt, views) else {
-        return Err(ShellFault::Document(RunFault::ReadFault));
+        return Err(ShellFault::Document(DocumentFault::ReadFault));
     };
     let mut files = SystemFiles { rt };
     let Ok(mut input) = BufReader::new(alloc, rt.stdin()) else {

@@ -1,5 +1,5 @@
 //! The files of the system.
-use df_app::Files;
+use df_document::Files;
 use std::fs::File;
 
 /// Opens files of the system.

@@ -9,7 +9,7 @@ ghost use Rattle.std.specs.Prelude.{◌≤◌};
 ghost use Rattle.df_value.specs.Limits.{most_rows_of_chunk};
 
 use clap::error::ErrorKind;
-use df_app::{Outcome, RunFault, Words, fault_text, run, words};
+use df_app::{DocumentFault, Outcome, RunFault, Words, fault_text, run, words};
 use progress::Progress;
 use std::alloc::AllocError;
 use std::io::Read;
@@ -69,7 +69,7 @@ fn run_words<R: Threads + Wait + Sync>(
     match words.views {
         Some(path) => match open(rt, path) {
             Some(mut file) => run_reader(rt, threads, &mut file, words),
-            None => Err(RunFault::ReadFault),
+            None => Err(RunFault::Document(DocumentFault::ReadFault)),
         },
         None => run_reader(rt, threads, &mut rt.stdin(), words),
     }

@@ -1,5 +1,5 @@
 use Rattle.std.proofs.Common.{add-one, append_assoc, arith, sym}
-use Rattle.df_app.proofs.PlaceFacts.{paired-drop}
+use Rattle.df_document.proofs.PlaceFacts.{paired-drop}
 use Rattle.df_app.proofs.loading.headings.Goals as goal
 
 pub loop-i-preserved : goal.loop-i-preserved

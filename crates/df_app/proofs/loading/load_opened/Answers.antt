@@ -1,6 +1,6 @@
 use Rattle.std.proofs.Common.{◌∙◌, ap, arith, length, sym, subst}
 use Rattle.std.specs.Prelude.{All}
-use Rattle.df_app.specs.Loading.{IsSourceOf}
+use Rattle.df_document.specs.Sources.{IsSourceOf}
 use Rattle.df_app.proofs.LoadedOutput.{jobs_few, output_of_load}
 use Rattle.df_app.proofs.LoadedViews.{views-there}
 use Rattle.df_app.proofs.loading.load_opened.Goals as goal

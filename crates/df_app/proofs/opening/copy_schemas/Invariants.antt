@@ -1,6 +1,0 @@
-use Rattle.std.proofs.Common.{◌≡◌, take}
-use Rattle.df_app.specs.Output.{schemas_of}
-use Rattle.df_app.proofs.opening.copy_schemas.Given as goal
-
-abbrev pub invariant-loop-frame : goal.invariant-loop-frame
-invariant-loop-frame l = l.schemas.items ≡ schemas_of (take l.frame-index l.frames)

@@ -1,6 +1,0 @@
-use Rattle.std.proofs.Common.{◌≡◌, take}
-use Rattle.df_app.specs.Loading.{pieces_of_sources}
-use Rattle.df_app.proofs.pieces.all_pieces.Given as goal
-
-abbrev pub invariant-loop-source : goal.invariant-loop-source
-invariant-loop-source l = l.all.items ≡ pieces_of_sources (take l.source-index l.sources)
