@@ -1,25 +1,18 @@
 -- Chunks of one frame that follow one another, as one chunk.
-use Rattle.std.specs.Prelude.{◌≡◌, ◌+◌, ◌-◌, ◌==◌, ◌&&◌, ℕ, suc, All, List, [], ◌∷◌, flat_map, if◌then◌else◌, length, nat_lt, not}
+use Rattle.std.specs.Prelude.{◌≡◌, ◌+◌, ◌==◌, ℕ, All, List, [], ◌∷◌, flat_map}
+use Rattle.std.specs.List.{prefix_len}
 use Rattle.df_value.specs.Chunks.{ChunkParts}
 use Rattle.df_value.specs.declared.cell.CellType.{CellType}
 use Rattle.df_value.specs.declared.chunk.Piece.TheVariants.{Good}
-use Rattle.df_value.specs.Limits.{most_rows_of_chunk}
 use Rattle.df_store.specs.declared.jobs.Outcome.{Outcome}
 use Rattle.df_store.specs.declared.joining.Joined.{Joined}
 use Rattle.df_store.specs.Jobs.{job_of}
 use Rattle.df_store.specs.Loaded.{chunk_rows, job_rows}
-use Rattle.df_store.specs.Made.{rows_in}
 
--- how many of these outcomes stand before the first one that is of another frame, or for whose rows so much room is too little
-abbrev pub count_within : ℕ → ℕ → List Outcome → ℕ
-count_within frame room [] = 0
-count_within frame room (o ∷ os) =
-    if (o.frame == frame) && not (nat_lt room (length (rows_in o.made))) then suc (count_within frame (room - length (rows_in o.made)) os) else 0
-
--- how many of the first outcomes are of one frame and have room in one chunk; the first one always counts
-abbrev pub count_of_first_chunk : List Outcome → ℕ
-count_of_first_chunk [] = 0
-count_of_first_chunk (o ∷ os) = 1 + count_within o.frame (most_rows_of_chunk - length (rows_in o.made)) os
+-- how many outcomes stand before the first one of another frame than the first
+abbrev pub count_of_first_frame : List Outcome → ℕ
+count_of_first_frame [] = 0
+count_of_first_frame (o ∷ os) = 1 + prefix_len (λ p. p.frame == o.frame) os
 
 -- an outcome of this frame whose chunk is good and has this schema
 pub record IsGoodOf (frame : ℕ) (schema : List (List ℕ × CellType)) (o : Outcome) : Type 0 where

@@ -1,6 +1,6 @@
 //! Joining: the chunks of several jobs become one, which enters in one change.
 ghost use Rattle.std.specs.Prelude.{◌≡◌, ◌<◌, ◌≤◌, ◌+◌, ◌++◌, ◌^◌, ◌==◌, true, All, IfOk, IfSome, drop, flat_map, length, take};
-ghost use Rattle.std.specs.List.{enumerate_from};
+ghost use Rattle.std.specs.List.{enumerate_from, prefix_len};
 ghost use Rattle.df_store.specs.Jobs.{job_of};
 ghost use Rattle.df_store.specs.Joined as joined;
 ghost use Rattle.df_store.specs.Joined.{IsGoodOf, IsJoined};
@@ -111,32 +111,37 @@ fn stored_at(
     }
 }
 
-/// How many of the first outcomes are of one frame and have room in one chunk; the first one always counts.
+/// How many of the first outcomes are to enter together: of those of one frame as many as have room in one chunk, where each
+/// has as many rows as the first one.
 pub(crate) fn count_of_first_chunk(outcomes: &[Outcome]) -> usize
     requires { 0 < length outcomes.now }
-    ensures value { result ≡ joined.count_of_first_chunk outcomes.now }
+    ensures some { 0 < result }
+    ensures of_frame { result ≤ joined.count_of_first_frame outcomes.now }
+    ensures within { result ≤ length outcomes.now }
+{
+    let of_frame = count_of_first_frame(outcomes);
+    let rows = outcomes[0].made.row_count().max(1);
+    let room = (MOST_ROWS_OF_CHUNK / rows).max(1);
+    of_frame.min(room)
+}
+
+// How many outcomes stand before the first one of another frame than the first.
+fn count_of_first_frame(outcomes: &[Outcome]) -> usize
+    requires { 0 < length outcomes.now }
+    ensures value { result ≡ joined.count_of_first_frame outcomes.now }
     ensures some { 0 < result }
     ensures within { result ≤ length outcomes.now }
 {
-    let first = &outcomes[0];
-    let room = MOST_ROWS_OF_CHUNK.saturating_sub(first.made.row_count());
-    1 + count_within(first.frame, room, &outcomes[1..])
+    let frame = outcomes[0].frame;
+    1 + count_of_frame(frame, &outcomes[1..])
 }
 
-// How many of the first outcomes are of this frame and have no more rows together than there is room.
-fn count_within(frame: usize, room: usize, outcomes: &[Outcome]) -> usize
-    ensures value { result ≡ joined.count_within frame room outcomes.now }
+// How many of the first outcomes are of this frame.
+fn count_of_frame(frame: usize, outcomes: &[Outcome]) -> usize
+    ensures value { result ≡ prefix_len (λ o. o.frame == frame) outcomes.now }
     ensures within { result ≤ length outcomes.now }
 {
-    let mut left = room;
-    for at in 0..outcomes.len() {
-        let rows = outcomes[at].made.row_count();
-        if outcomes[at].frame != frame || rows > left {
-            return at;
-        }
-        left -= rows;
-    }
-    outcomes.len()
+    outcomes.iter().take_while(|o| o.frame == frame).count()
 }
 
 // The rows of all these outcomes, if they can stand in one chunk of a frame that begins as this one.
