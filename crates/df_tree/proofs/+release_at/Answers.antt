@@ -1,0 +1,79 @@
+use Rattle.df_tree.proofs.LevelLemmas.{rank_set, level_set, resummed}
+use Rattle.df_tree.specs.Level.{IsLevel, IsLevelLink}
+use Rattle.std.proofs.Common.{rules, ◌<◌, ◌+◌, ◌-◌, ℕ, [], ◌∷◌, length, ap, sym, ◌∙◌, arith, subst}
+use Rattle.std.specs.Prelude.{min, slice_set, vec_len, vec_capacity}
+use Rattle.df_tree.specs.declared.seq.Node.TheVariants.{Items}
+use Rattle.df_tree.specs.Leaves.{items, room_at, leaves_of, leaves_of_parts, leaves_of_link, Edited, rank_of, rank_of_link}
+use Rattle.df_tree.specs.declared.seq.Seq.TheDeep.{deep-Node}
+use Rattle.df_tree.specs.Spots.{IsSpot}
+use Rattle.df_tree.proofs.LeafLemmas.{items-one, room-leaf, room-shared, there}
+use Rattle.df_tree.proofs.EditLemmas.{edited_leaf, items_release}
+use Rattle.df_tree.proofs.SpotLemmas.{edited, lower, room, at_in}
+use Rattle.df_tree.proofs.+release_at.Goals as goal
+
+pub seq::Seq::release_at-unreachable-requires : goal.seq::Seq::release_at-unreachable-requires
+seq::Seq::release_at-unreachable-requires g t c =
+    let parts = sym (ap (λ v. v.0) c.self.view_is) ∙ ap (λ l. leaves_of_link l) c.in-Shared.is in
+    let none = room-shared {I = g.row.I.Denot} (leaves_of c.in-Shared.field-0.value) c.args.index in
+    let e = ap (λ rs. room_at {I = g.row.I.Denot} rs c.args.index) parts in
+    omega (arith, none, e, c.requires)
+
+pub editing::release_in_node-release_at-requires : goal.editing::release_in_node-release_at-requires
+editing::release_in_node-release_at-requires g t c κs within =
+    let spot : IsSpot {I = g.row.I.Denot} c.in-Parts.parts.items c.args.index c.spot_at-spot.result.at c.spot_at-spot.result.rest
+    = subst (λ ks. IsSpot {I = g.row.I.Denot} ks c.args.index c.spot_at-spot.result.at c.spot_at-spot.result.rest) c.deref.ensures.value c.spot_at-spot.ensures in
+    let there = room {I = g.row.I.Denot} _ _ _ _ spot _ c.index_mut.ensures.value in
+    let way = subst (λ n. 1 < room_at {I = g.row.I.Denot} (leaves_of n) c.args.index) c.in-Parts.is c.requires in
+    let below = lower {I = g.row.I.Denot} _ _ _ _ spot _ c.index_mut.ensures.value in
+    let high = ap (λ n. deep-Node g.row.I.Denot g.row.I-Measure.Denot g.I.Item g.I.Measure.Monoid n) c.in-Parts.is in
+    (omega (arith, below, high, c.decreases), (search rules, (search rules, omega (arith, there, way))))
+
+pub editing::release_in_node-returns-in-Items-clause-edited : goal.editing::release_in_node-returns-in-Items-clause-edited
+editing::release_in_node-returns-in-Items-clause-edited g t c =
+    let way = subst (λ n. 1 < room_at {I = g.row.I.Denot} (leaves_of n) c.args.index) c.in-Items.is c.requires in
+    let near = there {I = g.row.I.Denot} (leaves_of {M = g.row.I-Measure.Denot} (Items c.in-Items.field-0 c.in-Items.reserved)) c.args.index (omega (arith, way)) in
+    let many = ap length (items-one {I = g.row.I.Denot} c.in-Items.field-0.items 0) in
+    let s : ℕ = min c.in-Items.reserved (vec_capacity c.in-Items.field-0 - vec_len c.in-Items.field-0) + 1 in
+    let t : ℕ = min (c.in-Items.reserved - 1) (vec_capacity c.in-Items.field-0 - vec_len c.in-Items.field-0) + 1 in
+    subst (λ n. Edited {I = g.row.I.Denot} (leaves_of n) ((c.in-Items.field-0.items, t) ∷ []) c.args.index (λ xs i. xs) 1) (sym c.in-Items.is)
+    (edited_leaf {I = g.row.I.Denot} c.in-Items.field-0.items s t c.args.index (λ xs i. xs) 1 (omega (arith, near, many)) (omega arith))
+
+pub editing::release_in_node-returns-in-Parts-clause-edited : goal.editing::release_in_node-returns-in-Parts-clause-edited
+editing::release_in_node-returns-in-Parts-clause-edited g t c =
+    let spot : IsSpot {I = g.row.I.Denot} c.in-Parts.parts.items c.args.index c.spot_at-spot.result.at c.spot_at-spot.result.rest
+    = subst (λ ks. IsSpot {I = g.row.I.Denot} ks c.args.index c.spot_at-spot.result.at c.spot_at-spot.result.rest) c.deref.ensures.value c.spot_at-spot.ensures in
+    subst (λ n. Edited {I = g.row.I.Denot} (leaves_of n) (leaves_of_parts {I = g.row.I.Denot} (slice_set c.in-Parts.parts.items c.spot_at-spot.result.at c.release_at.new.self)) c.args.index (λ xs i. xs) 1) (sym c.in-Parts.is)
+    (edited {I = g.row.I.Denot} _ _ _ _ spot c.index_mut.result.now c.release_at.new.self c.index_mut.ensures.value _ 1 c.release_at.ensures.edited)
+
+pub editing::release_in_node-spot_at-spot-requires : goal.editing::release_in_node-spot_at-spot-requires
+editing::release_in_node-spot_at-spot-requires g t c =
+    let way = subst (λ n. 1 < room_at {I = g.row.I.Denot} (leaves_of n) c.args.index) c.in-Parts.is c.requires in
+    let near = there {I = g.row.I.Denot} (leaves_of_parts {I = g.row.I.Denot} c.in-Parts.parts.items) c.args.index (omega (arith, way)) in
+    let same = ap (λ ks. length (items {I = g.row.I.Denot} (leaves_of_parts {I = g.row.I.Denot} ks))) c.deref.ensures.value in
+    omega (arith, near, same)
+
+pub editing::release_in_node-overflow_sub-reserved : goal.editing::release_in_node-overflow_sub-reserved
+editing::release_in_node-overflow_sub-reserved g t c =
+    let way = subst (λ n. 1 < room_at {I = g.row.I.Denot} (leaves_of n) c.args.index) c.in-Items.is c.requires in
+    let le = room-leaf {I = g.row.I.Denot} c.in-Items.field-0.items (min c.in-Items.reserved (vec_capacity c.in-Items.field-0 - vec_len c.in-Items.field-0) + 1) c.args.index in
+    omega (arith, way, le)
+
+pub seq::Seq::release_at-invariant_of-self : goal.seq::Seq::release_at-invariant_of-self
+seq::Seq::release_at-invariant_of-self g t c =
+    let level = subst (IsLevel {I = g.row.I.Denot} {M = g.row.I-Measure.Denot}) (sym c.deref_mut.ensures.value) (subst (IsLevelLink {I = g.row.I.Denot} {M = g.row.I-Measure.Denot}) c.in-Own.is c.self.invariant.level) in
+    resummed {I = g.row.I.Denot} {M = g.row.I-Measure.Denot} _ _ _ _ _ _ _ _ _ _
+    (items_release {I = g.row.I.Denot} _ _ _ c.release_in_node.ensures.edited ∙ ap (λ n. items (leaves_of n)) c.deref_mut.ensures.value ∙ sym (ap (λ l. items (leaves_of_link l)) c.in-Own.is))
+    (c.release_in_node.ensures.rank ∙ ap (λ n. rank_of n) c.deref_mut.ensures.value ∙ sym (ap (λ l. rank_of_link l) c.in-Own.is))
+    (c.release_in_node.ensures.level level) c.self.invariant
+
+pub editing::release_in_node-returns-in-Parts-clause-rank : goal.editing::release_in_node-returns-in-Parts-clause-rank
+editing::release_in_node-returns-in-Parts-clause-rank g t c =
+    rank_set {I = g.row.I.Denot} _ _ c.index_mut.result.now c.release_at.new.self c.index_mut.ensures.value c.release_at.ensures.rank ∙ ap (λ n. rank_of n) (sym c.in-Parts.is)
+
+pub editing::release_in_node-returns-in-Parts-clause-level : goal.editing::release_in_node-returns-in-Parts-clause-level
+editing::release_in_node-returns-in-Parts-clause-level g t c = λ h.
+    let spot : IsSpot {I = g.row.I.Denot} c.in-Parts.parts.items c.args.index c.spot_at-spot.result.at c.spot_at-spot.result.rest
+    = subst (λ ks. IsSpot {I = g.row.I.Denot} ks c.args.index c.spot_at-spot.result.at c.spot_at-spot.result.rest) c.deref.ensures.value c.spot_at-spot.ensures in
+    level_set {I = g.row.I.Denot} _ _ c.index_mut.result.now c.release_at.new.self (at_in {I = g.row.I.Denot} _ _ _ _ spot) c.index_mut.ensures.value c.release_at.ensures.rank
+    (λ n. let m = ap length (items_release {I = g.row.I.Denot} _ _ _ c.release_at.ensures.edited) in omega (arith, m, n))
+    (subst (IsLevel {I = g.row.I.Denot} {M = g.row.I-Measure.Denot}) c.in-Parts.is h)

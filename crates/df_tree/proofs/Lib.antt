@@ -1,0 +1,9 @@
+pub mod EditLemmas
+pub mod HalfLemmas
+pub mod PlanLemmas
+pub mod LeafLemmas
+pub mod ReadyLemmas
+pub mod SpotLemmas
+pub mod Outcomes
+pub mod Sums
+pub mod LevelLemmas

@@ -1,0 +1,5 @@
+pub mod Laws
+pub mod Level
+pub mod Ranks
+pub mod Leaves
+pub mod Spots
