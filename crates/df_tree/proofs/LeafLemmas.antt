@@ -1,7 +1,7 @@
 -- Items of leaves, and plans that are ready.
 use Rattle.std.proofs.Common.{◌≡◌, ◌≤◌, ◌<◌, ◌+◌, ◌-◌, ℕ, zero, suc, List, [], ◌∷◌, ◌++◌, length, map, refl, sym, ap, ◌∙◌, arith, append_assoc, length-append}
-use Rattle.std.specs.Prelude.{slice_get, slice_set, take, get_or, max}
-use Rattle.std.proofs.lemmas.List.{set-append_left, length-map, append-nil}
+use Rattle.std.specs.Prelude.{slice_get, slice_set, take, drop, get_or, max}
+use Rattle.std.proofs.lemmas.List.{set-append_left, length-map, append-nil, take-append-le}
 use Rattle.std.specs.List.{insert, remove}
 use Rattle.std.proofs.lemmas.List.Edits.{insert-append_left, insert-append_right}
 use denote.Param.Weighed.{most}
@@ -102,6 +102,22 @@ remove-within [] (y ∷ ys) zs (suc i) zero e h = absurd (omega (arith, e))
 remove-within [] (y ∷ ys) zs (suc i) (suc j) e h = ap (λ l. y ∷ l) (remove-within [] ys zs i j (omega (arith, e)) (omega (arith, h)))
 remove-within (w ∷ xs) ys zs i zero e h = absurd (omega (arith, e))
 remove-within (w ∷ xs) ys zs i (suc j) e h = ap (λ r. w ∷ r) (remove-within xs ys zs i j (omega (arith, e)) h)
+
+pub take-within : {X : Type 0} (xs ys zs : List X) (i j : ℕ) → j ≡ length xs + i → i ≤ length ys → take j (xs ++ (ys ++ zs)) ≡ xs ++ take i ys
+take-within [] ys zs i j e h = let f : j ≡ i = omega (arith, e) in ap (λ j. take j (ys ++ zs)) f ∙ take-append-le i ys zs h
+take-within (w ∷ xs) ys zs i zero e h = absurd (omega (arith, e))
+take-within (w ∷ xs) ys zs i (suc j) e h = ap (λ r. w ∷ r) (take-within xs ys zs i j (omega (arith, e)) h)
+
+drop-front : {X : Type 0} (ys zs : List X) (i : ℕ) → i ≤ length ys → drop i (ys ++ zs) ≡ drop i ys ++ zs
+drop-front [] zs zero h = refl
+drop-front [] zs (suc i) h = absurd (omega (arith, h))
+drop-front (y ∷ ys) zs zero h = refl
+drop-front (y ∷ ys) zs (suc i) h = drop-front ys zs i (omega (arith, h))
+
+pub drop-within : {X : Type 0} (xs ys zs : List X) (i j : ℕ) → j ≡ length xs + i → i ≤ length ys → drop j (xs ++ (ys ++ zs)) ≡ drop i ys ++ zs
+drop-within [] ys zs i j e h = let f : j ≡ i = omega (arith, e) in ap (λ j. drop j (ys ++ zs)) f ∙ drop-front ys zs i h
+drop-within (w ∷ xs) ys zs i zero e h = absurd (omega (arith, e))
+drop-within (w ∷ xs) ys zs i (suc j) e h = drop-within xs ys zs i j (omega (arith, e)) h
 
 -- parts that are alike have the same items and ranks together
 pub alike_whole : {I : Type 0} (ks ls : List (List (List I × ℕ) × ℕ)) → map (alike {I = I}) ks ≡ map (alike {I = I}) ls → alike {I = I} (whole_of {I = I} ks) ≡ alike {I = I} (whole_of {I = I} ls)

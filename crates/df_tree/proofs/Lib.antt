@@ -7,3 +7,4 @@ pub mod SpotLemmas
 pub mod Outcomes
 pub mod Sums
 pub mod LevelLemmas
+pub mod FoundLemmas

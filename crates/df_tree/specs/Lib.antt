@@ -3,3 +3,4 @@ pub mod Level
 pub mod Ranks
 pub mod Leaves
 pub mod Spots
+pub mod Finds

@@ -4,8 +4,8 @@ ghost use Rattle.df_tree.specs.Level.{IsLevel};
 ghost use Rattle.df_tree.specs.Leaves.{alike, alike_node, items};
 
 use crate::item::Item;
-use crate::seq::{Link, Node, Seq};
 use crate::making::owned;
+use crate::seq::{Link, Node, Seq};
 use std::alloc::{AllocError, Global};
 use std::sync::Arc;
 
@@ -21,7 +21,10 @@ pub(crate) fn items_again<I: Item>(alloc: Global, items: &[I]) -> Result<Vec<I>,
 }
 
 /// The same parts once more.
-pub(crate) fn copied_parts<I: Item>(alloc: Global, parts: &[Seq<I>]) -> Result<Vec<Seq<I>>, AllocError>
+pub(crate) fn copied_parts<I: Item>(
+    alloc: Global,
+    parts: &[Seq<I>],
+) -> Result<Vec<Seq<I>>, AllocError>
     ensures { IfOk result (λ v. map alike v.items ≡ map alike parts.now) }
 {
     let mut made = Vec::with_capacity(alloc, parts.len())?;

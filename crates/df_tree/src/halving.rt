@@ -3,10 +3,10 @@ ghost use Rattle.std.specs.Prelude.{◌≡◌, ◌<◌, ◌≤◌, ◌+◌, ◌�
 ghost use Rattle.df_tree.specs.Level.{AreLevel, IsHalved, IsLevel, MayBeHalved};
 ghost use Rattle.df_tree.specs.Leaves.{items, rank_above, rank_of, leaves_of, leaves_of_parts, Kept};
 
+use crate::copying::copied_node;
 use crate::item::Item;
 use crate::seq::{Link, Node, Seq};
 use crate::totals::{count_of, measure_in, measure_of_items, rank_in};
-use crate::copying::copied_node;
 use std::alloc::{AllocError, Global};
 
 /// At most so many items or parts are in a node that is not to be halved.
@@ -41,7 +41,10 @@ pub(crate) fn halved_items<I: Item>(
 }
 
 /// Moves the half of these parts that is behind to a new part.
-pub(crate) fn halved_parts<I: Item>(alloc: Global, parts: &mut Vec<Seq<I>>) -> Result<Seq<I>, AllocError>
+pub(crate) fn halved_parts<I: Item>(
+    alloc: Global,
+    parts: &mut Vec<Seq<I>>,
+) -> Result<Seq<I>, AllocError>
     requires many { 2 ≤ length parts.old.items }
     requires level { AreLevel parts.old.items }
     requires few { rank_above parts.old.items < 64 }
@@ -97,7 +100,11 @@ pub(crate) fn halved_node<I: Item>(
 }
 
 /// Halves the part at an index, where it is full.
-pub(crate) fn halve_at<I: Item>(alloc: Global, parts: &mut Vec<Seq<I>>, at: usize) -> Result<(), AllocError>
+pub(crate) fn halve_at<I: Item>(
+    alloc: Global,
+    parts: &mut Vec<Seq<I>>,
+    at: usize,
+) -> Result<(), AllocError>
     requires { at < vec_len parts.old }
     ensures kept { Kept (leaves_of_parts parts.old.items) (leaves_of_parts parts.new.items) }
     ensures rank { rank_above parts.new.items ≡ rank_above parts.old.items }

@@ -3,6 +3,7 @@
 
 mod copying;
 mod editing;
+mod finding;
 mod halving;
 mod item;
 mod making;
@@ -11,5 +12,6 @@ mod seq;
 mod spot;
 mod totals;
 
+pub use finding::Test;
 pub use item::{Item, Monoid};
 pub use seq::Seq;

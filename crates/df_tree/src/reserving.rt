@@ -3,12 +3,12 @@ ghost use Rattle.std.specs.Prelude.{◌≡◌, ◌<◌, ◌≤◌, ◌+◌, [], 
 ghost use Rattle.df_tree.specs.Level.{IsLevel};
 ghost use Rattle.df_tree.specs.Leaves.{items, items_in, rank_of, leaves_of, IsReady, Kept, Reserved};
 
-use crate::item::Item;
-use crate::seq::{Link, Node, Seq};
-use crate::spot::spot_at;
-use crate::making::owned;
 use crate::copying::copied_node;
 use crate::halving::halve_at;
+use crate::item::Item;
+use crate::making::owned;
+use crate::seq::{Link, Node, Seq};
+use crate::spot::spot_at;
 use std::alloc::{AllocError, Global};
 use std::mem::replace;
 

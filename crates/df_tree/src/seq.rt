@@ -87,8 +87,6 @@ impl<I: Item> Drop for Node<I> {
     }
 }
 
-
-
 impl<I: Item> Seq<I> {
     /// How many items there are.
     pub fn len(&self) -> usize
