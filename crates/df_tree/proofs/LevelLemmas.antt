@@ -2,7 +2,8 @@
 use Rattle.std.proofs.Common.{◌≡◌, ◌≤◌, ◌<◌, ◌+◌, ◌-◌, ℕ, zero, suc, List, [], ◌∷◌, ◌++◌, length, map, refl, sym, ap, ◌∙◌, arith, subst, length-append}
 use Rattle.std.specs.Prelude.{slice_set, take, drop, get_or, max, Option, Some, None}
 use Rattle.std.specs.List.{insert, remove}
-use Rattle.std.proofs.lemmas.List.{length-take-le, length-drop}
+use Rattle.std.proofs.lemmas.List.{length-take-le, length-drop, take_more}
+use denote.Param.Weighed.{most-append}
 use Rattle.df_tree.specs.Laws.{total}
 use Rattle.df_tree.specs.declared.seq.Link.{Link}
 use Rattle.df_tree.specs.Leaves.{alike, items, rank_above, leaves_of_parts, Kept}
@@ -53,7 +54,7 @@ module _ {I : Type 0} where
   parts_two r zero (suc (suc b)) (j ∷ ks) l m n h a p q = absurd (omega (arith, n))
   parts_two r (suc at) (suc b) (j ∷ ks) l m n h a p q = (a.0, parts_two r at b ks l m (omega (arith, n)) (omega (arith, h)) a.1 p q)
 
-  rank_at_most : (r : ℕ) (ks : List (List (List I × ℕ) × ℕ)) → AllParts {I = I} r ks → rank_above {I = I} ks ≤ r + 1
+  pub rank_at_most : (r : ℕ) (ks : List (List (List I × ℕ) × ℕ)) → AllParts {I = I} r ks → rank_above {I = I} ks ≤ r + 1
   rank_at_most r [] a = omega arith
   rank_at_most r (k ∷ ks) a = let h = rank_at_most r ks a.1 in omega (arith, h, a.0.rank_is)
 
@@ -90,6 +91,15 @@ module _ {I : Type 0} where
   rank_two (j ∷ ks) zero (suc zero) k l m n h e p q = let f = ap (λ k. k.1) e in omega (arith, f, p, q)
   rank_two (j ∷ ks) zero (suc (suc b)) k l m n h e p q = absurd (omega (arith, n))
   rank_two (j ∷ ks) (suc at) (suc b) k l m n h e p q = ap (max (j.1 + 1)) (rank_two ks at b k l m (omega (arith, n)) (omega (arith, h)) e p q)
+
+  -- one part further on
+  pub rank_more : (ks : List (List (List I × ℕ) × ℕ)) (at rank mine : ℕ) (k : List (List I × ℕ) × ℕ) → rank ≡ rank_above {I = I} (take at ks) → at < length ks → k ≡ get_or ks at k → mine ≡ k.1
+      → max rank (mine + 1) ≡ rank_above {I = I} (take (at + 1) ks)
+  rank_more ks at rank mine k e h f m =
+      let t = ap (rank_above {I = I}) (take_more ks at k h) in
+      let p = most-append (λ k. k.1 + 1) (take at ks) (get_or ks at k ∷ []) in
+      let q = ap (λ k. k.1) f in
+      omega (arith, t, p, q, e, m)
 
   -- a part of the same rank in the place of one, with items too
   pub level_set : (ks : List (List (List I × ℕ) × ℕ)) (at : ℕ) (k l : List (List I × ℕ) × ℕ) → at < length ks → k ≡ get_or ks at k → l.1 ≡ k.1 → (0 < length (items {I = I} k.0) → 0 < length (items {I = I} l.0)) → AreLevel {I = I} ks

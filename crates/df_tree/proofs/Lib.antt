@@ -8,3 +8,5 @@ pub mod Outcomes
 pub mod Sums
 pub mod LevelLemmas
 pub mod FoundLemmas
+pub mod JoinLemmas
+pub mod CutLemmas

@@ -42,6 +42,10 @@ items (r ∷ rs) = r.0 ++ items rs
 abbrev pub items_in : {I : Type 0} → List (List I × ℕ) × ℕ → List I
 items_in k = items k.0
 
+-- the items of these parts, one after another
+abbrev pub items_of_parts : {I : Type 0} → List (List (List I × ℕ) × ℕ) → List I
+items_of_parts ks = items (leaves_of_parts ks)
+
 -- the room of each item
 abbrev pub rooms : {I : Type 0} → List (List I × ℕ) → List ℕ
 rooms [] = []
@@ -62,12 +66,12 @@ whole_of ks = (leaves_of_parts ks, rank_above ks)
 abbrev pub alike_node : {I M : Type 0} → Node I M → List I × ℕ
 alike_node n = (items (leaves_of n), rank_of n)
 
--- how many insertions are planned beside the first items
+-- how many edits are planned at the first items
 abbrev pub total : (ℕ → ℕ) → ℕ → ℕ
 total plan zero = 0
 total plan (suc n) = plan 0 + total (λ i. plan (suc i)) n
 
--- the insertions that are planned beside the items of a leaf are at most those that were reserved in it, at each leaf
+-- the edits that are planned at the items of a leaf are at most those that were reserved in it, at each leaf
 abbrev pub Ready : {I : Type 0} → (ℕ → ℕ) → List (List I × ℕ) → Type 0
 Ready plan [] = Unit {0}
 Ready plan (r ∷ rs) = (total plan (length r.0) ≤ r.1 - 1) × Ready (λ i. plan (length r.0 + i)) rs
@@ -79,7 +83,7 @@ same zero (suc j) = 0
 same (suc i) zero = 0
 same (suc i) (suc j) = same i j
 
--- the plan with one insertion more beside the item at an index
+-- the plan with one edit more at the item at an index
 abbrev pub one_more : (ℕ → ℕ) → ℕ → ℕ → ℕ
 one_more plan index i = plan i + same i index
 
@@ -88,7 +92,7 @@ pub record Kept {I : Type 0} (old new : List (List I × ℕ)) : Type 0 where
   pub items : items {I = I} new ≡ items {I = I} old
   pub ready : (plan : ℕ → ℕ) → Ready {I = I} plan old → Ready {I = I} plan new
 
--- each plan that was ready is ready with one insertion more beside the item at an index
+-- each plan that was ready is ready with one edit more at the item at an index
 pub record Reserved {I : Type 0} (old new : List (List I × ℕ)) (index : ℕ) : Type 0 where
   pub ready : (plan : ℕ → ℕ) → Ready {I = I} plan old → Ready {I = I} (one_more plan index) new
 

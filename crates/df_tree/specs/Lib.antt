@@ -4,3 +4,4 @@ pub mod Ranks
 pub mod Leaves
 pub mod Spots
 pub mod Finds
+pub mod Puts

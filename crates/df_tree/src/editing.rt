@@ -29,7 +29,7 @@ pub(crate) fn put_in_node<I: Item>(node: &mut Node<I>, index: usize, item: I)
     }
 }
 
-/// Gives back what was reserved for one item beside the one at an index.
+/// Gives back what was reserved for one edit at the item at an index.
 #[cycle(release_at)]
 pub(crate) fn release_in_node<I: Item>(node: &mut Node<I>, index: usize)
     requires { 1 < room_at (leaves_of node.old) index }
@@ -136,7 +136,7 @@ impl<I: Item> Seq<I> {
         }
     }
 
-    /// Gives back what was reserved for one item beside the one at an index.
+    /// Gives back what was reserved for one edit at the item at an index.
     #[cycle(release_at)]
     pub fn release_at(&mut self, index: usize)
         requires { 1 < room_at self.old.0 index }

@@ -12,7 +12,7 @@ use crate::spot::spot_at;
 use std::alloc::{AllocError, Global};
 use std::mem::replace;
 
-/// Reserves room for one item more beside the one at an index, from the parts of a node on.
+/// Reserves room for one edit at the item at an index, from the parts of a node on.
 #[cycle(reserve_below)]
 pub(crate) fn reserve_in_node<I: Item>(
     node: &mut Node<I>,
@@ -80,7 +80,7 @@ impl<I: Item> Seq<I> {
         Ok(())
     }
 
-    /// Reserves room for one item more beside the one at an index, below the root.
+    /// Reserves room for one edit at the item at an index, below the root.
     #[cycle(reserve_below)]
     pub(crate) fn reserve_below(&mut self, alloc: Global, index: usize) -> Result<(), AllocError>
         requires { index < length (items_in self.old) }
@@ -100,7 +100,7 @@ impl<I: Item> Seq<I> {
         }
     }
 
-    /// Reserves room for one item more beside the one at an index: the way there is owned, full nodes on it are halved,
+    /// Reserves room for one edit at the item at an index: the way there is owned, full nodes on it are halved,
     /// and there is memory for it in the leaf. Each plan that was ready still is.
     pub fn reserve_at(&mut self, alloc: Global, index: usize) -> Result<(), AllocError>
         requires { index < length (items_in self.old) }

@@ -9,8 +9,9 @@ use crate::spot::spot_at;
 use std::marker::Model;
 use std::sync::Arc;
 
-/// A node with how many items there are in it, how many levels are below it, and the measure of the items. Contracts see its
-/// leaves, each with its items and its room, and the rank: the levels below, by which a recursion ends too.
+/// A sequence of items: the way to a node, and how many items are in it, how many levels are below it and the measure of the
+/// items. The parts of a node are sequences too. Contracts see the leaves, each with its items and its room, and the rank:
+/// the levels below, by which a recursion ends.
 #[cycle(seq)]
 pub struct Seq<I: Item> {
     pub(crate) link: Link<I>,
@@ -19,14 +20,14 @@ pub struct Seq<I: Item> {
     pub(crate) measure: I::Measure,
 }
 
-/// The way to a node.
+/// The way to a node, which is owned, or shared with other sequences.
 #[cycle(seq)]
 pub(crate) enum Link<I: Item> {
     Own(Box<Node<I>>),
     Shared(Arc<Node<I>>),
 }
 
-/// Items with how many more were reserved, or parts that hold them.
+/// Items with how many edits were reserved, or parts that hold them.
 #[cycle(seq)]
 pub(crate) enum Node<I: Item> {
     Items(Vec<I>, usize),

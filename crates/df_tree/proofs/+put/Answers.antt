@@ -92,3 +92,10 @@ editing::put_in_node-returns-in-Parts-clause-level g t c = λ h.
     level_set {I = g.row.I.Denot} _ _ c.index_mut-in-Parts.result.now c.put.new.self (at_in {I = g.row.I.Denot} _ _ _ _ spot) c.index_mut-in-Parts.ensures.value c.put.ensures.rank
     (λ n. let m = ap length (items_put {I = g.row.I.Denot} _ _ _ _ c.put.ensures.edited) in let l = length-set (items {I = g.row.I.Denot} c.index_mut-in-Parts.result.now.0) c.spot_at-spot.result.rest c.args.item in omega (arith, m, l, n))
     (subst (IsLevel {I = g.row.I.Denot} {M = g.row.I-Measure.Denot}) c.in-Parts.is h)
+
+pub editing::put_in_node-index_mut-requires-in-Parts : goal.editing::put_in_node-index_mut-requires-in-Parts
+editing::put_in_node-index_mut-requires-in-Parts g t c =
+    let spot : IsSpot {I = g.row.I.Denot} c.in-Parts.parts.items c.args.index c.spot_at-spot.result.at c.spot_at-spot.result.rest
+    = subst (λ ks. IsSpot {I = g.row.I.Denot} ks c.args.index c.spot_at-spot.result.at c.spot_at-spot.result.rest) c.deref.ensures.value c.spot_at-spot.ensures in
+    let near = at_in {I = g.row.I.Denot} _ _ _ _ spot in
+    omega (arith, near, c.in-Parts.parts.ok)

@@ -105,3 +105,10 @@ editing::insert_in_node-returns-in-Parts-clause-level g t c = λ h.
     level_set {I = g.row.I.Denot} _ _ c.index_mut.result.now c.put_in.new.self (at_in {I = g.row.I.Denot} _ _ _ _ spot) c.index_mut.ensures.value c.put_in.ensures.rank
     (λ n. let near = edited_in {I = g.row.I.Denot} _ _ _ _ _ c.put_in.ensures.edited in let m = ap length (items_put_in {I = g.row.I.Denot} _ _ _ _ _ c.requires.side c.put_in.ensures.edited) in let l = length-insert (items {I = g.row.I.Denot} c.index_mut.result.now.0) (c.spot_at-spot.result.rest + c.args.side) c.args.item (omega (arith, near, c.requires.side)) in omega (arith, m, l, n))
     (subst (IsLevel {I = g.row.I.Denot} {M = g.row.I-Measure.Denot}) c.in-Parts.is h)
+
+pub editing::insert_in_node-index_mut-requires : goal.editing::insert_in_node-index_mut-requires
+editing::insert_in_node-index_mut-requires g t c =
+    let spot : IsSpot {I = g.row.I.Denot} c.in-Parts.parts.items c.args.index c.spot_at-spot.result.at c.spot_at-spot.result.rest
+    = subst (λ ks. IsSpot {I = g.row.I.Denot} ks c.args.index c.spot_at-spot.result.at c.spot_at-spot.result.rest) c.deref.ensures.value c.spot_at-spot.ensures in
+    let near = at_in {I = g.row.I.Denot} _ _ _ _ spot in
+    omega (arith, near, c.in-Parts.parts.ok)

@@ -77,3 +77,10 @@ editing::release_in_node-returns-in-Parts-clause-level g t c = λ h.
     level_set {I = g.row.I.Denot} _ _ c.index_mut.result.now c.release_at.new.self (at_in {I = g.row.I.Denot} _ _ _ _ spot) c.index_mut.ensures.value c.release_at.ensures.rank
     (λ n. let m = ap length (items_release {I = g.row.I.Denot} _ _ _ c.release_at.ensures.edited) in omega (arith, m, n))
     (subst (IsLevel {I = g.row.I.Denot} {M = g.row.I-Measure.Denot}) c.in-Parts.is h)
+
+pub editing::release_in_node-index_mut-requires : goal.editing::release_in_node-index_mut-requires
+editing::release_in_node-index_mut-requires g t c =
+    let spot : IsSpot {I = g.row.I.Denot} c.in-Parts.parts.items c.args.index c.spot_at-spot.result.at c.spot_at-spot.result.rest
+    = subst (λ ks. IsSpot {I = g.row.I.Denot} ks c.args.index c.spot_at-spot.result.at c.spot_at-spot.result.rest) c.deref.ensures.value c.spot_at-spot.ensures in
+    let near = at_in {I = g.row.I.Denot} _ _ _ _ spot in
+    omega (arith, near, c.in-Parts.parts.ok)

@@ -1,3 +1,4 @@
+use Rattle.df_tree.specs.declared.seq.Seq.TheDeep.{deep-Node}
 use Rattle.df_tree.proofs.LevelLemmas.{rank_set, level_set, resummed}
 use Rattle.df_tree.specs.Level.{IsLevel}
 use Rattle.std.proofs.Common.{rules, ◌≡◌, ◌<◌, ◌≤◌, ◌+◌, ◌-◌, ℕ, [], ◌∷◌, length, ap, sym, ◌∙◌, arith, subst}
@@ -6,7 +7,7 @@ use Rattle.df_tree.specs.Leaves.{items, leaves_of, leaves_of_parts, leaves_of_li
 use Rattle.df_tree.specs.Spots.{IsSpot}
 use Rattle.df_tree.proofs.LeafLemmas.{items-one, items-shared}
 use Rattle.df_tree.proofs.PlanLemmas.{kept_shared, kept_trans, reserved_after, reserved_leaf}
-use Rattle.df_tree.proofs.SpotLemmas.{kept, reserved, at_in}
+use Rattle.df_tree.proofs.SpotLemmas.{kept, reserved, at_in, lower, within}
 use Rattle.df_tree.proofs.Outcomes.{if_ok_then}
 use Rattle.df_tree.proofs.+reserve_below.Goals as goal
 
@@ -80,3 +81,38 @@ reserving::reserve_in_node-returns-in_ok-halve_at-in-Parts-clause-level g t c = 
     level_set {I = g.row.I.Denot} _ _ c.index_mut.result.now c.reserve_below.new.self (at_in {I = g.row.I.Denot} _ _ _ _ spot) c.index_mut.ensures.value c.reserve_below.ensures.rank
     (λ n. let m = ap length c.reserve_below.ensures.kept.items in omega (arith, m, n))
     (c.halve_at.ensures.level (subst (IsLevel {I = g.row.I.Denot} {M = g.row.I-Measure.Denot}) c.in-Parts.is h))
+
+pub reserving::reserve_in_node-spot_at-full-requires : goal.reserving::reserve_in_node-spot_at-full-requires
+reserving::reserve_in_node-spot_at-full-requires g t c =
+    let near = subst (λ n. c.args.index < length (items {I = g.row.I.Denot} (leaves_of n))) c.in-Parts.is c.requires in
+    let same = ap (λ ks. length (items {I = g.row.I.Denot} (leaves_of_parts {I = g.row.I.Denot} ks))) c.deref.ensures.value in
+    omega (arith, near, same)
+
+pub reserving::reserve_in_node-spot_at-spot-requires : goal.reserving::reserve_in_node-spot_at-spot-requires
+reserving::reserve_in_node-spot_at-spot-requires g t c =
+    let near = subst (λ n. c.args.index < length (items {I = g.row.I.Denot} (leaves_of n))) c.in-Parts.is c.requires in
+    let kept = ap length c.halve_at.ensures.kept.items in
+    let same = ap (λ ks. length (items {I = g.row.I.Denot} (leaves_of_parts {I = g.row.I.Denot} ks))) c.deref-in-Parts.ensures.value in
+    omega (arith, near, kept, same)
+
+pub reserving::reserve_in_node-halve_at-requires : goal.reserving::reserve_in_node-halve_at-requires
+reserving::reserve_in_node-halve_at-requires g t c =
+    let spot : IsSpot {I = g.row.I.Denot} c.in-Parts.parts.items c.args.index c.spot_at-full.result.at c.spot_at-full.result.rest
+    = subst (λ ks. IsSpot {I = g.row.I.Denot} ks c.args.index c.spot_at-full.result.at c.spot_at-full.result.rest) c.deref.ensures.value c.spot_at-full.ensures in
+    let near = at_in {I = g.row.I.Denot} _ _ _ _ spot in
+    omega (arith, near, c.in-Parts.parts.ok)
+
+pub reserving::reserve_in_node-index_mut-requires : goal.reserving::reserve_in_node-index_mut-requires
+reserving::reserve_in_node-index_mut-requires g t c =
+    let spot : IsSpot {I = g.row.I.Denot} c.halve_at.new.parts.items c.args.index c.spot_at-spot.result.at c.spot_at-spot.result.rest
+    = subst (λ ks. IsSpot {I = g.row.I.Denot} ks c.args.index c.spot_at-spot.result.at c.spot_at-spot.result.rest) c.deref-in-Parts.ensures.value c.spot_at-spot.ensures in
+    let near = at_in {I = g.row.I.Denot} _ _ _ _ spot in
+    omega (arith, near, c.halve_at.new.parts.ok)
+
+pub reserving::reserve_in_node-reserve_below-requires : goal.reserving::reserve_in_node-reserve_below-requires
+reserving::reserve_in_node-reserve_below-requires g t c κs inside =
+    let spot : IsSpot {I = g.row.I.Denot} c.halve_at.new.parts.items c.args.index c.spot_at-spot.result.at c.spot_at-spot.result.rest
+    = subst (λ ks. IsSpot {I = g.row.I.Denot} ks c.args.index c.spot_at-spot.result.at c.spot_at-spot.result.rest) c.deref-in-Parts.ensures.value c.spot_at-spot.ensures in
+    let below = lower {I = g.row.I.Denot} _ _ _ _ spot _ c.index_mut.ensures.value in
+    let high = ap (λ n. deep-Node g.row.I.Denot g.row.I-Measure.Denot g.I.Item g.I.Measure.Monoid n) c.in-Parts.is in
+    (omega (arith, below, high, c.halve_at.ensures.rank, c.decreases), (search rules, (search rules, within {I = g.row.I.Denot} _ _ _ _ spot _ c.index_mut.ensures.value)))

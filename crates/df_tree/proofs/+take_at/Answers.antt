@@ -122,3 +122,17 @@ editing::take_from_node-returns-in-Parts-clause-level g t c = λ h.
     let all = lowered {I = g.row.I.Denot} (rank_above {I = g.row.I.Denot} c.in-Parts.parts.items - 1) c.in-Parts.parts.items c.drop_empty.new.parts.items old (omega (arith, near)) (c.drop_empty.ensures.level (rank_above {I = g.row.I.Denot} c.in-Parts.parts.items - 1) one) in
     let rank = ap (λ n. rank_of n) c.in-Parts.is in
     record { level = all.0; low = omega (arith, all.1.0, rank); stays = λ n. all.1.1 n ∙ sym rank }
+
+pub editing::take_from_node-index_mut-requires : goal.editing::take_from_node-index_mut-requires
+editing::take_from_node-index_mut-requires g t c =
+    let spot : IsSpot {I = g.row.I.Denot} c.in-Parts.parts.items c.args.index c.spot_at-spot.result.at c.spot_at-spot.result.rest
+    = subst (λ ks. IsSpot {I = g.row.I.Denot} ks c.args.index c.spot_at-spot.result.at c.spot_at-spot.result.rest) c.deref.ensures.value c.spot_at-spot.ensures in
+    let near = at_in {I = g.row.I.Denot} _ _ _ _ spot in
+    omega (arith, near, c.in-Parts.parts.ok)
+
+pub editing::take_from_node-drop_empty-requires : goal.editing::take_from_node-drop_empty-requires
+editing::take_from_node-drop_empty-requires g t c =
+    let spot : IsSpot {I = g.row.I.Denot} c.in-Parts.parts.items c.args.index c.spot_at-spot.result.at c.spot_at-spot.result.rest
+    = subst (λ ks. IsSpot {I = g.row.I.Denot} ks c.args.index c.spot_at-spot.result.at c.spot_at-spot.result.rest) c.deref.ensures.value c.spot_at-spot.ensures in
+    let near = at_in {I = g.row.I.Denot} _ _ _ _ spot in
+    omega (arith, near, c.in-Parts.parts.ok)
