@@ -381,6 +381,31 @@ south   1      0
 shrinks "a file that is cut within a record" 2 "" "sales: F4 2" 22
 shrinks "a file that is emptied" 2 "" "sales: F5 region" 0
 
+# A real limit of memory, in kilobytes: a run ends in its output or in `memory`, and never by a signal.
+limited() {
+  (ulimit -v "$1" && exec "$program" < document > out 2> err)
+  local status=$?
+  if [ "$status" -eq 0 ]; then
+    ended "a limit of $1 kilobytes" 0 "$2"
+  else
+    (exit "$status")
+    ended "a limit of $1 kilobytes" 2 "" memory
+  fi
+}
+{
+  frame sales "$sales" "text = '''
+region,qty
+$(yes north,3 | head -n 20000)
+'''"
+  view by_region sales "$totals"
+} > document
+for kilobytes in 5000 10000 20000 50000 100000 150000 200000 300000 400000 1000000; do
+  limited "$kilobytes" 'by_region (1 x 3)
+region      n  total
+north   20000  60000
+'
+done
+
 # Each prefix of documents, and of a frame's file.
 modelled() {
   local runs otherwise
