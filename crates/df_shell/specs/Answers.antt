@@ -1,5 +1,5 @@
 -- What the answer to a command says: of a change, that the store made it; of a question, what the store answers.
-use Rattle.std.specs.Prelude.{◌≡◌, ◌⊎◌, ⊤, ℕ, List, Result, Ok, Err, codes}
+use Rattle.std.specs.Prelude.{◌≡◌, ◌⊎◌, ⊤, ℕ, List, [], Result, Ok, Err, codes}
 use Rattle.csv.specs.Records.{Row, fields_of}
 use Rattle.std.specs.Global.{Vec}
 use Rattle.df_catalogue.specs.declared.change.Change.{Change}
@@ -20,6 +20,7 @@ abbrev pub answer_text : Answer → List ℕ
 answer_text answer.Accepted = codes "ok\n"
 answer_text (answer.Told text) = text.items
 answer_text answer.Help = help_text
+answer_text answer.Ended = []
 
 -- What may be wrong with words that are read as a command.
 abbrev pub IsWordFault : Refusal → Type 0
@@ -42,6 +43,7 @@ module _
     IsAnswer d (command.Question q) lines (Ok (answer.Told text)) = Answers q (Ok text)
     IsAnswer d (command.Question q) lines (Err r) = Answers q (Err r)
     IsAnswer d command.Help lines (Ok answer.Help) = Keeps
+    IsAnswer d command.Quit lines (Ok answer.Ended) = Keeps
     IsAnswer d c lines result = ⊥
 
     -- what is answered to the command that words say

@@ -49,3 +49,4 @@ abbrev pub IsCommandOf : List (List ℕ) → Command → Type 0
 IsCommandOf words (command.Change change) = IsChangeOf words change
 IsCommandOf words (command.Question question) = IsQuestionOf words question
 IsCommandOf words command.Help = words ≡ codes "help" ∷ []
+IsCommandOf words command.Quit = words ≡ codes "quit" ∷ []

@@ -80,7 +80,8 @@ help_text =
     ++ (codes "check                      whether each view has the rows that its plan gives: same, or differs and a view\n"
     ++ (codes "work                       what the views counted at the last change of rows; not with --hall\n"
     ++ (codes "version                    the number of the newest version; only with --hall\n"
-    ++ codes "help                       this list\n")))))))))))
+    ++ (codes "help                       this list\n"
+    ++ codes "quit                       ends the session, as the end of input does\n"))))))))))))
 
 -- the text of a refusal
 abbrev pub text_of : Refusal → List ℕ

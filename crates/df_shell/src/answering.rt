@@ -21,6 +21,8 @@ pub enum Answer {
     Told(Vec<u8>),
     /// The commands.
     Help,
+    /// Nothing: the session ends.
+    Ended,
 }
 
 const HELP: &str = "\
@@ -37,6 +39,7 @@ check                      whether each view has the rows that its plan gives: s
 work                       what the views counted at the last change of rows; not with --hall
 version                    the number of the newest version; only with --hall
 help                       this list
+quit                       ends the session, as the end of input does
 ";
 
 impl Answer {
@@ -48,6 +51,7 @@ impl Answer {
             Answer::Accepted => b"ok\n",
             Answer::Told(text) => text.as_slice(),
             Answer::Help => HELP.as_bytes(),
+            Answer::Ended => b"",
         }
     }
 }
@@ -96,6 +100,7 @@ fn answer_command<S: ViewStore>(
             Ok(Answer::Told(store.answer(alloc, definitions, question)?))
         }
         Command::Help => Ok(Answer::Help),
+        Command::Quit => Ok(Answer::Ended),
     }
 }
 

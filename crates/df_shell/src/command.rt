@@ -15,6 +15,8 @@ pub enum Command<'a> {
     Question(Question<'a>),
     /// The commands.
     Help,
+    /// The end of the session.
+    Quit,
 }
 
 /// A change that is asked for.
@@ -80,6 +82,7 @@ fn command_of<'a>(alloc: Global, name: &str, arguments: &[&'a str]) -> Result<Co
         "work" => bare(Command::Question(Question::Work), arguments),
         "version" => bare(Command::Question(Question::Version), arguments),
         "help" => bare(Command::Help, arguments),
+        "quit" => bare(Command::Quit, arguments),
         _ => Err(Refusal::Mistake(Mistake::NoCommand)),
     }
 }

@@ -8,6 +8,7 @@ use crate::fault::ShellFault;
 use crate::hall_store::HallStore;
 use crate::opening::fill;
 use crate::prepared::{Prepared, prepare};
+use crate::prompts::Prompts;
 use crate::refusal::{Refusal, VersionFault};
 use crate::session::{Session, answer_from};
 use df_catalogue::{Desk, NewFault, PARTS_OF_LEDGER};
@@ -30,6 +31,7 @@ pub fn run_hall_shell<R: Threads + Wait + Sync, V: Read, F: Files, I: BufRead, W
     alloc: Global,
     document: &mut V,
     files: &mut F,
+    prompts: Prompts,
     input: &mut I,
     output: &mut W,
 ) -> Result<(), ShellFault> {
@@ -40,6 +42,7 @@ pub fn run_hall_shell<R: Threads + Wait + Sync, V: Read, F: Files, I: BufRead, W
         Blank::new(PARTS_OF_LEDGER),
         Blank::new(PARTS_OF_LEDGER),
         prepared,
+        prompts,
         input,
         output,
     )
@@ -52,6 +55,7 @@ fn open<Acc: Ledger, Del: Ledger, R: Wait, I: BufRead, W: Write>(
     accepted: Blank,
     deleted: Blank,
     prepared: Prepared,
+    prompts: Prompts,
     input: &mut I,
     output: &mut W,
 ) -> Result<(), ShellFault>
@@ -64,7 +68,7 @@ fn open<Acc: Ledger, Del: Ledger, R: Wait, I: BufRead, W: Write>(
 {
     let schemas = copy_schemas(alloc, prepared.definitions.document.frames.as_slice())?;
     match OpenedHall::<Acc, Del>::open(rt, alloc, accepted, deleted, schemas, 1) {
-        Ok(opened) => serve::<Acc, Del, Brand, R, I, W>(rt, alloc, opened, prepared, input, output),
+        Ok(opened) => serve::<Acc, Del, Brand, R, I, W>(rt, alloc, opened, prepared, prompts, input, output),
         Err(fault) => {
             drop(prepared);
             Err(ShellFault::Frames(frames_fault(fault)))
@@ -90,6 +94,7 @@ fn serve<Acc: Ledger, Del: Ledger, J: Naming, R: Wait, I: BufRead, W: Write>(
     alloc: Global,
     opened: OpenedHall<Acc, Del>,
     prepared: Prepared,
+    prompts: Prompts,
     input: &mut I,
     output: &mut W,
 ) -> Result<(), ShellFault>
@@ -104,7 +109,7 @@ fn serve<Acc: Ledger, Del: Ledger, J: Naming, R: Wait, I: BufRead, W: Write>(
     match reader {
         Some(reader) => {
             let store = HallStore::new(rt, hall, desks, reader);
-            answer_and_close(alloc, store, prepared, input, output)
+            answer_and_close(alloc, store, prepared, prompts, input, output)
         }
         None => {
             drop(prepared);
@@ -120,6 +125,7 @@ fn answer_and_close<'r, R: Wait, Acc: Ledger, Del: Ledger, J: Naming, I: BufRead
     alloc: Global,
     store: HallStore<'r, R, Acc, Del, J>,
     prepared: Prepared,
+    prompts: Prompts,
     input: &mut I,
     output: &mut W,
 ) -> Result<(), ShellFault> {
@@ -133,12 +139,14 @@ fn answer_and_close<'r, R: Wait, Acc: Ledger, Del: Ledger, J: Naming, I: BufRead
         definitions,
         store,
         buffers,
+        prompts,
     };
     let answered = fill_and_answer(alloc, &mut session, pieces, refused, input, output);
     let Session {
         definitions,
         store,
         buffers,
+        prompts: _,
     } = session;
     drop(definitions);
     drop(buffers);

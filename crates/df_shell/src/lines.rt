@@ -45,31 +45,15 @@ pub fn without_end(line: &[u8]) -> &[u8] {
     line.strip_suffix(b"\r").unwrap_or(line)
 }
 
-/// Reads so many lines, also where they cannot be had: then the answer says why.
-pub fn read_lines<I: BufRead>(
-    alloc: Global,
-    input: &mut I,
-    line: &mut Vec<u8>,
-    count: u64,
-) -> io::Result<Result<Vec<u8>, Refusal>> {
-    let mut lines = Ok(Vec::new(alloc));
-    for _ in 0..count {
-        match read_line(input, line)? {
-            Line::Whole => lines = with_line(lines, line.as_slice()),
-            Line::TooLong => lines = with_long_line(lines),
-            Line::End => return Ok(Err(Refusal::Mistake(Mistake::MissingLines))),
-        }
-    }
-    Ok(lines)
-}
-
-fn with_line(lines: Result<Vec<u8>, Refusal>, line: &[u8]) -> Result<Vec<u8>, Refusal> {
+/// The lines with one more, where those before it were read.
+pub fn with_line(lines: Result<Vec<u8>, Refusal>, line: &[u8]) -> Result<Vec<u8>, Refusal> {
     let mut lines = lines?;
     lines.extend_from_slice(line)?;
     Ok(lines)
 }
 
-fn with_long_line(lines: Result<Vec<u8>, Refusal>) -> Result<Vec<u8>, Refusal> {
+/// The lines with one more that is too long.
+pub fn with_long_line(lines: Result<Vec<u8>, Refusal>) -> Result<Vec<u8>, Refusal> {
     let _lines = lines?;
     Err(Refusal::Mistake(Mistake::LongLine))
 }

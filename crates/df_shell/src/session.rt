@@ -1,8 +1,9 @@
 //! A session: the commands of an input and their answers, one after another.
-use crate::answering::answer_line;
+use crate::answering::{Answer, answer_line};
 use crate::definitions::Definitions;
 use crate::fault::ShellFault;
-use crate::lines::{Line, line_buffer, read_line, read_lines, without_end};
+use crate::lines::{Line, line_buffer, read_line, with_line, with_long_line, without_end};
+use crate::prompts::{COMMAND_PROMPT, Prompts, RECORD_PROMPT, greeting};
 use crate::refusal::{Mistake, Refusal};
 use crate::refusal_texts::refusal_text;
 use crate::view_store::ViewStore;
@@ -17,6 +18,7 @@ pub struct Session<S> {
     pub definitions: Definitions,
     pub store: S,
     pub buffers: Buffers,
+    pub prompts: Prompts,
 }
 
 /// Room for the line of a command, and for a line of CSV behind it.
@@ -42,7 +44,13 @@ impl Buffers {
     }
 }
 
-/// Writes the lines of the refused chunks, and answers the commands.
+/// Whether a command is read behind this one.
+enum Turn {
+    Next,
+    Last,
+}
+
+/// Writes the first lines, those of the refused chunks among them, and answers the commands.
 pub fn answer_from<S: ViewStore, I: BufRead, W: Write>(
     alloc: Global,
     session: &mut Session<S>,
@@ -50,9 +58,21 @@ pub fn answer_from<S: ViewStore, I: BufRead, W: Write>(
     input: &mut I,
     output: &mut W,
 ) -> Result<(), ShellFault> {
+    greet(alloc, session, output)?;
     write_answer(output, refused.as_slice())?;
     drop(refused);
     answer_all(alloc, session, input, output)
+}
+
+fn greet<S, W: Write>(
+    alloc: Global,
+    session: &Session<S>,
+    output: &mut W,
+) -> Result<(), ShellFault> {
+    match session.prompts {
+        Prompts::Shown => write_all(output, greeting(alloc, &session.definitions)?.as_bytes()),
+        Prompts::Hidden => Ok(()),
+    }
 }
 
 fn answer_all<S: ViewStore, I: BufRead, W: Write>(
@@ -62,16 +82,34 @@ fn answer_all<S: ViewStore, I: BufRead, W: Write>(
     output: &mut W,
 ) -> Result<(), ShellFault> {
     for _ in 0..u64::MAX {
-        match read_line(input, &mut session.buffers.command) {
-            Ok(Line::Whole) => take_turn(alloc, session, input, output)?,
-            Ok(Line::TooLong) => {
-                write_refusal(alloc, output, &Refusal::Mistake(Mistake::LongLine))?;
-            }
-            Ok(Line::End) => return Ok(()),
-            Err(_) => return Err(ShellFault::Read),
+        match answer_next(alloc, session, input, output)? {
+            Turn::Next => {}
+            Turn::Last => return Ok(()),
         }
     }
     Ok(())
+}
+
+// Reads a line, and answers the command that it is.
+fn answer_next<S: ViewStore, I: BufRead, W: Write>(
+    alloc: Global,
+    session: &mut Session<S>,
+    input: &mut I,
+    output: &mut W,
+) -> Result<Turn, ShellFault> {
+    write_prompt(output, session.prompts, COMMAND_PROMPT)?;
+    match read_line(input, &mut session.buffers.command) {
+        Ok(Line::Whole) => take_turn(alloc, session, input, output),
+        Ok(Line::TooLong) => {
+            write_refusal(alloc, output, &Refusal::Mistake(Mistake::LongLine))?;
+            Ok(Turn::Next)
+        }
+        Ok(Line::End) => {
+            write_prompt(output, session.prompts, b"\n")?;
+            Ok(Turn::Last)
+        }
+        Err(_) => Err(ShellFault::Read),
+    }
 }
 
 // Reads what belongs to a command, does what it says and writes the answer.
@@ -80,20 +118,51 @@ fn take_turn<S: ViewStore, I: BufRead, W: Write>(
     session: &mut Session<S>,
     input: &mut I,
     output: &mut W,
-) -> Result<(), ShellFault> {
+) -> Result<Turn, ShellFault> {
     let line = without_end(session.buffers.command.as_slice());
     if line.is_empty() || line.starts_with(b"#") {
-        return Ok(());
+        return Ok(Turn::Next);
     }
     let words = read_words(alloc, line);
     let count = count_lines(alloc, &words, line);
-    let Ok(lines) = read_lines(alloc, input, &mut session.buffers.record, count) else {
-        return Err(ShellFault::Read);
-    };
+    let record = &mut session.buffers.record;
+    let lines = read_lines(alloc, session.prompts, input, output, record, count)?;
     let definitions = &session.definitions;
     match answer_line(alloc, definitions, &mut session.store, words, lines) {
-        Ok(answer) => write_answer(output, answer.bytes()),
-        Err(refusal) => write_refusal(alloc, output, &refusal),
+        Ok(Answer::Ended) => return Ok(Turn::Last),
+        Ok(answer) => write_answer(output, answer.bytes())?,
+        Err(refusal) => write_refusal(alloc, output, &refusal)?,
+    }
+    Ok(Turn::Next)
+}
+
+// Reads so many lines, also where they cannot be had: then the answer says why.
+fn read_lines<I: BufRead, W: Write>(
+    alloc: Global,
+    prompts: Prompts,
+    input: &mut I,
+    output: &mut W,
+    line: &mut Vec<u8>,
+    count: u64,
+) -> Result<Result<Vec<u8>, Refusal>, ShellFault> {
+    let mut lines = Ok(Vec::new(alloc));
+    for _ in 0..count {
+        write_prompt(output, prompts, RECORD_PROMPT)?;
+        match read_line(input, line) {
+            Ok(Line::Whole) => lines = with_line(lines, line.as_slice()),
+            Ok(Line::TooLong) => lines = with_long_line(lines),
+            Ok(Line::End) => return Ok(Err(Refusal::Mistake(Mistake::MissingLines))),
+            Err(_) => return Err(ShellFault::Read),
+        }
+    }
+    Ok(lines)
+}
+
+// Writes what only a terminal shows.
+fn write_prompt<W: Write>(output: &mut W, prompts: Prompts, text: &[u8]) -> Result<(), ShellFault> {
+    match prompts {
+        Prompts::Shown => write_answer(output, text),
+        Prompts::Hidden => Ok(()),
     }
 }
 

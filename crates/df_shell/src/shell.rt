@@ -5,6 +5,7 @@ ghost use Rattle.df_catalogue.specs.Ledgers as ledgers;
 use crate::fault::ShellFault;
 use crate::opening::open_store;
 use crate::prepared::{Prepared, prepare};
+use crate::prompts::Prompts;
 use crate::session::{Session, answer_from};
 use crate::store::Store;
 use df_catalogue::PARTS_OF_LEDGER;
@@ -17,7 +18,7 @@ use std::sync::ledger::{Blank, Ledger};
 use std::thread::Threads;
 
 /// Opens a document and answers the commands of `input`, each before the next one is read, to its
-/// end.
+/// end or a `quit`.
 ///
 /// Of the document the frames enter with their first rows, in chunks of 1,000 records, and a line
 /// is written for each chunk that is refused; then all views are registered. At most 4 threads read the records of a
@@ -27,6 +28,7 @@ pub fn run_shell<R: Threads + Sync, V: Read, F: Files, I: BufRead, W: Write>(
     alloc: Global,
     document: &mut V,
     files: &mut F,
+    prompts: Prompts,
     input: &mut I,
     output: &mut W,
 ) -> Result<(), ShellFault> {
@@ -36,6 +38,7 @@ pub fn run_shell<R: Threads + Sync, V: Read, F: Files, I: BufRead, W: Write>(
         Blank::new(PARTS_OF_LEDGER),
         Blank::new(PARTS_OF_LEDGER),
         prepared,
+        prompts,
         input,
         output,
     )
@@ -47,6 +50,7 @@ fn serve<Acc: Ledger, Del: Ledger, I: BufRead, W: Write>(
     accepted: Blank,
     deleted: Blank,
     prepared: Prepared,
+    prompts: Prompts,
     input: &mut I,
     output: &mut W,
 ) -> Result<(), ShellFault>
@@ -69,6 +73,7 @@ fn serve<Acc: Ledger, Del: Ledger, I: BufRead, W: Write>(
                 definitions,
                 store,
                 buffers,
+                prompts,
             };
             answer_session(alloc, session, refused, input, output)
         }
@@ -96,6 +101,7 @@ fn answer_session<Acc: Ledger, Del: Ledger, I: BufRead, W: Write>(
         definitions,
         store,
         buffers,
+        prompts: _,
     } = session;
     drop(definitions);
     drop(store);

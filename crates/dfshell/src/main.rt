@@ -5,8 +5,8 @@
 mod system_files;
 
 use df_document::DocumentFault;
-use df_shell::{ShellFault, run_hall_shell, run_shell, shell_fault_text};
-use std::io::BufReader;
+use df_shell::{Prompts, ShellFault, run_hall_shell, run_shell, shell_fault_text};
+use std::io::{BufReader, IsTerminal};
 use std::process::ExitCode;
 use std::sync::Wait;
 use std::thread::Threads;
@@ -90,6 +90,7 @@ fn answer_commands<R: Threads + Wait + Sync>(
     let Ok(mut input) = BufReader::new(alloc, rt.stdin()) else {
         return Err(ShellFault::Memory);
     };
+    let prompts = prompts_at(rt);
     let mut output = rt.stdout();
     if hall {
         return run_hall_shell(
@@ -97,6 +98,7 @@ fn answer_commands<R: Threads + Wait + Sync>(
             alloc,
             &mut document,
             &mut files,
+            prompts,
             &mut input,
             &mut output,
         );
@@ -106,9 +108,19 @@ fn answer_commands<R: Threads + Wait + Sync>(
         alloc,
         &mut document,
         &mut files,
+        prompts,
         &mut input,
         &mut output,
     )
+}
+
+// A terminal on both sides has someone who types.
+fn prompts_at(rt: &HostRuntime) -> Prompts {
+    if rt.stdin().is_terminal() && rt.stdout().is_terminal() {
+        Prompts::Shown
+    } else {
+        Prompts::Hidden
+    }
 }
 
 // Arguments that are no text, or for which there was no memory.
