@@ -22,6 +22,8 @@ FRAMES = [
 ]
 BASE = ("Int", "Text", "Bool")
 KEYS = (*BASE, "Wide")
+EXISTS = "C6: a view of this name is registered; drop takes it out\n"
+NO_VIEW = "C8: no view of this name is registered; views lists them\n"
 
 
 class Views:
@@ -203,14 +205,14 @@ def session(source, views, changes, most=9):
             view = source.choice(views)[0]
             there = view in registered
             word = source.choice(["register", "drop"])
-            wrong = {"register": there and "C6\n", "drop": not there and "C8\n"}[word]
+            wrong = {"register": there and EXISTS, "drop": not there and NO_VIEW}[word]
             change = lambda: (f"{word} {view}\n", wrong or "ok\n")
             if not wrong:
                 registered ^= {view}
         turns += [change(), ("check\n", "same\n")]
         view = source.choice(views)
         if source.random() < 0.4:
-            turns.append((f"show {view[0]}\n", shown(view, frames) if view[0] in registered else "C8\n"))
+            turns.append((f"show {view[0]}\n", shown(view, frames) if view[0] in registered else NO_VIEW))
     return turns
 
 

@@ -72,7 +72,7 @@ class Frame:
         command = f"append {self.name} {first} {len(rows)}\n" + self.csv(rows)
         taken = [n for n in range(first, first + len(rows)) if n in self.accepted]
         if taken:
-            return command, f"C2 {taken[0]}\n"
+            return command, f"C2 {taken[0]}: number {taken[0]} was accepted before\n"
         self.rows |= {first + n: row for n, row in enumerate(rows)}
         self.accepted |= set(range(first, first + len(rows)))
         return command, "ok\n"
@@ -87,10 +87,10 @@ class Frame:
     def refusal(self, numbers):
         for at, number in enumerate(numbers):
             if number in numbers[:at]:
-                return f"C4 {number}\n"
+                return f"C4 {number}: number {number} appears twice\n"
         for number in numbers:
             if number not in self.rows:
-                return f"C5 {number}\n"
+                return f"C5 {number}: the frame has no row {number}\n"
         return None
 
     def delete(self, source):
