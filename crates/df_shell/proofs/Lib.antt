@@ -7,3 +7,4 @@ pub mod WordFacts
 pub mod AreMadeFacts
 pub mod CommandFacts
 pub mod WordList
+pub mod FlagFacts

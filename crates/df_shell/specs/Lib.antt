@@ -6,6 +6,7 @@ pub mod Checks
 pub mod Questions
 pub mod Answers
 pub mod Versions
+pub mod CommandLine
 pub mod Greetings
 pub mod Halls
 pub mod Changing

@@ -180,8 +180,8 @@ fn write_refusal<W: Write>(
     }
 }
 
-// Writes the last part of an answer, so that whoever waits for it has it.
-fn write_answer<W: Write>(output: &mut W, text: &[u8]) -> Result<(), ShellFault> {
+/// Writes the last part of an answer, so that whoever waits for it has it.
+pub fn write_answer<W: Write>(output: &mut W, text: &[u8]) -> Result<(), ShellFault> {
     write_all(output, text)?;
     match output.flush() {
         Ok(()) => Ok(()),

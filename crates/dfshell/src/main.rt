@@ -4,8 +4,14 @@
 
 mod system_files;
 
+use clap::error::ErrorKind;
 use df_document::DocumentFault;
-use df_shell::{Prompts, ShellFault, run_hall_shell, run_shell, shell_fault_text};
+use df_shell::{
+    CommandLine, DocumentCheck, Prompts, ShellFault, check_document, read_command_line,
+    run_hall_shell, run_shell, shell_fault_text,
+};
+use std::alloc::AllocError;
+use std::fs::File;
 use std::io::{BufReader, IsTerminal};
 use std::process::ExitCode;
 use std::sync::Wait;
@@ -13,91 +19,86 @@ use std::thread::Threads;
 use std::{env, io};
 use system_files::{SystemFiles, open};
 
-const USAGE: &str = "usage: dfshell [--hall] VIEWS < COMMANDS";
-
 fn main(rt: HostRuntime) -> ExitCode {
     match env::args(&rt) {
-        Ok(arguments) => run_arguments(&rt, &rt, arguments),
+        Ok(arguments) => match run_arguments(&rt, &rt, arguments) {
+            Ok(code) => code,
+            Err(_) => report(&rt, &ShellFault::Memory),
+        },
         Err(error) => refuse_arguments(&rt, &error),
     }
 }
 
-// The first argument is the program's name. The last one is the document's path, before which `--hall` may stand.
+// The first argument is the program's name. `waiting` is the runtime once more, which `main` alone can hand on as what
+// may start threads, which read a file, and may wait: a hall does, for its lock.
 fn run_arguments<R: Threads + Wait + Sync>(
     rt: &HostRuntime,
     waiting: &R,
     arguments: env::Args,
-) -> ExitCode {
-    let mut words = arguments.skip(1);
-    let Some(first) = words.next() else {
-        return refuse_words(rt);
-    };
-    let second = words.next();
-    if words.next().is_some() {
-        return refuse_words(rt);
-    }
-    match second {
-        None => run_word(rt, waiting, first.as_str()),
-        Some(views) if first.as_str() == "--hall" => run_views(rt, waiting, views.as_str(), true),
-        Some(_) => refuse_words(rt),
-    }
+) -> Result<ExitCode, AllocError> {
+    let arguments: Vec<String> = arguments.skip(1).collect(rt.alloc())?;
+    let words: Vec<&str> = arguments
+        .iter()
+        .map(|word| word.as_str())
+        .collect(rt.alloc())?;
+    Ok(run_words(rt, waiting, words.as_slice()))
 }
 
-fn run_word<R: Threads + Wait + Sync>(rt: &HostRuntime, waiting: &R, word: &str) -> ExitCode {
-    if word == "--help" {
-        return print_usage(rt);
-    }
-    run_views(rt, waiting, word, false)
-}
-
-fn refuse_words(rt: &HostRuntime) -> ExitCode {
-    let _ = eprintln!(rt; "{USAGE}");
-    ExitCode::from(2)
-}
-
-fn print_usage(rt: &HostRuntime) -> ExitCode {
-    match println!(rt; "{USAGE}") {
-        Ok(()) => ExitCode::from(0),
-        Err(_) => report(rt, &ShellFault::Write),
+fn run_words<R: Threads + Wait + Sync>(rt: &HostRuntime, waiting: &R, words: &[&str]) -> ExitCode {
+    match read_command_line(rt.alloc(), words) {
+        Ok(line) => match run_line(rt, waiting, line) {
+            Ok(DocumentCheck::Clean) => ExitCode::from(0),
+            Ok(DocumentCheck::Refused) => ExitCode::from(1),
+            Err(fault) => report(rt, &fault),
+        },
+        Err(error) => answer(rt, &error),
     }
 }
 
-fn run_views<R: Threads + Wait + Sync>(
+// A view document that cannot be opened is one that cannot be read. A session is clean also where chunks are refused: it
+// goes on without them.
+fn run_line<R: Threads + Wait + Sync>(
     rt: &HostRuntime,
     waiting: &R,
-    views: &str,
-    hall: bool,
-) -> ExitCode {
-    match answer_commands(rt, waiting, views, hall) {
-        Ok(()) => ExitCode::from(0),
-        Err(fault) => report(rt, &fault),
-    }
-}
-
-// A view document that cannot be opened is one that cannot be read. `waiting` is the runtime once more, which `main`
-// alone can hand on as what may start threads, which read a file, and may wait: a hall does, for its lock.
-fn answer_commands<R: Threads + Wait + Sync>(
-    rt: &HostRuntime,
-    waiting: &R,
-    views: &str,
-    hall: bool,
-) -> Result<(), ShellFault> {
-    let alloc = rt.alloc();
-    let Some(mut document) = open(rt, views) else {
+    line: CommandLine<'_>,
+) -> Result<DocumentCheck, ShellFault> {
+    let Some(mut document) = line.views.and_then(|path| open(rt, path)) else {
         return Err(ShellFault::Document(DocumentFault::ReadFault));
     };
     let mut files = SystemFiles { rt };
+    if line.check {
+        let mut output = rt.stdout();
+        return check_document(
+            waiting,
+            rt.alloc(),
+            &mut document,
+            &mut files,
+            &mut output,
+        );
+    }
+    answer_commands(rt, waiting, &mut document, &mut files, line.hall)?;
+    Ok(DocumentCheck::Clean)
+}
+
+fn answer_commands<R: Threads + Wait + Sync>(
+    rt: &HostRuntime,
+    waiting: &R,
+    document: &mut File,
+    files: &mut SystemFiles<'_>,
+    hall: bool,
+) -> Result<(), ShellFault> {
+    let alloc = rt.alloc();
     let Ok(mut input) = BufReader::new(alloc, rt.stdin()) else {
         return Err(ShellFault::Memory);
     };
-    let prompts = prompts_at(rt);
     let mut output = rt.stdout();
+    let prompts = prompts_at(rt);
     if hall {
         return run_hall_shell(
             waiting,
             alloc,
-            &mut document,
-            &mut files,
+            document,
+            files,
             prompts,
             &mut input,
             &mut output,
@@ -106,8 +107,8 @@ fn answer_commands<R: Threads + Wait + Sync>(
     run_shell(
         waiting,
         alloc,
-        &mut document,
-        &mut files,
+        document,
+        files,
         prompts,
         &mut input,
         &mut output,
@@ -120,6 +121,19 @@ fn prompts_at(rt: &HostRuntime) -> Prompts {
         Prompts::Shown
     } else {
         Prompts::Hidden
+    }
+}
+
+// What clap answers in the place of a command line: help or the version on standard output, or why it refuses the words
+// on standard error.
+fn answer(rt: &HostRuntime, error: &clap::Error) -> ExitCode {
+    if error.kind() == ErrorKind::OutOfMemory {
+        return report(rt, &ShellFault::Memory);
+    }
+    match error.print(rt) {
+        Ok(()) if error.use_stderr() => ExitCode::from(2),
+        Ok(()) => ExitCode::from(0),
+        Err(_) => report(rt, &ShellFault::Write),
     }
 }
 

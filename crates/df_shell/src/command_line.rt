@@ -1,0 +1,12 @@
+//! What the words of a command line say.
+
+/// What the words of a command line say.
+#[derive(Clone, Copy, PartialEq, Eq)]
+pub struct CommandLine<'a> {
+    /// The path of the view document. Words without one are refused.
+    pub views: Option<&'a str>,
+    /// Whether the session goes through a hall.
+    pub hall: bool,
+    /// Whether the document is only opened.
+    pub check: bool,
+}
