@@ -38,26 +38,12 @@ pub fn chunk(alloc: Global, first: u32, count: u8) -> Result<Chunk, AllocError> 
     Chunk::new(alloc, &schema(alloc)?, first, List::from_vec(rows)).map_err(|_| AllocError)
 }
 
-/// The plan of the first frame itself.
-pub fn scan(alloc: Global) -> Result<CheckedPlan, AllocError> {
-    CheckedPlan::new(alloc, Plan::Scan(0), schemas(alloc)?.as_slice()).map_err(|_| AllocError)
-}
-
 /// The groups of equal rows of the first frame, with how many rows each has.
 pub fn groups(alloc: Global) -> Result<CheckedPlan, AllocError> {
     let keys = List::from_vec(vec![in alloc; Text::from_str(alloc, "x")?]?);
     let lens = List::from_vec(vec![in alloc; (Text::from_str(alloc, "n")?, Agg::Len)]?);
     let plan = Plan::GroupBy(Boxed::new(alloc, Plan::Scan(0))?, keys, lens);
     CheckedPlan::new(alloc, plan, schemas(alloc)?.as_slice()).map_err(|_| AllocError)
-}
-
-/// Views of the first frame under these names.
-pub fn views(alloc: Global, names: &[&str]) -> Result<Vec<(Text, CheckedPlan)>, AllocError> {
-    let mut views = Vec::new(alloc);
-    for name in names {
-        views.push((Text::from_str(alloc, *name)?, scan(alloc)?))?;
-    }
-    Ok(views)
 }
 
 /// What the caller of an accepted change is told.

@@ -3,16 +3,13 @@ ghost use Rattle.std.specs.Prelude.{◌≡◌, length};
 ghost use Rattle.df_catalogue.specs.Ledgers as ledgers;
 ghost use Rattle.df_versions.specs.Histories.{schemas_of};
 
-use crate::closes::close_twice;
-use crate::drawing::load_while_held;
+use crate::changes::change_and_close;
 use crate::given::schemas;
-use crate::meetings::load_by_two;
-use crate::refusals::{RefusedLoad, refuse};
-use crate::soak::change_at_once;
-use crate::versions::change_all;
+use crate::loads::{LoadCase, load};
+use crate::pairs_load::PairsLoad;
 use df_catalogue::PARTS_OF_LEDGER;
 use df_store::OpenedHall;
-use df_versions::Naming;
+use df_versions::{Naming, OpenFault};
 use std::alloc::Global;
 use std::marker::Brand;
 use std::process::Abort;
@@ -22,29 +19,23 @@ use std::test::Fail;
 use std::thread::Threads;
 
 /// What is done in the hall. A bound of a trait's method may not start threads, so this is no trait.
-#[derive(Clone, Copy, Drop)]
-pub enum HallTest {
-    /// It is closed without a desk, and then with it.
-    Closes,
-    /// It is loaded while a worker is held.
-    LoadsWhileHeld,
-    /// It is loaded by two workers, which wait for each other.
-    LoadsByTwo,
-    /// A load of it is refused.
-    Refuses(&'static RefusedLoad),
-    /// It is changed and read by many threads.
-    Soaks,
-    /// Its versions are read beside the changes.
-    Versions,
+#[derive(Clone, Copy)]
+pub enum HallTest<'a> {
+    /// It is changed and read by many threads, and closed.
+    Changes,
+    /// It is loaded.
+    Loads(&'a LoadCase, &'a PairsLoad),
+    /// It is not opened, since it would have too many readers.
+    TooManyReaders,
 }
 
-impl HallTest {
+impl HallTest<'_> {
     // How many readers the hall has.
     fn readers(&self) -> usize {
         match self {
-            HallTest::Soaks => 4,
-            HallTest::Versions => 2,
-            _ => 0,
+            HallTest::Changes => 5,
+            HallTest::Loads(..) => 16,
+            HallTest::TooManyReaders => 17,
         }
     }
 
@@ -65,7 +56,7 @@ fn open<Acc: Ledger + Send + Sync, Del: Ledger + Send + Sync, R: Threads + Wait 
     alloc: Global,
     accepted: Blank,
     deleted: Blank,
-    test: &HallTest,
+    test: &HallTest<'_>,
 ) -> Result<(), Fail>
     requires accepted_name { accepted.name ≡ Acc.name }
     requires accepted_parts { (accepted.parts ≡ Acc.parts)
@@ -77,7 +68,10 @@ fn open<Acc: Ledger + Send + Sync, Del: Ledger + Send + Sync, R: Threads + Wait 
     let schemas = schemas(alloc)?;
     match OpenedHall::<Acc, Del>::open(rt, alloc, accepted, deleted, schemas, test.readers()) {
         Ok(opened) => run_named::<Acc, Del, Brand, R>(rt, alloc, opened, test),
-        Err(_) => Err("a hall is opened".into()),
+        Err(fault) => {
+            assert!(rt; fault == OpenFault::TooManyReaders && test.readers() == 17);
+            Ok(())
+        }
     }
 }
 
@@ -86,18 +80,23 @@ fn run_named<
     Del: Ledger + Send + Sync,
     J: Naming + Send + Sync,
     R: Threads + Wait + Abort + Sync,
->(rt: &R, alloc: Global, opened: OpenedHall<Acc, Del>, test: &HallTest) -> Result<(), Fail>
+>(rt: &R, alloc: Global, opened: OpenedHall<Acc, Del>, test: &HallTest<'_>) -> Result<(), Fail>
     requires book { opened.0 ≡ J.book }
     requires schemas { schemas_of opened.1.0 ≡ J.schemas }
     requires two { length J.schemas ≡ 2 }
 {
     let (hall, desks, readers) = opened.named::<J>();
     match test {
-        HallTest::Closes => close_twice(rt, alloc, hall, desks),
-        HallTest::LoadsWhileHeld => load_while_held(rt, alloc, hall, desks),
-        HallTest::LoadsByTwo => load_by_two(rt, alloc, hall, desks),
-        HallTest::Refuses(load) => refuse(rt, alloc, hall, desks, *load),
-        HallTest::Soaks => change_at_once(rt, alloc, hall, desks, readers),
-        HallTest::Versions => change_all(rt, alloc, hall, desks, readers),
+        HallTest::Changes => change_and_close(rt, alloc, hall, desks, readers),
+        HallTest::Loads(case, pairs) => load(rt, alloc, hall, desks, case, pairs),
+        HallTest::TooManyReaders => {
+            hall.end(rt);
+            Err("seventeen readers".into())
+        }
     }
+}
+
+#[test]
+fn a_hall_has_at_most_sixteen_readers(rt: HostRuntime) -> Result<(), Fail> {
+    HallTest::TooManyReaders.run(&rt, rt.alloc())
 }

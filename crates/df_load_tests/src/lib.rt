@@ -5,26 +5,22 @@
 #![tactic(auto)]
 
 #[cfg(test)]
+mod changes;
+#[cfg(test)]
 mod claims;
 #[cfg(test)]
-mod closes;
+mod clients;
 #[cfg(test)]
-mod drawing;
+mod gates;
 #[cfg(test)]
 mod given;
 #[cfg(test)]
 mod hall_test;
 #[cfg(test)]
-mod meetings;
+mod loads;
 #[cfg(test)]
 mod pairs;
 #[cfg(test)]
 mod pairs_load;
-#[cfg(test)]
-mod refusals;
-#[cfg(test)]
-mod soak;
-#[cfg(test)]
-mod versions;
 #[cfg(test)]
 mod watching;

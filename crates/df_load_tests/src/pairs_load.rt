@@ -1,24 +1,18 @@
-//! Loads of two sources of pairs.
-ghost use Rattle.std.specs.Prelude.{◌≡◌, ◌*◌, length};
+//! What loads of two sources of pairs are given.
+ghost use Rattle.std.specs.Prelude.{◌≡◌, ◌*◌};
 ghost use Rattle.df_load_tests.specs.Pairs.{pairs_of};
 ghost use Rattle.df_load_tests.specs.PairsLoads.{HaveFewJobs};
 
-use crate::given::views;
+use crate::given::groups;
 use crate::pairs::Pairs;
-use df_catalogue::Desk;
 use df_plan::CheckedPlan;
-use df_store::{Gate, Hall, LoadFault, Loaded, load_all};
 use df_value::Text;
-use df_versions::Naming;
 use std::alloc::{AllocError, Global};
-use std::sync::Wait;
-use std::sync::ledger::Ledger;
-use std::thread::Threads;
 
 /// The views and sources of a load. They are made before a hall is there, which cannot just be dropped.
 #[derive(Drop)]
 pub struct PairsLoad {
-    views: Vec<(Text, CheckedPlan)>,
+    pub views: Vec<(Text, CheckedPlan)>,
     pub sources: [Pairs; 2],
     ghost few: { HaveFewJobs (λ s. pairs_of s.schema s.step s.count) (λ s n. n * s.step) sources },
 }
@@ -40,25 +34,17 @@ impl PairsLoad {
         Ok(PairsLoad { views, sources })
     }
 
-    /// Loads the hall by so many workers.
-    pub fn run<
-        Acc: Ledger + Send + Sync,
-        Del: Ledger + Send + Sync,
-        J: Naming + Send + Sync,
-        G: Gate + Sync,
-        R: Threads + Wait + Sync,
-    >(
-        &self,
-        rt: &R,
-        alloc: Global,
-        hall: Hall<Acc, Del, J>,
-        desks: Vec<Desk<Acc, Del>>,
-        workers: usize,
-        gate: &G,
-    ) -> Result<Loaded<Acc, Del>, LoadFault<Acc, Del>>
-        requires { length J.schemas ≡ 2 }
-    {
-        let views = self.views.as_slice();
-        load_all(rt, alloc, hall, desks, views, &self.sources, workers, gate)
+    /// How often each source was asked for a chunk.
+    pub fn calls(&self) -> [u64; 2] {
+        [self.sources[0].calls(), self.sources[1].calls()]
     }
+}
+
+// Views of the first frame under these names.
+fn views(alloc: Global, names: &[&str]) -> Result<Vec<(Text, CheckedPlan)>, AllocError> {
+    let mut views = Vec::new(alloc);
+    for name in names {
+        views.push((Text::from_str(alloc, *name)?, groups(alloc)?))?;
+    }
+    Ok(views)
 }

@@ -1,6 +1,6 @@
 //! Readers that check each version that they take, while others change the hall.
 use df_plan::CheckedPlan;
-use df_versions::{Reader, Version};
+use df_versions::Reader;
 use std::alloc::Global;
 use std::thread;
 
@@ -34,7 +34,8 @@ impl Watcher {
     /// Checks versions, until it has seen the last one or has asked a million times.
     pub fn run(&mut self, last: u64) {
         for _turn in 0..TURNS {
-            if !self.is_next_right() || self.number >= last {
+            self.right = self.right && self.look() == Some(true);
+            if !self.right || self.number >= last {
                 return;
             }
             thread::yield_now();
@@ -43,40 +44,21 @@ impl Watcher {
 
     /// Whether all that it read was right, and the version that it takes now is the last one.
     pub fn ends_with(&mut self, last: u64) -> bool {
-        self.is_next_right() && self.number == last
+        self.right && self.look() == Some(true) && self.number == last
     }
 
-    // Takes the newest version. Whether that and all before it were right.
-    fn is_next_right(&mut self) -> bool {
-        match self.next() {
-            Some(number) => self.number = number,
-            None => self.right = false,
-        }
-        self.right
-    }
-
-    // The number of the newest version, if that is right behind the one before.
-    fn next(&mut self) -> Option<u64> {
+    // Takes the newest version. Whether its number did not fall, and the view has the rows that its plan gives over the
+    // frames of the version.
+    fn look(&mut self) -> Option<bool> {
         let version = self.reader.snapshot()?;
         let number = version.number();
         if number == self.number {
-            return Some(number);
+            return Some(true);
         }
-        if number > self.number && self.is_true(&version) {
-            Some(number)
-        } else {
-            None
-        }
-    }
-
-    // Whether the view has the rows of its plan over the frames of the version.
-    fn is_true(&self, version: &Version) -> bool {
-        let Ok(rows) = version.view_rows(self.alloc, "g") else {
-            return false;
-        };
-        match version.computed_rows(self.alloc, &self.plan) {
-            Ok(computed) => rows == computed,
-            Err(_) => false,
-        }
+        let rows = version.view_rows(self.alloc, "g").ok()?;
+        let computed = version.computed_rows(self.alloc, &self.plan).ok()?;
+        let has_risen = number > self.number;
+        self.number = number;
+        Some(has_risen && rows == computed)
     }
 }

@@ -54,37 +54,16 @@ fn cell(number: Option<i64>, dtype: CellType) -> Cell {
     }
 }
 
-fn row(alloc: Global, dtypes: &[CellType], pair: Pair) -> Result<Row, AllocError> {
+fn row(alloc: Global, dtypes: &[CellType], pair: Option<Pair>) -> Result<Option<Row>, AllocError> {
+    let Some(pair) = pair else {
+        return Ok(None);
+    };
     let numbers = [pair.0, pair.1];
     let mut cells = Vec::new(alloc);
     for (dtype, number) in dtypes.iter().zip(numbers.as_slice()) {
         cells.push(cell(*number, *dtype))?;
     }
-    Row::new(alloc, cells)
-}
-
-fn row_if_any(
-    alloc: Global,
-    dtypes: &[CellType],
-    pair: Option<Pair>,
-) -> Result<Option<Row>, AllocError> {
-    match pair {
-        Some(pair) => Ok(Some(row(alloc, dtypes, pair)?)),
-        None => Ok(None),
-    }
-}
-
-fn entry(alloc: Global, dtypes: &[CellType], change: PairChange) -> Result<Entry, AllocError> {
-    let (first, second, third) = change.tag;
-    Ok(Entry {
-        tag: Tag {
-            first,
-            second,
-            third,
-        },
-        old: row_if_any(alloc, dtypes, change.old)?,
-        new: row_if_any(alloc, dtypes, change.new)?,
-    })
+    Ok(Some(Row::new(alloc, cells)?))
 }
 
 /// The entries of these changes, whose cells are of these types.
@@ -95,7 +74,16 @@ pub fn entries(
 ) -> Result<Vec<Entry>, AllocError> {
     let mut entries = Vec::new(alloc);
     for change in changes {
-        entries.push(entry(alloc, dtypes, *change)?)?;
+        let (first, second, third) = change.tag;
+        entries.push(Entry {
+            tag: Tag {
+                first,
+                second,
+                third,
+            },
+            old: row(alloc, dtypes, change.old)?,
+            new: row(alloc, dtypes, change.new)?,
+        })?;
     }
     Ok(entries)
 }
@@ -147,25 +135,11 @@ fn is_at_most(work: &WorkCounts, most: u128) -> bool {
     work.evals <= most && work.finishes <= most && work.probes <= most && work.windows <= most
 }
 
-/// The node after this delta, the delta of its output, and the work that it counted.
-pub fn after<N: LiveNode + Drop>(
-    mut node: N,
-    delta: Delta,
-) -> Result<(N, Delta, WorkCounts), AllocError>
-    requires { IsBelow (N.budget node) (2 ^ 128) }
-    ensures { IfOk result (λ r. N.budget r.0 ≡ N.budget node) }
-{
-    let mut meter = Meter::new();
-    let (staged, out) = node.prepare(&delta, &mut meter)?;
-    node.commit(staged);
-    Ok((node, out, meter.counts()))
-}
-
 /// The node after a step, and whether it told what the step says. The cells that it is given and that it tells are of
 /// these types.
 fn after_step<N: LiveNode + Drop>(
     alloc: Global,
-    node: N,
+    mut node: N,
     given: &[CellType],
     told: &[CellType],
     step: Step<'_>,
@@ -173,9 +147,12 @@ fn after_step<N: LiveNode + Drop>(
     requires { IsBelow (N.budget node) (2 ^ 128) }
     ensures { IfOk result (λ r. N.budget r.0 ≡ N.budget node) }
 {
-    let (node, out, work) = after(node, delta(alloc, given, step.given)?)?;
+    let given = delta(alloc, given, step.given)?;
+    let mut meter = Meter::new();
+    let (staged, out) = node.prepare(&given, &mut meter)?;
+    node.commit(staged);
     let same = has_changes(alloc, &out, told, step.told)?;
-    Ok((node, same && is_at_most(&work, step.most)))
+    Ok((node, same && is_at_most(&meter.counts(), step.most)))
 }
 
 /// Whether the node tells what the steps say, one after another.
@@ -199,21 +176,6 @@ pub fn follows<N: LiveNode + Drop>(
     Ok(true)
 }
 
-/// The node after these deltas, which come together, the delta of its output, and the work that it counted.
-pub fn after_both<N: TwoSidedNode + Drop>(
-    mut node: N,
-    left: Delta,
-    right: Delta,
-) -> Result<(N, Delta, WorkCounts), AllocError>
-    requires { IsBelow (N.budget node) (2 ^ 128) }
-    ensures { IfOk result (λ r. N.budget r.0 ≡ N.budget node) }
-{
-    let mut meter = Meter::new();
-    let (staged, out) = node.prepare(&left, &right, &mut meter)?;
-    node.commit(staged);
-    Ok((node, out, meter.counts()))
-}
-
 /// The types of the cells of the rows of a join's two sides, and of its own.
 #[derive(Clone, Copy)]
 pub struct JoinDtypes<'a> {
@@ -224,7 +186,7 @@ pub struct JoinDtypes<'a> {
 
 fn after_step_of_both<N: TwoSidedNode + Drop>(
     alloc: Global,
-    node: N,
+    mut node: N,
     dtypes: JoinDtypes<'_>,
     step: TwoSidedStep<'_>,
 ) -> Result<(N, bool), AllocError>
@@ -232,10 +194,12 @@ fn after_step_of_both<N: TwoSidedNode + Drop>(
     ensures { IfOk result (λ r. N.budget r.0 ≡ N.budget node) }
 {
     let left = delta(alloc, dtypes.left, step.left)?;
-    let right = delta(alloc, dtypes.right, step.right);
-    let (node, out, work) = after_both(node, left, right?)?;
+    let right = delta(alloc, dtypes.right, step.right)?;
+    let mut meter = Meter::new();
+    let (staged, out) = node.prepare(&left, &right, &mut meter)?;
+    node.commit(staged);
     let same = has_changes(alloc, &out, dtypes.told, step.told)?;
-    Ok((node, same && is_at_most(&work, step.most)))
+    Ok((node, same && is_at_most(&meter.counts(), step.most)))
 }
 
 /// Whether the node of two inputs tells what the steps say, one after another.

@@ -1,5 +1,5 @@
 //! Live groups under deltas.
-use crate::deltas::{Step, comes, follows, gives_way, goes};
+use crate::deltas::{Step, comes, follows, goes};
 use crate::given::columns;
 use df_group::LiveGroup;
 use df_ops::Agg;
@@ -44,38 +44,5 @@ fn a_group_stands_at_its_first_row(rt: HostRuntime) -> Result<(), Fail> {
     };
     let steps = [later, earlier, first_goes];
     assert!(rt; follows(alloc, lengths(alloc)?, &KEY, &KEY_AND_VALUE, &steps)?);
-    Ok(())
-}
-
-// The least value of each key k, as the column m.
-fn least(alloc: Global) -> Result<LiveGroup, AllocError> {
-    let schema = columns(alloc, &["k", "v"])?;
-    let keys = [Text::from_str(alloc, "k")?];
-    let value = Text::from_str(alloc, "v")?;
-    let aggregates = [(Text::from_str(alloc, "m")?, Agg::Min(value))];
-    LiveGroup::new(alloc, &schema, &keys, &aggregates)
-}
-
-#[test]
-fn the_least_value_follows_its_rows(rt: HostRuntime) -> Result<(), Fail> {
-    let alloc = rt.alloc();
-    let (five, two) = ((Some(7), Some(5)), (Some(7), Some(2)));
-    let three_come = Step {
-        given: &[comes(1, five), comes(2, five), comes(3, two)],
-        told: &[comes(1, two)],
-        most: 6,
-    };
-    let least_goes = Step {
-        given: &[goes(3, two)],
-        told: &[gives_way(1, two, five)],
-        most: 2,
-    };
-    let first_goes = Step {
-        given: &[goes(1, five)],
-        told: &[goes(1, five), comes(2, five)],
-        most: 2,
-    };
-    let steps = [three_come, least_goes, first_goes];
-    assert!(rt; follows(alloc, least(alloc)?, &KEY_AND_VALUE, &KEY_AND_VALUE, &steps)?);
     Ok(())
 }

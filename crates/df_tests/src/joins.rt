@@ -28,17 +28,11 @@ fn pair_goes(left: u64, right: u64, row: Pair) -> PairChange {
 }
 
 // The join on k of two scans, of columns with these names.
-fn join(
-    alloc: Global,
-    left: &[&str],
-    right: &[&str],
-    how: How,
-    nulls_equal: bool,
-) -> Result<LiveJoin, AllocError> {
+fn join(alloc: Global, left: &[&str], right: &[&str], how: How) -> Result<LiveJoin, AllocError> {
     let left = columns(alloc, left)?;
     let right = columns(alloc, right)?;
     let keys = [Text::from_str(alloc, "k")?];
-    LiveJoin::new(alloc, &left, &right, 1, 1, how, &keys, nulls_equal)
+    LiveJoin::new(alloc, &left, &right, 1, 1, how, &keys, false)
 }
 
 #[test]
@@ -66,7 +60,7 @@ fn a_row_joined_with_itself_comes_once(rt: HostRuntime) -> Result<(), Fail> {
         ],
         most: 16,
     };
-    let join = join(alloc, &["k"], &["k"], How::Inner, false)?;
+    let join = join(alloc, &["k"], &["k"], How::Inner)?;
     assert!(rt; follows_both(alloc, join, dtypes, &[first, second])?);
     Ok(())
 }
@@ -99,41 +93,7 @@ fn the_null_row_gives_way_to_a_match_and_comes_back(rt: HostRuntime) -> Result<(
         told: &[pair_comes(1, 0, alone), pair_goes(1, 5, pair)],
         most: 8,
     };
-    let join = join(alloc, &["k"], &["k", "v"], How::Left, false)?;
+    let join = join(alloc, &["k"], &["k", "v"], How::Left)?;
     assert!(rt; follows_both(alloc, join, dtypes, &[comes_alone, is_matched, is_alone])?);
-    Ok(())
-}
-
-// Whether an inner join tells this of the rows (1, 1) and (null, 2) that come on the left, and of the keys 1 and null
-// on the right.
-fn tells_of_null_keys(
-    alloc: Global,
-    nulls_equal: bool,
-    told: &[PairChange],
-) -> Result<bool, AllocError> {
-    let dtypes = JoinDtypes {
-        left: &KEY_AND_VALUE,
-        right: &KEY,
-        told: &KEY_AND_VALUE,
-    };
-    let step = TwoSidedStep {
-        left: &[comes(1, (Some(1), Some(1))), comes(2, (None, Some(2)))],
-        right: &[comes(1, (Some(1), None)), comes(2, (None, None))],
-        told,
-        most: 32,
-    };
-    let join = join(alloc, &["k", "v"], &["k"], How::Inner, nulls_equal)?;
-    follows_both(alloc, join, dtypes, &[step])
-}
-
-#[test]
-fn null_keys_match_where_nulls_are_equal(rt: HostRuntime) -> Result<(), Fail> {
-    let alloc = rt.alloc();
-    let want = [
-        pair_comes(1, 1, (Some(1), Some(1))),
-        pair_comes(2, 2, (None, Some(2))),
-    ];
-    assert!(rt; tells_of_null_keys(alloc, true, &want)?);
-    assert!(rt; tells_of_null_keys(alloc, false, &want[..1])?);
     Ok(())
 }

@@ -28,23 +28,16 @@ fn come_back(alloc: Global, changes: &[PairChange]) -> Result<bool, AllocError> 
 }
 
 #[test]
-fn entries_whose_tags_do_not_rise_come_back(rt: HostRuntime) -> Result<(), Fail> {
+fn entries_that_are_no_delta_come_back(rt: HostRuntime) -> Result<(), Fail> {
     let alloc = rt.alloc();
     let (one, two) = (comes(1, (Some(7), None)), comes(2, (Some(7), None)));
-    assert!(rt; come_back(alloc, &[two, one])?);
-    assert!(rt; come_back(alloc, &[one, one])?);
-    assert!(rt; !come_back(alloc, &[one, two])?);
-    Ok(())
-}
-
-#[test]
-fn an_entry_of_no_row_comes_back(rt: HostRuntime) -> Result<(), Fail> {
     let none = PairChange {
         tag: (1, 0, 0),
         old: None,
         new: None,
     };
-    assert!(rt; come_back(rt.alloc(), &[none])?);
+    assert!(rt; come_back(alloc, &[two, one])? && come_back(alloc, &[one, one])?);
+    assert!(rt; come_back(alloc, &[none])? && !come_back(alloc, &[one, two])?);
     Ok(())
 }
 
@@ -249,22 +242,5 @@ fn a_row_that_comes_raises_the_min_ranks_above_it(rt: HostRuntime) -> Result<(),
     };
     let steps = [three_come, an_equal_comes, null_comes];
     assert!(rt; follows(alloc, ranks(alloc, RankKind::Min)?, &INT, &RANKED, &steps)?);
-    Ok(())
-}
-
-#[test]
-fn a_sum_goes_on_behind_nulls(rt: HostRuntime) -> Result<(), Fail> {
-    let alloc = rt.alloc();
-    let nulls_come = Step {
-        given: &[comes(1, of(5)), comes(2, NULL), comes(3, NULL)],
-        told: &[comes(1, (Some(5), Some(5))), comes(2, NULL), comes(3, NULL)],
-        most: 0,
-    };
-    let one_comes = Step {
-        given: &[comes(4, of(7))],
-        told: &[comes(4, (Some(7), Some(12)))],
-        most: 0,
-    };
-    assert!(rt; follows(alloc, sum(alloc)?, &INT, &SUMMED, &[nulls_come, one_comes])?);
     Ok(())
 }

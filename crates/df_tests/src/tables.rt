@@ -12,31 +12,26 @@ use std::test::Fail;
 fn groups_add_up(rt: HostRuntime) -> Result<(), Fail> {
     let alloc = rt.alloc();
     let rows = rows(alloc, &[Some(5), Some(-3), Some(5), None])?;
-    let lengths = group_lengths(alloc, &[Some(0)], rows.as_slice())?;
+    let rows = rows.as_slice();
+    let lengths = group_lengths(alloc, &[Some(0)], rows)?;
     assert!(rt; lengths.as_slice() == [2, 1, 1].as_slice());
-    let sums = group_sums(alloc, &[Some(0)], rows.as_slice(), Some(0))?;
+    let sums = group_sums(alloc, &[Some(0)], rows, Some(0))?;
     assert!(rt; sums.as_slice() == [10, -3, 0].as_slice());
     Ok(())
 }
 
 #[test]
-fn a_column_and_one_that_is_not_there(rt: HostRuntime) -> Result<(), Fail> {
-    let rows = rows(rt.alloc(), &[Some(5), Some(-3), Some(5), None])?;
-    let rows = rows.as_slice();
-    assert!(rt; min_and_max_of(Some(0), rows) == Some((&Cell::Int(-3), &Cell::Int(5))));
-    assert!(rt; min_and_max_of(None, rows) == None);
-    assert!(rt; count_of(None, rows) == 0 && mean_of(None, rows) == Cell::Null);
-    Ok(())
-}
-
-#[test]
-fn the_last_window_and_the_last_sum(rt: HostRuntime) -> Result<(), Fail> {
+fn the_last_window_and_a_column_that_is_not_there(rt: HostRuntime) -> Result<(), Fail> {
     let alloc = rt.alloc();
     let rows = rows(alloc, &[Some(1), None, Some(3), Some(4), Some(5)])?;
-    let last = rolling_last(alloc, RollKind::Min, 3, 1, Some(0), rows.as_slice())?;
+    let rows = rows.as_slice();
+    let last = rolling_last(alloc, RollKind::Min, 3, 1, Some(0), rows)?;
     assert!(rt; last == Cell::Int(3));
-    let sums = cum_sum(alloc, Some(0), rows.as_slice())?;
+    let sums = cum_sum(alloc, Some(0), rows)?;
     assert!(rt; sums.as_slice().last() == Some(&Cell::Wide(13)));
+    assert!(rt; min_and_max_of(Some(0), rows) == Some((&Cell::Int(1), &Cell::Int(5))));
+    assert!(rt; min_and_max_of(None, rows) == None);
+    assert!(rt; count_of(None, rows) == 0 && mean_of(None, rows) == Cell::Null);
     assert!(rt; size_of(-1) == 0 && size_of(2) == 2);
     Ok(())
 }

@@ -5,7 +5,7 @@ use Rattle.std.proofs.sync.ledger.Share.TheSendSync as share
 use Rattle.df_versions.proofs.Crosses.{reader_send}
 use Rattle.df_store.proofs.CrossingPlans.{checked_send}
 use Rattle.df_store.proofs.Crosses.{hall_sync}
-use Rattle.df_load_tests.proofs.soak.run_actors.Goals as goal
+use Rattle.df_load_tests.proofs.clients.run_actors.Goals as goal
 
 pub for_each_mut-requires-send-T : goal.for_each_mut-requires-send-T
 for_each_mut-requires-send-T g c κs within =
