@@ -68,7 +68,9 @@ fn open<Acc: Ledger, Del: Ledger, R: Wait, I: BufRead, W: Write>(
 {
     let schemas = copy_schemas(alloc, prepared.definitions.document.frames.as_slice())?;
     match OpenedHall::<Acc, Del>::open(rt, alloc, accepted, deleted, schemas, 1) {
-        Ok(opened) => serve::<Acc, Del, Brand, R, I, W>(rt, alloc, opened, prepared, prompts, input, output),
+        Ok(opened) => serve::<Acc, Del, Brand, R, I, W>(
+            rt, alloc, opened, prepared, prompts, input, output,
+        ),
         Err(fault) => {
             drop(prepared);
             Err(ShellFault::Frames(frames_fault(fault)))

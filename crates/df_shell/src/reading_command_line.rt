@@ -50,7 +50,8 @@ pub fn read_command_line<'a>(alloc: Global, words: &'a [&'a str]) -> Result<Comm
 fn command<'a>(alloc: Global) -> Result<Command<'a>, AllocError>
     ensures { IfOk result (λ command. app_of command ≡ command_line_spec.command_line) }
 {
-    let hall = "A session through a hall: a lock round the frames and views, and a version after each change";
+    let hall =
+        "A session through a hall: a lock round the frames and views, and a version after each change";
     let check = "Opens the document and its files, says how many frames and views it has, and ends";
     nameless(alloc)
         .arg(views_word(alloc))?

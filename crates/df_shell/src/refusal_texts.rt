@@ -53,16 +53,40 @@ pub fn catalogue_text(alloc: Global, fault: CatalogueFault) -> Result<String, Al
     ensures { IfOk result (λ text. string_bytes text ≡ texts.catalogue_text fault) }
 {
     match fault {
-        CatalogueFault::SchemaUnlike => String::from_str(alloc, "C1: the rows have another schema than the frame"),
-        CatalogueFault::Taken(number) => format!(in alloc; "C2 {number}: number {number} was accepted before"),
-        CatalogueFault::Full => String::from_str(alloc, "C3: the frame would have accepted more than 1048576 rows"),
-        CatalogueFault::Doubled(number) => format!(in alloc; "C4 {number}: number {number} appears twice"),
-        CatalogueFault::NotLive(number) => format!(in alloc; "C5 {number}: the frame has no row {number}"),
-        CatalogueFault::ViewExists => String::from_str(alloc, "C6: a view of this name is registered; drop takes it out"),
-        CatalogueFault::TooManyViews => String::from_str(alloc, "C7: 32 views are registered; drop takes one out"),
-        CatalogueFault::NoView => String::from_str(alloc, "C8: no view of this name is registered; views lists them"),
+        CatalogueFault::SchemaUnlike => String::from_str(
+            alloc,
+            "C1: the rows have another schema than the frame",
+        ),
+        CatalogueFault::Taken(number) => format!(in alloc;
+            "C2 {number}: number {number} was accepted before"
+        ),
+        CatalogueFault::Full => String::from_str(
+            alloc,
+            "C3: the frame would have accepted more than 1048576 rows",
+        ),
+        CatalogueFault::Doubled(number) => format!(in alloc;
+            "C4 {number}: number {number} appears twice"
+        ),
+        CatalogueFault::NotLive(number) => format!(in alloc;
+            "C5 {number}: the frame has no row {number}"
+        ),
+        CatalogueFault::ViewExists => String::from_str(
+            alloc,
+            "C6: a view of this name is registered; drop takes it out",
+        ),
+        CatalogueFault::TooManyViews => String::from_str(
+            alloc,
+            "C7: 32 views are registered; drop takes one out",
+        ),
+        CatalogueFault::NoView => String::from_str(
+            alloc,
+            "C8: no view of this name is registered; views lists them",
+        ),
         CatalogueFault::Memory => String::from_str(alloc, "memory"),
-        CatalogueFault::PlanUnlike => String::from_str(alloc, "C10: the plan of the view is over other frames"),
+        CatalogueFault::PlanUnlike => String::from_str(
+            alloc,
+            "C10: the plan of the view is over other frames",
+        ),
         CatalogueFault::NoFrame => String::from_str(alloc, "C11: no frame of this name"),
     }
 }
@@ -92,7 +116,9 @@ fn lines_text(alloc: Global, fault: &CsvFault) -> Result<String, AllocError>
 fn bad_record_text(alloc: Global, number: u64) -> Result<String, AllocError>
     ensures { IfOk result (λ text. string_bytes text ≡ texts.bad_record_text number) }
 {
-    format!(in alloc; "F4 {number}: record {number} has another number of fields than the frame has columns")
+    format!(in alloc;
+        "F4 {number}: record {number} has another number of fields than the frame has columns"
+    )
 }
 
 fn cell_text(alloc: Global, number: u64, column: &Text) -> Result<String, AllocError>
@@ -119,7 +145,8 @@ fn version_text(fault: VersionFault) -> &'static str
     ensures { result.now ≡ texts.version_text fault }
 {
     match fault {
-        VersionFault::Spent => "H1: 2^64 - 1 versions were published; there is no change behind them",
+        VersionFault::Spent =>
+            "H1: 2^64 - 1 versions were published; there is no change behind them",
         VersionFault::Ahead => "H2: the hall knows fewer changes than this session was told of",
         VersionFault::Missing => "H3: there is no version to answer from",
     }

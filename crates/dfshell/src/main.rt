@@ -68,13 +68,7 @@ fn run_line<R: Threads + Wait + Sync>(
     let mut files = SystemFiles { rt };
     if line.check {
         let mut output = rt.stdout();
-        return check_document(
-            waiting,
-            rt.alloc(),
-            &mut document,
-            &mut files,
-            &mut output,
-        );
+        return check_document(waiting, rt.alloc(), &mut document, &mut files, &mut output);
     }
     answer_commands(rt, waiting, &mut document, &mut files, line.hall)?;
     Ok(DocumentCheck::Clean)
