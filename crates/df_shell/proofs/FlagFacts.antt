@@ -9,8 +9,8 @@ use Rattle.df_shell.specs.CommandLine.{IsFlagOf, command_line}
 pub flag_of :
     (text : Option (List ℕ)) (stands : Bool) → (text ≡ None → stands ≡ false) → (text ≡ Some (codes "true") → stands ≡ true)
     → (text ≡ Some (codes "false") → stands ≡ false) → IsFlagOf text stands
-flag_of None stands none yes no = none refl
-flag_of (Some text) stands none yes no = (λ e. yes (rw e refl), λ e. no (rw e refl))
+flag_of None stands none on off = none refl
+flag_of (Some text) stands none on off = (λ e. on (rw e refl), λ e. off (rw e refl))
 
 -- the command line is one of which clap's own words give the matches
 pub is_exact : is_simple command_line ≡ true

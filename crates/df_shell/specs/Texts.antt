@@ -43,7 +43,7 @@ catalogue_text store.ViewExists = codes "C6: a view of this name is registered; 
 catalogue_text store.TooManyViews = codes "C7: 32 views are registered; drop takes one out"
 catalogue_text store.NoView = codes "C8: no view of this name is registered; views lists them"
 catalogue_text store.Memory = codes "memory"
-catalogue_text store.PlanUnlike = codes "C10: the plan of the view is over other frames"
+catalogue_text store.PlanUnlike = codes "C10: the plan is over other frames"
 catalogue_text store.NoFrame = codes "C11: no frame of this name"
 
 abbrev pub new_text : NewFault → List ℕ

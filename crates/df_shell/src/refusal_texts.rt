@@ -83,10 +83,7 @@ pub fn catalogue_text(alloc: Global, fault: CatalogueFault) -> Result<String, Al
             "C8: no view of this name is registered; views lists them",
         ),
         CatalogueFault::Memory => String::from_str(alloc, "memory"),
-        CatalogueFault::PlanUnlike => String::from_str(
-            alloc,
-            "C10: the plan of the view is over other frames",
-        ),
+        CatalogueFault::PlanUnlike => String::from_str(alloc, "C10: the plan is over other frames"),
         CatalogueFault::NoFrame => String::from_str(alloc, "C11: no frame of this name"),
     }
 }
