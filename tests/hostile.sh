@@ -1,8 +1,8 @@
 #!/usr/bin/env bash
 # Runs a program in hostile hands: hostile.sh PROGRAM. Limits are met exactly and passed by one; bytes are no text, or
-# end anywhere; names are of any characters; streams are closed, full, or end early. Each case has its status, its
-# standard output and its standard error, written by hand or by model.py, never taken from the program. Prints what
-# went otherwise, and ends with a count.
+# end anywhere; names are of any characters; streams are closed, full, or end early; memory has a real limit. Each
+# case has its status, its standard output and its standard error, written by hand or by model.py, never taken from the
+# program. Prints what went otherwise, and ends with a count.
 set -u
 export LC_ALL=C
 program=$(realpath "$1")

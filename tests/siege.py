@@ -5,7 +5,7 @@ A document has frames of up to some thousand rows in files, with quotes, marks, 
 and then with bad cells, and views of every step; its output, by a random number of workers and size of chunks, has to be
 model.py's. A session changes such frames in dfshell, also through a hall, and its tables have to be the model's. Damaged
 bytes of documents, files and commands have to lead to an answer or to a named fault: to no signal, within ten seconds and
-within a gigabyte. Prints the seed of each round that went otherwise, and ends with a count. One second runs a few rounds.
+within two gigabytes of address space. Prints the seed of each round that went otherwise, and ends with a count.
 """
 
 import os
