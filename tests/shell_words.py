@@ -2,8 +2,8 @@
 """The words of `dfshell`, and what `--check` tells: shell_words.py PROGRAM.
 
 Help and the version go to standard output with status 0, words that are refused to standard error with status 2. A
-document is checked as it is opened: its counts and status 0, the lines of refused chunks and status 1, its fault and
-status 2. Prints what went otherwise, and ends with a count.
+document is checked as it is opened: its counts and status 0, the lines of refused chunks and status 1, its fault in
+words and status 2. Prints what went otherwise, and ends with a count.
 """
 import os
 import re
@@ -38,15 +38,15 @@ RUNS = [
     (["good.toml", "--hall"], "version\n", "version 2\n", "", 0),
     (["--", "good.toml"], "views\n", "v\n", "", 0),
     (["refused.toml"], "books t\n", "refused t 0: record 2, column x\naccepted 0, deleted 0, live 0\n", "", 0),
-    (["none.toml"], "", "", "dfshell: V10\n", 2),
+    (["none.toml"], "", "", r"none.toml: .* \[V10\]\n", 2),
     (["--check", "good.toml"], "books t\n", "ok: 1 frame, 1 view\n", "", 0),
     (["two.toml", "--check"], "", "ok: 2 frames, 0 views\n", "", 0),
     (["--check", "--hall", "two.toml"], "", "ok: 2 frames, 0 views\n", "", 0),
     (["--check", "refused.toml"], "", "refused t 0: record 2, column x\n", "", 1),
-    (["--check", "fault.toml"], "", "", r"dfshell: V\d+ .*\n|dfshell: v: .*\n", 2),
-    (["--check", "text.toml"], "", "", "dfshell: V1\n", 2),
-    (["--check", "no_file.toml"], "", "", "dfshell: t: F1\n", 2),
-    (["--check", "none.toml"], "", "", "dfshell: V10\n", 2),
+    (["--check", "fault.toml"], "", "", r"fault.toml: view 1 `v`: no frame `u`; the frames are t \[V6 view 0\]\n", 2),
+    (["--check", "text.toml"], "", "", r"text.toml, line 1: .* \[V1\]\n", 2),
+    (["--check", "no_file.toml"], "", "", r"t: none.csv cannot be .* \[t: F1\]\n", 2),
+    (["--check", "none.toml"], "", "", r"none.toml: .* \[V10\]\n", 2),
 ]
 
 

@@ -16,11 +16,13 @@ use Rattle.df_text.specs.declared.fault.ViewsFault.TheVariants as views
 use Rattle.df_document.specs.declared.fault.DocumentFault.{DocumentFault}
 use Rattle.df_document.specs.declared.fault.DocumentFault.TheVariants as fault
 
--- a code and a place behind it
+-- a code and behind it the top, the frame or the view that is at fault
 abbrev pub code_with_location : List ℕ → Location → List ℕ
 code_with_location code location.Top = code ++ codes " top"
 code_with_location code (location.Frame n) = code ++ (codes " frame " ++ decimal n)
 code_with_location code (location.View n) = code ++ (codes " view " ++ decimal n)
+code_with_location code (location.Step n step) = code ++ (codes " view " ++ decimal n)
+code_with_location code (location.Item n step item) = code ++ (codes " view " ++ decimal n)
 
 abbrev pub schema_text : SchemaFault → List ℕ
 schema_text schema.DoubledName = codes "S1"

@@ -71,7 +71,9 @@ fn code_with_location(alloc: Global, code: &str, location: Location) -> Result<S
     match location {
         Location::Top => format!(in alloc; "{code} top"),
         Location::Frame(n) => format!(in alloc; "{code} frame {n}"),
-        Location::View(n) => format!(in alloc; "{code} view {n}"),
+        Location::View(n) | Location::Step(n, _) | Location::Item(n, _, _) => {
+            format!(in alloc; "{code} view {n}")
+        }
     }
 }
 

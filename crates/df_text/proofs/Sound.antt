@@ -35,11 +35,12 @@ use Rattle.df_value.specs.Names.{AreDistinct}
 use Rattle.df_text.specs.Tree.{has_only_keys, text_in, array_in, table_value, first_in, only_in, pair_in, list_of, tree_of}
 use Rattle.df_text.specs.Frames.{schema_column_of, dtype_of_word, entries_of_frame, unless_fault, schema_of, new_name, frame_of, frames_of}
 use Rattle.df_text.specs.Expressions.{expr_of}
-use Rattle.df_text.specs.RowWiseSteps.{item_of}
-use Rattle.df_text.specs.AggregateItems.{aggregate_item_of}
+use Rattle.df_text.specs.RowWiseSteps.{items_in}
+use Rattle.df_text.specs.AggregateItems.{aggregates_in}
+use Rattle.df_text.specs.Locations.{item_at, step_at}
 use Rattle.df_text.specs.WindowSteps.{names_in, rank_parts, rolling_of, window_parts}
 use Rattle.df_text.specs.Sources.{found_frame, frame_named, only_source_at}
-use Rattle.df_text.specs.Steps.{step_of_word, kind_and_keys, nulls_equal_of, steps_after, step_of, applied_step, side_of, steps_at, all_steps}
+use Rattle.df_text.specs.Steps.{step_of_word, keys_in, kind_and_keys, nulls_equal_of, steps_after, step_of, applied_step, side_of, steps_at, all_steps}
 use Rattle.df_text.specs.Scans.{scans_below}
 use Rattle.df_text.specs.Document.{IsDocument, at_most, document_of, entries_of_view, new_view_name, tables_at, top_tables_of, view_of, view_specs_of}
 use Rattle.df_text.proofs.ReadFacts.{then_gives, if_gives, given, all_give, each_give, length_gives}
@@ -136,10 +137,11 @@ rolling_scans at frames kind input ds h =
     then_gives _ (window_parts at ds) _ (λ w _. scans-Rolling (length frames) input w.0.0 kind w.0.1 w.1.0 w.1.1 ∙ h)
 
 mutual
-  steps_scans : (at : Location) (frames : List FrameSpec) (input : Plan) (ds : Items) → Reads frames input → IfOk (steps_after at frames input ds) (Reads frames)
-  steps_scans at frames input no_items h = h
-  steps_scans at frames input (item d ds) h =
-      then_gives _ (step_of at frames input d) _ (λ next is. steps_scans at frames next ds (given (Reads frames) (step_of at frames input d) next (step_scans at frames input d h) is))
+  steps_scans : (at : Location) (n : ℕ) (frames : List FrameSpec) (input : Plan) (ds : Items) → Reads frames input → IfOk (steps_after at n frames input ds) (Reads frames)
+  steps_scans at n frames input no_items h = h
+  steps_scans at n frames input (item d ds) h =
+      then_gives _ (step_of (step_at at n) frames input d) _
+      (λ next is. steps_scans at (n + 1) frames next ds (given (Reads frames) (step_of (step_at at n) frames input d) next (step_scans (step_at at n) frames input d h) is))
 
   step_scans : (at : Location) (frames : List FrameSpec) (input : Plan) (d : Data) → Reads frames input → IfOk (step_of at frames input d) (Reads frames)
   step_scans at frames input (array (item w ds)) h =
@@ -154,30 +156,30 @@ mutual
 
   applied_scans : (at : Location) (frames : List FrameSpec) (word : StepWord) (input : Plan) (ds : Items) → Reads frames input → IfOk (applied_step at frames word input ds) (Reads frames)
   applied_scans at frames step_word.Filter input ds h =
-      then_gives _ (only_in at (list_of ds)) _ (λ d _. then_gives _ (expr_of at d) _ (λ e _. scans-Filter (length frames) input e ∙ h))
+      then_gives _ (only_in at (list_of ds)) _ (λ d _. then_gives _ (expr_of (item_at at 1) d) _ (λ e _. scans-Filter (length frames) input e ∙ h))
   applied_scans at frames step_word.Select input ds h =
-      then_gives _ (read_each (item_of at) (list_of ds)) _ (λ items _. scans-Select (length frames) input items ∙ h)
+      then_gives _ (items_in at (list_of ds)) _ (λ items _. scans-Select (length frames) input items ∙ h)
   applied_scans at frames step_word.WithColumns input ds h =
-      then_gives _ (read_each (item_of at) (list_of ds)) _ (λ items _. scans-WithColumns (length frames) input items ∙ h)
+      then_gives _ (items_in at (list_of ds)) _ (λ items _. scans-WithColumns (length frames) input items ∙ h)
   applied_scans at frames step_word.GroupBy input ds h =
-      then_gives _ (first_in at (list_of ds)) _ (λ k _. then_gives _ (array_in at k.0) _ (λ ks _.
-      then_gives _ (read_each (text_in at) ks) _ (λ keys _. then_gives _ (read_each (aggregate_item_of at) k.1) _ (λ aggregates _.
-      scans-GroupBy (length frames) input keys aggregates ∙ h))))
+      then_gives _ (first_in at (list_of ds)) _ (λ k _. then_gives _ (keys_in (item_at at 1) k.0) _ (λ keys _.
+      then_gives _ (aggregates_in at k.1) _ (λ aggregates _.
+      scans-GroupBy (length frames) input keys aggregates ∙ h)))
   applied_scans at frames (step_word.Rolling kind) input ds h = rolling_scans at frames kind input (list_of ds) h
   applied_scans at frames step_word.CumSum input ds h =
       then_gives _ (pair_in at (list_of ds)) _ (λ p _. then_gives _ (names_in at p.0 p.1) _ (λ n _. scans-CumSum (length frames) input n.0 n.1 ∙ h))
   applied_scans at frames step_word.Rank input ds h =
       then_gives _ (rank_parts at (list_of ds)) _ (λ r _. scans-Rank (length frames) input r.0 r.1 r.2 ∙ h)
   applied_scans at frames step_word.Join input (item kind (item keys (item right no_items))) h =
-      then_gives _ (kind_and_keys at kind keys) _ (λ how _. then_gives _ (side_of at frames right) _ (λ p is.
-      scans-Join (length frames) input p how.0 how.1 false h (given (Reads frames) (side_of at frames right) p (side_scans at frames right) is)))
+      then_gives _ (kind_and_keys at kind keys) _ (λ how _. then_gives _ (side_of (item_at at 3) frames right) _ (λ p is.
+      scans-Join (length frames) input p how.0 how.1 false h (given (Reads frames) (side_of (item_at at 3) frames right) p (side_scans (item_at at 3) frames right) is)))
   applied_scans at frames step_word.Join input no_items h = tt
   applied_scans at frames step_word.Join input (item a no_items) h = tt
   applied_scans at frames step_word.Join input (item a (item b no_items)) h = tt
   applied_scans at frames step_word.Join input (item kind (item keys (item right (item word no_items)))) h =
-      then_gives _ (kind_and_keys at kind keys) _ (λ how _. then_gives _ (side_of at frames right) _ (λ p is.
+      then_gives _ (kind_and_keys at kind keys) _ (λ how _. then_gives _ (side_of (item_at at 3) frames right) _ (λ p is.
       then_gives _ (nulls_equal_of at (word ∷ [])) _ (λ equal _.
-      scans-Join (length frames) input p how.0 how.1 equal h (given (Reads frames) (side_of at frames right) p (side_scans at frames right) is))))
+      scans-Join (length frames) input p how.0 how.1 equal h (given (Reads frames) (side_of (item_at at 3) frames right) p (side_scans (item_at at 3) frames right) is))))
   applied_scans at frames step_word.Join input (item a (item b (item c (item d (item e ds))))) h = tt
 
   side_scans : (at : Location) (frames : List FrameSpec) (d : Data) → IfOk (side_of at frames d) (Reads frames)
@@ -197,7 +199,7 @@ mutual
       either_scans frames (slice_cmp nat_cmp (codes "steps") k) _ _ (steps_at_scans at frames input ms h) (all_steps_scans at frames input d h)
 
   all_steps_scans : (at : Location) (frames : List FrameSpec) (input : Plan) (d : Data) → Reads frames input → IfOk (all_steps at frames input d) (Reads frames)
-  all_steps_scans at frames input (array ds) h = steps_scans at frames input ds h
+  all_steps_scans at frames input (array ds) h = steps_scans at 0 frames input ds h
   all_steps_scans at frames input (string s) h = tt
   all_steps_scans at frames input (integer n) h = tt
   all_steps_scans at frames input (float x) h = tt

@@ -12,6 +12,7 @@ use Rattle.df_text.specs.declared.view_steps.StepWord.TheVariants as step_word
 use Rattle.df_text.specs.declared.fault.ViewsFault.{ViewsFault}
 use Rattle.df_value.specs.Outcomes.{then_next}
 use Rattle.df_text.specs.Tree.{text_in, array_in, list_of}
+use Rattle.df_text.specs.Locations.{item_at}
 use Rattle.df_text.specs.Sources.{array_or_none}
 use Rattle.df_text.proofs.TreeFacts.{list_of-items}
 use Rattle.df_text.specs.Steps.{step_of_word, kind_and_keys, join_items, nulls_equal_of, step_in, steps_after, step_of, applied_step, side_of, steps_at, all_steps}
@@ -49,7 +50,7 @@ step_by_word at frames input (table ms) = refl
 -- a join has three items, or four
 pub join_by_items : (at : Location) (frames : List FrameSpec) (input : Plan) (ds : List Data)
     → applied_step at frames step_word.Join input (items_of ds)
-    ≡ then_next (join_items at ds) (λ t. then_next (kind_and_keys at t.0 t.1) (λ h. then_next (side_of at frames t.2) (λ p.
+    ≡ then_next (join_items at ds) (λ t. then_next (kind_and_keys at t.0 t.1) (λ h. then_next (side_of (item_at at 3) frames t.2) (λ p.
     then_next (nulls_equal_of at t.3) (λ n. Ok (Join input p h.0 h.1 n)))))
 join_by_items at frames input [] = refl
 join_by_items at frames input (a ∷ []) = refl
@@ -59,8 +60,8 @@ join_by_items at frames input (a ∷ b ∷ c ∷ d ∷ []) = refl
 join_by_items at frames input (a ∷ b ∷ c ∷ d ∷ e ∷ ds) = refl
 
 steps_of_array : (at : Location) (frames : List FrameSpec) (input : Plan) (d : Data)
-    → all_steps at frames input d ≡ then_next (array_in at d) (λ ds. steps_after at frames input (items_of ds))
-steps_of_array at frames input (array ds) = ap (steps_after at frames input) (sym (items_of-list ds))
+    → all_steps at frames input d ≡ then_next (array_in at d) (λ ds. steps_after at 0 frames input (items_of ds))
+steps_of_array at frames input (array ds) = ap (steps_after at 0 frames input) (sym (items_of-list ds))
 steps_of_array at frames input (string s) = refl
 steps_of_array at frames input (integer n) = refl
 steps_of_array at frames input (float x) = refl
@@ -70,7 +71,7 @@ steps_of_array at frames input (table ms) = refl
 
 -- the plan after the steps that were found at a key
 after_found : Location → List FrameSpec → Plan → Option Data → Result Plan ViewsFault
-after_found at frames input found = then_next (array_or_none at found) (λ ds. steps_after at frames input (items_of ds))
+after_found at frames input found = then_next (array_or_none at found) (λ ds. steps_after at 0 frames input (items_of ds))
 
 steps_at_key : (at : Location) (frames : List FrameSpec) (input : Plan) (o : Ordering) (d : Data) (r : Result Plan ViewsFault) (found : Option Data)
     → r ≡ after_found at frames input found
@@ -82,7 +83,7 @@ steps_at_key at frames input Greater d r found e = e
 
 -- the steps of a table are those that a look-up finds
 pub steps_by_key : (at : Location) (frames : List FrameSpec) (input : Plan) (ms : Members)
-    → steps_at at frames input ms ≡ then_next (array_or_none at (get_member (codes "steps") ms)) (λ ds. steps_after at frames input (items_of ds))
+    → steps_at at frames input ms ≡ then_next (array_or_none at (get_member (codes "steps") ms)) (λ ds. steps_after at 0 frames input (items_of ds))
 unfolding after_found
 steps_by_key at frames input no_members = refl
 steps_by_key at frames input (member k d ms) =

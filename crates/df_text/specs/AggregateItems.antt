@@ -1,6 +1,6 @@
 -- The aggregates of a view's `group_by`: each is an array of an output's name, a word and, but for `len`, a column. The
 -- word comes first, then the number of items, then the output's name, then the column.
-use Rattle.std.specs.Prelude.{ℕ, List, codes, Result, Ok, Err, if◌then◌else◌}
+use Rattle.std.specs.Prelude.{ℕ, ◌+◌, List, [], length, codes, Result, Ok, Err, if◌then◌else◌}
 use Rattle.std.specs.Str.{bytes_eq}
 use Rattle.toml.specs.Data.{Data}
 use Rattle.df_ops.specs.declared.agg.Agg.{Agg}
@@ -13,6 +13,8 @@ use Rattle.df_text.specs.declared.document.Location.{Location}
 use Rattle.df_text.specs.declared.fault.ViewsFault.{ViewsFault}
 use Rattle.df_text.specs.declared.fault.ViewsFault.TheVariants as fault
 use Rattle.df_value.specs.Outcomes.{then_next}
+use Rattle.df_text.specs.Locations.{item_at}
+use Rattle.df_text.specs.Reading.{read_after}
 use Rattle.df_text.specs.Tree.{text_in, array_in, first_in, only_in, none_in}
 
 -- the aggregate that a word names
@@ -53,3 +55,11 @@ abbrev pub aggregate_item_of : Location → Data → Result (List ℕ × Agg) Vi
 aggregate_item_of at d =
     then_next (array_in at d) (λ ds. then_next (first_in at ds) (λ o. then_next (first_in at o.1) (λ w.
     then_next (text_in at w.0) (λ word. then_next (agg_of_word at word) (λ a. output_and_aggregate_of at a o.0 w.1)))))
+
+-- an aggregate behind those that were read, as the items of a step behind its word and its keys
+abbrev pub next_aggregate_of : Location → List (List ℕ × Agg) → Data → Result (List ℕ × Agg) ViewsFault
+next_aggregate_of at before d = aggregate_item_of (item_at at (length before + 2)) d
+
+-- any number of aggregates
+abbrev pub aggregates_in : Location → List Data → Result (List (List ℕ × Agg)) ViewsFault
+aggregates_in at ds = read_after (next_aggregate_of at) [] ds

@@ -1,6 +1,7 @@
 pub mod Document
 pub mod Expressions
 pub mod Frames
+pub mod Locations
 pub mod Reading
 pub mod RowWiseSteps
 pub mod Scans

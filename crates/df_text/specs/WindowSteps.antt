@@ -12,6 +12,7 @@ use Rattle.df_text.specs.declared.document.Location.{Location}
 use Rattle.df_text.specs.declared.fault.ViewsFault.{ViewsFault}
 use Rattle.df_text.specs.declared.fault.ViewsFault.TheVariants as fault
 use Rattle.df_value.specs.Outcomes.{then_next}
+use Rattle.df_text.specs.Locations.{item_at}
 use Rattle.df_text.specs.Tree.{text_in, pair_in, triple_in}
 
 -- the whole number that a value is; a float is none
@@ -22,7 +23,7 @@ int_in at _ = Err (fault.Shape at)
 -- an output's name and a column's
 abbrev pub names_in : Location → Data → Data → Result (List ℕ × List ℕ) ViewsFault
 names_in at output column =
-    then_next (text_in at output) (λ o. then_next (text_in at column) (λ c. Ok (o, c)))
+    then_next (text_in (item_at at 1) output) (λ o. then_next (text_in (item_at at 2) column) (λ c. Ok (o, c)))
 
 -- an output, a column, w (the window's rows) and, if it stands there, m (how many cells that are not null a result wants)
 abbrev pub window_items : Location → List Data → Result (Data × Data × Data × Option Data) ViewsFault
@@ -32,8 +33,8 @@ window_items at _ = Err (fault.Shape at)
 
 -- w and m of a rolling window; without m, m is w
 abbrev pub window_numbers : Location → Data → Option Data → Result (ℤ × ℤ) ViewsFault
-window_numbers at rows None = then_next (int_in at rows) (λ r. Ok (r, r))
-window_numbers at rows (Some least) = then_next (int_in at rows) (λ r. then_next (int_in at least) (λ l. Ok (r, l)))
+window_numbers at rows None = then_next (int_in (item_at at 3) rows) (λ r. Ok (r, r))
+window_numbers at rows (Some least) = then_next (int_in (item_at at 3) rows) (λ r. then_next (int_in (item_at at 4) least) (λ l. Ok (r, l)))
 
 -- the output, the column, w and m of a rolling window
 abbrev pub window_parts : Location → List Data → Result ((List ℕ × List ℕ) × (ℤ × ℤ)) ViewsFault
@@ -60,9 +61,9 @@ rank_of_word at w =
 -- an output, the kind of rank, and a column, read in this order: an unknown kind comes before a column that is no text
 abbrev pub rank_parts : Location → List Data → Result (List ℕ × RankKind × List ℕ) ViewsFault
 rank_parts at ds =
-    then_next (triple_in at ds) (λ t. then_next (text_in at t.0) (λ output.
-    then_next (text_in at t.1) (λ w. then_next (rank_of_word at w) (λ kind.
-    then_next (text_in at t.2) (λ column. Ok (output, kind, column))))))
+    then_next (triple_in at ds) (λ t. then_next (text_in (item_at at 1) t.0) (λ output.
+    then_next (text_in (item_at at 2) t.1) (λ w. then_next (rank_of_word (item_at at 2) w) (λ kind.
+    then_next (text_in (item_at at 3) t.2) (λ column. Ok (output, kind, column))))))
 
 -- a rank over a plan
 abbrev pub rank_of : Location → Plan → List Data → Result Plan ViewsFault

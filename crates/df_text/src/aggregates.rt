@@ -2,9 +2,8 @@
 ghost use Rattle.std.specs.Prelude.{◌≡◌, map, codes};
 ghost use Rattle.toml.specs.View.{view};
 ghost use Rattle.df_value.specs.Outcomes.{Answers};
-ghost use Rattle.df_text.specs.Reading.{read_each};
 ghost use Rattle.df_text.specs.AggregateItems as aggregate_items;
-ghost use Rattle.df_text.specs.AggregateItems.{agg_of_word, output_and_aggregate_of, aggregate_item_of};
+ghost use Rattle.df_text.specs.AggregateItems.{agg_of_word, output_and_aggregate_of, aggregate_item_of, aggregates_in};
 
 use crate::document::Location;
 use crate::fault::ViewsFault;
@@ -34,18 +33,17 @@ pub enum ColumnWord {
     Mean,
 }
 
-/// The aggregates of a grouping, from left to right.
+/// The aggregates of a grouping, which stand behind its word and its keys, from left to right.
 pub fn read_aggregates(
     alloc: Global,
     location: Location,
     values: &[Value],
 ) -> Result<List<(Text, Agg)>, ViewsFault>
-    ensures { Answers ViewsFault.Memory
-        (read_each (aggregate_item_of location) (map view values.now)) result }
+    ensures { Answers ViewsFault.Memory (aggregates_in location (map view values.now)) result }
 {
     let mut aggregates = Vec::new(alloc);
     for value in values {
-        let aggregate = read_aggregate(alloc, location, value)?;
+        let aggregate = read_aggregate(alloc, location.item(aggregates.len() + 2), value)?;
         aggregates.push(aggregate)?;
     }
     Ok(List::from_vec(aggregates))

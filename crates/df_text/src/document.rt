@@ -96,4 +96,34 @@ pub enum Location {
     Frame(usize),
     /// The view of this index, from 0.
     View(usize),
+    /// A step of a view, by the index of the view and the index of the step.
+    Step(usize, usize),
+    /// An item of a step, by the indices of the view and of the step and by its index in the step's array, in which the
+    /// word has index 0. A fault within the right side of a join is told of that item.
+    Item(usize, usize, usize),
+}
+
+impl Location {
+    ghost use Rattle.std.specs.Prelude.{◌≡◌};
+    ghost use Rattle.df_text.specs.Locations as locations;
+
+    /// The step of this index, where this is a view; else this part.
+    pub fn step(self, index: usize) -> Location
+        ensures { result ≡ locations.step_at self index }
+    {
+        match self {
+            Location::View(view) => Location::Step(view, index),
+            _ => self,
+        }
+    }
+
+    /// The item of this index, where this is a step; else this part.
+    pub fn item(self, index: usize) -> Location
+        ensures { result ≡ locations.item_at self index }
+    {
+        match self {
+            Location::Step(view, step) => Location::Item(view, step, index),
+            _ => self,
+        }
+    }
 }

@@ -2,8 +2,7 @@
 ghost use Rattle.std.specs.Prelude.{◌≡◌, map};
 ghost use Rattle.toml.specs.View.{view};
 ghost use Rattle.df_value.specs.Outcomes.{Answers};
-ghost use Rattle.df_text.specs.Reading.{read_each};
-ghost use Rattle.df_text.specs.RowWiseSteps.{filter_of, item_of, select_of, with_columns_of};
+ghost use Rattle.df_text.specs.RowWiseSteps.{filter_of, item_of, items_in, select_of, with_columns_of};
 
 use crate::document::Location;
 use crate::expressions::read_expr;
@@ -26,7 +25,7 @@ pub fn filter(
 {
     let input = Boxed::new(alloc, input)?;
     let predicate = only_in(location, items)?;
-    match read_expr(alloc, location, predicate) {
+    match read_expr(alloc, location.item(1), predicate) {
         Ok(predicate) => Ok(Plan::Filter(input, predicate)),
         Err(fault) => Err(fault),
     }
@@ -59,18 +58,17 @@ pub fn with_columns(
     Ok(Plan::WithColumns(input, read_items(alloc, location, items)?))
 }
 
-/// The outputs of a step, from left to right.
+/// The outputs of a step, which stand behind its word, from left to right.
 fn read_items(
     alloc: Global,
     location: Location,
     values: &[Value],
 ) -> Result<List<(Text, Expr)>, ViewsFault>
-    ensures { Answers ViewsFault.Memory
-        (read_each (item_of location) (map view values.now)) result }
+    ensures { Answers ViewsFault.Memory (items_in location (map view values.now)) result }
 {
     let mut items = Vec::new(alloc);
     for value in values {
-        let item = read_item(alloc, location, value)?;
+        let item = read_item(alloc, location.item(items.len() + 1), value)?;
         items.push(item)?;
     }
     Ok(List::from_vec(items))

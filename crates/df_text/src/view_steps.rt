@@ -6,7 +6,7 @@ ghost use Rattle.df_value.specs.Outcomes.{then_next, Answers};
 ghost use Rattle.df_text.specs.Reading.{read_each};
 ghost use Rattle.df_text.specs.Tree as tree_spec;
 ghost use Rattle.df_text.specs.Steps as steps_spec;
-ghost use Rattle.df_text.specs.Steps.{step_of_word, group_by_of, kind_of_word, nulls_equal_of, nulls_equal_of_word, steps_after, step_of, applied_step, side_of, steps_at};
+ghost use Rattle.df_text.specs.Steps.{step_of_word, group_by_of, keys_in, kind_of_word, nulls_equal_of, nulls_equal_of_word, steps_after, step_of, applied_step, side_of, steps_at};
 
 use crate::aggregates::read_aggregates;
 use crate::document::{FrameSpec, Location};
@@ -64,11 +64,11 @@ fn apply_steps(
     steps: &[Value],
 ) -> Result<Plan, ViewsFault>
     ensures { Answers ViewsFault.Memory
-        (steps_after location frames.now input (items_of (map view steps.now))) result }
+        (steps_after location 0 frames.now input (items_of (map view steps.now))) result }
 {
     let mut plan = input;
-    for step in steps {
-        plan = apply_step(alloc, location, frames, plan, step)?;
+    for at in 0..steps.len() {
+        plan = apply_step(alloc, location.step(at), frames, plan, &steps[at])?;
     }
     Ok(plan)
 }
@@ -144,7 +144,7 @@ fn join(
     let input = Boxed::new(alloc, input)?;
     let (kind, keys, right, rest) = join_items(location, items)?;
     match kind_and_keys(alloc, location, kind, keys) {
-        Ok((how, keys)) => match read_right(alloc, location, frames, right) {
+        Ok((how, keys)) => match read_right(alloc, location.item(3), frames, right) {
             Ok(right) => joined(location, input, right, how, keys, rest),
             Err(fault) => Err(fault),
         },
@@ -195,9 +195,15 @@ fn nulls_equal_in(location: Location, rest: &[Value]) -> Result<bool, ViewsFault
     ensures { result ≡ nulls_equal_of location (map view rest.now) }
 {
     match rest {
-        [word, ..] => nulls_equal_named(location, text_in(location, word)?),
+        [word, ..] => nulls_equal_word(location.item(4), word),
         [] => Ok(false),
     }
+}
+
+fn nulls_equal_word(location: Location, word: &Value) -> Result<bool, ViewsFault>
+    ensures { result ≡ then_next (tree_spec.text_in location (view word.now)) (nulls_equal_of_word location) }
+{
+    nulls_equal_named(location, text_in(location, word)?)
 }
 
 fn nulls_equal_named(location: Location, word: &str) -> Result<bool, ViewsFault>
@@ -240,9 +246,16 @@ fn kind_and_keys(
     ensures { Answers ViewsFault.Memory
         (steps_spec.kind_and_keys location (view kind.now) (view keys.now)) result }
 {
-    let how = kind_named(location, text_in(location, kind)?)?;
-    let keys = read_names(alloc, location, array_in(location, keys)?)?;
+    let how = kind_in(location.item(1), kind)?;
+    let keys = read_keys(alloc, location.item(2), keys)?;
     Ok((how, keys))
+}
+
+/// The kind of join that a value names.
+fn kind_in(location: Location, kind: &Value) -> Result<How, ViewsFault>
+    ensures { result ≡ steps_spec.kind_in location (view kind.now) }
+{
+    kind_named(location, text_in(location, kind)?)
 }
 
 /// The kind of join that a word names.
@@ -286,9 +299,16 @@ fn group_by(
 {
     let input = Boxed::new(alloc, input)?;
     let (keys, aggregates) = first_in(location, items)?;
-    let keys = read_names(alloc, location, array_in(location, keys)?)?;
+    let keys = read_keys(alloc, location.item(1), keys)?;
     let aggregates = read_aggregates(alloc, location, aggregates)?;
     Ok(Plan::GroupBy(input, keys, aggregates))
+}
+
+/// An array of names.
+fn read_keys(alloc: Global, location: Location, value: &Value) -> Result<List<Text>, ViewsFault>
+    ensures { Answers ViewsFault.Memory (keys_in location (view value.now)) result }
+{
+    read_names(alloc, location, array_in(location, value)?)
 }
 
 /// A list of names.

@@ -84,9 +84,9 @@ fn window_numbers(
         (λ f. window_steps.window_numbers location (view rows.now)
         (option_map (λ v. view v.now) least.entry) ≡ Err f) }
 {
-    let rows = int_in(location, rows)?;
+    let rows = int_in(location.item(3), rows)?;
     match least {
-        Some(least) => Ok((rows, int_in(location, least)?)),
+        Some(least) => Ok((rows, int_in(location.item(4), least)?)),
         None => Ok((rows, rows)),
     }
 }
@@ -134,9 +134,10 @@ fn read_rank(
     ensures { Answers ViewsFault.Memory (rank_parts location (map view items.now)) result }
 {
     let (output, kind, column) = triple_in(location, items)?;
-    let output = text_in(location, output)?;
-    let kind = rank_named(location, text_in(location, kind)?)?;
-    let column = text_in(location, column)?;
+    let output = text_in(location.item(1), output)?;
+    let place = location.item(2);
+    let kind = rank_named(place, text_in(place, kind)?)?;
+    let column = text_in(location.item(3), column)?;
     let output = Text::from_str(alloc, output)?;
     match Text::from_str(alloc, column) {
         Ok(column) => Ok((output, kind, column)),
@@ -168,8 +169,8 @@ fn names_in(
     ensures { Answers ViewsFault.Memory
         (window_steps.names_in location (view output.now) (view column.now)) result }
 {
-    let output = text_in(location, output)?;
-    let column = text_in(location, column)?;
+    let output = text_in(location.item(1), output)?;
+    let column = text_in(location.item(2), column)?;
     let output = Text::from_str(alloc, output)?;
     Ok((output, Text::from_str(alloc, column)?))
 }

@@ -6,6 +6,7 @@ mod system_files;
 
 use clap::error::ErrorKind;
 use df_document::DocumentFault;
+use df_explain::explain;
 use df_shell::{
     CommandLine, DocumentCheck, Prompts, ShellFault, check_document, read_command_line,
     run_hall_shell, run_shell, shell_fault_text,
@@ -49,7 +50,7 @@ fn run_words<R: Threads + Wait + Sync>(rt: &HostRuntime, waiting: &R, words: &[&
         Ok(line) => match run_line(rt, waiting, line) {
             Ok(DocumentCheck::Clean) => ExitCode::from(0),
             Ok(DocumentCheck::Refused) => ExitCode::from(1),
-            Err(fault) => report(rt, &fault),
+            Err(fault) => report_at(rt, line.views, &fault),
         },
         Err(error) => answer(rt, &error),
     }
@@ -137,6 +138,29 @@ fn refuse_arguments(rt: &HostRuntime, error: &io::Error) -> ExitCode {
         return report(rt, &ShellFault::Memory);
     }
     let _ = eprintln!(rt; "error: an argument is not UTF-8");
+    ExitCode::from(2)
+}
+
+// A fault of the document in words, with its place; any other, and one for whose words there is no memory, by its code.
+fn report_at(rt: &HostRuntime, views: Option<&str>, fault: &ShellFault) -> ExitCode {
+    match (views, fault) {
+        (Some(path), ShellFault::Document(document)) if *document != DocumentFault::Memory => {
+            match explained(rt, path, document) {
+                Ok(text) => tell(rt, text.as_str()),
+                Err(_) => report(rt, fault),
+            }
+        }
+        _ => report(rt, fault),
+    }
+}
+
+fn explained(rt: &HostRuntime, path: &str, fault: &DocumentFault) -> Result<String, AllocError> {
+    let mut files = SystemFiles { rt };
+    explain(rt.alloc(), &mut files, path, fault)
+}
+
+fn tell(rt: &HostRuntime, text: &str) -> ExitCode {
+    let _ = eprintln!(rt; "{text}");
     ExitCode::from(2)
 }
 

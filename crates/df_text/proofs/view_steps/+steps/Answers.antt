@@ -1,4 +1,4 @@
-use Rattle.std.proofs.Common.{◌≡◌, ◌∙◌, map, codes, arith, refl, sym, ap, Result, Ok, Err}
+use Rattle.std.proofs.Common.{◌≡◌, ◌∙◌, map, codes, arith, rules, refl, sym, ap, Result, Ok, Err}
 use Rattle.df_value.specs.Outcomes.{then_next, Answers}
 use Rattle.df_plan.specs.declared.plan.Plan.{Plan, Join}
 use Rattle.df_text.specs.declared.fault.ViewsFault.{ViewsFault}
@@ -48,7 +48,7 @@ apply_step-returns-in-Err t c given =
 
 pub apply_steps-apply_step-requires : goal.apply_steps-apply_step-requires
 apply_steps-apply_step-requires t c =
-    let no_deeper = item_no_deeper c.args.steps.now c.loop-step.step-index c.step-item.result (omega (arith, c.loop-step-test.true)) c.step-item.is in
+    let no_deeper = item_no_deeper c.args.steps.now c.loop-at.at c.index-steps-at.result (omega (arith, c.loop-at-test.true)) (search rules) in
     (omega (arith, no_deeper, c.decreases), tt)
 
 pub join-read_right-requires : goal.join-read_right-requires
@@ -64,13 +64,13 @@ given_answer want (Err f) e = λ _. sym e
 pub join-returns-in-Ok-read_right : goal.join-returns-in-Ok-read_right
 join-returns-in-Ok-read_right t c =
     let equal = nulls_equal_of c.args.location (map view c.in_ok-kind.rest.now) in
-    rw (join_by_items c.args.location c.args.frames.now c.args.input (map view c.args.items.now), c.in_ok-kind.ensures, c.in-Ok.ensures, c.in-Ok-read_right.ensures)
+    rw (join_by_items c.args.location c.args.frames.now c.args.input (map view c.args.items.now), c.in_ok-kind.ensures, c.in-Ok.ensures, ← c.item.ensures, c.in-Ok-read_right.ensures)
     (given_answer _ _ (c.joined.ensures
     ∙ ap (λ (p : Plan). then_next equal (λ n. Ok (Join p c.in-Ok-read_right.right c.in-Ok.how c.in-Ok.keys n))) c.in_ok-input.ensures))
 
 pub join-returns-in-Err-read_right : goal.join-returns-in-Err-read_right
 join-returns-in-Err-read_right t c given =
-    rw (join_by_items c.args.location c.args.frames.now c.args.input (map view c.args.items.now), c.in_ok-kind.ensures, c.in-Ok.ensures, c.in-Err-read_right.ensures given) refl
+    rw (join_by_items c.args.location c.args.frames.now c.args.input (map view c.args.items.now), c.in_ok-kind.ensures, c.in-Ok.ensures, ← c.item.ensures, c.in-Err-read_right.ensures given) refl
 
 pub apply_table-apply_steps-requires : goal.apply_table-apply_steps-requires
 apply_table-apply_steps-requires t c =

@@ -22,6 +22,6 @@ decreases-join l = 8 * items_depth (items_of (map view l.items.now)) + 4
 abbrev pub decreases-read_right : goal.decreases-read_right
 decreases-read_right l = 8 * depth (view l.right.now) + 3
 
-abbrev pub invariant-apply_steps-loop-step : goal.invariant-apply_steps-loop-step
-invariant-apply_steps-loop-step l =
-    steps_after l.location l.frames l.fn.input (items_of (map view l.steps)) ≡ steps_after l.location l.frames l.plan (items_of (map view (drop l.step-index l.steps)))
+abbrev pub invariant-apply_steps-loop-at : goal.invariant-apply_steps-loop-at
+invariant-apply_steps-loop-at l =
+    steps_after l.location 0 l.frames l.fn.input (items_of (map view l.steps)) ≡ steps_after l.location l.at l.frames l.plan (items_of (map view (drop l.at l.steps)))

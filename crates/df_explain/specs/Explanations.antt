@@ -1,0 +1,8 @@
+-- What an explanation of a fault says for sure: whatever its words are, it ends in the fault's code, in brackets.
+use Rattle.std.specs.Prelude.{◌≡◌, ◌++◌, ℕ, List, codes}
+use Rattle.df_document.specs.Texts.{fault_text_of}
+use Rattle.df_document.specs.declared.fault.DocumentFault.{DocumentFault}
+
+-- words, and then the code
+abbrev pub EndsInCode : DocumentFault → List ℕ → Type 0
+EndsInCode f text = (words : List ℕ) × (text ≡ words ++ (codes " [" ++ (fault_text_of f ++ codes "]")))

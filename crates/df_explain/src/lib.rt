@@ -1,0 +1,21 @@
+//! Faults of a document in words: where in the document, what is wrong there, and what would do.
+//!
+//! [`explain`] reads the document once more and tells of a fault that `df_document` answered. A fault of the document's shape
+//! names its place itself, a [`Location`](df_text::Location); the step of a plan that does not check is found by
+//! [`faulty_step`].
+#![tactic(auto)]
+
+mod csv_words;
+mod explaining;
+mod forms;
+mod names;
+mod near;
+mod part;
+mod place;
+mod plan_place;
+mod plan_words;
+mod unknown_words;
+mod views_words;
+
+pub use explaining::{explain, explanation};
+pub use plan_place::faulty_step;

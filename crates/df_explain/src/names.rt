@@ -1,0 +1,46 @@
+//! Names in a sentence.
+use df_text::escape;
+use df_value::{Schema, Text};
+use std::alloc::{AllocError, Global};
+
+/// A name or a word of the document in backticks, escaped as in a printed table.
+pub fn quoted(alloc: Global, name: &str) -> Result<String, AllocError> {
+    let name = escape(alloc, name)?;
+    let name = name.as_str();
+    format!(in alloc; "`{name}`")
+}
+
+/// Names with commas between them.
+pub fn listed(alloc: Global, names: &[&str]) -> Result<String, AllocError> {
+    let mut list = String::new(alloc);
+    for name in names {
+        let name = escape(alloc, name)?;
+        push_listed(&mut list, name.as_str())?;
+    }
+    Ok(list)
+}
+
+fn push_listed(list: &mut String, name: &str) -> Result<(), AllocError> {
+    if !list.is_empty() {
+        list.push_str(", ")?;
+    }
+    list.push_str(name)
+}
+
+/// The names of columns.
+pub fn column_names<'a>(alloc: Global, schema: &'a Schema) -> Result<Vec<&'a str>, AllocError> {
+    let mut names = Vec::new(alloc);
+    for column in schema.columns().as_slice() {
+        names.push(column.0.as_str())?;
+    }
+    Ok(names)
+}
+
+/// The names in a list of texts.
+pub fn text_names<'a>(alloc: Global, texts: &'a [Text]) -> Result<Vec<&'a str>, AllocError> {
+    let mut names = Vec::new(alloc);
+    for text in texts {
+        names.push(text.as_str())?;
+    }
+    Ok(names)
+}

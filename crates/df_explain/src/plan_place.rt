@@ -1,0 +1,171 @@
+//! The step of a plan that does not check.
+ghost use Rattle.std.specs.Prelude.{◌≡◌, IfOk, IfSome, is_ok};
+ghost use Rattle.df_plan.specs.Checks.{columns_of};
+ghost use Rattle.df_explain.specs.PlanPlaces.{IsFaultOf};
+
+use crate::names::quoted;
+use df_expr::ExprFault;
+use df_plan::{Plan, PlanFault, RollKind, schema_of};
+use df_value::Schema;
+use std::alloc::{AllocError, Global};
+
+/// The step of a plan that does not check, and where it stands in the view.
+#[derive(Drop)]
+pub struct FaultyStep<'a> {
+    /// As ``step 3 `join`, right side, step 1 `filter` ``.
+    pub place: String,
+    /// The plan up to this step.
+    pub part: &'a Plan,
+}
+
+/// Most right sides within right sides that are told of.
+const MOST_SIDES: u32 = 3;
+
+/// The step of a plan that does not check over frames of these schemas; the last one where all do.
+pub fn faulty_step<'a>(
+    alloc: Global,
+    plan: &'a Plan,
+    frames: &[Schema],
+) -> Result<FaultyStep<'a>, AllocError>
+    ensures { IfOk result (λ step. IsFaultOf frames.now plan.now step.part.now) }
+{
+    let part = faulty_part(alloc, plan, frames)?;
+    let place = step_text(alloc, part)?;
+    within_sides(alloc, FaultyStep { place, part }, frames, MOST_SIDES)
+}
+
+// The same step, or the one in its right side that does not check.
+fn within_sides<'a>(
+    alloc: Global,
+    step: FaultyStep<'a>,
+    frames: &[Schema],
+    most: u32,
+) -> Result<FaultyStep<'a>, AllocError>
+    ensures { IfOk result (λ inner. IsFaultOf frames.now step.part.now inner.part.now) }
+{
+    if most == 0 {
+        return Ok(step);
+    }
+    match faulty_side(alloc, step.part, frames)? {
+        Some(side) => {
+            let part = faulty_part(alloc, side, frames)?;
+            let place = place_in_side(alloc, &step.place, part)?;
+            within_sides(alloc, FaultyStep { place, part }, frames, most - 1)
+        }
+        None => Ok(step),
+    }
+}
+
+fn place_in_side(alloc: Global, place: &String, part: &Plan) -> Result<String, AllocError> {
+    let inner = step_text(alloc, part)?;
+    let inner = inner.as_str();
+    let place = place.as_str();
+    format!(in alloc; "{place}, right side, {inner}")
+}
+
+// The right side of a join whose left side checks, if it does not check.
+fn faulty_side<'a>(
+    alloc: Global,
+    plan: &'a Plan,
+    frames: &[Schema],
+) -> Result<Option<&'a Plan>, AllocError>
+    ensures { IfOk result (λ side. IfSome side (λ p. IsFaultOf frames.now plan.now p.now)) }
+{
+    match plan {
+        Plan::Join(left, right, _, _, _) => {
+            if checks(alloc, left.get(), frames)? && !checks(alloc, right.get(), frames)? {
+                Ok(Some(right.get()))
+            } else {
+                Ok(None)
+            }
+        }
+        _ => Ok(None),
+    }
+}
+
+/// The plan up to its first step that does not check, of the steps of the view itself.
+fn faulty_part<'a>(alloc: Global, plan: &'a Plan, frames: &[Schema]) -> Result<&'a Plan, AllocError>
+    ensures { IfOk result (λ part. IsFaultOf frames.now plan.now part.now) }
+{
+    match plan {
+        Plan::Scan(_) => Ok(plan),
+        Plan::Filter(input, _) | Plan::Select(input, _) | Plan::WithColumns(input, _) => {
+            if checks(alloc, input.get(), frames)? {
+                return Ok(plan);
+            }
+            faulty_part(alloc, input.get(), frames)
+        }
+        Plan::GroupBy(input, _, _) | Plan::CumSum(input, _, _) => {
+            if checks(alloc, input.get(), frames)? {
+                return Ok(plan);
+            }
+            faulty_part(alloc, input.get(), frames)
+        }
+        Plan::Rolling(input, _, _, _, _, _) | Plan::Rank(input, _, _, _) => {
+            if checks(alloc, input.get(), frames)? {
+                return Ok(plan);
+            }
+            faulty_part(alloc, input.get(), frames)
+        }
+        Plan::Join(left, _, _, _, _) => {
+            if checks(alloc, left.get(), frames)? {
+                return Ok(plan);
+            }
+            faulty_part(alloc, left.get(), frames)
+        }
+    }
+}
+
+fn checks(alloc: Global, plan: &Plan, frames: &[Schema]) -> Result<bool, AllocError>
+    ensures { IfOk result (λ sound. sound ≡ is_ok (columns_of plan.now frames.now)) }
+{
+    match schema_of(alloc, plan, frames) {
+        Ok(_) => Ok(true),
+        Err(PlanFault::Memory) => Err(AllocError),
+        Err(_) => Ok(false),
+    }
+}
+
+/// A step by its number, from 1, and its word; for a frame's own rows `from`.
+fn step_text(alloc: Global, part: &Plan) -> Result<String, AllocError> {
+    let word = quoted(alloc, word_of(part))?;
+    let word = word.as_str();
+    match steps_of(part) {
+        0 => String::from_str(alloc, "from"),
+        number => format!(in alloc; "step {number} {word}"),
+    }
+}
+
+/// How many steps of a view lead to this part of its plan.
+pub fn steps_of(part: &Plan) -> u64 {
+    match part {
+        Plan::Scan(_) => 0,
+        Plan::Filter(input, _) | Plan::Select(input, _) | Plan::WithColumns(input, _) => {
+            steps_of(input.get()).saturating_add(1)
+        }
+        Plan::GroupBy(input, _, _) | Plan::CumSum(input, _, _) => {
+            steps_of(input.get()).saturating_add(1)
+        }
+        Plan::Rolling(input, _, _, _, _, _) | Plan::Rank(input, _, _, _) => {
+            steps_of(input.get()).saturating_add(1)
+        }
+        Plan::Join(left, _, _, _, _) => steps_of(left.get()).saturating_add(1),
+    }
+}
+
+/// The word of the last step.
+pub fn word_of(part: &Plan) -> &'static str {
+    match part {
+        Plan::Scan(_) => "from",
+        Plan::Filter(_, _) => "filter",
+        Plan::Select(_, _) => "select",
+        Plan::WithColumns(_, _) => "with_columns",
+        Plan::GroupBy(_, _, _) => "group_by",
+        Plan::Join(_, _, _, _, _) => "join",
+        Plan::Rolling(_, _, RollKind::Sum, _, _, _) => "rolling_sum",
+        Plan::Rolling(_, _, RollKind::Min, _, _, _) => "rolling_min",
+        Plan::Rolling(_, _, RollKind::Max, _, _, _) => "rolling_max",
+        Plan::CumSum(_, _, _) => "cum_sum",
+        Plan::Rank(_, _, _, _) => "rank",
+    }
+}
