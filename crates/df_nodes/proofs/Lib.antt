@@ -9,6 +9,8 @@ pub mod RisingReach
 pub mod PrefixLaws
 pub mod PrefixValues
 pub mod UnreachedWindows
+pub mod WindowTotals
+pub mod WindowMoves
 pub mod WindowValues
 pub mod WindowReach
 pub mod WindowCounts

@@ -2,5 +2,5 @@ pub mod RowOperators
 pub mod Prefixes
 pub mod Outputs
 pub mod Rolling
-pub mod Stretches
+pub mod Sliding
 pub mod Sums

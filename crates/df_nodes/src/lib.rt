@@ -12,9 +12,11 @@ mod map;
 mod rolling;
 mod row_operator;
 mod row_wise;
+mod sliding;
 mod sum;
 mod tail_sums;
 mod window;
+mod window_totals;
 
 pub use changed_tables::ChangedTables;
 pub use filter::LiveFilter;

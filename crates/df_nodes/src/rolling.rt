@@ -1,12 +1,10 @@
 //! A rolling column among the cells of rows.
-ghost use Rattle.std.specs.Prelude.{◌≡◌, ◌+◌, ◌<◌, ◌≤◌, ◌^◌, length, IfOk};
+ghost use Rattle.std.specs.Prelude.{◌≡◌, ◌≤◌, IfOk};
 ghost use Rattle.df_column.specs.Tables.{TaggedRows};
-ghost use Rattle.df_delta.specs.Work.{plus};
 ghost use Rattle.df_nodes.specs.Outputs.{rolled};
 
-use df_expr::Meter;
-use df_ops::{Place, RollKind, placed_row, places_with, rolling_dtype, rolling_last};
-use df_value::{List, Row, Schema, Text};
+use df_ops::{Place, RollKind, placed_row, places_with, rolling_dtype};
+use df_value::{Cell, List, Row, Schema, Text};
 use std::alloc::{AllocError, Global};
 
 /// What a rolling column takes of which cells, and where its own cell stands. Its window has at least one row.
@@ -34,8 +32,7 @@ impl Drop for Rolling {
 }
 
 impl Rolling {
-    ghost use Rattle.df_nodes.specs.Rolling.{rolling_output, windows};
-    ghost use Rattle.df_nodes.specs.Stretches as stretches;
+    ghost use Rattle.df_nodes.specs.Rolling.{put_at, rolling_output};
 
     /// The rolling values of a column of this schema over w rows, of which m are to be not null.
     pub fn new(
@@ -67,23 +64,12 @@ impl Rolling {
         })
     }
 
-    /// The last of these rows with the rolling value that ends there. Counts one window.
-    pub fn last_row(
-        &self,
-        alloc: Global,
-        rows: &[Row],
-        meter: &mut Meter,
-    ) -> Result<Row, AllocError>
-        requires some { 0 < length rows.now }
-        requires counts { meter.old.windows + 1 < 2 ^ 128 }
-        ensures value { IfOk result (λ r. r ≡ stretches.last_row self.now rows.now) }
-        ensures counted { meter.new ≡ plus meter.old (windows 1) }
+    /// The row with the column's cell.
+    pub fn row_with(&self, alloc: Global, row: &Row, cell: Cell) -> Result<Row, AllocError>
+        ensures { IfOk result (λ r. r ≡ put_at self.now.places row.now cell) }
     {
-        meter.windows.raise();
-        let cell = rolling_last(alloc, self.kind, self.w, self.m, self.index, rows)?;
-        let last = &rows[rows.len() - 1];
         let added = [cell];
-        let row = placed_row(alloc, self.places.as_slice(), last.as_slice(), &added)?;
+        let row = placed_row(alloc, self.places.as_slice(), row.as_slice(), &added)?;
         Ok(row)
     }
 }

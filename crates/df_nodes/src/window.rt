@@ -19,12 +19,12 @@ ghost use Rattle.df_delta.specs.SameRows.{same_row, with_change};
 ghost use Rattle.df_delta.specs.Work.{IsBelow, IsWithin, plus};
 ghost use Rattle.df_nodes.specs.Outputs.{rolled};
 ghost use Rattle.df_nodes.specs.Rolling.{reached_by, rolling_output, windows};
-ghost use Rattle.df_nodes.specs.Stretches as stretches;
-ghost use Rattle.df_nodes.specs.Stretches.{IsStretch};
+ghost use Rattle.df_nodes.specs.Sliding.{IsLast, output_row};
 
 use crate::added_column::schema_with;
 use crate::changed_tables::{ChangedTables, rows_before_entry};
 use crate::rolling::Rolling;
+use crate::sliding::SlidingWindow;
 use df_column::{Entry, Table, Tag};
 use df_delta::{Delta, LiveNode, apply, push_change};
 use df_expr::Meter;
@@ -53,13 +53,6 @@ impl Drop for LiveWindow {
         drop(input);
         drop(output);
     }
-}
-
-/// Rows of a table from an index on.
-#[derive(Drop)]
-struct Stretch {
-    start: usize,
-    rows: Vec<Row>,
 }
 
 impl LiveWindow {
@@ -122,10 +115,11 @@ impl LiveWindow {
             (plus meter.old (windows (2 ^ 64 * self.now.rolling.w))) }
     {
         let changes = delta.entries();
+        let mut window = SlidingWindow::new(self.alloc, 0)?;
         let mut entries = Vec::new(self.alloc);
         for at in 0..changes.len() {
             let stop = rows_before_entry(input, changes, at + 1);
-            self.push_reached(input, changes[at].tag, stop, &mut entries, meter)?;
+            self.push_reached(input, changes[at].tag, stop, &mut window, &mut entries, meter)?;
         }
         Ok(Delta::from_entries(entries))
     }
@@ -136,31 +130,28 @@ impl LiveWindow {
         input: &Table,
         tag: Tag,
         stop: usize,
+        window: &mut SlidingWindow,
         entries: &mut Vec<Entry>,
         meter: &mut Meter,
     ) -> Result<(), AllocError>
         requires stop { stop ≤ finite.len input.now.rows }
+        requires window { IsLast self.now.rolling window.old (finite.values input.now.rows) }
         requires counts { meter.old.windows + self.now.rolling.w < 2 ^ 128 }
         ensures added { OnOk result (map entry_change entries.new.items
             ≡ map entry_change entries.old.items ++ changes_at self.now.output.rows
             (rolling_output self.now.rolling input.now.rows)
             (reached_by self.now.rolling.w tag (take stop (finite.entries input.now.rows)))) }
+        ensures window { OnOk result (IsLast self.now.rolling window.new (finite.values input.now.rows)) }
         ensures rows { T (list_all has_row entries.old.items)
             → OnOk result (T (list_all has_row entries.new.items)) }
         ensures grows { IsWithin meter.old meter.new }
         ensures counted { IsWithin meter.new
             (plus meter.old (windows self.now.rolling.w)) }
     {
-        let reach = self.rolling.w;
         let from = input.upper_bound(tag);
-        let end = from + stop.saturating_sub(from).min(reach - 1);
-        let start = from.saturating_sub(reach);
-        let stretch = Stretch {
-            start,
-            rows: input.rows_between(self.alloc, start, end)?,
-        };
-        self.push_at(&stretch, tag, input.find(tag), entries, meter)?;
-        self.push_run(input, &stretch, from, end, entries, meter)?;
+        let end = from + stop.saturating_sub(from).min(self.rolling.w - 1);
+        self.push_at(input, tag, input.find(tag), window, entries, meter)?;
+        self.push_run(input, from, end, window, entries, meter)?;
         Ok(())
     }
 
@@ -168,28 +159,28 @@ impl LiveWindow {
     fn push_run(
         &self,
         input: &Table,
-        stretch: &Stretch,
         from: usize,
         end: usize,
+        window: &mut SlidingWindow,
         entries: &mut Vec<Entry>,
         meter: &mut Meter,
     ) -> Result<(), AllocError>
-        requires stretch { IsStretch (finite.values input.now.rows) stretch.now.start end stretch.now.rows.items }
-        requires from { stretch.now.start ≤ from }
-        requires wide { (0 < stretch.now.start) → stretch.now.start + self.now.rolling.w ≤ from + 1 }
-        requires end { from ≤ end }
+        requires ordered { from ≤ end }
+        requires within { end ≤ finite.len input.now.rows }
+        requires window { IsLast self.now.rolling window.old (finite.values input.now.rows) }
         requires counts { meter.old.windows + (end - from) < 2 ^ 128 }
         ensures added { OnOk result (map entry_change entries.new.items
             ≡ map entry_change entries.old.items ++ changes_at self.now.output.rows
             (rolling_output self.now.rolling input.now.rows)
             (map (λ r. r.0) (drop from (take end (finite.entries input.now.rows))))) }
+        ensures window { OnOk result (IsLast self.now.rolling window.new (finite.values input.now.rows)) }
         ensures rows { T (list_all has_row entries.old.items)
             → OnOk result (T (list_all has_row entries.new.items)) }
         ensures grows { IsWithin meter.old meter.new }
         ensures counted { IsWithin meter.new (plus meter.old (windows (end - from))) }
     {
         for at in from..end {
-            self.push_at(stretch, input.tag(at), Some(at), entries, meter)?;
+            self.push_at(input, input.tag(at), Some(at), window, entries, meter)?;
         }
         Ok(())
     }
@@ -197,49 +188,53 @@ impl LiveWindow {
     /// Adds the change at this tag, to the row at an index of the input if there is one.
     fn push_at(
         &self,
-        stretch: &Stretch,
+        input: &Table,
         tag: Tag,
         at: Option<usize>,
+        window: &mut SlidingWindow,
         entries: &mut Vec<Entry>,
         meter: &mut Meter,
     ) -> Result<(), AllocError>
-        requires inside { IfSome at (λ i. (stretch.now.start ≤ i)
-            × (i < stretch.now.start + length stretch.now.rows.items)) }
+        requires inside { IfSome at (λ i. i < finite.len input.now.rows) }
+        requires window { IsLast self.now.rolling window.old (finite.values input.now.rows) }
         requires counts { meter.old.windows + 1 < 2 ^ 128 }
         ensures added { OnOk result (map entry_change entries.new.items
             ≡ with_change (map entry_change entries.old.items) tag
             (finite.get self.now.output.rows tag)
-            (stretches.new_row self.now.rolling stretch.now.start stretch.now.rows.items at)) }
+            (output_row self.now.rolling (finite.values input.now.rows) at)) }
+        ensures window { OnOk result (IsLast self.now.rolling window.new (finite.values input.now.rows)) }
         ensures rows { T (list_all has_row entries.old.items)
             → OnOk result (T (list_all has_row entries.new.items)) }
         ensures grows { IsWithin meter.old meter.new }
         ensures counted { IsWithin meter.new (plus meter.old (windows 1)) }
     {
         let old = self.output.get(self.alloc, tag)?;
-        let new = self.new_row(stretch, at, meter)?;
+        let new = self.new_row(input, at, window, meter)?;
         push_change(entries, tag, old, new)?;
         Ok(())
     }
 
-    /// The row of the output at an index of the input, if there is one.
+    /// The row of the output at an index of the input, if there is one. Counts its window.
     fn new_row(
         &self,
-        stretch: &Stretch,
+        input: &Table,
         at: Option<usize>,
+        window: &mut SlidingWindow,
         meter: &mut Meter,
     ) -> Result<Option<Row>, AllocError>
-        requires inside { IfSome at (λ i. (stretch.now.start ≤ i)
-            × (i < stretch.now.start + length stretch.now.rows.items)) }
+        requires inside { IfSome at (λ i. i < finite.len input.now.rows) }
+        requires window { IsLast self.now.rolling window.old (finite.values input.now.rows) }
         requires counts { meter.old.windows + 1 < 2 ^ 128 }
         ensures value { IfOk result (λ r. r
-            ≡ stretches.new_row self.now.rolling stretch.now.start stretch.now.rows.items at) }
+            ≡ output_row self.now.rolling (finite.values input.now.rows) at) }
+        ensures window { OnOk result (IsLast self.now.rolling window.new (finite.values input.now.rows)) }
         ensures grows { IsWithin meter.old meter.new }
         ensures counted { IsWithin meter.new (plus meter.old (windows 1)) }
     {
         match at {
             Some(at) => {
-                let rows = &stretch.rows[..at - stretch.start + 1];
-                let row = self.rolling.last_row(self.alloc, rows, meter)?;
+                meter.windows.raise();
+                let row = window.row_at(self.alloc, &self.rolling, input, at)?;
                 Ok(Some(row))
             }
             None => Ok(None),

@@ -17,6 +17,10 @@ loop-at-init c =
     let r = c.args.self.now.rolling in
     record {
       done = ap (λ es. map entry_change es ++ changes_of_entries c.args.self.now.output.rows (rolling_output r u) r.w (finite.entries u) c.entries-changes.result.now) c.new-entries.ensures.items;
+      window =
+          let start = c.in_ok-window.ensures.place.0 in
+          let stop = c.in_ok-window.ensures.place.1 in
+          record { over = c.in_ok-window.ensures.over r (finite.values u) (omega arith); whole = omega arith };
       whole = c.entries-changes.ensures.all;
       short = c.entries-changes.ensures.len;
       rows = subst (λ es. T (list_all has_row es)) (sym c.new-entries.ensures.items) tt;
@@ -53,6 +57,7 @@ loop-at-preserved c =
       done = next_entry t (rolling_output r u) r.w (finite.entries u) es c.loop-at.at c.rows_before_entry-stop.result c.index-changes-at.result
           (map entry_change c.push_reached.new.entries.items) (map entry_change c.loop-at.entries.items) (changes_of_entries t (rolling_output r u) r.w (finite.entries u) es)
           c.loop-at-test.true c.rows_before_entry-stop.ensures.rows c.in_ok-push_reached.ensures.added c.loop-at.invariant.done;
+      window = c.in_ok-push_reached.ensures.window;
       whole = c.loop-at.invariant.whole;
       short = c.loop-at.invariant.short;
       rows = c.in_ok-push_reached.ensures.rows c.loop-at.invariant.rows;

@@ -1,55 +1,35 @@
 use Rattle.std.proofs.Common.{◌+◌, ◌-◌, ◌≡◌, ◌∷◌, ap, ◌∙◌, sym, arith, min, map, drop, take}
 use Rattle.std.specs.FinMap as finite
-use Rattle.std.proofs.lemmas.List.{length-map}
 use Rattle.df_column.specs.Tables.{entry_change}
 use Rattle.df_nodes.specs.Rolling.{reached_by, rolling_output}
-use Rattle.df_nodes.specs.Stretches.{new_row}
+use Rattle.df_nodes.specs.Sliding.{output_row}
 use Rattle.df_nodes.proofs.Bounds.{reached_run}
-use Rattle.df_nodes.proofs.WindowReach.{all_reached, found_row, place_inside}
+use Rattle.df_nodes.proofs.WindowReach.{all_reached}
+use Rattle.df_nodes.proofs.WindowValues.{found_row, place_inside}
 use Rattle.df_nodes.proofs.window.LiveWindow.push_reached.Goals as goal
 
-pub rows_between-requires-clause-in_range : goal.rows_between-requires-clause-in_range
-rows_between-requires-clause-in_range c =
+pub push_at-requires-clause-inside : goal.push_at-requires-clause-inside
+push_at-requires-clause-inside c = place_inside c.args.self.now.rolling c.args.input.now.rows c.args.tag c.find.result c.find.ensures.found
+
+pub push_run-requires-clause-within : goal.push_run-requires-clause-within
+push_run-requires-clause-within c =
     let len = finite.len-entries c.args.input.now.rows in
     let within = c.upper_bound-from.ensures.within in
     omega arith
-
-pub push_at-requires-clause-inside : goal.push_at-requires-clause-inside
-push_at-requires-clause-inside c =
-    let u = c.args.input.now.rows in
-    let len = finite.len-entries u in
-    let long = length-map (finite.entries u) (λ x. x.1) in
-    let within = c.upper_bound-from.ensures.within in
-    place_inside c.args.self.now.rolling u c.args.tag c.upper_bound-from.result c.saturating_sub-start.result (c.upper_bound-from.result + c.min.result) c.in_ok-rows_between.field-0.items
-    c.upper_bound-from.ensures (record { ordered = omega arith; within = omega arith; rows_are = c.in_ok-rows_between.ensures }) (omega arith) (omega arith)
-    c.find.result c.find.ensures.found
-
-pub push_run-requires-clause-stretch : goal.push_run-requires-clause-stretch
-push_run-requires-clause-stretch c =
-    let u = c.args.input.now.rows in
-    let len = finite.len-entries u in
-    let long = length-map (finite.entries u) (λ x. x.1) in
-    let within = c.upper_bound-from.ensures.within in
-    record { ordered = omega arith; within = omega arith; rows_are = c.in_ok-rows_between.ensures }
 
 pub returns-clause-added : goal.returns-clause-added
 returns-clause-added c =
     let u = c.args.input.now.rows in
     let r = c.args.self.now.rolling in
-    let len = finite.len-entries u in
-    let long = length-map (finite.entries u) (λ x. x.1) in
-    let within = c.upper_bound-from.ensures.within in
     let from = c.upper_bound-from.result in
     let end = c.upper_bound-from.result + c.min.result in
     let e : c.min.result ≡ min (c.args.stop - from) (r.w - 1) = omega arith in
     all_reached c.args.self.now.output.rows (rolling_output r u)
     (map entry_change c.push_run.new.entries.items) (map entry_change c.push_at.new.entries.items) (map entry_change c.args.entries.now.items)
     c.args.tag (map (λ x. x.0) (drop from (take end (finite.entries u)))) (reached_by r.w c.args.tag (take c.args.stop (finite.entries u)))
-    (new_row r c.saturating_sub-start.result c.in_ok-rows_between.field-0.items c.find.result)
+    (output_row r (finite.values u) c.find.result)
     c.in_ok-push_at.ensures.added
-    (found_row r u c.args.tag from c.saturating_sub-start.result end c.in_ok-rows_between.field-0.items
-    c.upper_bound-from.ensures (record { ordered = omega arith; within = omega arith; rows_are = c.in_ok-rows_between.ensures }) (omega arith) (omega arith)
-    c.find.result c.find.ensures.found c.find.ensures.absent)
+    (found_row r u c.args.tag c.find.result c.find.ensures.found c.find.ensures.absent)
     c.in_ok-push_run.ensures.added
     (reached_run r.w c.args.tag (finite.entries u) from c.args.stop c.upper_bound-from.ensures
     ∙ ap (λ n. c.args.tag ∷ map (λ x. x.0) (drop from (take (from + n) (finite.entries u)))) (sym e))
