@@ -119,7 +119,14 @@ impl LiveWindow {
         let mut entries = Vec::new(self.alloc);
         for at in 0..changes.len() {
             let stop = rows_before_entry(input, changes, at + 1);
-            self.push_reached(input, changes[at].tag, stop, &mut window, &mut entries, meter)?;
+            self.push_reached(
+                input,
+                changes[at].tag,
+                stop,
+                &mut window,
+                &mut entries,
+                meter,
+            )?;
         }
         Ok(Delta::from_entries(entries))
     }

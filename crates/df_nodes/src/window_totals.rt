@@ -64,7 +64,11 @@ impl Totals {
         ensures { (cells : List AnyCell) → self ≡ totals_of kind cells
             → result ≡ rolling_cell kind least cells }
     {
-        let Totals { count, sum, extreme } = self;
+        let Totals {
+            count,
+            sum,
+            extreme,
+        } = self;
         if count < least {
             return Cell::Null;
         }
