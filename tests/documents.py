@@ -5,7 +5,7 @@
    Polars names excepted).
 2. Each path is a file or a folder.
 3. Each name in the first column of docs/DEFINITIONS.md is defined in the file of specs/ that its row names.
-4. Each call of docs/PROMISES.md is a function, and has the clauses that its row names.
+4. The clauses that docs/PROMISES.md names of a call are that call's, and the edits that it names are those of the gate.
 
 Prints what is not so, and ends with status 1 then."""
 
@@ -112,19 +112,22 @@ def clauses():
 
 
 def check_promises():
-    have = clauses()
-    for number, _, cells in rows("docs/PROMISES.md"):
-        if len(cells) < 3:
-            continue
-        # A clause that stands after "law", "over" or "of" is not one of the call.
-        wanted = set(re.findall(r"`(\w+)(?:\.\w+)?`", re.split(r", (?:by|over|and the law|of)\b|and the law", cells[2])[0]))
-        calls = [c.split("::")[-1] for c in re.findall(r"`([\w:]+)`", cells[1])]
+    """Clauses that are named of calls are theirs, and the edits that are named are those of the gate."""
+    have, text = clauses(), re.sub(r"\s+", " ", pathlib.Path("docs/PROMISES.md").read_text())
+    names = r"(?:`[\w:]+`(?:, | and |(?=[ ;.,])))+"
+    for said, calls in re.findall(rf"(?:by|[;.,]) ({names}) of ({names})", text):
+        calls = [c.split("::")[-1] for c in re.findall(r"`([\w:]+)`", calls)]
         for call in calls:
             if call not in have:
-                tell(f"docs/PROMISES.md:{number}", f"no function {call}")
+                tell("docs/PROMISES.md", f"no function {call}")
         named = set().union(*(s for call in calls for s in have.get(call, [])))
-        for clause in wanted - named - {"value"}:
-            tell(f"docs/PROMISES.md:{number}", f"no clause {clause} of {', '.join(calls)}")
+        for clause in set(re.findall(r"`(\w+)`", said)) - named:
+            tell("docs/PROMISES.md", f"no clause {clause} of {', '.join(calls)}")
+    refused = " ".join(re.findall(r"- \*\*Refused\*\*: (.*?)(?: ## | - \*\*|$)", text))
+    told = set(re.findall(r"\(`(\w+)`\)", refused))
+    edits = {pathlib.Path(f).stem for f in FILES if "/must-fail/" in f}
+    for name in sorted(told ^ edits):
+        tell("docs/PROMISES.md", f"the edit {name} is " + ("not in the gate" if name in told else "not told of"))
 
 
 words = known_words()
