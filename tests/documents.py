@@ -4,8 +4,7 @@
 1. Each name in backticks is a word of the crates, of tests, bench or examples, or a file of the repository (GUIDE's
    Polars names excepted).
 2. Each path is a file or a folder.
-3. Each name in the first column of docs/DEFINITIONS.md is defined in the file of specs/ that its row names.
-4. The clauses that docs/PROMISES.md names of a call are that call's, and the edits that it names are those of the gate.
+3. The clauses that docs/PROMISES.md names of a call are that call's, and the edits that it names are those of the gate.
 
 Prints what is not so, and ends with status 1 then."""
 
@@ -77,26 +76,6 @@ def check_paths(path):
                 tell(f"{path}:{number}", f"no folder {folder}")
 
 
-def rows(path):
-    """The rows of all tables: (line, heading above, cells)."""
-    heading = ""
-    for number, line in prose(path):
-        if line.startswith("## "):
-            heading = line[3:].strip()
-        elif line.startswith("| ") and not line.startswith(("| Name", "| Promise", "| Law", "| Call", "|---")):
-            yield number, heading, [c.strip() for c in line.strip().strip("|").split(" | ")]
-
-
-def check_definitions():
-    for number, crate, cells in rows("docs/DEFINITIONS.md"):
-        source = re.search(r"src/\w+\.rt", cells[1])
-        places = [source.group(0)] if source else [f"specs/{f}.antt" for f in re.findall(r"[A-Z]\w+", cells[1])]
-        text = "\n".join(pathlib.Path("crates", crate, p).read_text() for p in places)
-        for name in re.findall(r"`(\w+)`", cells[0]):
-            if not re.search(rf"^ *(?:unfoldable |abbrev )*(?:pub )?(?:record |struct )?{name}\b", text, re.M):
-                tell(f"docs/DEFINITIONS.md:{number}", f"{name} is not defined in {crate} {cells[1]}")
-
-
 def clauses():
     """Of each function name the names of the clauses of each function of that name."""
     all_clauses, name = {}, None
@@ -135,7 +114,6 @@ for doc in DOCS:
     if doc != "docs/GUIDE.md":
         check_names(doc, words)
     check_paths(doc)
-check_definitions()
 check_promises()
 print(f"{found} citations of what is not there")
 sys.exit(1 if found else 0)
