@@ -1,6 +1,6 @@
 #!/usr/bin/env bash
 # Times the built program over files of N rows, beside other programs where they are installed: run.sh N.
-# See README.md.
+# See docs/BENCHMARKS.md.
 set -eu
 count=${1:?how many rows}
 here=$(cd "$(dirname "$0")" && pwd)

@@ -25,7 +25,7 @@ def files():
 
 
 FILES = files()
-DOCS = ["README.md", *sorted(f for f in FILES if re.fullmatch(r"docs/\w+\.md", f)), "tests/README.md", "bench/README.md"]
+DOCS = ["README.md", *sorted(f for f in FILES if re.fullmatch(r"docs/\w+\.md", f)), "tests/README.md"]
 # Words of the field, of the toolchain and of examples that stand for any name.
 KNOWN = set("rt ci sqlite3 mlr clang cc Box sort NAME document toml stdout session sh py c md txt out main".split())
 found = 0
