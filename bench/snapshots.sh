@@ -1,7 +1,7 @@
 #!/usr/bin/env bash
 # Measures snapshots: snapshots.sh [PROGRAM]. Without a program it proves and builds that first: snapshots.patch adds it to
 # a copy of the crates, since it is no part of the gate. Where no check left proved libraries in crates/*/out, this proves
-# all from nothing, which takes an hour. See README.md.
+# all from nothing, which takes an hour. See docs/BENCHMARKS.md.
 set -eu
 here=$(cd "$(dirname "$0")" && pwd)
 if [ $# -gt 0 ]; then
