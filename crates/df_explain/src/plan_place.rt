@@ -41,7 +41,7 @@ fn within_sides<'a>(
     frames: &[Schema],
     most: u32,
 ) -> Result<FaultyStep<'a>, AllocError>
-    ensures { IfOk result (λ inner. IsFaultOf frames.now step.part.now inner.part.now) }
+    ensures { IfOk result (λ inner. IsFaultOf frames.now step.entry.part.now inner.part.now) }
 {
     if most == 0 {
         return Ok(step);
