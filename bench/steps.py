@@ -19,6 +19,7 @@ STEPS = {
     "with_columns": ('["with_columns", ["d", ["*", ["col", "v"], 2]]]', 'r = f.assign(d=f["v"] * 2)'),
     "rolling_sum 7": ('["rolling_sum", "s", "v", 7]', 'r = f.assign(s=f["v"].rolling(7).sum())'),
     "rolling_max 50": ('["rolling_max", "s", "v", 50]', 'r = f.assign(s=f["v"].rolling(50).max())'),
+    "rolling_max 1000": ('["rolling_max", "s", "v", 1000]', 'r = f.assign(s=f["v"].rolling(1000).max())'),
     "cum_sum": ('["cum_sum", "s", "v"]', 'r = f.assign(s=f["v"].cumsum())'),
     "rank dense": ('["rank", "r", "dense", "v"]', 'r = f.assign(r=f["v"].rank(method="dense"))'),
     "rank min of texts": ('["rank", "r", "min", "k"]', 'r = f.assign(r=f["k"].rank(method="min"))'),
