@@ -132,7 +132,8 @@ fn row_numbers(alloc: Global, words: &[&str]) -> Result<List<u32>, Refusal>
     Ok(List::from_vec(numbers))
 }
 
-fn row_number(word: &str) -> Result<u32, Mistake>
+/// The row number that a word says.
+pub fn row_number(word: &str) -> Result<u32, Mistake>
     ensures { IfOk result (IsRowNumber word.now) }
 {
     match word.parse::<u32>() {

@@ -120,7 +120,7 @@ fn take_turn<S: ViewStore, I: BufRead, W: Write>(
     output: &mut W,
 ) -> Result<Turn, ShellFault> {
     let line = without_end(session.buffers.command.as_slice());
-    if line.is_empty() || line.starts_with(b"#") {
+    if is_passed_over(line) {
         return Ok(Turn::Next);
     }
     let words = read_words(alloc, line);
@@ -134,6 +134,16 @@ fn take_turn<S: ViewStore, I: BufRead, W: Write>(
         Err(refusal) => write_refusal(alloc, output, &refusal)?,
     }
     Ok(Turn::Next)
+}
+
+// Whether a line is empty or a comment, behind its first blanks.
+fn is_passed_over(line: &[u8]) -> bool {
+    for byte in line {
+        if *byte != b' ' {
+            return *byte == b'#';
+        }
+    }
+    true
 }
 
 // Reads so many lines, also where they cannot be had: then the answer says why.

@@ -1,17 +1,76 @@
 //! The words of a line.
-ghost use Rattle.std.specs.Prelude.{◌≡◌, IfOk};
+ghost use Rattle.std.specs.Prelude.{◌≡◌, IfOk, OnOk};
 ghost use Rattle.csv.specs.Records.{fields_of};
-ghost use Rattle.df_shell.specs.Words.{words_in};
+ghost use Rattle.df_shell.specs.Words.{kept_behind, place_behind, single_blanked, words_in, words_of_record};
 
-use crate::command::line_count;
+use crate::command::{line_count, row_number};
 use crate::refusal::{Mistake, Refusal};
 use csv::{ErrorKind, ReaderBuilder, StringRecord, Terminator};
-use std::alloc::Global;
+use std::alloc::{AllocError, Global};
+
+/// Where a byte of a line stands.
+#[derive(Clone, Copy, PartialEq, Eq)]
+pub enum Place {
+    /// Before a word.
+    Between,
+    /// In a word, outside quotes.
+    Plain,
+    /// Inside quotes.
+    Quoted,
+    /// Behind a quote that closes, if no second one follows.
+    Closed,
+}
 
 /// The words of a line without its end: the fields of a CSV record that has blanks in the place of
-/// commas.
+/// commas, where several blanks count as one.
 pub fn read_words(alloc: Global, line: &[u8]) -> Result<StringRecord, Refusal>
     ensures { IfOk result (λ words. fields_of words ≡ words_in line.now) }
+{
+    let line = single_blanks(alloc, line)?;
+    read_record(alloc, line.as_slice())
+}
+
+// The line with one blank between two words, and none before the first or behind the last.
+fn single_blanks(alloc: Global, line: &[u8]) -> Result<Vec<u8>, AllocError>
+    ensures { IfOk result (λ kept. kept.items ≡ single_blanked line.now) }
+{
+    let mut kept = Vec::with_capacity(alloc, line.len())?;
+    let mut place = Place::Between;
+    for byte in line {
+        push_kept(&mut kept, place, *byte)?;
+        place = behind(place, *byte);
+    }
+    Ok(kept)
+}
+
+fn push_kept(kept: &mut Vec<u8>, place: Place, byte: u8) -> Result<(), AllocError>
+    ensures { OnOk result (kept.new.items ≡ kept_behind kept.old.items place byte) }
+{
+    match place {
+        Place::Quoted => kept.push(byte)?,
+        _ if byte == b' ' => {}
+        Place::Between if !kept.is_empty() => kept.extend_from_slice(&[b' ', byte])?,
+        _ => kept.push(byte)?,
+    }
+    Ok(())
+}
+
+// Where the byte behind this one stands.
+fn behind(place: Place, byte: u8) -> Place
+    ensures { result ≡ place_behind place byte }
+{
+    match (place, byte) {
+        (Place::Quoted, b'"') => Place::Closed,
+        (Place::Quoted, _) => Place::Quoted,
+        (_, b' ') => Place::Between,
+        (Place::Plain, _) => Place::Plain,
+        (_, b'"') => Place::Quoted,
+        _ => Place::Plain,
+    }
+}
+
+fn read_record(alloc: Global, line: &[u8]) -> Result<StringRecord, Refusal>
+    ensures { IfOk result (λ words. fields_of words ≡ words_of_record line.now) }
 {
     let mut words = StringRecord::new(alloc);
     let mut reader = ReaderBuilder::new()
@@ -32,30 +91,43 @@ pub fn read_words(alloc: Global, line: &[u8]) -> Result<StringRecord, Refusal>
     }
 }
 
-/// How many lines of CSV stand behind a line: COUNT, where its first word is `append` and its
-/// fourth is a COUNT; as many as there are words behind the second, where its first is `replace`.
-/// Words that were not read are read once more for this alone, so that where memory was refused the
-/// lines can be passed over. Where they still are not, the bytes behind the last blank of an
-/// `append` are taken for COUNT, and the blanks of a `replace` outside quotes, less one, are
-/// counted.
+/// How many lines of CSV stand behind a line, where its words are the header of an `append` or a `replace`: COUNT, or as many as
+/// there are numbers. Behind other words there are none. Words that memory was refused to are read once more for this alone, so
+/// that the lines can be passed over. Where it is refused again, the bytes behind the last blank of an `append` are taken for
+/// COUNT, and the blanks of a `replace` outside quotes, less one, are counted.
 pub fn count_lines(alloc: Global, words: &Result<StringRecord, Refusal>, line: &[u8]) -> u64 {
     match words {
         Ok(words) => count_in(words),
-        Err(_) => match read_words(alloc, line) {
+        Err(Refusal::Memory) => match read_words(alloc, line) {
             Ok(words) => count_in(&words),
             Err(_) if line.starts_with(b"append ") => count_of(last_word(line)),
             Err(_) if line.starts_with(b"replace ") => blanks(line).saturating_sub(1),
             Err(_) => 0,
         },
+        Err(_) => 0,
     }
 }
 
 fn count_in(words: &StringRecord) -> u64 {
     match words.get(0) {
-        Some("append") => count_of(words.get(3)),
-        Some("replace") => (words.len() as u64).saturating_sub(2),
+        Some("append") if words.len() == 4 && are_row_numbers(words, 2, 3) => {
+            count_of(words.get(3))
+        }
+        Some("replace") if are_row_numbers(words, 2, words.len()) => {
+            (words.len() as u64).saturating_sub(2)
+        }
         _ => 0,
     }
+}
+
+// Whether the words from one place to before another are row numbers.
+fn are_row_numbers(words: &StringRecord, from: usize, to: usize) -> bool {
+    for at in from..to {
+        if !words.get(at).is_some_and(|word| row_number(word).is_ok()) {
+            return false;
+        }
+    }
+    true
 }
 
 // Without a COUNT no line is read.
