@@ -50,6 +50,19 @@ RUNS = [
 ]
 
 
+def lists_differ(program, folder):
+    """Whether `--help` has other lines of commands than `help` answers."""
+    said = [
+        subprocess.run([program, *words], input=typed, capture_output=True, text=True, cwd=folder, timeout=60).stdout
+        for words, typed in [(["good.toml"], "help\n"), (["--help"], "")]
+    ]
+    listed, told = said[0].splitlines(), re.findall(r"(?m)^  ([a-z]+ .*)$", said[1].split("Commands")[1].split("Exit status")[0])
+    if not listed or listed != told:
+        print(f"otherwise: help: {listed}, --help: {told}")
+        return 1
+    return 0
+
+
 def main():
     program = os.path.abspath(sys.argv[1])
     wrong = 0
@@ -57,6 +70,7 @@ def main():
         for name, text in FILES.items():
             with open(os.path.join(folder, name), "w") as file:
                 file.write(text)
+        wrong += lists_differ(program, folder)
         for words, typed, output, error, status in RUNS:
             ran = subprocess.run([program, *words], input=typed, capture_output=True, text=True, cwd=folder, timeout=60)
             if not (re.fullmatch(output, ran.stdout) and re.fullmatch(error, ran.stderr) and ran.returncode == status):

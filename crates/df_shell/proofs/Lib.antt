@@ -8,3 +8,4 @@ pub mod AreMadeFacts
 pub mod CommandFacts
 pub mod WordList
 pub mod FlagFacts
+pub mod DescribedFacts

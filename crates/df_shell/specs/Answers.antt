@@ -1,17 +1,18 @@
 -- What the answer to a command says: of a change, that the store made it; of a question, what the store answers.
-use Rattle.std.specs.Prelude.{◌≡◌, ◌⊎◌, ⊤, ℕ, List, [], Result, Ok, Err, codes}
+use Rattle.std.specs.Prelude.{◌≡◌, ◌⊎◌, ⊤, ℕ, List, [], Option, Some, None, Result, Ok, Err, codes}
 use Rattle.csv.specs.Records.{Row, fields_of}
 use Rattle.std.specs.Global.{Vec}
 use Rattle.df_catalogue.specs.declared.change.Change.{Change}
 use Rattle.df_shell.specs.Commands.{IsCommandOf}
 use Rattle.df_shell.specs.Asked.{IsMadeAsAsked, IsRefusalOfAsked}
-use Rattle.df_shell.specs.Texts.{help_text}
+use Rattle.df_shell.specs.Help.{help_list, help_on}
 use Rattle.df_shell.specs.declared.answering.Answer.{Answer}
 use Rattle.df_shell.specs.declared.answering.Answer.TheVariants as answer
 use Rattle.df_shell.specs.declared.command.Command.{Command}
 use Rattle.df_shell.specs.declared.command.Command.TheVariants as command
 use Rattle.df_shell.specs.declared.command.Question.{Question}
 use Rattle.df_shell.specs.declared.definitions.Definitions.{Definitions}
+use Rattle.df_shell.specs.declared.refusal.Mistake.TheVariants as mistake
 use Rattle.df_shell.specs.declared.refusal.Refusal.{Refusal}
 use Rattle.df_shell.specs.declared.refusal.Refusal.TheVariants as refusal
 
@@ -19,7 +20,6 @@ use Rattle.df_shell.specs.declared.refusal.Refusal.TheVariants as refusal
 abbrev pub answer_text : Answer → List ℕ
 answer_text answer.Accepted = codes "ok\n"
 answer_text (answer.Told text) = text.items
-answer_text answer.Help = help_text
 answer_text answer.Ended = []
 
 -- What may be wrong with words that are read as a command.
@@ -28,12 +28,17 @@ IsWordFault (refusal.Mistake m) = ⊤
 IsWordFault refusal.Memory = ⊤
 IsWordFault r = ⊥
 
--- by what a store makes, refuses, keeps where it makes no change, and answers
+-- A refusal to tell of a command: there is none of the name, or memory was refused.
+abbrev pub IsRefusalOfHelp : Option (List ℕ) → Refusal → Type 0
+IsRefusalOfHelp want r = (r ≡ refusal.Memory) ⊎ ((r ≡ refusal.Mistake mistake.NoCommand) × (want ≡ None))
+
+-- by what a store makes, refuses, keeps where it makes no change, and answers, and by the commands that are told
 module _
     (Makes : Change → Type 0)
     (Refuses : Change → Refusal → Type 0)
     (Keeps : Type 0)
     (Answers : Question → Result (Vec ℕ) Refusal → Type 0)
+    (commands : List (List ℕ × List ℕ × List ℕ))
   where
     -- The answer to a command, with the lines that were read for it: the change that it asks for was made, or the question is
     -- answered; else it is refused. Only a change that was made alters the store.
@@ -42,7 +47,10 @@ module _
     IsAnswer d (command.Change change) lines (Err r) = IsRefusalOfAsked Refuses d change lines r × Keeps
     IsAnswer d (command.Question q) lines (Ok (answer.Told text)) = Answers q (Ok text)
     IsAnswer d (command.Question q) lines (Err r) = Answers q (Err r)
-    IsAnswer d command.Help lines (Ok answer.Help) = Keeps
+    IsAnswer d command.Help lines (Ok (answer.Told text)) = (text.items ≡ help_list commands) × Keeps
+    IsAnswer d command.Help lines (Err r) = (r ≡ refusal.Memory) × Keeps
+    IsAnswer d (command.HelpOn name) lines (Ok (answer.Told text)) = (help_on name.now commands ≡ Some text.items) × Keeps
+    IsAnswer d (command.HelpOn name) lines (Err r) = IsRefusalOfHelp (help_on name.now commands) r × Keeps
     IsAnswer d command.Quit lines (Ok answer.Ended) = Keeps
     IsAnswer d c lines result = ⊥
 

@@ -7,6 +7,8 @@ use Rattle.df_shell.specs.declared.command.AskedChange.{AskedChange}
 use Rattle.df_shell.specs.declared.command.AskedChange.TheVariants as asked
 use Rattle.df_shell.specs.declared.command.Command.{Command}
 use Rattle.df_shell.specs.declared.command.Command.TheVariants as command
+use Rattle.df_shell.specs.declared.command.Part.{Part}
+use Rattle.df_shell.specs.declared.command.Part.TheVariants as part
 use Rattle.df_shell.specs.declared.command.Question.{Question}
 use Rattle.df_shell.specs.declared.command.Question.TheVariants as question
 
@@ -18,7 +20,7 @@ IsNumberBelow bound word n = IsNumeral 10 (without_leading_plus word) × (digits
 abbrev pub IsRowNumber : List ℕ → ℕ → Type 0
 IsRowNumber word n = IsNumberBelow row_numbers word n
 
--- the number of lines that a word writes
+-- the count that a word writes, of lines or of rows
 abbrev pub IsLineCount : List ℕ → ℕ → Type 0
 IsLineCount word n = IsNumberBelow 18446744073709551616 word n
 
@@ -34,9 +36,20 @@ IsChangeOf words (asked.Replace frame numbers) =
 IsChangeOf words (asked.Register view) = words ≡ codes "register" ∷ view.now ∷ []
 IsChangeOf words (asked.DropView view) = words ≡ codes "drop" ∷ view.now ∷ []
 
+-- the words behind a view's name that say a part of its rows
+abbrev pub IsPartOf : List (List ℕ) → Part → Type 0
+IsPartOf words part.Whole = words ≡ []
+IsPartOf words (part.First count) = (word : List ℕ) × (words ≡ word ∷ []) × IsLineCount word count
+IsPartOf words (part.From first count) =
+    (first_word : List ℕ) × (count_word : List ℕ) × (words ≡ codes "from" ∷ first_word ∷ count_word ∷ [])
+    × IsLineCount first_word first × IsLineCount count_word count
+
 -- the words of a question
 abbrev pub IsQuestionOf : List (List ℕ) → Question → Type 0
-IsQuestionOf words (question.Show view) = words ≡ codes "show" ∷ view.now ∷ []
+IsQuestionOf words question.Frames = words ≡ codes "frames" ∷ []
+IsQuestionOf words (question.Schema name) = words ≡ codes "schema" ∷ name.now ∷ []
+IsQuestionOf words (question.Show view part) =
+    (rest : List (List ℕ)) × (words ≡ codes "show" ∷ view.now ∷ rest) × IsPartOf rest part
 IsQuestionOf words (question.Rows frame) = words ≡ codes "rows" ∷ frame.now ∷ []
 IsQuestionOf words (question.Books frame) = words ≡ codes "books" ∷ frame.now ∷ []
 IsQuestionOf words question.Views = words ≡ codes "views" ∷ []
@@ -49,4 +62,5 @@ abbrev pub IsCommandOf : List (List ℕ) → Command → Type 0
 IsCommandOf words (command.Change change) = IsChangeOf words change
 IsCommandOf words (command.Question question) = IsQuestionOf words question
 IsCommandOf words command.Help = words ≡ codes "help" ∷ []
+IsCommandOf words (command.HelpOn name) = words ≡ codes "help" ∷ name.now ∷ []
 IsCommandOf words command.Quit = words ≡ codes "quit" ∷ []

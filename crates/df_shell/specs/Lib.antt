@@ -12,3 +12,6 @@ pub mod Halls
 pub mod Changing
 pub mod Opening
 pub mod Words
+pub mod Help
+pub mod Parts
+pub mod Described

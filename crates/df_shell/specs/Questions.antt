@@ -2,7 +2,7 @@
 use Rattle.std.specs.Prelude.{◌≡◌, ◌++◌, ℕ, List, Option, Some, None, Result, MatchResult, codes, decimal, flat_map, length, option_map, slice_get}
 use Rattle.std.specs.Global.{Vec}
 use Rattle.df_frame.specs.Frames.{numbers_of, rows_of}
-use Rattle.df_catalogue.specs.Reads.{view_named, view_names_of}
+use Rattle.df_catalogue.specs.Reads.{live_of, view_named, view_names_of}
 use Rattle.df_catalogue.specs.declared.fault.CatalogueFault.TheVariants as fault
 use Rattle.df_frame.specs.declared.state.FrameState.{FrameState}
 use Rattle.df_catalogue.specs.declared.state.CatalogueParts.{CatalogueParts}
@@ -10,6 +10,9 @@ use Rattle.df_catalogue.specs.declared.state.State.{State}
 use Rattle.df_catalogue.specs.declared.state.ViewState.{ViewState}
 use Rattle.df_expr.specs.declared.meter.Meter.{Meter}
 use Rattle.df_print.specs.Printed.{escaped_text, printed}
+use Rattle.df_shell.specs.Parts.{part_text}
+use Rattle.df_shell.specs.Described.{frames_text, schema_named, schema_text}
+use Rattle.df_shell.specs.declared.command.Part.{Part}
 use Rattle.df_shell.specs.Checks.{check_text, first_differing}
 use Rattle.df_shell.specs.Asked.{frame_index_of}
 use Rattle.df_shell.specs.declared.command.Question.{Question}
@@ -20,9 +23,9 @@ use Rattle.df_shell.specs.declared.refusal.Refusal.{Refusal}
 use Rattle.df_shell.specs.declared.refusal.Refusal.TheVariants as refusal
 use Rattle.df_text.specs.declared.document.FrameSpec.{FrameSpec}
 
--- the table of a view, under this name
-abbrev pub view_text : List ℕ → ViewState → List ℕ
-view_text name v = printed name v.plan.schema v.table
+-- a part of the table of a view, under this name
+abbrev pub view_text : List ℕ → Part → ViewState → List ℕ
+view_text name part v = part_text name v.plan.schema part v.table
 
 -- the line of the numbers of a frame's rows
 abbrev pub numbers_line : List ℕ → List ℕ
@@ -63,7 +66,9 @@ frame_text text d s None = None
 
 -- what a question is answered with, if it can be
 abbrev pub text_of_question : Definitions → CatalogueParts → Question → Option (List ℕ)
-text_of_question d c (question.Show view) = option_map (view_text view.now) (view_named view.now c.state.views)
+text_of_question d c question.Frames = Some (frames_text d (live_of c.state))
+text_of_question d c (question.Schema name) = option_map schema_text (schema_named d name.now)
+text_of_question d c (question.Show view part) = option_map (view_text view.now part) (view_named view.now c.state.views)
 text_of_question d c (question.Rows frame) = frame_text rows_text d c.state (frame_index_of d frame.now)
 text_of_question d c (question.Books frame) = frame_text (λ spec. books_text) d c.state (frame_index_of d frame.now)
 text_of_question d c question.Views = Some (names_text (view_names_of c.state))
@@ -73,7 +78,8 @@ text_of_question d c question.Version = None
 
 -- what a question is refused with where it cannot be answered
 abbrev pub refusal_of_question : Question → Refusal
-refusal_of_question (question.Show view) = refusal.Store fault.NoView
+refusal_of_question (question.Schema name) = refusal.Mistake mistake.NoTable
+refusal_of_question (question.Show view part) = refusal.Store fault.NoView
 refusal_of_question question.Version = refusal.Mistake mistake.OnlyWithHall
 refusal_of_question _ = refusal.Store fault.NoFrame
 

@@ -29,6 +29,7 @@ mistake_text mistake.LongLine = codes "a line has more than 1048576 bytes"
 mistake_text mistake.MissingLines = codes "the input ends before the lines of the command"
 mistake_text mistake.OtherRowCount = codes "not as many rows as numbers"
 mistake_text mistake.NoView = codes "the document has no such view"
+mistake_text mistake.NoTable = codes "the document has no frame and no view of this name"
 mistake_text mistake.OnlyWithHall = codes "only with --hall"
 mistake_text mistake.NotWithHall = codes "not with --hall"
 
@@ -77,24 +78,6 @@ version_text version.Missing = codes "H3: there is no version to answer from"
 abbrev pub text_of_cell : ℕ → List ℕ → List ℕ
 text_of_cell number column =
     codes "record " ++ (decimal number ++ (codes ", column " ++ (escaped_text column ++ codes ": the cell is no value of the column's type")))
-
--- the commands, a line each
-abbrev pub help_text : List ℕ
-help_text =
-    codes "append FRAME FIRST COUNT   and COUNT lines of CSV: adds rows, numbered from FIRST\n"
-    ++ (codes "delete FRAME NUMBER ..     takes the rows of these numbers out\n"
-    ++ (codes "replace FRAME NUMBER ..    and as many lines of CSV: puts each row in the place of that of its number\n"
-    ++ (codes "register VIEW              adds the document's view of this name\n"
-    ++ (codes "drop VIEW                  takes a view out\n"
-    ++ (codes "show VIEW                  the table of a view\n"
-    ++ (codes "rows FRAME                 the table of a frame, and the numbers of its rows\n"
-    ++ (codes "books FRAME                how many rows were accepted and deleted, and how many there are\n"
-    ++ (codes "views                      the names of the views\n"
-    ++ (codes "check                      whether each view has the rows that its plan gives: same, or differs and a view\n"
-    ++ (codes "work                       what the views counted at the last change of rows; not with --hall\n"
-    ++ (codes "version                    the number of the newest version; only with --hall\n"
-    ++ (codes "help                       this list\n"
-    ++ codes "quit                       ends the session, as the end of input does\n"))))))))))))
 
 -- the text of a refusal
 abbrev pub text_of : Refusal → List ℕ

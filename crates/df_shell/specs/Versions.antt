@@ -1,13 +1,16 @@
 -- The texts that questions are answered with from a version, by the schemas and plans that the document gives.
-use Rattle.std.specs.Prelude.{◌++◌, ℕ, Bool, true, not, List, Option, Some, None, Result, Ok, codes, decimal, find, length, map, slice_get}
+use Rattle.std.specs.Prelude.{◌++◌, ℕ, Bool, true, not, List, Option, Some, None, Result, Ok, codes, decimal, find, length, map, option_map, slice_get}
 use Rattle.std.specs.Cmp.Lexicographic.{pointwise}
 use Rattle.df_value.specs.declared.cell.Cell.{Cell}
 use Rattle.df_value.specs.Rows.{row_eq}
 use Rattle.df_catalogue.specs.Desks.{DeskParts}
-use Rattle.df_catalogue.specs.Pictures.{PictureParts, value_in, view_rows_in}
+use Rattle.df_catalogue.specs.Pictures.{PictureParts, frame_len_in, value_in, view_rows_in}
 use Rattle.df_catalogue.specs.declared.fault.CatalogueFault.{CatalogueFault}
 use Rattle.df_plan.specs.CheckedParts.{CheckedParts}
 use Rattle.df_print.specs.Printed.{printed}
+use Rattle.df_shell.specs.Parts.{part_text}
+use Rattle.df_shell.specs.Described.{frames_text, schema_named, schema_text}
+use Rattle.df_shell.specs.declared.command.Part.{Part}
 use Rattle.df_shell.specs.Asked.{frame_index_of, plan_named}
 use Rattle.df_shell.specs.Checks.{check_text}
 use Rattle.df_shell.specs.Questions.{books_line, names_text, numbers_line, refusal_of_question}
@@ -19,10 +22,10 @@ use Rattle.df_shell.specs.declared.refusal.Refusal.{Refusal}
 use Rattle.df_shell.specs.declared.refusal.Refusal.TheVariants as refusal
 use Rattle.df_text.specs.declared.document.FrameSpec.{FrameSpec}
 
--- the rows of a view, printed under its name with the schema of its plan, where it has one
-abbrev pub shown_text : List ℕ → Option CheckedParts → Result (List (List Cell)) CatalogueFault → Option (List ℕ)
-shown_text name (Some plan) (Ok rows) = Some (printed name plan.schema rows)
-shown_text name plan rows = None
+-- a part of the rows of a view, printed under its name with the schema of its plan, where it has one
+abbrev pub shown_text : List ℕ → Part → Option CheckedParts → Result (List (List Cell)) CatalogueFault → Option (List ℕ)
+shown_text name part (Some plan) (Ok rows) = Some (part_text name plan.schema part rows)
+shown_text name part plan rows = None
 
 -- the rows of a frame behind their numbers, printed, and then the numbers
 abbrev pub numbered_text : Option FrameSpec → Option (List (ℕ × List Cell)) → Option (List ℕ)
@@ -54,7 +57,9 @@ version_line number = codes "version " ++ (decimal number ++ codes "\n")
 
 -- what a question is answered with from the version of this number and picture, if it can be
 abbrev pub text_of_version : Definitions → List DeskParts → ℕ × PictureParts → Question → Option (List ℕ)
-text_of_version d desks v (question.Show view) = shown_text view.now (plan_named d view.now) (view_rows_in v.1 view.now)
+text_of_version d desks v question.Frames = Some (frames_text d (frame_len_in v.1))
+text_of_version d desks v (question.Schema name) = option_map schema_text (schema_named d name.now)
+text_of_version d desks v (question.Show view part) = shown_text view.now part (plan_named d view.now) (view_rows_in v.1 view.now)
 text_of_version d desks v (question.Rows frame) =
     text_of_index (λ at. numbered_text (slice_get d.document.frames at) (slice_get v.1.frames at)) (frame_index_of d frame.now)
 text_of_version d desks v (question.Books frame) =

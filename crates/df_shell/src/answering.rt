@@ -1,13 +1,15 @@
 //! The answers to commands.
-ghost use Rattle.std.specs.Prelude.{◌≡◌, IfErr, IfOk, OnErr, OnOk, map};
+ghost use Rattle.std.specs.Prelude.{◌≡◌, IfErr, IfOk, OnErr, OnOk, Some, map};
 ghost use Rattle.csv.specs.Records.{fields_of};
-ghost use Rattle.df_shell.specs.Answers.{IsAnswer, IsAnswerToLine, answer_text};
+ghost use Rattle.df_shell.specs.Answers.{IsAnswer, IsAnswerToLine, IsRefusalOfHelp, answer_text};
 ghost use Rattle.df_shell.specs.Asked.{IsMadeAsAsked, IsRefusalOfAsked};
+ghost use Rattle.df_shell.specs.Help.{help_on};
 
 use crate::changing::{append, delete, drop_view, register, replace};
 use crate::command::{AskedChange, Command, read_command};
 use crate::definitions::Definitions;
-use crate::refusal::Refusal;
+use crate::help::{CommandHelp, explain_command, list_commands};
+use crate::refusal::{Mistake, Refusal};
 use crate::view_store::ViewStore;
 use csv::StringRecord;
 use std::alloc::{AllocError, Global};
@@ -19,28 +21,9 @@ pub enum Answer {
     Accepted,
     /// What was asked for.
     Told(Vec<u8>),
-    /// The commands.
-    Help,
     /// Nothing: the session ends.
     Ended,
 }
-
-const HELP: &str = "\
-append FRAME FIRST COUNT   and COUNT lines of CSV: adds rows, numbered from FIRST
-delete FRAME NUMBER ..     takes the rows of these numbers out
-replace FRAME NUMBER ..    and as many lines of CSV: puts each row in the place of that of its number
-register VIEW              adds the document's view of this name
-drop VIEW                  takes a view out
-show VIEW                  the table of a view
-rows FRAME                 the table of a frame, and the numbers of its rows
-books FRAME                how many rows were accepted and deleted, and how many there are
-views                      the names of the views
-check                      whether each view has the rows that its plan gives: same, or differs and a view
-work                       what the views counted at the last change of rows; not with --hall
-version                    the number of the newest version; only with --hall
-help                       this list
-quit                       ends the session, as the end of input does
-";
 
 impl Answer {
     /// The bytes of the answer.
@@ -50,15 +33,16 @@ impl Answer {
         match self {
             Answer::Accepted => b"ok\n",
             Answer::Told(text) => text.as_slice(),
-            Answer::Help => HELP.as_bytes(),
             Answer::Ended => b"",
         }
     }
 }
 
-/// Does what the words of a line say. `words` and `lines` are what was read, or why it was not.
+/// Does what the words of a line say. `words` and `lines` are what was read, or why it was not; `commands` is the table that
+/// `help` answers from, as [`COMMANDS`](crate::COMMANDS).
 pub fn answer_line<S: ViewStore>(
     alloc: Global,
+    commands: &[CommandHelp],
     definitions: &Definitions,
     store: &mut S,
     words: Result<StringRecord, Refusal>,
@@ -66,12 +50,12 @@ pub fn answer_line<S: ViewStore>(
 ) -> Result<Answer, Refusal>
     ensures { IsAnswerToLine (S.Makes store.old store.new) (S.Refuses store.old store.new)
         (S.Keeps store.old store.new) (S.Answers store.old store.new definitions.now)
-        definitions.now words lines result }
+        (map (λ c. (c.0.now, c.1.now, c.2.now)) commands.now) definitions.now words lines result }
 {
     let record = words?;
     let words = words_of(alloc, &record)?;
     let command = read_command(alloc, words.as_slice())?;
-    answer_command(alloc, definitions, store, command, lines)
+    answer_command(alloc, commands, definitions, store, command, lines)
 }
 
 fn words_of(alloc: Global, fields: &StringRecord) -> Result<Vec<&str>, AllocError>
@@ -82,6 +66,7 @@ fn words_of(alloc: Global, fields: &StringRecord) -> Result<Vec<&str>, AllocErro
 
 fn answer_command<S: ViewStore>(
     alloc: Global,
+    commands: &[CommandHelp],
     definitions: &Definitions,
     store: &mut S,
     command: Command<'_>,
@@ -89,7 +74,7 @@ fn answer_command<S: ViewStore>(
 ) -> Result<Answer, Refusal>
     ensures { IsAnswer (S.Makes store.old store.new) (S.Refuses store.old store.new)
         (S.Keeps store.old store.new) (S.Answers store.old store.new definitions.now)
-        definitions.now command.entry lines result }
+        (map (λ c. (c.0.now, c.1.now, c.2.now)) commands.now) definitions.now command.entry lines result }
 {
     match command {
         Command::Change(change) => {
@@ -99,8 +84,22 @@ fn answer_command<S: ViewStore>(
         Command::Question(question) => {
             Ok(Answer::Told(store.answer(alloc, definitions, question)?))
         }
-        Command::Help => Ok(Answer::Help),
+        Command::Help => Ok(Answer::Told(list_commands(alloc, commands)?)),
+        Command::HelpOn(name) => Ok(Answer::Told(explain(alloc, commands, name)?)),
         Command::Quit => Ok(Answer::Ended),
+    }
+}
+
+fn explain(alloc: Global, commands: &[CommandHelp], name: &str) -> Result<Vec<u8>, Refusal>
+    ensures told { IfOk result (λ text.
+        help_on name.now (map (λ c. (c.0.now, c.1.now, c.2.now)) commands.now)
+        ≡ Some text.items) }
+    ensures refused { IfErr result (IsRefusalOfHelp
+        (help_on name.now (map (λ c. (c.0.now, c.1.now, c.2.now)) commands.now))) }
+{
+    match explain_command(alloc, commands, name)? {
+        Some(text) => Ok(text),
+        None => Err(Refusal::Mistake(Mistake::NoCommand)),
     }
 }
 

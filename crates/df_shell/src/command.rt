@@ -2,7 +2,7 @@
 ghost use Rattle.std.specs.Prelude.{◌≡◌, ◌∷◌, [], IfErr, IfOk, codes, map};
 ghost use Rattle.std.specs.List.{AllZip};
 ghost use Rattle.df_shell.specs.Answers.{IsWordFault};
-ghost use Rattle.df_shell.specs.Commands.{IsChangeOf, IsCommandOf, IsLineCount, IsRowNumber};
+ghost use Rattle.df_shell.specs.Commands.{IsChangeOf, IsCommandOf, IsLineCount, IsPartOf, IsQuestionOf, IsRowNumber};
 
 use crate::refusal::{Mistake, Refusal};
 use df_value::List;
@@ -15,6 +15,8 @@ pub enum Command<'a> {
     Question(Question<'a>),
     /// The commands.
     Help,
+    /// A command, by its name.
+    HelpOn(&'a str),
     /// The end of the session.
     Quit,
 }
@@ -37,8 +39,12 @@ pub enum AskedChange<'a> {
 /// What is asked about the frames and views.
 #[derive(Clone, Copy)]
 pub enum Question<'a> {
-    /// The table of a view.
-    Show(&'a str),
+    /// The names of the frames, how many rows each has, and its columns with their types.
+    Frames,
+    /// The columns of a frame or of a view with their types.
+    Schema(&'a str),
+    /// The table of a view, or a part of its rows.
+    Show(&'a str, Part),
     /// The table of a frame and the numbers of its rows.
     Rows(&'a str),
     /// How many rows a frame accepted, how many were deleted, and how many it has.
@@ -51,6 +57,16 @@ pub enum Question<'a> {
     Work,
     /// The number of the newest version.
     Version,
+}
+
+/// Which rows of a table are shown.
+#[derive(Clone, Copy)]
+pub enum Part {
+    Whole,
+    /// So many, from the first one on.
+    First(usize),
+    /// From this one on, the first being 0, so many.
+    From(usize, usize),
 }
 
 /// The command that words say.
@@ -74,14 +90,16 @@ fn command_of<'a>(alloc: Global, name: &str, arguments: &[&'a str]) -> Result<Co
         "replace" => Ok(Command::Change(read_replace(alloc, arguments)?)),
         "register" => Ok(Command::Change(AskedChange::Register(only(arguments)?))),
         "drop" => Ok(Command::Change(AskedChange::DropView(only(arguments)?))),
-        "show" => Ok(Command::Question(Question::Show(only(arguments)?))),
+        "frames" => bare(Command::Question(Question::Frames), arguments),
+        "schema" => Ok(Command::Question(Question::Schema(only(arguments)?))),
+        "show" => Ok(Command::Question(read_show(arguments)?)),
         "rows" => Ok(Command::Question(Question::Rows(only(arguments)?))),
         "books" => Ok(Command::Question(Question::Books(only(arguments)?))),
         "views" => bare(Command::Question(Question::Views), arguments),
         "check" => bare(Command::Question(Question::Check), arguments),
         "work" => bare(Command::Question(Question::Work), arguments),
         "version" => bare(Command::Question(Question::Version), arguments),
-        "help" => bare(Command::Help, arguments),
+        "help" => Ok(read_help(arguments)?),
         "quit" => bare(Command::Quit, arguments),
         _ => Err(Refusal::Mistake(Mistake::NoCommand)),
     }
@@ -121,6 +139,40 @@ fn read_replace<'a>(alloc: Global, arguments: &[&'a str]) -> Result<AskedChange<
     }
 }
 
+fn read_show<'a>(arguments: &[&'a str]) -> Result<Question<'a>, Mistake>
+    ensures { IfOk result (IsQuestionOf (codes "show" ∷ map (λ w. w.now) arguments.now)) }
+{
+    match arguments {
+        [view, part @ ..] => Ok(Question::Show(view, read_part(part)?)),
+        [] => Err(Mistake::MissingWord),
+    }
+}
+
+fn read_part(words: &[&str]) -> Result<Part, Mistake>
+    ensures { IfOk result (IsPartOf (map (λ w. w.now) words.now)) }
+{
+    match words {
+        [] => Ok(Part::Whole),
+        [count] => Ok(Part::First(row_count(count)?)),
+        ["from", first, count] => {
+            let first = row_count(first)?;
+            Ok(Part::From(first, row_count(count)?))
+        }
+        ["from", _] => Err(Mistake::MissingWord),
+        _ => Err(Mistake::ExtraWord),
+    }
+}
+
+fn read_help<'a>(arguments: &[&'a str]) -> Result<Command<'a>, Mistake>
+    ensures { IfOk result (IsCommandOf (codes "help" ∷ map (λ w. w.now) arguments.now)) }
+{
+    match arguments {
+        [] => Ok(Command::Help),
+        [name] => Ok(Command::HelpOn(name)),
+        _ => Err(Mistake::ExtraWord),
+    }
+}
+
 fn row_numbers(alloc: Global, words: &[&str]) -> Result<List<u32>, Refusal>
     ensures said { IfOk result (AllZip IsRowNumber (map (λ w. w.now) words.now)) }
     ensures refused { IfErr result IsWordFault }
@@ -150,6 +202,12 @@ pub fn line_count(word: &str) -> Result<u64, Mistake>
         Ok(count) => Ok(count),
         Err(_) => Err(Mistake::NotCount),
     }
+}
+
+fn row_count(word: &str) -> Result<usize, Mistake>
+    ensures { IfOk result (IsLineCount word.now) }
+{
+    Ok(line_count(word)? as usize)
 }
 
 // The word of a command that takes one.

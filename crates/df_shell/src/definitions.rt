@@ -2,10 +2,11 @@
 ghost use Rattle.std.specs.Prelude.{◌≡◌, ◌<◌, IfSome, length};
 ghost use Rattle.std.specs.Option.{option_copied};
 ghost use Rattle.df_shell.specs.Asked.{frame_index_of, plan_named};
+ghost use Rattle.df_shell.specs.Described.{schema_named};
 
 use df_plan::CheckedPlan;
 use df_text::Views;
-use df_value::{List, index_of_name};
+use df_value::{List, Schema, index_of_name};
 
 /// The frames and views that a document names, and the checked plans of the views, in their order.
 pub struct Definitions {
@@ -37,5 +38,15 @@ impl Definitions {
     {
         let at = index_of_name(self.document.views.as_slice(), name)?;
         self.plans.get(at)
+    }
+
+    /// The schema of the frame of this name, or else of the view.
+    pub fn schema(&self, name: &str) -> Option<&Schema>
+        ensures { option_copied result ≡ schema_named self.now name.now }
+    {
+        match self.frame_index(name) {
+            Some(at) => Some(&self.document.frames.as_slice()[at].schema),
+            None => Some(self.plan(name)?.schema()),
+        }
     }
 }

@@ -47,7 +47,8 @@ fn counted(alloc: Global, frames: usize, views: usize) -> Result<String, AllocEr
     format!(in alloc; "{frames} frame{frames_end}, {views} view{views_end}")
 }
 
-fn plural_end(count: usize) -> &'static str
+/// What a count of things ends their noun with.
+pub fn plural_end(count: usize) -> &'static str
     ensures { result.now ≡ greetings.plural_end count }
 {
     if count == 1 { "" } else { "s" }

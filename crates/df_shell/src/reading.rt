@@ -1,10 +1,13 @@
 //! The commands that read the catalogue.
 ghost use Rattle.std.specs.Prelude.{◌≡◌, ◌++◌, IfErr, IfOk, OnOk, option_map, string_bytes};
-ghost use Rattle.df_catalogue.specs.Reads.{view_named, view_names_of};
+ghost use Rattle.df_catalogue.specs.Reads.{live_of, view_named, view_names_of};
 ghost use Rattle.df_shell.specs.Asked.{frame_index_of};
 ghost use Rattle.df_shell.specs.Questions.{IsTold, books_line, books_text, frame_text, names_text, numbers_line, rows_text, view_text, work_text};
 
+use crate::command::Part;
 use crate::definitions::Definitions;
+use crate::describing::RowCounts;
+use crate::parts::print_part;
 use crate::refusal::Refusal;
 use df_catalogue::{Catalogue, CatalogueFault};
 use df_expr::WorkCounts;
@@ -13,13 +16,23 @@ use df_value::Text;
 use std::alloc::{AllocError, Global};
 use std::sync::ledger::Ledger;
 
-/// The table of a view, as it is printed.
+/// How many rows the frames of a catalogue have.
+impl<Acc: Ledger, Del: Ledger> RowCounts for Catalogue<Acc, Del> {
+    ghost counts = { λ c at. live_of c.state at };
+
+    fn row_count(&self, frame: usize) -> Option<u64> {
+        self.live(frame)
+    }
+}
+
+/// The table of a view, or a part of its rows, as it is printed.
 pub fn show<Acc: Ledger, Del: Ledger>(
     alloc: Global,
     catalogue: &Catalogue<Acc, Del>,
     view: &str,
+    part: Part,
 ) -> Result<Vec<u8>, Refusal>
-    ensures { IsTold (option_map (view_text view.now)
+    ensures { IsTold (option_map (view_text view.now part)
         (view_named view.now catalogue.now.state.views)) (Refusal.Store CatalogueFault.NoView) result }
 {
     let Some(schema) = catalogue.view_schema(view) else {
@@ -27,7 +40,7 @@ pub fn show<Acc: Ledger, Del: Ledger>(
     };
     let rows = catalogue.view_rows(alloc, view)?;
     let name = Text::from_str(alloc, view)?;
-    Ok(print_table(alloc, &name, schema, rows.as_slice())?)
+    Ok(print_part(alloc, &name, schema, rows.as_slice(), part)?)
 }
 
 /// The table of a frame, as it is printed, and the numbers of its rows.

@@ -13,20 +13,24 @@ const VERSION: &str = "1.0.0";
 
 // The end of the help.
 const AFTER_HELP: &str = r#"Commands, one a line of standard input:
-  append FRAME FIRST COUNT   and COUNT lines of CSV: adds rows, numbered from FIRST
-  delete FRAME NUMBER ..     takes the rows of these numbers out
-  replace FRAME NUMBER ..    and as many lines of CSV: puts each row in the place of that of its number
-  register VIEW              adds the document's view of this name
-  drop VIEW                  takes a view out
-  show VIEW                  the table of a view
-  rows FRAME                 the table of a frame, and the numbers of its rows
-  books FRAME                how many rows were accepted and deleted, and how many there are
-  views                      the names of the views
-  check                      whether each view has the rows that its plan gives: same, or differs and a view
-  work                       what the views counted at the last change of rows; not with --hall
-  version                    the number of the newest version; only with --hall
-  help                       this list
-  quit                       ends the session, as the end of input does
+  append FRAME FIRST COUNT     and COUNT lines of CSV: adds rows, numbered from FIRST
+  delete FRAME NUMBER ..       takes the rows of these numbers out
+  replace FRAME NUMBER ..      and as many lines of CSV: puts each row in the place of that of its number
+  register VIEW                adds the document's view of this name
+  drop VIEW                    takes a view out
+  frames                       the frames: how many rows each has, and its columns with their types
+  views                        the names of the views
+  schema NAME                  the columns of a frame, or else of a view, with their types
+  show VIEW                    the table of a view
+  show VIEW COUNT              its first COUNT rows, and how many more there are
+  show VIEW from ROW COUNT     COUNT rows from row ROW on, the first being 0, and how many lie around them
+  rows FRAME                   the table of a frame, and the numbers of its rows
+  books FRAME                  how many rows were accepted and deleted, and how many there are
+  check                        whether each view has the rows that its plan gives: same, or differs and a view
+  work                         what the views counted at the last change of rows; not with --hall
+  version                      the number of the newest version; only with --hall
+  help [COMMAND]               this list, or a command with an example
+  quit                         ends the session, as the end of input does
 
 Exit status:
   0  the input has ended, or the document opens

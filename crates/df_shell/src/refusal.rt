@@ -63,6 +63,9 @@ pub enum Mistake {
     /// The document has no view of this name.
     #[error("no such view")]
     NoView,
+    /// The document has no frame and no view of this name.
+    #[error("no such frame or view")]
+    NoTable,
     /// A question about versions, which a catalogue has not.
     #[error("only with --hall")]
     OnlyWithHall,

@@ -43,6 +43,7 @@ fn mistake_text(mistake: Mistake) -> &'static str
         Mistake::MissingLines => "the input ends before the lines of the command",
         Mistake::OtherRowCount => "not as many rows as numbers",
         Mistake::NoView => "the document has no such view",
+        Mistake::NoTable => "the document has no frame and no view of this name",
         Mistake::OnlyWithHall => "only with --hall",
         Mistake::NotWithHall => "not with --hall",
     }

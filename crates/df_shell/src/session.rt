@@ -2,6 +2,7 @@
 use crate::answering::{Answer, answer_line};
 use crate::definitions::Definitions;
 use crate::fault::ShellFault;
+use crate::help::COMMANDS;
 use crate::lines::{Line, line_buffer, read_line, with_line, with_long_line, without_end};
 use crate::prompts::{COMMAND_PROMPT, Prompts, RECORD_PROMPT, greeting};
 use crate::refusal::{Mistake, Refusal};
@@ -128,7 +129,14 @@ fn take_turn<S: ViewStore, I: BufRead, W: Write>(
     let record = &mut session.buffers.record;
     let lines = read_lines(alloc, session.prompts, input, output, record, count)?;
     let definitions = &session.definitions;
-    match answer_line(alloc, definitions, &mut session.store, words, lines) {
+    match answer_line(
+        alloc,
+        &COMMANDS,
+        definitions,
+        &mut session.store,
+        words,
+        lines,
+    ) {
         Ok(Answer::Ended) => return Ok(Turn::Last),
         Ok(answer) => write_answer(output, answer.bytes())?,
         Err(refusal) => write_refusal(alloc, output, &refusal)?,

@@ -6,6 +6,7 @@ ghost use Rattle.df_catalogue.specs.States.{IsLegal};
 use crate::checking::check;
 use crate::command::Question;
 use crate::definitions::Definitions;
+use crate::describing::{describe_frames, schema};
 use crate::reading::{books, rows, show, views, work};
 use crate::refusal::{Mistake, Refusal};
 use crate::view_store::ViewStore;
@@ -68,7 +69,9 @@ impl<Acc: Ledger, Del: Ledger> ViewStore for Store<Acc, Del> {
     ) -> Result<Vec<u8>, Refusal> {
         let catalogue = &self.catalogue;
         match question {
-            Question::Show(view) => show(alloc, catalogue, view),
+            Question::Frames => Ok(describe_frames(alloc, definitions, catalogue)?),
+            Question::Schema(name) => schema(alloc, definitions, name),
+            Question::Show(view, part) => show(alloc, catalogue, view, part),
             Question::Rows(frame) => rows(alloc, definitions, catalogue, frame),
             Question::Books(frame) => books(alloc, definitions, catalogue, frame),
             Question::Views => views(alloc, catalogue),

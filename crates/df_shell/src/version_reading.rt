@@ -1,15 +1,17 @@
 //! The questions that a version answers.
 ghost use Rattle.std.specs.Prelude.{◌≡◌, IfErr, IfOk, find, map, slice_get, string_bytes};
 ghost use Rattle.std.specs.Option.{option_copied};
-ghost use Rattle.df_catalogue.specs.Pictures.{view_rows_in};
+ghost use Rattle.df_catalogue.specs.Pictures.{frame_len_in, view_rows_in};
 ghost use Rattle.df_shell.specs.Asked.{frame_index_of, plan_named};
 ghost use Rattle.df_shell.specs.Checks.{check_text};
 ghost use Rattle.df_shell.specs.Questions.{IsMemory, IsTold, names_text};
 ghost use Rattle.df_shell.specs.Versions.{counted_text, differs_from, first_differing_in, numbered_text, refusal_with_hall, shown_text, text_of_index, text_of_version, version_line};
 
 use crate::checking::verdict;
-use crate::command::Question;
+use crate::command::{Part, Question};
 use crate::definitions::Definitions;
+use crate::describing::{RowCounts, describe_frames, schema};
+use crate::parts::print_part;
 use crate::reading::{books_of, names_lines, push_numbers};
 use crate::refusal::{Mistake, Refusal};
 use df_catalogue::{CatalogueFault, Desk};
@@ -32,7 +34,9 @@ pub fn answer_from_version<Acc: Ledger, Del: Ledger>(
         (refusal_with_hall question.entry) result }
 {
     match question {
-        Question::Show(view) => show(alloc, definitions, version, view),
+        Question::Frames => Ok(describe_frames(alloc, definitions, version)?),
+        Question::Schema(name) => schema(alloc, definitions, name),
+        Question::Show(view, part) => show(alloc, definitions, version, view, part),
         Question::Rows(frame) => rows(alloc, definitions, version, frame),
         Question::Books(frame) => books(alloc, definitions, version, desks, frame),
         Question::Views => views(alloc, version),
@@ -42,14 +46,24 @@ pub fn answer_from_version<Acc: Ledger, Del: Ledger>(
     }
 }
 
-// The table of a view, as it is printed.
+/// How many rows the frames of a version have.
+impl RowCounts for Version {
+    ghost counts = { λ v at. frame_len_in v.1 at };
+
+    fn row_count(&self, frame: usize) -> Option<u64> {
+        self.frame_len(frame)
+    }
+}
+
+// The table of a view, or a part of its rows, as it is printed.
 fn show(
     alloc: Global,
     definitions: &Definitions,
     version: &Version,
     view: &str,
+    part: Part,
 ) -> Result<Vec<u8>, Refusal>
-    ensures { IsTold (shown_text view.now (plan_named definitions.now view.now)
+    ensures { IsTold (shown_text view.now part (plan_named definitions.now view.now)
         (view_rows_in version.now.1 view.now)) (Refusal.Store CatalogueFault.NoView) result }
 {
     let Some(plan) = definitions.plan(view) else {
@@ -57,7 +71,7 @@ fn show(
     };
     let rows = version.view_rows(alloc, view)?;
     let name = Text::from_str(alloc, view)?;
-    Ok(print_table(alloc, &name, plan.schema(), rows.as_slice())?)
+    Ok(print_part(alloc, &name, plan.schema(), rows.as_slice(), part)?)
 }
 
 // The table of a frame, as it is printed, and the numbers of its rows.
