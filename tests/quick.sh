@@ -24,6 +24,9 @@ for session in "${sessions[@]}"; do
   document=${session%.session}.toml
   documents+=(--data "${document##*/}=$PWD/$document")
 done
+for file in tests/sessions/*.commands; do
+  documents+=(--data "${file##*/}=$PWD/$file")
+done
 tests/sessions.py --export "$work/sessions" "${sessions[@]}"
 tests/sessions.py --export "$work/sessions-in-a-hall" --hall "${sessions[@]}"
 # The cases in three parts, side by side.

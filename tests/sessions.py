@@ -15,7 +15,8 @@ and of `version` those with it. The other way round each of the two is refused.
 
 With --refuse each session runs again with each of its allocations refused in turn. A refusal at the start ends in
 `dfshell: memory` and status 2. One later is answered `memory`; the answers behind it are then those of the session
-without that command. Prints what differs, and ends with a count.
+without that command. A session that sources a file runs once: one of its commands has the answers of many. Prints what
+differs, and ends with a count.
 """
 
 import concurrent.futures
@@ -58,6 +59,9 @@ class Session:
             self.typed[-1] += csv[2] * int(csv[1] or 1)
         else:
             self.answers[-1] += line
+
+    def sources(self):
+        return any(typed.startswith(b"source ") for typed in self.typed)
 
     def without(self, at):
         return b"".join(self.typed[:at] + self.typed[at + 1 :])
@@ -183,7 +187,7 @@ def run(program, words, path, library, folder):
     runner = Runner(program, words, session)
     runner.converse()
     refused = 0
-    if library and not runner.wrong:
+    if library and not runner.wrong and not session.sources():
         counts = os.path.join(folder, path.replace("/", "_") + ".counts")
         refused = runner.refuse_each(library, counts)
     return runner.wrong, refused

@@ -9,3 +9,4 @@ pub mod CommandFacts
 pub mod WordList
 pub mod FlagFacts
 pub mod DescribedFacts
+pub mod NumberFacts

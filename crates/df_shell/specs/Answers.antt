@@ -4,7 +4,7 @@ use Rattle.csv.specs.Records.{Row, fields_of}
 use Rattle.std.specs.Global.{Vec}
 use Rattle.df_catalogue.specs.declared.change.Change.{Change}
 use Rattle.df_shell.specs.Commands.{IsCommandOf}
-use Rattle.df_shell.specs.Asked.{IsMadeAsAsked, IsRefusalOfAsked}
+use Rattle.df_shell.specs.Asked.{IsAppended, IsMadeAsAsked, IsRefusalOfAppendNext, IsRefusalOfAsked, frame_index_of}
 use Rattle.df_shell.specs.Help.{help_list, help_on}
 use Rattle.df_shell.specs.declared.answering.Answer.{Answer}
 use Rattle.df_shell.specs.declared.answering.Answer.TheVariants as answer
@@ -20,6 +20,7 @@ use Rattle.df_shell.specs.declared.refusal.Refusal.TheVariants as refusal
 abbrev pub answer_text : Answer → List ℕ
 answer_text answer.Accepted = codes "ok\n"
 answer_text (answer.Told text) = text.items
+answer_text (answer.Source path) = []
 answer_text answer.Ended = []
 
 -- What may be wrong with words that are read as a command.
@@ -32,12 +33,14 @@ IsWordFault r = ⊥
 abbrev pub IsRefusalOfHelp : Option (List ℕ) → Refusal → Type 0
 IsRefusalOfHelp want r = (r ≡ refusal.Memory) ⊎ ((r ≡ refusal.Mistake mistake.NoCommand) × (want ≡ None))
 
--- by what a store makes, refuses, keeps where it makes no change, and answers, and by the commands that are told
+-- by what a store makes, refuses, keeps where it makes no change, and answers, the numbers that it has for further rows, and the
+-- commands that are told
 module _
     (Makes : Change → Type 0)
     (Refuses : Change → Refusal → Type 0)
     (Keeps : Type 0)
     (Answers : Question → Result (Vec ℕ) Refusal → Type 0)
+    (Next : ℕ → ℕ → Type 0)
     (commands : List (List ℕ × List ℕ × List ℕ))
   where
     -- The answer to a command, with the lines that were read for it: the change that it asks for was made, or the question is
@@ -45,8 +48,13 @@ module _
     abbrev pub IsAnswer : {T : Type 0} → Definitions → Command → Result T Refusal → Result Answer Refusal → Type 0
     IsAnswer d (command.Change change) lines (Ok answer.Accepted) = IsMadeAsAsked Makes d change lines
     IsAnswer d (command.Change change) lines (Err r) = IsRefusalOfAsked Refuses d change lines r × Keeps
+    IsAnswer d (command.AppendNext frame) lines (Ok (answer.Told text)) = IsAppended Makes Next d (frame_index_of d frame.now) lines text
+    IsAnswer d (command.AppendNext frame) lines (Err r) =
+        IsRefusalOfAppendNext Refuses d (frame_index_of d frame.now) lines r × Keeps
     IsAnswer d (command.Question q) lines (Ok (answer.Told text)) = Answers q (Ok text)
     IsAnswer d (command.Question q) lines (Err r) = Answers q (Err r)
+    IsAnswer d (command.Source path) lines (Ok (answer.Source file)) = (file ≡ path.now) × Keeps
+    IsAnswer d (command.Source path) lines (Err r) = (r ≡ refusal.Memory) × Keeps
     IsAnswer d command.Help lines (Ok (answer.Told text)) = (text.items ≡ help_list commands) × Keeps
     IsAnswer d command.Help lines (Err r) = (r ≡ refusal.Memory) × Keeps
     IsAnswer d (command.HelpOn name) lines (Ok (answer.Told text)) = (help_on name.now commands ≡ Some text.items) × Keeps

@@ -1,5 +1,5 @@
 -- Changes that are asked for: which change of the frames and views each is, and why it is refused.
-use Rattle.std.specs.Prelude.{◌≡◌, ◌⊎◌, ⊤, ℕ, List, Option, Some, None, Result, Ok, Err, map, option_map, slice_get, IsOk, IsTrue}
+use Rattle.std.specs.Prelude.{◌≡◌, ◌⊎◌, ⊤, ℕ, List, Option, Some, None, Result, Ok, Err, length, map, option_map, slice_get, IsOk, IsTrue}
 use Rattle.df_value.specs.Names.{index_of_name}
 use Rattle.df_value.specs.declared.cell.Cell.{Cell}
 use Rattle.df_value.specs.declared.cell.CellType.{CellType}
@@ -14,6 +14,8 @@ use Rattle.df_shell.specs.declared.command.AskedChange.TheVariants as asked
 use Rattle.df_shell.specs.declared.refusal.Mistake.TheVariants as mistake
 use Rattle.df_shell.specs.declared.refusal.Refusal.{Refusal}
 use Rattle.df_shell.specs.declared.refusal.Refusal.TheVariants as refusal
+use Rattle.df_shell.specs.Numbers.{numbers_told}
+use Rattle.std.specs.Global.{Vec}
 use Rattle.df_shell.specs.declared.definitions.Definitions.{Definitions}
 use Rattle.df_text.specs.declared.document.FrameSpec.{FrameSpec}
 use Rattle.df_text.specs.declared.document.ViewSpec.{ViewSpec}
@@ -76,6 +78,14 @@ module _ (Makes : Change → Type 0) where
   abbrev pub IsMadeAsAsked : {T : Type 0} → Definitions → AskedChange → Result T Refusal → Type 0
   IsMadeAsAsked d asked lines = (change : Change) × IsAsked d asked lines change × Makes change
 
+  -- The lines that were read were accepted as a chunk of the frame at this place, whose rows begin at the number that the store has
+  -- for them; what is answered tells their numbers.
+  abbrev pub IsAppended : {T : Type 0} → (ℕ → ℕ → Type 0) → Definitions → Option ℕ → Result T Refusal → Vec ℕ → Type 0
+  IsAppended Next d (Some at) lines text =
+      (chunk : ChunkParts) × IsOk lines × Next at chunk.first × IsChunkOf d at chunk.first chunk
+      × (text.items ≡ numbers_told chunk.first (length chunk.rows)) × Makes (Append at chunk)
+  IsAppended Next d None lines text = ⊥
+
 -- by what a store refuses each change with
 module _ (Refuses : Change → Refusal → Type 0) where
   -- A refusal of a command that makes this change: the store's, or that memory was refused.
@@ -103,6 +113,18 @@ module _ (Refuses : Change → Refusal → Type 0) where
   IsRefusalOfAppend d None first lines r = r ≡ refusal.Store fault.NoFrame
   IsRefusalOfAppend d (Some at) first (Err f) r = r ≡ f
   IsRefusalOfAppend d (Some at) first (Ok lines) r = IsRefusalOfLines d at first r
+
+  -- A refusal of lines that were read, at the frame at this place: they are no chunk behind its numbers, or the store refuses the
+  -- chunk that they are.
+  abbrev pub IsRefusalOfNextLines : Definitions → ℕ → Refusal → Type 0
+  IsRefusalOfNextLines d at r = IsLineFault r ⊎ ((chunk : ChunkParts) × IsChunkOf d at chunk.first chunk × Refuses (Append at chunk) r)
+
+  -- A refusal of an append behind all numbers of the frame at this place, with its lines, or why they were not read: `C11` where
+  -- there is no frame; else that of the lines.
+  abbrev pub IsRefusalOfAppendNext : {T : Type 0} → Definitions → Option ℕ → Result T Refusal → Refusal → Type 0
+  IsRefusalOfAppendNext d None lines r = r ≡ refusal.Store fault.NoFrame
+  IsRefusalOfAppendNext d (Some at) (Err f) r = r ≡ f
+  IsRefusalOfAppendNext d (Some at) (Ok lines) r = IsRefusalOfNextLines d at r
 
   -- A refusal of lines that were read, at the frame at this place: they are no rows behind the numbers, or the store refuses to
   -- put the rows that they are there.

@@ -15,3 +15,4 @@ pub mod Words
 pub mod Help
 pub mod Parts
 pub mod Described
+pub mod Numbers

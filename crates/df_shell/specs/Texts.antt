@@ -30,6 +30,8 @@ mistake_text mistake.MissingLines = codes "the input ends before the lines of th
 mistake_text mistake.OtherRowCount = codes "not as many rows as numbers"
 mistake_text mistake.NoView = codes "the document has no such view"
 mistake_text mistake.NoTable = codes "the document has no frame and no view of this name"
+mistake_text mistake.NoFile = codes "the file cannot be opened or read"
+mistake_text mistake.NestedSource = codes "source stands in no file that is sourced itself"
 mistake_text mistake.OnlyWithHall = codes "only with --hall"
 mistake_text mistake.NotWithHall = codes "not with --hall"
 

@@ -5,13 +5,14 @@ ghost use Rattle.df_shell.specs.Answers.{IsAnswer, IsAnswerToLine, IsRefusalOfHe
 ghost use Rattle.df_shell.specs.Asked.{IsMadeAsAsked, IsRefusalOfAsked};
 ghost use Rattle.df_shell.specs.Help.{help_on};
 
-use crate::changing::{append, delete, drop_view, register, replace};
+use crate::changing::{append, append_next, delete, drop_view, register, replace};
 use crate::command::{AskedChange, Command, read_command};
 use crate::definitions::Definitions;
 use crate::help::{CommandHelp, explain_command, list_commands};
 use crate::refusal::{Mistake, Refusal};
 use crate::view_store::ViewStore;
 use csv::StringRecord;
+use df_value::Text;
 use std::alloc::{AllocError, Global};
 
 /// What a command is answered, where it is not refused.
@@ -21,6 +22,8 @@ pub enum Answer {
     Accepted,
     /// What was asked for.
     Told(Vec<u8>),
+    /// Nothing: the commands in the file under this path come next.
+    Source(Text),
     /// Nothing: the session ends.
     Ended,
 }
@@ -33,7 +36,7 @@ impl Answer {
         match self {
             Answer::Accepted => b"ok\n",
             Answer::Told(text) => text.as_slice(),
-            Answer::Ended => b"",
+            Answer::Source(_) | Answer::Ended => b"",
         }
     }
 }
@@ -50,7 +53,7 @@ pub fn answer_line<S: ViewStore>(
 ) -> Result<Answer, Refusal>
     ensures { IsAnswerToLine (S.Makes store.old store.new) (S.Refuses store.old store.new)
         (S.Keeps store.old store.new) (S.Answers store.old store.new definitions.now)
-        (map (λ c. (c.0.now, c.1.now, c.2.now)) commands.now) definitions.now words lines result }
+        (S.Next store.old) (map (λ c. (c.0.now, c.1.now, c.2.now)) commands.now) definitions.now words lines result }
 {
     let record = words?;
     let words = words_of(alloc, &record)?;
@@ -74,16 +77,21 @@ fn answer_command<S: ViewStore>(
 ) -> Result<Answer, Refusal>
     ensures { IsAnswer (S.Makes store.old store.new) (S.Refuses store.old store.new)
         (S.Keeps store.old store.new) (S.Answers store.old store.new definitions.now)
-        (map (λ c. (c.0.now, c.1.now, c.2.now)) commands.now) definitions.now command.entry lines result }
+        (S.Next store.old) (map (λ c. (c.0.now, c.1.now, c.2.now)) commands.now) definitions.now command.entry lines result }
 {
     match command {
         Command::Change(change) => {
             answer_change(alloc, definitions, store, change, lines)?;
             Ok(Answer::Accepted)
         }
+        Command::AppendNext(frame) => {
+            let told = append_next(alloc, definitions, store, frame, lines)?;
+            Ok(Answer::Told(told))
+        }
         Command::Question(question) => {
             Ok(Answer::Told(store.answer(alloc, definitions, question)?))
         }
+        Command::Source(path) => Ok(Answer::Source(Text::from_str(alloc, path)?)),
         Command::Help => Ok(Answer::Told(list_commands(alloc, commands)?)),
         Command::HelpOn(name) => Ok(Answer::Told(explain(alloc, commands, name)?)),
         Command::Quit => Ok(Answer::Ended),

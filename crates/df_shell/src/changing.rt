@@ -4,14 +4,16 @@ ghost use Rattle.df_value.specs.declared.cell.Cell.{Cell};
 ghost use Rattle.df_value.specs.Chunks.{ChunkParts};
 ghost use Rattle.df_plan.specs.CheckedParts.{CheckedParts};
 ghost use Rattle.df_catalogue.specs.declared.change.Change.TheVariants.{Append, Delete, DropView, Register, Replace};
-ghost use Rattle.df_shell.specs.Asked.{AreRowsOf, IsChunkOf, IsRefusalOfAppend, IsRefusalAtFrame, IsRefusalOfChange, IsRefusalOfRegister, IsRefusalOfReplace, IsRowsFault, frame_index_of, plan_named};
+ghost use Rattle.df_shell.specs.Numbers.{numbers_told};
+ghost use Rattle.df_shell.specs.Asked.{AreRowsOf, IsAppended, IsChunkOf, IsLineFault, IsRefusalOfAppend, IsRefusalOfAppendNext, IsRefusalAtFrame, IsRefusalOfChange, IsRefusalOfRegister, IsRefusalOfReplace, IsRowsFault, frame_index_of, plan_named};
 
 use crate::definitions::Definitions;
+use crate::numbers::tell_numbers;
 use crate::refusal::{Mistake, Refusal};
 use crate::rows::{read_chunk, read_rows};
 use crate::view_store::ViewStore;
 use df_catalogue::{CatalogueFault, Change};
-use df_value::{Duplicate, List, Row, Text};
+use df_value::{Chunk, ChunkFault, Duplicate, List, Row, Text};
 use std::alloc::Global;
 
 /// Adds the rows of lines of CSV to a frame.
@@ -43,6 +45,59 @@ pub fn append<S: ViewStore>(
     let lines = lines?;
     let chunk = read_chunk(alloc, schema, first, lines.as_slice())?;
     Ok(store.make(alloc, Change::Append(at, chunk))?)
+}
+
+/// Adds the rows of lines of CSV to a frame, behind all numbers that it ever accepted, and says their numbers.
+///
+/// The first of these is answered: `C11` where no frame has the name; why the lines could not be
+/// read; why they make no chunk (`read_chunk`); the store's refusal.
+pub fn append_next<S: ViewStore>(
+    alloc: Global,
+    definitions: &Definitions,
+    store: &mut S,
+    frame: &str,
+    lines: Result<Vec<u8>, Refusal>,
+) -> Result<Vec<u8>, Refusal>
+    ensures made { IfOk result (IsAppended (S.Makes store.old store.new) (S.Next store.old)
+        definitions.now (frame_index_of definitions.now frame.now) lines) }
+    ensures refused { IfErr result
+        (IsRefusalOfAppendNext (S.Refuses store.old store.new) definitions.now
+        (frame_index_of definitions.now frame.now) lines) }
+    ensures same { OnErr result (S.Keeps store.old store.new) }
+{
+    let Some(at) = definitions.frame_index(frame) else {
+        return Err(Refusal::Store(CatalogueFault::NoFrame));
+    };
+    let lines = lines?;
+    let next = store.next_number(at);
+    let (chunk, told) = next_chunk(alloc, definitions, at, next, lines.as_slice())?;
+    store.make(alloc, Change::Append(at, chunk))?;
+    Ok(told)
+}
+
+// The chunk that lines of CSV make in the frame at this index, whose rows begin at this number, and what is said of them.
+// It is said before the change, so that nothing can be refused behind it.
+fn next_chunk(
+    alloc: Global,
+    definitions: &Definitions,
+    at: usize,
+    next: u64,
+    lines: &[u8],
+) -> Result<(Chunk, Vec<u8>), Refusal>
+    requires { at < length definitions.now.document.frames }
+    ensures first { IfOk result (λ made. made.0.first ≡ next) }
+    ensures chunk { IfOk result (λ made. IsChunkOf definitions.now at next made.0) }
+    ensures told { IfOk result (λ made.
+        made.1.items ≡ numbers_told next (length made.0.rows)) }
+    ensures refused { IfErr result IsLineFault }
+{
+    let schema = &definitions.document.frames.as_slice()[at].schema;
+    let Ok(first) = u32::try_from(next) else {
+        return Err(Refusal::Chunk(ChunkFault::NumberTooLarge));
+    };
+    let chunk = read_chunk(alloc, schema, first, lines)?;
+    let told = tell_numbers(alloc, first, chunk.rows().len())?;
+    Ok((chunk, told.into_bytes()))
 }
 
 /// Takes the rows of these numbers out of a frame. Where no frame has the name it is refused

@@ -12,7 +12,11 @@ use std::alloc::Global;
 #[derive(Drop)]
 pub enum Command<'a> {
     Change(AskedChange<'a>),
+    /// Adds rows to a frame, behind all numbers that it ever accepted.
+    AppendNext(&'a str),
     Question(Question<'a>),
+    /// The commands in the file under a path.
+    Source(&'a str),
     /// The commands.
     Help,
     /// A command, by its name.
@@ -85,7 +89,7 @@ fn command_of<'a>(alloc: Global, name: &str, arguments: &[&'a str]) -> Result<Co
     ensures refused { IfErr result IsWordFault }
 {
     match name {
-        "append" => Ok(Command::Change(read_append(arguments)?)),
+        "append" => Ok(read_append(arguments)?),
         "delete" => Ok(Command::Change(read_delete(alloc, arguments)?)),
         "replace" => Ok(Command::Change(read_replace(alloc, arguments)?)),
         "register" => Ok(Command::Change(AskedChange::Register(only(arguments)?))),
@@ -99,20 +103,22 @@ fn command_of<'a>(alloc: Global, name: &str, arguments: &[&'a str]) -> Result<Co
         "check" => bare(Command::Question(Question::Check), arguments),
         "work" => bare(Command::Question(Question::Work), arguments),
         "version" => bare(Command::Question(Question::Version), arguments),
+        "source" => Ok(Command::Source(only(arguments)?)),
         "help" => Ok(read_help(arguments)?),
         "quit" => bare(Command::Quit, arguments),
         _ => Err(Refusal::Mistake(Mistake::NoCommand)),
     }
 }
 
-fn read_append<'a>(arguments: &[&'a str]) -> Result<AskedChange<'a>, Mistake>
-    ensures { IfOk result (IsChangeOf (codes "append" ∷ map (λ w. w.now) arguments.now)) }
+fn read_append<'a>(arguments: &[&'a str]) -> Result<Command<'a>, Mistake>
+    ensures { IfOk result (IsCommandOf (codes "append" ∷ map (λ w. w.now) arguments.now)) }
 {
     match arguments {
+        [frame] => Ok(Command::AppendNext(frame)),
         [frame, first, count] => {
             let first = row_number(first)?;
             line_count(count)?;
-            Ok(AskedChange::Append(frame, first))
+            Ok(Command::Change(AskedChange::Append(frame, first)))
         }
         [_, _, _, ..] => Err(Mistake::ExtraWord),
         _ => Err(Mistake::MissingWord),

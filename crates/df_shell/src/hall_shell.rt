@@ -6,6 +6,7 @@ ghost use Rattle.df_versions.specs.Histories.{schemas_of};
 
 use crate::fault::ShellFault;
 use crate::hall_store::HallStore;
+use crate::numbers::Numbers;
 use crate::opening::fill;
 use crate::prepared::{Prepared, prepare};
 use crate::prompts::Prompts;
@@ -36,26 +37,28 @@ pub fn run_hall_shell<R: Threads + Wait + Sync, V: Read, F: Files, I: BufRead, W
     output: &mut W,
 ) -> Result<(), ShellFault> {
     let prepared = prepare(rt, alloc, document, files)?;
-    open::<Brand, Brand, R, I, W>(
+    open::<Brand, Brand, R, F, I, W>(
         rt,
         alloc,
         Blank::new(PARTS_OF_LEDGER),
         Blank::new(PARTS_OF_LEDGER),
         prepared,
         prompts,
+        files,
         input,
         output,
     )
 }
 
 // Opens the hall, and answers the commands.
-fn open<Acc: Ledger, Del: Ledger, R: Wait, I: BufRead, W: Write>(
+fn open<Acc: Ledger, Del: Ledger, R: Wait, F: Files, I: BufRead, W: Write>(
     rt: &R,
     alloc: Global,
     accepted: Blank,
     deleted: Blank,
     prepared: Prepared,
     prompts: Prompts,
+    files: &mut F,
     input: &mut I,
     output: &mut W,
 ) -> Result<(), ShellFault>
@@ -67,12 +70,14 @@ fn open<Acc: Ledger, Del: Ledger, R: Wait, I: BufRead, W: Write>(
         × (deleted.parts ≡ ledgers.parts_of_ledger) }
 {
     let schemas = copy_schemas(alloc, prepared.definitions.document.frames.as_slice())?;
+    let numbers = Numbers::new(alloc, schemas.len())?;
     match OpenedHall::<Acc, Del>::open(rt, alloc, accepted, deleted, schemas, 1) {
-        Ok(opened) => serve::<Acc, Del, Brand, R, I, W>(
-            rt, alloc, opened, prepared, prompts, input, output,
+        Ok(opened) => serve::<Acc, Del, Brand, R, F, I, W>(
+            rt, alloc, opened, numbers, prepared, prompts, files, input, output,
         ),
         Err(fault) => {
             drop(prepared);
+            drop(numbers);
             Err(ShellFault::Frames(frames_fault(fault)))
         }
     }
@@ -91,12 +96,14 @@ fn frames_fault(fault: OpenFault) -> NewFault
 }
 
 // Answers the commands in a hall, of a history with this name.
-fn serve<Acc: Ledger, Del: Ledger, J: Naming, R: Wait, I: BufRead, W: Write>(
+fn serve<Acc: Ledger, Del: Ledger, J: Naming, R: Wait, F: Files, I: BufRead, W: Write>(
     rt: &R,
     alloc: Global,
     opened: OpenedHall<Acc, Del>,
+    numbers: Numbers,
     prepared: Prepared,
     prompts: Prompts,
+    files: &mut F,
     input: &mut I,
     output: &mut W,
 ) -> Result<(), ShellFault>
@@ -110,12 +117,13 @@ fn serve<Acc: Ledger, Del: Ledger, J: Naming, R: Wait, I: BufRead, W: Write>(
     drop(readers);
     match reader {
         Some(reader) => {
-            let store = HallStore::new(rt, hall, desks, reader);
-            answer_and_close(alloc, store, prepared, prompts, input, output)
+            let store = HallStore::new(rt, hall, desks, reader, numbers);
+            answer_and_close(alloc, store, prepared, prompts, files, input, output)
         }
         None => {
             drop(prepared);
             drop(desks);
+            drop(numbers);
             hall.end(rt);
             Err(ShellFault::Store(Refusal::Version(VersionFault::Missing)))
         }
@@ -123,11 +131,21 @@ fn serve<Acc: Ledger, Del: Ledger, J: Naming, R: Wait, I: BufRead, W: Write>(
 }
 
 // Answers the commands, and closes the hall.
-fn answer_and_close<'r, R: Wait, Acc: Ledger, Del: Ledger, J: Naming, I: BufRead, W: Write>(
+fn answer_and_close<
+    'r,
+    R: Wait,
+    Acc: Ledger,
+    Del: Ledger,
+    J: Naming,
+    F: Files,
+    I: BufRead,
+    W: Write,
+>(
     alloc: Global,
     store: HallStore<'r, R, Acc, Del, J>,
     prepared: Prepared,
     prompts: Prompts,
+    files: &mut F,
     input: &mut I,
     output: &mut W,
 ) -> Result<(), ShellFault> {
@@ -143,7 +161,7 @@ fn answer_and_close<'r, R: Wait, Acc: Ledger, Del: Ledger, J: Naming, I: BufRead
         buffers,
         prompts,
     };
-    let answered = fill_and_answer(alloc, &mut session, pieces, refused, input, output);
+    let answered = fill_and_answer(alloc, &mut session, pieces, refused, files, input, output);
     let Session {
         definitions,
         store,
@@ -158,14 +176,24 @@ fn answer_and_close<'r, R: Wait, Acc: Ledger, Del: Ledger, J: Naming, I: BufRead
 }
 
 // The first rows and the views, and then the commands.
-fn fill_and_answer<'r, R: Wait, Acc: Ledger, Del: Ledger, J: Naming, I: BufRead, W: Write>(
+fn fill_and_answer<
+    'r,
+    R: Wait,
+    Acc: Ledger,
+    Del: Ledger,
+    J: Naming,
+    F: Files,
+    I: BufRead,
+    W: Write,
+>(
     alloc: Global,
     session: &mut Session<HallStore<'r, R, Acc, Del, J>>,
     pieces: List<List<Piece>>,
     refused: List<u8>,
+    files: &mut F,
     input: &mut I,
     output: &mut W,
 ) -> Result<(), ShellFault> {
     fill(alloc, &mut session.store, &session.definitions, pieces)?;
-    answer_from(alloc, session, refused, input, output)
+    answer_from(alloc, session, refused, files, input, output)
 }

@@ -9,6 +9,7 @@ ghost use Rattle.df_shell.specs.Halls.{Closes, Follows, IsLeftOpen};
 use crate::command::Question;
 use crate::definitions::Definitions;
 use crate::fault::ShellFault;
+use crate::numbers::{Numbers, end_of};
 use crate::refusal::{Refusal, VersionFault};
 use crate::version_reading::answer_from_version;
 use crate::view_store::ViewStore;
@@ -29,6 +30,8 @@ pub struct HallStore<'r, R: Wait, Acc: Ledger, Del: Ledger, J: Naming> {
     reader: Reader,
     // What the reader learnt last, for the next change.
     told: Option<Told<J>>,
+    // Of this session's own changes.
+    numbers: Numbers,
 }
 
 impl<'r, R: Wait, Acc: Ledger, Del: Ledger, J: Naming> Model for HallStore<'r, R, Acc, Del, J> {
@@ -60,6 +63,7 @@ impl<'r, R: Wait, Acc: Ledger, Del: Ledger, J: Naming> HallStore<'r, R, Acc, Del
         hall: Hall<Acc, Del, J>,
         desks: Vec<Desk<Acc, Del>>,
         reader: Reader,
+        numbers: Numbers,
     ) -> HallStore<'r, R, Acc, Del, J>
         requires book { reader.0 ≡ J.book }
         requires opening { length reader.1.1 ≤ 1 }
@@ -74,6 +78,7 @@ impl<'r, R: Wait, Acc: Ledger, Del: Ledger, J: Naming> HallStore<'r, R, Acc, Del
             desks,
             reader,
             told: None,
+            numbers,
         }
     }
 
@@ -89,7 +94,9 @@ impl<'r, R: Wait, Acc: Ledger, Del: Ledger, J: Naming> HallStore<'r, R, Acc, Del
             desks,
             reader,
             told,
+            numbers,
         } = self;
+        drop(numbers);
         drop(told);
         drop(reader);
         match hall.close(rt, desks) {
@@ -159,14 +166,15 @@ impl<'r, R: Wait, Acc: Ledger, Del: Ledger, J: Naming> HallStore<'r, R, Acc, Del
         self.hall.change_views(self.rt, alloc, change, told)
     }
 
-    // Learns what was told with the answer.
-    fn learn(&mut self, answer: Answer<J>) -> Result<(), Refusal>
+    // Learns what was told with the answer. Of a change that was made, the rows end behind this number.
+    fn learn(&mut self, answer: Answer<J>, end: Option<(usize, u64)>) -> Result<(), Refusal>
         requires { IsLongEnough self.old.told answer }
         ensures { IsLearnt self.old answer result self.new }
     {
         match answer {
             Ok(told) => {
                 self.hear(told);
+                self.numbers.note(end);
                 Ok(())
             }
             Err(ChangeFault::Refused(fault, told)) => {
@@ -192,7 +200,7 @@ impl<'r, R: Wait, Acc: Ledger, Del: Ledger, J: Naming> HallStore<'r, R, Acc, Del
 }
 
 impl<'r, R: Wait, Acc: Ledger, Del: Ledger, J: Naming> ViewStore for HallStore<'r, R, Acc, Del, J> {
-    ghost use Rattle.std.specs.Prelude.{[], refl};
+    ghost use Rattle.std.specs.Prelude.{[], refl, ⊤};
     ghost use Rattle.std.proofs.lemmas.List.{append-nil};
     ghost use Rattle.df_shell.specs.Halls.{IsAnswerOfHall, IsKeptInHall, IsMadeInHall, IsRefusedInHall};
 
@@ -204,9 +212,17 @@ impl<'r, R: Wait, Acc: Ledger, Del: Ledger, J: Naming> ViewStore for HallStore<'
 
     ghost Answers = { λ old new d q answer. IsAnswerOfHall old new d q answer };
 
+    // No clause says which numbers others appended.
+    ghost Next = { λ s at n. ⊤ };
+
+    fn next_number(&self, frame: usize) -> u64 {
+        self.numbers.get(frame)
+    }
+
     fn make(&mut self, alloc: Global, change: Change) -> Result<(), Refusal> {
+        let end = end_of(&change);
         match self.change(alloc, change) {
-            Some(answer) => self.learn(answer),
+            Some(answer) => self.learn(answer, end),
             None => Err(Refusal::Store(CatalogueFault::NoFrame)),
         }
     }

@@ -8,7 +8,12 @@ use std::alloc::{AllocError, Global};
 pub type CommandHelp = (&'static str, &'static str, &'static str);
 
 /// The commands, in the order in which `help` lists them. A command of several forms has an entry for each.
-pub const COMMANDS: [CommandHelp; 18] = [
+pub const COMMANDS: [CommandHelp; 20] = [
+    (
+        "append",
+        "append FRAME                 and lines of CSV up to a line with a dot alone: adds rows behind all others\n",
+        "    > append sales\n    | east,5\n    | south,4\n    | .\n    ok 3..4\n",
+    ),
     (
         "append",
         "append FRAME FIRST COUNT     and COUNT lines of CSV: adds rows, numbered from FIRST\n",
@@ -88,6 +93,11 @@ pub const COMMANDS: [CommandHelp; 18] = [
         "version",
         "version                      the number of the newest version; only with --hall\n",
         "    > version\n    version 2\n",
+    ),
+    (
+        "source",
+        "source PATH                  the answers to the commands in a file, as if they stood here\n",
+        "    > source today.txt\n    ok\n",
     ),
     (
         "help",

@@ -18,6 +18,7 @@ mod hall_shell;
 mod hall_store;
 mod help;
 mod lines;
+mod numbers;
 mod opening;
 mod parts;
 mod prepared;

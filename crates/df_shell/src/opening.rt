@@ -8,6 +8,7 @@ ghost use Rattle.df_catalogue.specs.Ledgers as ledgers;
 
 use crate::definitions::Definitions;
 use crate::fault::ShellFault;
+use crate::numbers::Numbers;
 use crate::store::Store;
 use crate::view_store::ViewStore;
 use df_catalogue::{Catalogue, Change};
@@ -35,8 +36,13 @@ pub fn open_store<Acc: Ledger, Del: Ledger>(
         (opening_changes definitions.now pieces)) }
 {
     let schemas = copy_schemas(alloc, definitions.document.frames.as_slice())?;
+    let numbers = Numbers::new(alloc, schemas.len())?;
     let (catalogue, desks) = Catalogue::new(alloc, accepted, deleted, schemas)?;
-    let mut store = Store { catalogue, desks };
+    let mut store = Store {
+        catalogue,
+        desks,
+        numbers,
+    };
     match fill(alloc, &mut store, definitions, pieces) {
         Ok(()) => Ok(store),
         Err(fault) => {

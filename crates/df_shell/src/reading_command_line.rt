@@ -13,6 +13,7 @@ const VERSION: &str = "1.0.0";
 
 // The end of the help.
 const AFTER_HELP: &str = r#"Commands, one a line of standard input:
+  append FRAME                 and lines of CSV up to a line with a dot alone: adds rows behind all others
   append FRAME FIRST COUNT     and COUNT lines of CSV: adds rows, numbered from FIRST
   delete FRAME NUMBER ..       takes the rows of these numbers out
   replace FRAME NUMBER ..      and as many lines of CSV: puts each row in the place of that of its number
@@ -29,6 +30,7 @@ const AFTER_HELP: &str = r#"Commands, one a line of standard input:
   check                        whether each view has the rows that its plan gives: same, or differs and a view
   work                         what the views counted at the last change of rows; not with --hall
   version                      the number of the newest version; only with --hall
+  source PATH                  the answers to the commands in a file, as if they stood here
   help [COMMAND]               this list, or a command with an example
   quit                         ends the session, as the end of input does
 

@@ -66,6 +66,12 @@ pub enum Mistake {
     /// The document has no frame and no view of this name.
     #[error("no such frame or view")]
     NoTable,
+    /// The file under a path cannot be opened, or a read of it fails.
+    #[error("no such file")]
+    NoFile,
+    /// A file of commands names another.
+    #[error("commands of a file in a file of commands")]
+    NestedSource,
     /// A question about versions, which a catalogue has not.
     #[error("only with --hall")]
     OnlyWithHall,

@@ -44,6 +44,8 @@ fn mistake_text(mistake: Mistake) -> &'static str
         Mistake::OtherRowCount => "not as many rows as numbers",
         Mistake::NoView => "the document has no such view",
         Mistake::NoTable => "the document has no frame and no view of this name",
+        Mistake::NoFile => "the file cannot be opened or read",
+        Mistake::NestedSource => "source stands in no file that is sourced itself",
         Mistake::OnlyWithHall => "only with --hall",
         Mistake::NotWithHall => "not with --hall",
     }

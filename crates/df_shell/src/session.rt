@@ -8,11 +8,12 @@ use crate::prompts::{COMMAND_PROMPT, Prompts, RECORD_PROMPT, greeting};
 use crate::refusal::{Mistake, Refusal};
 use crate::refusal_texts::refusal_text;
 use crate::view_store::ViewStore;
-use crate::words::{count_lines, read_words};
+use crate::words::{Following, lines_behind, read_words};
+use df_document::Files;
 use df_text::write_text;
-use df_value::List;
+use df_value::{List, Text};
 use std::alloc::{AllocError, Global};
-use std::io::{BufRead, Read, Write};
+use std::io::{BufRead, BufReader, Read, Write};
 
 /// What a shell has while it answers.
 pub struct Session<S> {
@@ -45,24 +46,32 @@ impl Buffers {
     }
 }
 
-/// Whether a command is read behind this one.
+/// What comes behind a command.
+#[derive(Drop)]
 enum Turn {
+    /// The next one.
     Next,
-    Last,
+    /// The commands in the file under this path.
+    Source(Text),
+    /// Nothing: the input has ended.
+    End,
+    /// Nothing: the session ends.
+    Quit,
 }
 
 /// Writes the first lines, those of the refused chunks among them, and answers the commands.
-pub fn answer_from<S: ViewStore, I: BufRead, W: Write>(
+pub fn answer_from<S: ViewStore, F: Files, I: BufRead, W: Write>(
     alloc: Global,
     session: &mut Session<S>,
     refused: List<u8>,
+    files: &mut F,
     input: &mut I,
     output: &mut W,
 ) -> Result<(), ShellFault> {
     greet(alloc, session, output)?;
     write_answer(output, refused.as_slice())?;
     drop(refused);
-    answer_all(alloc, session, input, output)
+    answer_all(alloc, session, files, input, output)
 }
 
 fn greet<S, W: Write>(
@@ -76,19 +85,84 @@ fn greet<S, W: Write>(
     }
 }
 
-fn answer_all<S: ViewStore, I: BufRead, W: Write>(
+fn answer_all<S: ViewStore, F: Files, I: BufRead, W: Write>(
     alloc: Global,
     session: &mut Session<S>,
+    files: &mut F,
     input: &mut I,
     output: &mut W,
 ) -> Result<(), ShellFault> {
     for _ in 0..u64::MAX {
         match answer_next(alloc, session, input, output)? {
             Turn::Next => {}
-            Turn::Last => return Ok(()),
+            Turn::Source(path) => {
+                if source(alloc, session, files, &path, output)? {
+                    return Ok(());
+                }
+            }
+            Turn::End | Turn::Quit => return Ok(()),
         }
     }
     Ok(())
+}
+
+// Answers the commands in a file, without prompts; whether one of them ends the session.
+fn source<S: ViewStore, F: Files, W: Write>(
+    alloc: Global,
+    session: &mut Session<S>,
+    files: &mut F,
+    path: &Text,
+    output: &mut W,
+) -> Result<bool, ShellFault> {
+    let Some(file) = files.open(path.as_str()) else {
+        write_refusal(alloc, output, &Refusal::Mistake(Mistake::NoFile))?;
+        return Ok(false);
+    };
+    let prompts = session.prompts;
+    session.prompts = Prompts::Hidden;
+    let ended = answer_file(alloc, session, file, output);
+    session.prompts = prompts;
+    ended
+}
+
+fn answer_file<S: ViewStore, R: Read + Drop, W: Write>(
+    alloc: Global,
+    session: &mut Session<S>,
+    file: R,
+    output: &mut W,
+) -> Result<bool, ShellFault> {
+    match BufReader::new(alloc, file) {
+        Ok(mut input) => answer_sourced(alloc, session, &mut input, output),
+        Err(_) => {
+            write_refusal(alloc, output, &Refusal::Memory)?;
+            Ok(false)
+        }
+    }
+}
+
+// The commands of a file name no further file.
+fn answer_sourced<S: ViewStore, I: BufRead, W: Write>(
+    alloc: Global,
+    session: &mut Session<S>,
+    input: &mut I,
+    output: &mut W,
+) -> Result<bool, ShellFault> {
+    for _ in 0..u64::MAX {
+        match answer_next(alloc, session, input, output) {
+            Ok(Turn::Next) => {}
+            Ok(Turn::Source(_)) => {
+                write_refusal(alloc, output, &Refusal::Mistake(Mistake::NestedSource))?;
+            }
+            Ok(Turn::End) => return Ok(false),
+            Ok(Turn::Quit) => return Ok(true),
+            Err(ShellFault::Read) => {
+                write_refusal(alloc, output, &Refusal::Mistake(Mistake::NoFile))?;
+                return Ok(false);
+            }
+            Err(fault) => return Err(fault),
+        }
+    }
+    Ok(false)
 }
 
 // Reads a line, and answers the command that it is.
@@ -107,7 +181,7 @@ fn answer_next<S: ViewStore, I: BufRead, W: Write>(
         }
         Ok(Line::End) => {
             write_prompt(output, session.prompts, b"\n")?;
-            Ok(Turn::Last)
+            Ok(Turn::End)
         }
         Err(_) => Err(ShellFault::Read),
     }
@@ -125,9 +199,9 @@ fn take_turn<S: ViewStore, I: BufRead, W: Write>(
         return Ok(Turn::Next);
     }
     let words = read_words(alloc, line);
-    let count = count_lines(alloc, &words, line);
+    let following = lines_behind(alloc, &words, line);
     let record = &mut session.buffers.record;
-    let lines = read_lines(alloc, session.prompts, input, output, record, count)?;
+    let lines = read_lines(alloc, session.prompts, input, output, record, following)?;
     let definitions = &session.definitions;
     match answer_line(
         alloc,
@@ -137,7 +211,8 @@ fn take_turn<S: ViewStore, I: BufRead, W: Write>(
         words,
         lines,
     ) {
-        Ok(Answer::Ended) => return Ok(Turn::Last),
+        Ok(Answer::Ended) => return Ok(Turn::Quit),
+        Ok(Answer::Source(path)) => return Ok(Turn::Source(path)),
         Ok(answer) => write_answer(output, answer.bytes())?,
         Err(refusal) => write_refusal(alloc, output, &refusal)?,
     }
@@ -154,26 +229,47 @@ fn is_passed_over(line: &[u8]) -> bool {
     true
 }
 
-// Reads so many lines, also where they cannot be had: then the answer says why.
+// Reads the lines behind a command, also where they cannot be had: then the answer says why.
 fn read_lines<I: BufRead, W: Write>(
     alloc: Global,
     prompts: Prompts,
     input: &mut I,
     output: &mut W,
     line: &mut Vec<u8>,
-    count: u64,
+    following: Following,
 ) -> Result<Result<Vec<u8>, Refusal>, ShellFault> {
     let mut lines = Ok(Vec::new(alloc));
-    for _ in 0..count {
+    for _ in 0..most_lines(following) {
         write_prompt(output, prompts, RECORD_PROMPT)?;
         match read_line(input, line) {
-            Ok(Line::Whole) => lines = with_line(lines, line.as_slice()),
+            Ok(Line::Whole) if is_end(following, line.as_slice()) => return Ok(lines),
+            Ok(Line::Whole) => lines = with_line(lines, content(following, line.as_slice())),
             Ok(Line::TooLong) => lines = with_long_line(lines),
             Ok(Line::End) => return Ok(Err(Refusal::Mistake(Mistake::MissingLines))),
             Err(_) => return Err(ShellFault::Read),
         }
     }
     Ok(lines)
+}
+
+fn most_lines(following: Following) -> u64 {
+    match following {
+        Following::Lines(count) => count,
+        Following::UntilDot => u64::MAX,
+    }
+}
+
+// Whether the line ends those that are read.
+fn is_end(following: Following, line: &[u8]) -> bool {
+    following == Following::UntilDot && without_end(line) == b".".as_slice()
+}
+
+// The line without the dot that stands before another.
+fn content(following: Following, line: &[u8]) -> &[u8] {
+    match following {
+        Following::Lines(_) => line,
+        Following::UntilDot => line.strip_prefix(b".").unwrap_or(line),
+    }
 }
 
 // Writes what only a terminal shows.

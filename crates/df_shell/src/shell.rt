@@ -33,24 +33,26 @@ pub fn run_shell<R: Threads + Sync, V: Read, F: Files, I: BufRead, W: Write>(
     output: &mut W,
 ) -> Result<(), ShellFault> {
     let prepared = prepare(rt, alloc, document, files)?;
-    serve::<Brand, Brand, I, W>(
+    serve::<Brand, Brand, F, I, W>(
         alloc,
         Blank::new(PARTS_OF_LEDGER),
         Blank::new(PARTS_OF_LEDGER),
         prepared,
         prompts,
+        files,
         input,
         output,
     )
 }
 
 // Opens the store, and answers the commands.
-fn serve<Acc: Ledger, Del: Ledger, I: BufRead, W: Write>(
+fn serve<Acc: Ledger, Del: Ledger, F: Files, I: BufRead, W: Write>(
     alloc: Global,
     accepted: Blank,
     deleted: Blank,
     prepared: Prepared,
     prompts: Prompts,
+    files: &mut F,
     input: &mut I,
     output: &mut W,
 ) -> Result<(), ShellFault>
@@ -75,7 +77,7 @@ fn serve<Acc: Ledger, Del: Ledger, I: BufRead, W: Write>(
                 buffers,
                 prompts,
             };
-            answer_session(alloc, session, refused, input, output)
+            answer_session(alloc, session, refused, files, input, output)
         }
         Err(fault) => {
             drop(definitions);
@@ -88,15 +90,16 @@ fn serve<Acc: Ledger, Del: Ledger, I: BufRead, W: Write>(
 
 // Answers the commands, and ends the session: in calls and at one place, since each drop of a store, and one at the end
 // of a block above all, costs the proof anew.
-fn answer_session<Acc: Ledger, Del: Ledger, I: BufRead, W: Write>(
+fn answer_session<Acc: Ledger, Del: Ledger, F: Files, I: BufRead, W: Write>(
     alloc: Global,
     session: Session<Store<Acc, Del>>,
     refused: List<u8>,
+    files: &mut F,
     input: &mut I,
     output: &mut W,
 ) -> Result<(), ShellFault> {
     let mut session = session;
-    let answered = answer_from(alloc, &mut session, refused, input, output);
+    let answered = answer_from(alloc, &mut session, refused, files, input, output);
     let Session {
         definitions,
         store,

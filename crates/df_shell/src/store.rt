@@ -2,11 +2,13 @@
 ghost use Rattle.std.specs.Prelude.{◌≡◌, true, is_none};
 ghost use Rattle.df_catalogue.specs.Desks.{AreInOrder};
 ghost use Rattle.df_catalogue.specs.States.{IsLegal};
+ghost use Rattle.df_shell.specs.Numbers.{next_numbers};
 
 use crate::checking::check;
 use crate::command::Question;
 use crate::definitions::Definitions;
 use crate::describing::{describe_frames, schema};
+use crate::numbers::{Numbers, end_if_made, end_of};
 use crate::reading::{books, rows, show, views, work};
 use crate::refusal::{Mistake, Refusal};
 use crate::view_store::ViewStore;
@@ -14,20 +16,28 @@ use df_catalogue::{Catalogue, Change, Desk};
 use std::alloc::Global;
 use std::sync::ledger::Ledger;
 
-/// A catalogue, over which nothing is staged, with the desks of its frames, in their order.
+/// A catalogue, over which nothing is staged, with the desks of its frames, in their order, and the numbers behind all that
+/// each accepted.
 pub struct Store<Acc: Ledger, Del: Ledger> {
     pub catalogue: Catalogue<Acc, Del>,
     pub desks: Vec<Desk<Acc, Del>>,
+    pub numbers: Numbers,
     ghost in_order: { AreInOrder desks.items catalogue.state },
     ghost nothing_staged: { is_none catalogue.staged ≡ true },
+    ghost numbered: { numbers ≡ next_numbers catalogue.state.frames },
 }
 
 // A body that owns one drops it by a call.
 impl<Acc: Ledger, Del: Ledger> Drop for Store<Acc, Del> {
     fn drop(self) {
-        let Store { catalogue, desks } = self;
+        let Store {
+            catalogue,
+            desks,
+            numbers,
+        } = self;
         drop(catalogue);
         drop(desks);
+        drop(numbers);
     }
 }
 
@@ -44,6 +54,7 @@ impl<Acc: Ledger, Del: Ledger> Store<Acc, Del> {
 impl<Acc: Ledger, Del: Ledger> ViewStore for Store<Acc, Del> {
     ghost use Rattle.std.specs.Prelude.{refl};
     ghost use Rattle.df_shell.specs.Changes.{IsMade, IsRefusedAs};
+    ghost use Rattle.df_shell.specs.Numbers.{next_number_at};
     ghost use Rattle.df_shell.specs.Questions.{IsTold, refusal_of_question, text_of_question};
 
     ghost Makes = { λ old new c. IsMade old.catalogue new.catalogue c };
@@ -56,9 +67,18 @@ impl<Acc: Ledger, Del: Ledger> ViewStore for Store<Acc, Del> {
         IsTold (text_of_question d old.catalogue q) (refusal_of_question q) answer
         × (new.catalogue ≡ old.catalogue) };
 
+    ghost Next = { λ s at n. n ≡ next_number_at s.catalogue.state.frames at };
+
     fn make(&mut self, alloc: Global, change: Change) -> Result<(), Refusal> {
+        let end = end_of(&change);
         let desks = self.desks.as_mut_slice();
-        Ok(self.catalogue.apply(alloc, desks, change)?)
+        let made = self.catalogue.apply(alloc, desks, change);
+        self.numbers.note(end_if_made(&made, end));
+        Ok(made?)
+    }
+
+    fn next_number(&self, frame: usize) -> u64 {
+        self.numbers.get(frame)
     }
 
     fn answer(

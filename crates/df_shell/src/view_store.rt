@@ -28,6 +28,9 @@ pub trait ViewStore {
     /// The question was answered so.
     ghost Answers: { Self → Self → AnyDefinitions → AnyQuestion → Result (Bytes ℕ) AnyRefusal → Type 0 };
 
+    /// Further rows of the frame at this index begin behind all numbers that it accepted at this one.
+    ghost Next: { Self → ℕ → ℕ → Type 0 };
+
     /// Makes a change. Where it is refused nothing was done.
     fn make(&mut self, alloc: Global, change: Change) -> Result<(), Refusal>
         ensures made { OnOk result (Makes self.old self.new change) }
@@ -42,6 +45,10 @@ pub trait ViewStore {
         question: Question<'_>,
     ) -> Result<Vec<u8>, Refusal>
         ensures { Answers self.old self.new definitions.now question.entry result };
+
+    /// The number behind all that a frame ever accepted, also where its row was deleted.
+    fn next_number(&self, frame: usize) -> u64
+        ensures { Next self.now frame result };
 
     ghost stays: { (s : Self) → Keeps s s };
 }

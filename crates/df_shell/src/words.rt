@@ -91,33 +91,59 @@ fn read_record(alloc: Global, line: &[u8]) -> Result<StringRecord, Refusal>
     }
 }
 
-/// How many lines of CSV stand behind a line, where its words are the header of an `append` or a `replace`: COUNT, or as many as
-/// there are numbers. Behind other words there are none. Words that memory was refused to are read once more for this alone, so
-/// that the lines can be passed over. Where it is refused again, the bytes behind the last blank of an `append` are taken for
-/// COUNT, and the blanks of a `replace` outside quotes, less one, are counted.
-pub fn count_lines(alloc: Global, words: &Result<StringRecord, Refusal>, line: &[u8]) -> u64 {
+/// The lines of CSV that stand behind a line.
+#[derive(Clone, Copy, PartialEq, Eq)]
+pub enum Following {
+    /// So many.
+    Lines(u64),
+    /// All up to a line with a dot alone. Before a line that begins with a dot stands one more (RFC 5321, 4.5.2).
+    UntilDot,
+}
+
+/// Which lines of CSV stand behind a line, where its words are the header of an `append` or a `replace`: COUNT, those up to a
+/// dot, or as many as there are numbers. Behind other words there are none. Words that memory was refused to are read once more
+/// for this alone, so that the lines can be passed over. Where it is refused again, the bytes behind the last blank of an
+/// `append` are taken for COUNT, if it has several blanks, and the blanks of a `replace` outside quotes, less one, are counted.
+pub fn lines_behind(
+    alloc: Global,
+    words: &Result<StringRecord, Refusal>,
+    line: &[u8],
+) -> Following {
     match words {
-        Ok(words) => count_in(words),
+        Ok(words) => lines_of(words),
         Err(Refusal::Memory) => match read_words(alloc, line) {
-            Ok(words) => count_in(&words),
-            Err(_) if line.starts_with(b"append ") => count_of(last_word(line)),
-            Err(_) if line.starts_with(b"replace ") => blanks(line).saturating_sub(1),
-            Err(_) => 0,
+            Ok(words) => lines_of(&words),
+            Err(_) => lines_guessed(line),
         },
-        Err(_) => 0,
+        Err(_) => Following::Lines(0),
     }
 }
 
-fn count_in(words: &StringRecord) -> u64 {
+fn lines_of(words: &StringRecord) -> Following {
     match words.get(0) {
+        Some("append") if words.len() == 2 => Following::UntilDot,
         Some("append") if words.len() == 4 && are_row_numbers(words, 2, 3) => {
-            count_of(words.get(3))
+            Following::Lines(count_of(words.get(3)))
         }
         Some("replace") if are_row_numbers(words, 2, words.len()) => {
-            (words.len() as u64).saturating_sub(2)
+            Following::Lines((words.len() as u64).saturating_sub(2))
         }
-        _ => 0,
+        _ => Following::Lines(0),
     }
+}
+
+// By the bytes of the line alone.
+fn lines_guessed(line: &[u8]) -> Following {
+    if line.starts_with(b"replace ") {
+        return Following::Lines(blanks(line).saturating_sub(1));
+    }
+    if !line.starts_with(b"append ") {
+        return Following::Lines(0);
+    }
+    if blanks(line) == 1 {
+        return Following::UntilDot;
+    }
+    Following::Lines(count_of(last_word(line)))
 }
 
 // Whether the words from one place to before another are row numbers.

@@ -1,10 +1,24 @@
-use Rattle.std.proofs.Common.{◌≡◌, ◌∙◌, ap, map, subst}
+use Rattle.std.proofs.Common.{◌≡◌, ◌∙◌, ap, length, map, replicate, subst, sym}
+use Rattle.std.specs.Prelude.{is_none}
+use Rattle.df_catalogue.specs.declared.state.State.{State}
+use Rattle.df_shell.proofs.NumberFacts.{numbers-empty}
+use Rattle.df_shell.specs.Numbers.{next_numbers}
 use Rattle.df_catalogue.specs.States.{opening_of}
 use Rattle.df_text.specs.declared.document.FrameSpec.{FrameSpec}
 use Rattle.df_shell.proofs.AreMadeFacts.{all-within}
 use Rattle.df_shell.specs.Changes.{IsMade}
 use Rattle.df_shell.specs.Opening.{AreMade, empty_catalogue, opening_changes}
 use Rattle.df_shell.proofs.opening.open_store.Goals as goal
+
+pub invariant_of-store : goal.invariant_of-store
+invariant_of-store g c = record {
+  in_order = c.in_ok-catalogue.ensures.in_order;
+  nothing_staged = ap is_none c.in_ok-catalogue.ensures.staged;
+  numbered =
+      c.in_ok-numbers.ensures
+      ∙ (ap (λ n. replicate n 0) c.len.ensures
+      ∙ (sym (numbers-empty (length c.in_ok-schemas.schemas)) ∙ ap (λ (s : State). next_numbers s.frames) (sym c.in_ok-catalogue.ensures.opening)));
+}
 
 pub returns-in-Ok : goal.returns-in-Ok
 returns-in-Ok g c =
