@@ -416,10 +416,16 @@ modelled() {
   wrong=$((wrong + otherwise))
 }
 for name in by_region windows joins aggregates expressions steps; do modelled "$here/../examples/$name.toml"; done
+modelled "$here/sums_of_a_join.toml"
 printf '%s' "$csv" > sales.csv
+modelled of_file.toml
 modelled of_file.toml sales.csv
-"$here/as_files.py" "$here/../examples/windows.toml" .
-for place in 0 1; do modelled windows.toml "windows_$place.csv"; done
+for document in ../examples/windows sums_of_a_join; do
+  "$here/as_files.py" "$here/$document.toml" .
+  name=${document##*/}
+  modelled "$name.toml"
+  for place in 0 1; do modelled "$name.toml" "${name}_$place.csv"; done
+done
 
 echo "hostile hands: $cases runs, $wrong otherwise"
 [ "$wrong" -eq 0 ]

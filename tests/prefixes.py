@@ -1,7 +1,7 @@
 #!/usr/bin/env python3
 """What the program answers to each prefix of a document, or of a frame's file, compared with model.py.
 
-    prefixes.py PROGRAM DOCUMENT         runs PROGRAM over each prefix of DOCUMENT
+    prefixes.py PROGRAM DOCUMENT         runs PROGRAM over each prefix of DOCUMENT; the files of its frames are whole
     prefixes.py PROGRAM DOCUMENT FILE    runs PROGRAM over DOCUMENT and each prefix of FILE, a frame's path; the files of
                                          other frames are whole
 
@@ -41,7 +41,7 @@ def main(program, document_path, file_path=None):
     if os.path.exists(expected):
         check("the model", contents(expected), model.answer(document, contents)[1])
     with tempfile.TemporaryDirectory() as folder:
-        for frame in tomllib.loads(document.decode())["frame"] if file_path else []:
+        for frame in tomllib.loads(document.decode())["frame"]:
             if "path" in frame:
                 shutil.copy(frame["path"], folder)
         for length in range(len(whole) + 1):

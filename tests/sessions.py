@@ -13,10 +13,12 @@ command are what the shell writes at its start. A command is sent only when the 
 With --hall the program runs each with that word. A transcript has the answers of both: of `work` those without the word,
 and of `version` those with it. The other way round each of the two is refused.
 
-With --refuse each session runs again with each of its allocations refused in turn. A refusal at the start ends in
-`dfshell: memory` and status 2. One later is answered `memory`; the answers behind it are then those of the session
-without that command. A session that sources a file runs once: one of its commands has the answers of many. Prints what
-differs, and ends with a count.
+With --refuse each session runs again with each of its allocations refused in turn, every second time with the one
+behind it too. A refusal at the start ends in a fault of memory and status 2. One later is answered `memory`: frames,
+books, views and the version are then those from before the command, and the same command typed again is answered as in
+the session without a refusal, and so is all that comes behind it. A session in which an accepted append of rows was never
+refused is wrong itself: then nothing is refused here. A session that sources a file runs once: one of
+its commands has the answers of many. Prints what differs, and ends with a count.
 """
 
 import concurrent.futures
@@ -27,6 +29,7 @@ import subprocess
 import sys
 import tempfile
 import threading
+import tomllib
 
 HERE = os.path.dirname(os.path.abspath(__file__))
 SECONDS = 120
@@ -63,9 +66,6 @@ class Session:
     def sources(self):
         return any(typed.startswith(b"source ") for typed in self.typed)
 
-    def without(self, at):
-        return b"".join(self.typed[:at] + self.typed[at + 1 :])
-
 
 class Runner:
     """Runs one session, and keeps what differs."""
@@ -75,6 +75,10 @@ class Runner:
         self.command = [os.path.abspath(program), *words, document]
         self.folder = os.path.dirname(os.path.abspath(session.path))
         self.session = session
+        with open(os.path.join(self.folder, document), "rb") as file:
+            self.document = tomllib.load(file)
+        # What a start without enough memory tells: by itself, or of the document.
+        self.starts = [b"dfshell: memory\n", f"{document}: takes more memory than there is [memory]\n".encode()]
         self.wrong = []
         self.cache = {}
 
@@ -116,37 +120,88 @@ class Runner:
         self.wrong.append(f"{self.session.path} {where}:\nwanted\n{text(wanted)}said\n{text(said)}")
 
     def refuse_each(self, library, counts):
-        typed = b"".join(self.session.typed)
-        self.whole(typed, LD_PRELOAD=library, COUNTS=counts)
+        """Refuses each allocation in turn, and gives how many there are."""
+        plain = b"".join(self.session.typed)
+        self.whole(plain, LD_PRELOAD=library, COUNTS=counts)
         with open(counts) as file:
             allocations = int(file.read().split()[0])
+        at, refused = 0, set()
         for n in range(1, allocations + 1):
-            result = self.whole(typed, LD_PRELOAD=library, FAIL_ALLOC=str(n))
-            if not self.lawful(*result):
-                self.differs(f"with allocation {n} refused", b"".join(self.session.answers), result[0] + result[1])
+            variables = {"LD_PRELOAD": library, "FAIL_ALLOC": str(n), "FAIL_ALLOCS": str(2 - n % 2)}
+            came = self.again(at, n % 2 == 1, variables)
+            if came is None:
+                # The refusal may have come to a later command.
+                at = self.place(self.whole(plain, **variables), at)
+                came = self.again(at, n % 2 == 1, variables)
+            if came:
+                refused.add(at)
+            elif came is None:
+                self.differs(f"with allocation {n} refused", b"".join(self.session.answers), self.whole(plain, **variables)[0])
+        for at in sorted(self.growing() - refused):
+            self.wrong.append(f"{self.session.path}: no allocation was refused at {first_line(self.session.typed[at])}")
         return allocations
 
-    def lawful(self, output, error, status):
-        if (output, error, status) == (b"", b"dfshell: memory\n", 2):
+    def growing(self):
+        """The commands that cannot do without memory: appends of rows that are accepted."""
+        turns = enumerate(zip(self.session.typed, self.session.answers))
+        return {at for at, (typed, answer) in turns if typed.startswith(b"append") and typed.count(b"\n") > 1 and answer == b"ok\n"}
+
+    def place(self, result, at):
+        """The first command from this one on that a run without a second try may have answered `memory`."""
+        said = b"".join(self.session.answers[:at])
+        for place in range(at, len(self.session.typed)):
+            if place > 0 and result[0].startswith(said + MEMORY):
+                return place
+            said += self.session.answers[place]
+        return at
+
+    def again(self, at, probed, variables):
+        """Types the command at this place again behind its refusal: True where it was refused and then answered, False
+        where nothing was refused here, None where the answers are others. In between the state is asked for, or, where two
+        allocations are refused, the command is typed a third time."""
+        typed, answers = self.session.typed, self.session.answers
+        before, said = b"".join(typed[:at]), b"".join(answers[:at])
+        probes = self.probes() if probed else typed[at]
+        behind = typed[at] + b"".join(typed[at + 1 :])
+        if at == 0:
+            before, probes, behind = b"", b"", b"".join(typed)
+        result = self.whole(before + typed[at] + probes + behind if at else behind, **variables)
+        output, error, status = result
+        if (output, status) == (b"", 2) and error in self.starts:
             return True
         if error or status != 0:
-            return False
-        answers = self.session.answers
-        said = b""
-        for at, answer in enumerate(answers):
-            if at > 0 and output.startswith(said + MEMORY) and output == said + MEMORY + self.behind(at, said):
-                return True
-            if not output.startswith(said + answer):
-                return False
-            said += answer
-        return output == said
+            return None
+        rest = b"".join(answers[at:])
+        if at and probed and output == said + MEMORY + self.state(at) + rest:
+            return True
+        if at and not probed and output == said + MEMORY + MEMORY + rest:
+            return True
+        if at and not probed and output == said + MEMORY + self.unrefused(before + typed[at] + behind)[len(said) :]:
+            return True
+        everything = before + typed[at] + probes + behind if at else behind
+        return False if output == self.unrefused(everything) else None
 
-    def behind(self, at, said):
-        """The answers behind a command in the session without it."""
-        if at not in self.cache:
-            output, _, _ = self.whole(self.session.without(at))
-            self.cache[at] = output[len(said) :] if output.startswith(said) else None
-        return self.cache[at] if self.cache[at] is not None else b"?"
+    def probes(self):
+        """Questions for all that a command may change."""
+        asked = ["check", "views"]
+        asked += [f"{word} {quoted(frame['name'])}" for frame in self.document.get("frame", []) for word in ("rows", "books")]
+        asked += [f"show {quoted(view['name'])}" for view in self.document.get("view", [])]
+        asked += ["version"] * ("--hall" in self.command)
+        return "".join(f"{question}\n" for question in asked).encode()
+
+    def state(self, at):
+        """The answers to these questions before the command at this place."""
+        typed, said = b"".join(self.session.typed[:at]), b"".join(self.session.answers[:at])
+        return self.unrefused(typed + self.probes())[len(said) :]
+
+    def unrefused(self, typed):
+        if typed not in self.cache:
+            self.cache[typed] = self.whole(typed)[0]
+        return self.cache[typed]
+
+
+def quoted(name):
+    return '"' + name.replace('"', '""') + '"'
 
 
 def send(shell, typed, last):
