@@ -4,7 +4,8 @@
 # it is there, the status that goes with it. A refused allocation ends in
 # `dfviews: memory` or leaves the output as it is; a refused read of the document is V10, one of a frame's file F1
 # and a refused write, or one that takes no byte, `write`, with nothing or a prefix of the output written. A thread that does
-# not start leaves the output as it is: the kit's library does its work in the thread that would have started it. Prints
+# not start leaves the output as it is: the kit's library does its work in the thread that would have started it. At least
+# nine of ten refused allocations have to end in `memory`, and at least a hundred: else nothing is refused here. Prints
 # what went otherwise, and ends with a count.
 set -u
 program=$1
@@ -41,10 +42,17 @@ other() {
 run COUNTS="$work/counts"
 whole || other "no refusal"
 read -r allocs reads file_reads writes threads < "$work/counts"
+memory=0
 for n in $(seq 1 "$allocs"); do
   run FAIL_ALLOC="$n"
-  whole || { faulted memory && [ ! -s "$work/out" ]; } || other "allocation $n"
+  if faulted memory && [ ! -s "$work/out" ]; then
+    memory=$((memory + 1))
+  else
+    whole || other "allocation $n"
+  fi
 done
+[ "$memory" -ge 100 ] && [ $((10 * memory)) -ge $((9 * allocs)) ] || other "$memory faults of memory"
+[ "$writes" -ge 1 ] && [ "$reads" -ge 1 ] || other "no read and no write to refuse"
 for n in $(seq 1 "$reads"); do
   run FAIL_READ="$n"
   { faulted V10 && [ ! -s "$work/out" ]; } || other "read $n"
@@ -82,5 +90,5 @@ for n in $(seq 1 "$writes"); do
   run SHORT=1 EMPTY_WRITE="$n"
   faulted write || other "short write $n, which takes no byte"
 done
-echo "$document ${words[*]}: $allocs allocations, $reads reads, $file_reads of files, $writes writes and $threads threads refused in turn, $wrong otherwise"
+echo "$document ${words[*]}: $allocs allocations, of which $memory end in memory, $reads reads, $file_reads of files, $writes writes and $threads threads refused in turn, $wrong otherwise"
 [ "$wrong" -eq 0 ]
