@@ -1,11 +1,14 @@
 """A second dfviews, written apart from the first, and small: what the program prints of a document.
 
 It knows each step, expression and aggregate, and computes every view anew with Python's own lists and numbers. Of CSV it
-knows what tests write: fields without quotes (siege.py has the records of its own files). A table is a dict of columns,
+knows what tests write: whole lines, with quotes as Python's own reader takes them (siege.py has the records of its own
+files). A table is a dict of columns,
 each a type and its cells; null is None, a mean a pair of a sum and a count. Python 3.11 or later, its own library alone
 (tomllib is TOML 1.0; the documents of the tests have nothing that TOML 1.1 reads otherwise).
 """
 
+import csv
+import io
 import re
 import tomllib
 import unicodedata
@@ -34,10 +37,10 @@ def tree_of(document):
 # Frames.
 
 
-def records_of(frame, csv):
+def records_of(frame, text):
     """The records' fields in the order of the frame's columns."""
     try:
-        lines = [line.split(",") for line in csv.decode().split("\n") if line]
+        lines = [fields for fields in csv.reader(io.StringIO(text.decode())) if fields]
     except UnicodeDecodeError:
         raise Fault(f"{frame['name']}: F3") from None
     header = lines[0] if lines else []
@@ -303,8 +306,8 @@ def answer(document, file_of):
         tree = tree_of(document)
         frames, refused = {}, []
         for frame in tree.get("frame", []):
-            csv = frame["text"].encode() if "text" in frame else file_of(frame["path"])
-            frames[frame["name"]], lines = loaded(frame, records_of(frame, csv))
+            text = frame["text"].encode() if "text" in frame else file_of(frame["path"])
+            frames[frame["name"]], lines = loaded(frame, records_of(frame, text))
             refused += lines
     except Fault as fault:
         return 2, b"", f"dfviews: {fault}\n".encode()

@@ -129,10 +129,10 @@ class Runner:
         for n in range(1, allocations + 1):
             variables = {"LD_PRELOAD": library, "FAIL_ALLOC": str(n), "FAIL_ALLOCS": str(2 - n % 2)}
             came = self.again(at, n % 2 == 1, variables)
-            if came is None:
-                # The refusal may have come to a later command.
-                at = self.place(self.whole(plain, **variables), at)
-                came = self.again(at, n % 2 == 1, variables)
+            # Where these are not the answers, the refusal may have come to a later command.
+            later = iter([] if came is not None else self.places(self.whole(plain, **variables)[0], at))
+            while came is None and (place := next(later, None)) is not None:
+                at, came = place, self.again(place, n % 2 == 1, variables)
             if came:
                 refused.add(at)
             elif came is None:
@@ -146,40 +146,39 @@ class Runner:
         turns = enumerate(zip(self.session.typed, self.session.answers))
         return {at for at, (typed, answer) in turns if typed.startswith(b"append") and typed.count(b"\n") > 1 and answer == b"ok\n"}
 
-    def place(self, result, at):
-        """The first command from this one on that a run without a second try may have answered `memory`."""
-        said = b"".join(self.session.answers[:at])
-        for place in range(at, len(self.session.typed)):
-            if place > 0 and result[0].startswith(said + MEMORY):
-                return place
+    def places(self, output, at):
+        """The commands behind this one to which a run without a second try may have answered `memory`: several, where
+        commands have no answer."""
+        said = b"".join(self.session.answers[: at + 1])
+        for place in range(at + 1, len(self.session.typed)):
+            if output.startswith(said + MEMORY):
+                yield place
             said += self.session.answers[place]
-        return at
 
     def again(self, at, probed, variables):
         """Types the command at this place again behind its refusal: True where it was refused and then answered, False
-        where nothing was refused here, None where the answers are others. In between the state is asked for, or, where two
-        allocations are refused, the command is typed a third time."""
+        where nothing was refused, None where the answers are others. In between the state is asked for, or, where two
+        allocations are refused, the command is typed once more."""
         typed, answers = self.session.typed, self.session.answers
-        before, said = b"".join(typed[:at]), b"".join(answers[:at])
-        probes = self.probes() if probed else typed[at]
-        behind = typed[at] + b"".join(typed[at + 1 :])
-        if at == 0:
-            before, probes, behind = b"", b"", b"".join(typed)
-        result = self.whole(before + typed[at] + probes + behind if at else behind, **variables)
-        output, error, status = result
+        before, said, rest = b"".join(typed[:at]), b"".join(answers[:at]), b"".join(typed[at:])
+        between = b"" if at == 0 else self.probes() if probed else typed[at]
+        everything = before + typed[at] + between + rest
+        output, error, status = self.whole(everything, **variables)
         if (output, status) == (b"", 2) and error in self.starts:
             return True
         if error or status != 0:
             return None
-        rest = b"".join(answers[at:])
-        if at and probed and output == said + MEMORY + self.state(at) + rest:
-            return True
-        if at and not probed and output == said + MEMORY + MEMORY + rest:
-            return True
-        if at and not probed and output == said + MEMORY + self.unrefused(before + typed[at] + behind)[len(said) :]:
-            return True
-        everything = before + typed[at] + probes + behind if at else behind
-        return False if output == self.unrefused(everything) else None
+        if output == self.unrefused(everything):
+            return False
+        behind = b"".join(answers[at:])
+        if at and probed:
+            lawful = [self.state(at) + behind]
+        elif at:
+            # Both allocations were of one try, or each of its own.
+            lawful = [self.unrefused(before + typed[at] + rest)[len(said) :], MEMORY + behind]
+        else:
+            lawful = []
+        return True if output in [said + MEMORY + answer for answer in lawful] else None
 
     def probes(self):
         """Questions for all that a command may change."""
