@@ -1,0 +1,3 @@
+pub mod DesksFacts
+pub mod BooksFacts
+pub mod Crosses

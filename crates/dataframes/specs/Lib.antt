@@ -1,0 +1,4 @@
+pub mod Books
+pub mod Appends
+pub mod Closing
+pub mod ViewRows
