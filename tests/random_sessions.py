@@ -4,7 +4,7 @@
 A session appends, deletes and replaces random rows of two frames, also with numbers that are refused, and asks for
 frames and views. The model keeps each frame as a dictionary from number to row and recomputes each view from it, as
 model.py does. Every second session has frames of several thousand rows, which stand in several blocks, and no views.
-Prints what differs, and ends with a count.
+Before these, frames of SIZES rows are asked for all of them. Prints what differs, and ends with a count.
 """
 
 import random
@@ -14,6 +14,8 @@ import tempfile
 
 import model
 
+# No row, one, a block of 1,024, one more, and two blocks and one more.
+SIZES = [0, 1, 1024, 1025, 2049]
 COLUMNS = [("k", "Text"), ("v", "Int"), ("o", "Bool")]
 DOCUMENT = """
 [[frame]]
@@ -134,6 +136,17 @@ def session(source, views, changes, most):
     return turns
 
 
+def sized(size):
+    """A session of one chunk of so many rows: the texts a, b, a in turn, and every third cell null."""
+    frame = Frame("left", COLUMNS)
+    frame.rows = {n: ["aba"[n % 3], None if n % 3 == 2 else n, None if n % 3 == 1 else n % 2 == 0] for n in range(size)}
+    turns = [(f"append left 0 {size}\n" + frame.csv(frame.rows.values()), "ok\n"), frame.show()]
+    if size:
+        last = size - 1
+        turns += [(f"append left {last} 1\na,1,true\n", f"C2 {last}: number {last} was accepted before\n"), frame.show()]
+    return turns
+
+
 def document(views):
     parts = [f'[[view]]\nname = "{name}"\nfrom = "{start}"\nsteps = {toml(steps)}\n' for name, start, steps in views]
     return DOCUMENT + "".join(parts)
@@ -160,13 +173,17 @@ def main():
     seed = int(sys.argv[2]) if len(sys.argv) > 2 else 20261123
     sessions = int(sys.argv[3]) if len(sys.argv) > 3 else 100
     wrong = 0
+    for size in SIZES:
+        if not run([program], document([]), sized(size)):
+            print(f"a frame of {size} rows differs")
+            wrong += 1
     for n in range(sessions):
         source = random.Random(seed + n)
         views, changes, most = (VIEWS, 60, 12) if n % 2 == 0 else ([], 40, 700)
         if not run([program], document(views), session(source, views, changes, most)):
             print(f"session of seed {seed + n} differs")
             wrong += 1
-    print(f"{sessions} sessions, {wrong} differ")
+    print(f"{len(SIZES)} sizes, {sessions} sessions, {wrong} differ")
     return 1 if wrong else 0
 
 
