@@ -34,6 +34,7 @@ import tomllib
 HERE = os.path.dirname(os.path.abspath(__file__))
 SECONDS = 120
 MEMORY = b"memory\n"
+CUT = b"? the input ends before the lines of the command\n"
 # What is refused with --hall, and what is without it.
 WITH_HALL = {b"work\n": b"? not with --hall\n"}
 WITHOUT_HALL = {b"version\n": b"? only with --hall\n"}
@@ -163,6 +164,9 @@ class Runner:
         before, said, rest = b"".join(typed[:at]), b"".join(answers[:at]), b"".join(typed[at:])
         between = b"" if at == 0 else self.probes() if probed else typed[at]
         everything = before + typed[at] + between + rest
+        if answers[at] == CUT:
+            # What is typed behind it would be its lines.
+            everything = before + typed[at]
         output, error, status = self.whole(everything, **variables)
         if (output, status) == (b"", 2) and error in self.starts:
             return True
@@ -171,7 +175,9 @@ class Runner:
         if output == self.unrefused(everything):
             return False
         behind = b"".join(answers[at:])
-        if at and probed:
+        if answers[at] == CUT:
+            lawful = [b""]
+        elif at and probed:
             lawful = [self.state(at) + behind]
         elif at:
             # Both allocations were of one try, or each of its own.
