@@ -17,8 +17,9 @@ With --refuse each session runs again with each of its allocations refused in tu
 behind it too. A refusal at the start ends in a fault of memory and status 2. One later is answered `memory`: frames,
 books, views and the version are then those from before the command, and the same command typed again is answered as in
 the session without a refusal, and so is all that comes behind it. A session in which an accepted append of rows was never
-refused is wrong itself: then nothing is refused here. A session that sources a file runs once: one of
-its commands has the answers of many. Prints what differs, and ends with a count.
+refused is wrong itself: then nothing is refused here. A session that sources a file, or has a command that is no
+text, runs once. One in which the words of an append or a replace are refused has one allocation refused at a time:
+at two, the lines behind such a command are guessed. Prints what differs, and ends with a count.
 """
 
 import concurrent.futures
@@ -64,8 +65,21 @@ class Session:
         else:
             self.answers[-1] += line
 
-    def sources(self):
-        return any(typed.startswith(b"source ") for typed in self.typed)
+    def runs_once(self):
+        """Whether it sources a file, of which one command has the answers of many, or has a command that is no text, behind
+        which lines are guessed where memory is refused."""
+        return any(typed.startswith(b"source ") or b"\xff" in typed for typed in self.typed)
+
+    def is_cut(self, at):
+        """Whether the end of input cuts the lines of an append that is refused all the same."""
+        words, *lines = self.typed[at].split(b"\n")
+        count = words.split()[-1:] or [b""]
+        return at == len(self.typed) - 1 and words.startswith(b"append") and count[0].isdigit() and int(count[0]) > len(lines) - 1
+
+    def guesses(self):
+        """Whether memory that is refused twice to the words of a command may have lines behind it taken for its own."""
+        turns = zip(self.typed, self.answers)
+        return any(typed.startswith((b"append", b"replace")) and answer.startswith(b"? ") for typed, answer in turns)
 
 
 class Runner:
@@ -128,7 +142,8 @@ class Runner:
             allocations = int(file.read().split()[0])
         at, refused = 0, set()
         for n in range(1, allocations + 1):
-            variables = {"LD_PRELOAD": library, "FAIL_ALLOC": str(n), "FAIL_ALLOCS": str(2 - n % 2)}
+            several = 1 if self.session.guesses() else 2 - n % 2
+            variables = {"LD_PRELOAD": library, "FAIL_ALLOC": str(n), "FAIL_ALLOCS": str(several)}
             came = self.again(at, n % 2 == 1, variables)
             # Where these are not the answers, the refusal may have come to a later command.
             later = iter([] if came is not None else self.places(self.whole(plain, **variables)[0], at))
@@ -164,7 +179,7 @@ class Runner:
         before, said, rest = b"".join(typed[:at]), b"".join(answers[:at]), b"".join(typed[at:])
         between = b"" if at == 0 else self.probes() if probed else typed[at]
         everything = before + typed[at] + between + rest
-        if answers[at] == CUT:
+        if answers[at] == CUT or self.session.is_cut(at):
             # What is typed behind it would be its lines.
             everything = before + typed[at]
         output, error, status = self.whole(everything, **variables)
@@ -175,7 +190,7 @@ class Runner:
         if output == self.unrefused(everything):
             return False
         behind = b"".join(answers[at:])
-        if answers[at] == CUT:
+        if answers[at] == CUT or self.session.is_cut(at):
             lawful = [b""]
         elif at and probed:
             lawful = [self.state(at) + behind]
@@ -247,7 +262,7 @@ def run(program, words, path, library, folder):
     runner = Runner(program, words, session)
     runner.converse()
     refused = 0
-    if library and not runner.wrong and not session.sources():
+    if library and not runner.wrong and not session.runs_once():
         counts = os.path.join(folder, path.replace("/", "_") + ".counts")
         refused = runner.refuse_each(library, counts)
     return runner.wrong, refused

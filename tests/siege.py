@@ -143,7 +143,9 @@ def loads(source, folder, dfviews):
 def changes(source, dfshell):
     """Whether a random session over large frames is answered as the model answers it."""
     views = live.views_of(source)[:3]
-    turns = live.session(source, views, 12, 300)
+    # Two joins make so many rows that `check`, whose evaluator looks at each right row for each left one, takes minutes.
+    rows = 40 if any(str(view).count("join") > 1 for view in views) else 300
+    turns = live.session(source, views, 12, rows)
     words = [dfshell] + ["--hall"] * source.randrange(2)
     return random_sessions.run(words, live.document(views), turns)
 
@@ -168,7 +170,8 @@ def damaged(source, contents):
     return bytes(contents)
 
 
-FAULT = re.compile(rb"(dfviews|dfshell): (memory|.*[VFPLSH][0-9]+.*)\n")
+# By its code, or in words with the code in brackets.
+FAULT = re.compile(rb"(dfviews|dfshell): (memory|.*[VFPLSH][0-9]+.*)\n|.* \[.*[VFP][0-9]+.*\]\n")
 
 
 def is_named(answer):
