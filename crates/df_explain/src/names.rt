@@ -1,6 +1,6 @@
 //! Names in a sentence.
 use df_text::escape;
-use df_value::{Schema, Text};
+use df_value::Schema;
 use std::alloc::{AllocError, Global};
 
 /// A name or a word of the document in backticks, escaped as in a printed table.
@@ -32,15 +32,6 @@ pub fn column_names<'a>(alloc: Global, schema: &'a Schema) -> Result<Vec<&'a str
     let mut names = Vec::new(alloc);
     for column in schema.columns().as_slice() {
         names.push(column.0.as_str())?;
-    }
-    Ok(names)
-}
-
-/// The names in a list of texts.
-pub fn text_names<'a>(alloc: Global, texts: &'a [Text]) -> Result<Vec<&'a str>, AllocError> {
-    let mut names = Vec::new(alloc);
-    for text in texts {
-        names.push(text.as_str())?;
     }
     Ok(names)
 }

@@ -32,12 +32,7 @@ fn with_colon(alloc: Global, place: String) -> Result<String, AllocError> {
 }
 
 /// A frame or a view by its number, and by its name if it has one.
-pub fn named_place(
-    alloc: Global,
-    tree: &Table,
-    key: &str,
-    index: usize,
-) -> Result<String, AllocError> {
+fn named_place(alloc: Global, tree: &Table, key: &str, index: usize) -> Result<String, AllocError> {
     let number = index as u128 + 1;
     match table_in(tree, key, index).and_then(|table| text_at(table, "name")) {
         Some(name) => {

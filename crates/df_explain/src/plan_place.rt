@@ -4,7 +4,6 @@ ghost use Rattle.df_plan.specs.Checks.{columns_of};
 ghost use Rattle.df_explain.specs.PlanPlaces.{IsFaultOf};
 
 use crate::names::quoted;
-use df_expr::ExprFault;
 use df_plan::{Plan, PlanFault, RollKind, schema_of};
 use df_value::Schema;
 use std::alloc::{AllocError, Global};
@@ -137,7 +136,7 @@ fn step_text(alloc: Global, part: &Plan) -> Result<String, AllocError> {
 }
 
 /// How many steps of a view lead to this part of its plan.
-pub fn steps_of(part: &Plan) -> u64 {
+fn steps_of(part: &Plan) -> u64 {
     match part {
         Plan::Scan(_) => 0,
         Plan::Filter(input, _) | Plan::Select(input, _) | Plan::WithColumns(input, _) => {

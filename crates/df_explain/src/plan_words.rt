@@ -1,7 +1,7 @@
 //! Faults of a view's plan in words.
 use crate::names::{column_names, quoted};
 use crate::near::unknown;
-use crate::plan_place::{FaultyStep, faulty_step, steps_of, word_of};
+use crate::plan_place::{FaultyStep, faulty_step, word_of};
 use df_expr::ExprFault;
 use df_plan::{Plan, PlanFault, schema_of};
 use df_text::{FrameSpec, Views, escape};

@@ -1,11 +1,10 @@
 //! Faults of a document's shape in words.
 use crate::forms::{KEYS_OF_FRAME, KEYS_OF_TOP, KEYS_OF_VIEW, form_of_step};
-use crate::names::quoted;
 use crate::near::unknown;
 use crate::part::{
     array_at, frame_names, head_of, items_of, step_items, table_in, text_at, text_of,
 };
-use crate::place::{named_place, place_text};
+use crate::place::place_text;
 use crate::unknown_words::{
     unknown_in_item, unknown_step, unknown_type, unknown_word_text, unless_among,
 };
