@@ -39,7 +39,7 @@ def look(pid, seconds):
         return  # it has ended
     if "--crate-name" in words:
         crate = words[words.index("--crate-name") + 1]
-        part = "edits" if "rt-edit" in folder else "tests" if "--test" in words else words[1]
+        part = "edits" if "edit-" in folder else "tests" if "--test" in words else words[1]
         seconds[crate, part, pid] = (int(fields[11]) + int(fields[12])) / TICKS
 
 

@@ -104,7 +104,7 @@ def check_promises():
             tell("docs/PROMISES.md", f"no clause {clause} of {', '.join(calls)}")
     refused = " ".join(re.findall(r"- \*\*Refused\*\*: (.*?)(?: ## | - \*\*|$)", text))
     told = set(re.findall(r"\(`(\w+)`\)", refused))
-    edits = {pathlib.Path(f).stem for f in FILES if "/must-fail/" in f}
+    edits = {pathlib.Path(f).stem for f in FILES if f.startswith("tests/must-fail/")}
     for name in sorted(told ^ edits):
         tell("docs/PROMISES.md", f"the edit {name} is " + ("not in the gate" if name in told else "not told of"))
 
