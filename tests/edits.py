@@ -75,7 +75,7 @@ class BadEdit(Exception):
 
 
 def function_at(file, text, at):
-    """The path of the function in which a place of a source file stands."""
+    """The path of the function in which a place of a source file stands, if it stands in one."""
     module = [part for part in pathlib.PurePath(file).with_suffix("").parts[1:] if part not in ("lib", "main")]
     lines = text[:at].split("\n")
     lines[-1] = text[text.rfind("\n", 0, at) + 1 :].split("\n")[0]
@@ -85,7 +85,7 @@ def function_at(file, text, at):
         if function and len(function[1]) < inner:
             break
     else:
-        raise BadEdit(f"no function has the text in {file}: name one by a line 'proof: FUNCTION'")
+        return None
     if not function[1]:
         return "::".join([*module, function[2]])
     heads = (re.match(r"(?:impl|trait)\b(?:<[^>]*>)? ?(?:(\w+)[^{]*? for )?(\w+)", line) for line in reversed(lines))
@@ -95,7 +95,7 @@ def function_at(file, text, at):
 
 def read_edit(edit, folder):
     """The changed files of an edit by their path, and the functions whose proofs it must break."""
-    path, old, texts, functions, named = "", None, {}, [], []
+    path, old, texts, found, named = "", None, {}, [], []
     for line in edit.read_text().split("\n"):
         word, _, rest = line.partition(": ")
         if word == "file":
@@ -108,12 +108,12 @@ def read_edit(edit, folder):
         elif line.startswith("new:"):
             if texts[path].count(old) != 1:
                 raise BadEdit(f"its text stands in {path} {texts[path].count(old)} times, and not once")
-            if not named:
-                functions.append(function_at(path, texts[path], texts[path].index(old)))
+            found.append(function_at(path, texts[path], texts[path].index(old)))
             texts[path] = texts[path].replace(old, rest)
-    if not texts or not functions and not named:
-        raise BadEdit("it changes nothing")
-    return texts, list(dict.fromkeys(named or functions))
+    functions = list(dict.fromkeys(named or filter(None, found)))
+    if not functions:
+        raise BadEdit("it changes no function: name one by a line 'proof: FUNCTION'")
+    return texts, functions
 
 
 def checked(crate, texts, functions, kept):
