@@ -90,7 +90,8 @@ def function_at(file, text, at):
         return "::".join([*module, function[2]])
     heads = (re.match(r"(?:impl|trait)\b(?:<[^>]*>)? ?(?:(\w+)[^{]*? for )?(\w+)", line) for line in reversed(lines))
     head = next(it for it in heads if it)
-    return "::".join([*module, f"{head[2]}{head[1] or ''}", function[2]])
+    # A method is named by its type, which may stand in another module.
+    return f"{head[2]}{head[1] or ''}::{function[2]}"
 
 
 def read_edit(edit, folder):
