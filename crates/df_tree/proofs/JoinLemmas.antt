@@ -30,7 +30,7 @@ module _ {I : Type 0} where
   items-part : (k : List (List I × ℕ) × ℕ) → items_of_parts {I = I} (k ∷ []) ≡ items {I = I} k.0
   items-part k = items-append {I = I} k.0 [] ∙ append-nil (items {I = I} k.0)
 
-  items-two : (k l : List (List I × ℕ) × ℕ) → items_of_parts {I = I} (k ∷ l ∷ []) ≡ items {I = I} k.0 ++ items {I = I} l.0
+  pub items-two : (k l : List (List I × ℕ) × ℕ) → items_of_parts {I = I} (k ∷ l ∷ []) ≡ items {I = I} k.0 ++ items {I = I} l.0
   items-two k l = items-append {I = I} k.0 (l.0 ++ []) ∙ ap (λ is. items {I = I} k.0 ++ is) (items-part l)
 
   parts_append : (r : ℕ) (ks ls : List (List (List I × ℕ) × ℕ)) → AllParts {I = I} r ks → AllParts {I = I} r ls → AllParts {I = I} r (ks ++ ls)

@@ -22,6 +22,11 @@ abbrev pub leaves_of_link : {I M : Type 0} → Link I M → List (List I × ℕ)
 leaves_of_link (Own n) = leaves_of n.value
 leaves_of_link (Shared n) = map (λ r. (r.0, 0)) (leaves_of n.value)
 
+-- the node behind this link is owned
+abbrev pub IsOwned : {I M : Type 0} → Link I M → Type 0
+IsOwned (Own n) = Unit {0}
+IsOwned (Shared n) = ⊥
+
 -- above the ranks of these parts
 abbrev pub rank_above : {I : Type 0} → List (List (List I × ℕ) × ℕ) → ℕ
 rank_above ks = most (λ k. k.1 + 1) ks

@@ -21,6 +21,7 @@ pub(crate) fn items_again<I: Item>(alloc: Global, items: &[I]) -> Result<Vec<I>,
 }
 
 /// The same parts once more.
+#[cycle(copied)]
 pub(crate) fn copied_parts<I: Item>(
     alloc: Global,
     parts: &[Seq<I>],
@@ -35,6 +36,7 @@ pub(crate) fn copied_parts<I: Item>(
 }
 
 /// The same node once more, where its parts may be copied.
+#[cycle(copied)]
 pub(crate) fn copied_node<I: Item>(alloc: Global, node: &Node<I>) -> Result<Node<I>, AllocError>
     requires { IsLevel node.now }
     ensures alike { IfOk result (λ n. alike_node n ≡ alike_node node.now) }
@@ -48,32 +50,20 @@ pub(crate) fn copied_node<I: Item>(alloc: Global, node: &Node<I>) -> Result<Node
 
 impl<I: Item> Seq<I> {
     /// The same items once more. Nodes behind owned links are copied.
+    #[cycle(copied)]
     pub fn copied(&self, alloc: Global) -> Result<Seq<I>, AllocError>
         ensures { IfOk result (λ k. alike k ≡ alike self.now) }
     {
-        let node: &Node<I> = match &self.link {
-            Link::Own(node) => node,
+        match &self.link {
+            Link::Own(node) => owned(alloc, copied_node(alloc, node)?),
             Link::Shared(node) => {
                 let link = Link::Shared(Arc::try_clone(node)?);
-                return Ok(Seq {
+                Ok(Seq {
                     link,
                     count: self.count,
                     rank: self.rank,
                     measure: self.measure,
-                });
-            }
-        };
-        match node {
-            Node::Items(items, _) => {
-                let made = items_again(alloc, items)?;
-                owned(alloc, Node::Items(made, 0))
-            }
-            Node::Parts(parts) => {
-                let mut made = Vec::with_capacity(alloc, parts.len())?;
-                for part in parts {
-                    made.push(part.copied(alloc)?)?;
-                }
-                owned(alloc, Node::Parts(made))
+                })
             }
         }
     }

@@ -1,7 +1,7 @@
 //! Full nodes are halved.
-ghost use Rattle.std.specs.Prelude.{◌≡◌, ◌<◌, ◌≤◌, ◌+◌, ◌∷◌, ◌-◌, min, vec_capacity, [], MatchResult, length, vec_len};
-ghost use Rattle.df_tree.specs.Level.{AreLevel, IsHalved, IsLevel, MayBeHalved};
-ghost use Rattle.df_tree.specs.Leaves.{items, rank_above, rank_of, leaves_of, leaves_of_parts, Kept};
+ghost use Rattle.std.specs.Prelude.{◌≡◌, ◌<◌, ◌≤◌, ◌+◌, ◌∷◌, ◌-◌, min, vec_capacity, [], MatchResult, length, vec_len, IfOk};
+ghost use Rattle.df_tree.specs.Level.{AreLevel, IsHalved, IsLevel, IsLevelLink, MayBeHalved};
+ghost use Rattle.df_tree.specs.Leaves.{items, rank_above, rank_of, rank_of_link, leaves_of, leaves_of_link, leaves_of_parts, IsOwned, Kept};
 
 use crate::copying::copied_node;
 use crate::item::Item;
@@ -123,6 +123,21 @@ pub(crate) fn halve_at<I: Item>(
     }
 }
 
+/// Copies the node behind this link, where it is shared.
+pub(crate) fn own<I: Item>(alloc: Global, link: &mut Link<I>) -> Result<(), AllocError>
+    requires { IsLevelLink link.old }
+    ensures kept { Kept (leaves_of_link link.old) (leaves_of_link link.new) }
+    ensures rank { rank_of_link link.new ≡ rank_of_link link.old }
+    ensures level { IsLevelLink link.new }
+    ensures owned { IfOk result (λ _. IsOwned link.new) }
+{
+    if let Link::Shared(node) = &*link {
+        let copy = copied_node(alloc, node)?;
+        *link = Link::Own(Box::new(alloc, copy)?);
+    }
+    Ok(())
+}
+
 impl<I: Item> Seq<I> {
     /// Whether there are as many items or parts in the node as a node is to have at most.
     pub(crate) fn is_full(&self) -> bool {
@@ -137,17 +152,7 @@ impl<I: Item> Seq<I> {
         ensures halved { MayBeHalved result self.old.0 self.new.0 self.old.1 }
         ensures rank { self.new.1 ≡ self.old.1 }
     {
-        if let Link::Shared(node) = &self.link {
-            let mut copy = copied_node(alloc, node)?;
-            let Some(second) = halved_node(alloc, &mut copy)? else {
-                return Ok(None);
-            };
-            let measure = measure_in(&copy);
-            self.link = Link::Own(Box::new(alloc, copy)?);
-            self.count -= second.count;
-            self.measure = measure;
-            return Ok(Some(second));
-        }
+        own(alloc, &mut self.link)?;
         match &mut self.link {
             Link::Own(node) => {
                 let node: &mut Node<I> = node;

@@ -1,11 +1,10 @@
 //! Room that is reserved for edits in place.
-ghost use Rattle.std.specs.Prelude.{◌≡◌, ◌<◌, ◌≤◌, ◌+◌, [], IfOk, length};
-ghost use Rattle.df_tree.specs.Level.{IsLevel};
+ghost use Rattle.std.specs.Prelude.{◌≡◌, ◌<◌, ◌≤◌, ◌+◌, ◌^◌, ◌++◌, ◌∷◌, [], IfOk, length, vec_len, vec_capacity};
+ghost use Rattle.df_tree.specs.Level.{IsLevel, IsPart};
 ghost use Rattle.df_tree.specs.Leaves.{items, items_in, rank_of, leaves_of, IsReady, Kept, Reserved};
 
-use crate::copying::copied_node;
-use crate::halving::halve_at;
-use crate::item::Item;
+use crate::halving::{halve_at, own};
+use crate::item::{Item, Monoid};
 use crate::making::owned;
 use crate::seq::{Link, Node, Seq};
 use crate::spot::spot_at;
@@ -43,6 +42,78 @@ pub(crate) fn reserve_in_node<I: Item>(
     }
 }
 
+/// What a root over two parts needs.
+struct Room<I: Item> {
+    parts: Vec<Seq<I>>,
+    root: Box<Node<I>>,
+    empty: Seq<I>,
+    ghost two: { vec_len parts + 2 ≤ vec_capacity parts },
+    ghost none: { parts.items ≡ [] },
+}
+
+// By hand, so that a body which owns it drops it by a call, of which the proof is short.
+impl<I: Item> Drop for Room<I> {
+    fn drop(self) {
+        let Room { parts, root, empty } = self;
+        drop(parts);
+        drop(root);
+        drop(empty);
+    }
+}
+
+impl<I: Item> Room<I> {
+    fn new(alloc: Global) -> Result<Room<I>, AllocError> {
+        let parts = Vec::with_capacity(alloc, 2)?;
+        let root = Box::new(alloc, Node::Items(Vec::new(alloc), 0))?;
+        let empty = owned(alloc, Node::Items(Vec::new(alloc), 0))?;
+        Ok(Room { parts, root, empty })
+    }
+
+    /// Puts a root over a part and the second one, which was halved from it.
+    fn put_over(self, seq: &mut Seq<I>, second: Seq<I>)
+        requires first { 0 < length (items_in seq.old) }
+        requires second { IsPart seq.old.1 second }
+        requires low { seq.old.1 < 63 }
+        requires fits { length (items (seq.old.0 ++ second.0)) < 2 ^ 64 }
+        ensures kept { Kept (seq.old.0 ++ second.0) seq.new.0 }
+        ensures rank { seq.new.1 ≡ seq.old.1 + 1 }
+    {
+        let Room {
+            mut parts,
+            mut root,
+            empty,
+        } = self;
+        let count = seq.count + second.count;
+        let rank = seq.rank + 1;
+        let measure = seq.measure.plus(second.measure);
+        let first = replace(seq, empty);
+        put_two(&mut parts, first, second);
+        *root = Node::Parts(parts);
+        *seq = Seq {
+            link: Link::Own(root),
+            count,
+            rank,
+            measure,
+        };
+    }
+}
+
+/// Puts two parts in a vector that has room for them.
+fn put_two<I: Item>(parts: &mut Vec<Seq<I>>, first: Seq<I>, second: Seq<I>)
+    requires two { vec_len parts.old + 2 ≤ vec_capacity parts.old }
+    requires none { parts.old.items ≡ [] }
+    ensures { parts.new.items ≡ first ∷ second ∷ [] }
+{
+    match parts.push(first) {
+        Ok(()) => {}
+        Err(_) => unreachable!(),
+    }
+    match parts.push(second) {
+        Ok(()) => {}
+        Err(_) => unreachable!(),
+    }
+}
+
 impl<I: Item> Seq<I> {
     /// Puts a root above, where the node is full.
     pub(crate) fn raise(&mut self, alloc: Global) -> Result<(), AllocError>
@@ -52,31 +123,11 @@ impl<I: Item> Seq<I> {
         if !self.is_full() || self.rank >= 63 {
             return Ok(());
         }
-        let count = self.count;
-        let rank = self.rank;
-        let measure = self.measure;
-        let mut parts = Vec::with_capacity(alloc, 2)?;
-        let empty = owned(alloc, Node::Items(Vec::new(alloc), 0))?;
-        let mut root = Box::new(alloc, Node::Items(Vec::new(alloc), 0))?;
-        let Some(second) = self.halved(alloc)? else {
-            return Ok(());
-        };
-        let first = replace(self, empty);
-        match parts.push(first) {
-            Ok(()) => {}
-            Err(_) => unreachable!(),
+        let room = Room::new(alloc)?;
+        match self.halved(alloc)? {
+            None => drop(room),
+            Some(second) => room.put_over(self, second),
         }
-        match parts.push(second) {
-            Ok(()) => {}
-            Err(_) => unreachable!(),
-        }
-        *root = Node::Parts(parts);
-        *self = Seq {
-            link: Link::Own(root),
-            count,
-            rank: rank + 1,
-            measure,
-        };
         Ok(())
     }
 
@@ -88,12 +139,7 @@ impl<I: Item> Seq<I> {
         ensures rank { self.new.1 ≡ self.old.1 }
         ensures reserved { IfOk result (λ _. Reserved self.old.0 self.new.0 index) }
     {
-        if let Link::Shared(node) = &self.link {
-            let mut copy = copied_node(alloc, node)?;
-            reserve_in_node(&mut copy, alloc, index)?;
-            self.link = Link::Own(Box::new(alloc, copy)?);
-            return Ok(());
-        }
+        own(alloc, &mut self.link)?;
         match &mut self.link {
             Link::Own(node) => reserve_in_node(node, alloc, index),
             Link::Shared(_) => unreachable!(),

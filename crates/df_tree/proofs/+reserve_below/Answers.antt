@@ -11,21 +11,6 @@ use Rattle.df_tree.proofs.SpotLemmas.{kept, reserved, at_in, lower, within}
 use Rattle.df_tree.proofs.Outcomes.{if_ok_then}
 use Rattle.df_tree.proofs.+reserve_below.Goals as goal
 
-pub seq::Seq::reserve_below-returns-in-Shared-clause-kept : goal.seq::Seq::reserve_below-returns-in-Shared-clause-kept
-seq::Seq::reserve_below-returns-in-Shared-clause-kept g t c =
-    let shared : c.args.self.now.0 ≡ map (λ r. (r.0, 0)) (leaves_of {I = g.row.I.Denot} c.in-Shared.node.value) = sym (ap (λ v. v.0) c.self.view_is) ∙ ap (λ l. leaves_of_link l) c.in-Shared.is in
-    let same = ap (λ n. items (leaves_of n)) c.in_ok-new.ensures.ok ∙ c.reserve_in_node.ensures.kept.items ∙ ap (λ p. p.0) c.in_ok-copy.ensures.alike ∙ ap (λ n. items (leaves_of n)) c.deref.ensures in
-    subst (λ rs. Kept {I = g.row.I.Denot} rs (leaves_of c.in_ok-new.field-0.value)) (sym shared) (kept_shared {I = g.row.I.Denot} (leaves_of c.in-Shared.node.value) (leaves_of c.in_ok-new.field-0.value) same)
-
-pub seq::Seq::reserve_below-returns-in-Shared-clause-reserved : goal.seq::Seq::reserve_below-returns-in-Shared-clause-reserved
-seq::Seq::reserve_below-returns-in-Shared-clause-reserved g t c =
-    let shared : c.args.self.now.0 ≡ map (λ r. (r.0, 0)) (leaves_of {I = g.row.I.Denot} c.in-Shared.node.value) = sym (ap (λ v. v.0) c.self.view_is) ∙ ap (λ l. leaves_of_link l) c.in-Shared.is in
-    let same = ap (λ p. p.0) c.in_ok-copy.ensures.alike ∙ ap (λ n. items (leaves_of n)) c.deref.ensures in
-    let first = kept_shared {I = g.row.I.Denot} (leaves_of c.in-Shared.node.value) (leaves_of c.in_ok-copy.copy) same in
-    subst (λ rs. Reserved {I = g.row.I.Denot} rs (leaves_of c.in_ok-new.field-0.value) c.args.index) (sym shared)
-    (subst (λ n. Reserved {I = g.row.I.Denot} (map (λ r. (r.0, 0)) (leaves_of c.in-Shared.node.value)) (leaves_of n) c.args.index) (sym c.in_ok-new.ensures.ok)
-    (reserved_after {I = g.row.I.Denot} _ (leaves_of c.in_ok-copy.copy) _ c.args.index first c.in_ok-reserve_in_node.ensures.reserved))
-
 pub reserving::reserve_in_node-returns-in_ok-halve_at-in-Parts-clause-kept : goal.reserving::reserve_in_node-returns-in_ok-halve_at-in-Parts-clause-kept
 reserving::reserve_in_node-returns-in_ok-halve_at-in-Parts-clause-kept g t c =
     let spot : IsSpot {I = g.row.I.Denot} c.halve_at.new.parts.items c.args.index c.spot_at-spot.result.at c.spot_at-spot.result.rest
@@ -41,13 +26,6 @@ reserving::reserve_in_node-returns-in_ok-halve_at-in-Parts-clause-reserved g t c
     if_ok_then c.reserve_below.result c.reserve_below.ensures.reserved
     (λ _ h. reserved_after {I = g.row.I.Denot} _ _ _ c.args.index first (reserved {I = g.row.I.Denot} _ _ _ _ spot c.index_mut.result.now c.reserve_below.new.self c.index_mut.ensures.value c.reserve_below.ensures.kept.items h))
 
-pub seq::Seq::reserve_below-reserve_in_node-requires : goal.seq::Seq::reserve_below-reserve_in_node-requires
-seq::Seq::reserve_below-reserve_in_node-requires g t c κs within =
-    let shared : c.args.self.now.0 ≡ map (λ r. (r.0, 0)) (leaves_of {I = g.row.I.Denot} c.in-Shared.node.value) = sym (ap (λ v. v.0) c.self.view_is) ∙ ap (λ l. leaves_of_link l) c.in-Shared.is in
-    let same = ap (λ p. p.0) c.in_ok-copy.ensures.alike ∙ ap (λ n. items (leaves_of n)) c.deref.ensures ∙ sym (items-shared {I = g.row.I.Denot} (leaves_of c.in-Shared.node.value)) ∙ ap (λ rs. items {I = g.row.I.Denot} rs) (sym shared) in
-    let n = ap length same in
-    (search rules, (search rules, (search rules, omega (arith, n, c.requires))))
-
 pub reserving::reserve_in_node-returns-in_ok-reserve-in-Items-clause-reserved : goal.reserving::reserve_in_node-returns-in_ok-reserve-in-Items-clause-reserved
 reserving::reserve_in_node-returns-in_ok-reserve-in-Items-clause-reserved g t c =
     let near = subst (λ n. c.args.index < length (items {I = g.row.I.Denot} (leaves_of n))) c.in-Items.is c.requires in
@@ -57,18 +35,6 @@ reserving::reserve_in_node-returns-in_ok-reserve-in-Items-clause-reserved g t c 
     let more : s + 1 ≤ t = omega (arith, c.in_ok-reserve-in-Items.ensures.ok, c.in_ok-reserve-in-Items.ensures.len, c.in-Some.ensures, c.in-Items.items.ok) in
     subst (λ n. Reserved {I = g.row.I.Denot} (leaves_of n) ((c.reserve.new.self.items, t) ∷ []) c.args.index) (sym c.in-Items.is)
     (reserved_leaf {I = g.row.I.Denot} c.in-Items.items.items c.reserve.new.self.items s t c.args.index c.in_ok-reserve-in-Items.ensures.items (omega (arith, near, many)) more (omega arith))
-
-pub seq::Seq::reserve_below-returns-in-Shared-clause-rank : goal.seq::Seq::reserve_below-returns-in-Shared-clause-rank
-seq::Seq::reserve_below-returns-in-Shared-clause-rank g t c =
-    ap (λ n. rank_of n) c.in_ok-new.ensures.ok ∙ c.reserve_in_node.ensures.rank ∙ ap (λ p. p.1) c.in_ok-copy.ensures.alike ∙ ap (λ n. rank_of n) c.deref.ensures ∙ sym (ap (λ l. rank_of_link l) c.in-Shared.is) ∙ ap (λ v. v.1) c.self.view_is
-
-pub seq::Seq::reserve_below-invariant_of-self : goal.seq::Seq::reserve_below-invariant_of-self
-seq::Seq::reserve_below-invariant_of-self g t c =
-    let shared : c.args.self.now.0 ≡ map (λ r. (r.0, 0)) (leaves_of {I = g.row.I.Denot} c.in-Shared.node.value) = sym (ap (λ v. v.0) c.self.view_is) ∙ ap (λ l. leaves_of_link l) c.in-Shared.is in
-    let same = ap (λ n. items (leaves_of n)) c.in_ok-new.ensures.ok ∙ c.reserve_in_node.ensures.kept.items ∙ ap (λ p. p.0) c.in_ok-copy.ensures.alike ∙ ap (λ n. items (leaves_of n)) c.deref.ensures ∙ sym (items-shared {I = g.row.I.Denot} (leaves_of c.in-Shared.node.value)) ∙ ap (λ rs. items {I = g.row.I.Denot} rs) (sym shared) in
-    resummed {I = g.row.I.Denot} {M = g.row.I-Measure.Denot} _ _ _ _ _ _ _ _ _ _ (same ∙ ap (λ v. items v.0) (sym c.self.view_is))
-    (seq::Seq::reserve_below-returns-in-Shared-clause-rank g t c ∙ ap (λ v. v.1) (sym c.self.view_is))
-    (subst (IsLevel {I = g.row.I.Denot} {M = g.row.I-Measure.Denot}) (sym c.in_ok-new.ensures.ok) (c.reserve_in_node.ensures.level c.in_ok-copy.ensures.level)) c.self.invariant
 
 pub reserving::reserve_in_node-returns-in_ok-halve_at-in-Parts-clause-rank : goal.reserving::reserve_in_node-returns-in_ok-halve_at-in-Parts-clause-rank
 reserving::reserve_in_node-returns-in_ok-halve_at-in-Parts-clause-rank g t c =

@@ -1,4 +1,5 @@
 use Rattle.std.proofs.Common.{rules, ◌≡◌, ◌≤◌, ◌+◌, ◌-◌, ◌++◌, suc, refl, length, take, drop, map, ap, sym, ◌∙◌, arith, subst, length-drop}
+use Rattle.std.proofs.lemmas.List.{length-take-le}
 use Rattle.df_tree.specs.Leaves.{alike, items, items_of_parts, leaves_of, rank_above, rank_of}
 use Rattle.df_tree.specs.Level.{AreLevel, IsLevel}
 use Rattle.df_tree.specs.Spots.{IsSpot}
@@ -115,3 +116,43 @@ returns-in_ok-append-in-Parts g t c =
     if_ok_then c.push_parts.result c.push_parts.ensures
     (λ _ h. put_as {I = g.row.I.Denot} _ _ _ _ _ _ (whole.rank_is ∙ own)
     (whole.holds ∙ back_is ∙ replaced_at {I = g.row.I.Denot} _ _ _ _ spot c.index.result.now c.args.run.items c.index.ensures ∙ ap (λ l. take c.args.index l ++ (c.args.run.items ++ drop (c.args.index + 1) l)) (sym mine)) h)
+
+pub overflow_add-spot : goal.overflow_add-spot
+overflow_add-spot g t c =
+    let spot : IsSpot {I = g.row.I.Denot} c.in-Parts.parts.items c.args.index c.spot_at-spot.result.at c.spot_at-spot.result.rest
+    = subst (λ ks. IsSpot {I = g.row.I.Denot} ks c.args.index c.spot_at-spot.result.at c.spot_at-spot.result.rest) c.deref-in-Parts.ensures.value c.spot_at-spot.ensures in
+    let near = at_in {I = g.row.I.Denot} _ _ _ _ spot in
+    let same = ap length c.deref-in-Parts-3.ensures.value in
+    omega (arith, near, same, c.in-Parts.parts.ok)
+
+pub offset_bounds-deref-spot : goal.offset_bounds-deref-spot
+offset_bounds-deref-spot g t c =
+    let spot : IsSpot {I = g.row.I.Denot} c.in-Parts.parts.items c.args.index c.spot_at-spot.result.at c.spot_at-spot.result.rest
+    = subst (λ ks. IsSpot {I = g.row.I.Denot} ks c.args.index c.spot_at-spot.result.at c.spot_at-spot.result.rest) c.deref-in-Parts.ensures.value c.spot_at-spot.ensures in
+    let near = at_in {I = g.row.I.Denot} _ _ _ _ spot in
+    let same = ap length c.deref-in-Parts-3.ensures.value in
+    omega (arith, near, same, c.in-Parts.parts.ok)
+
+pub slice_bounds-copied_parts-start : goal.slice_bounds-copied_parts-start
+slice_bounds-copied_parts-start g t c =
+    let spot : IsSpot {I = g.row.I.Denot} c.in-Parts.parts.items c.args.index c.spot_at-spot.result.at c.spot_at-spot.result.rest
+    = subst (λ ks. IsSpot {I = g.row.I.Denot} ks c.args.index c.spot_at-spot.result.at c.spot_at-spot.result.rest) c.deref-in-Parts.ensures.value c.spot_at-spot.ensures in
+    let near = at_in {I = g.row.I.Denot} _ _ _ _ spot in
+    let same = ap length c.deref-in-Parts-3.ensures.value in
+    omega (arith, near, same, c.in-Parts.parts.ok)
+
+pub slice_bounds-copied_parts-end : goal.slice_bounds-copied_parts-end
+slice_bounds-copied_parts-end g t c =
+    let spot : IsSpot {I = g.row.I.Denot} c.in-Parts.parts.items c.args.index c.spot_at-spot.result.at c.spot_at-spot.result.rest
+    = subst (λ ks. IsSpot {I = g.row.I.Denot} ks c.args.index c.spot_at-spot.result.at c.spot_at-spot.result.rest) c.deref-in-Parts.ensures.value c.spot_at-spot.ensures in
+    let near = at_in {I = g.row.I.Denot} _ _ _ _ spot in
+    let same = ap length c.deref-in-Parts-2.ensures.value in
+    sym (length-take-le c.spot_at-spot.result.at c.deref-in-Parts-2.result.now (omega (arith, near, same)))
+
+pub slice_bounds-copied_parts-count : goal.slice_bounds-copied_parts-count
+slice_bounds-copied_parts-count g t c =
+    let spot : IsSpot {I = g.row.I.Denot} c.in-Parts.parts.items c.args.index c.spot_at-spot.result.at c.spot_at-spot.result.rest
+    = subst (λ ks. IsSpot {I = g.row.I.Denot} ks c.args.index c.spot_at-spot.result.at c.spot_at-spot.result.rest) c.deref-in-Parts.ensures.value c.spot_at-spot.ensures in
+    let near = at_in {I = g.row.I.Denot} _ _ _ _ spot in
+    let same = ap length c.deref-in-Parts-3.ensures.value in
+    omega (arith, near, same, c.in-Parts.parts.ok)

@@ -1,4 +1,5 @@
 use Rattle.std.proofs.Common.{◌≡◌, take, length, ap, sym, ◌∙◌, subst, rules, arith}
+use Rattle.std.proofs.lemmas.List.{length-take-le}
 use Rattle.df_tree.specs.Leaves.{items, items_of_parts, leaves_of, rank_above, rank_of}
 use Rattle.df_tree.specs.Level.{AreLevel, IsLevel}
 use Rattle.df_tree.specs.Spots.{IsSpot}
@@ -56,3 +57,18 @@ first-requires g t c κs inside =
     let own : rank_above {I = g.row.I.Denot} c.in-Parts.parts.items ≡ c.args.self.now.1 = ap (λ n. rank_of n) (sym c.in-Parts.is) ∙ ap (λ p. p.1) c.node.ensures.alike in
     let below = lower {I = g.row.I.Denot} _ _ _ _ spot _ c.index.ensures in
     (omega (arith, below, own, c.decreases), search rules)
+
+pub slice_bounds-items_again-end : goal.slice_bounds-items_again-end
+slice_bounds-items_again-end g t c =
+    let mine : items {I = g.row.I.Denot} c.args.self.now.0 ≡ c.in-Items.leaf.items = ap (λ p. p.0) (sym c.node.ensures.alike) ∙ ap (λ n. items (leaves_of n)) c.in-Items.is ∙ items-one {I = g.row.I.Denot} c.in-Items.leaf.items 0 in
+    let many = ap length mine in
+    let same = ap length c.deref.ensures.value in
+    sym (length-take-le c.args.count c.deref.result.now (omega (arith, many, same, c.len.ensures, c.if-len-count.false)))
+
+pub slice_bounds-gathered_copies-end : goal.slice_bounds-gathered_copies-end
+slice_bounds-gathered_copies-end g t c =
+    let spot : IsSpot {I = g.row.I.Denot} c.in-Parts.parts.items c.args.count c.spot_at-spot.result.at c.spot_at-spot.result.rest
+    = subst (λ ks. IsSpot {I = g.row.I.Denot} ks c.args.count c.spot_at-spot.result.at c.spot_at-spot.result.rest) c.deref-in-Parts.ensures.value c.spot_at-spot.ensures in
+    let near = at_in {I = g.row.I.Denot} _ _ _ _ spot in
+    let same = ap length c.deref-in-Parts-2.ensures.value in
+    sym (length-take-le c.spot_at-spot.result.at c.deref-in-Parts-2.result.now (omega (arith, near, same)))
