@@ -14,7 +14,7 @@ use crate::refusal::{Refusal, VersionFault};
 use crate::session::{Session, answer_from};
 use df_catalogue::{Desk, NewFault, PARTS_OF_LEDGER};
 use df_document::{Files, copy_schemas};
-use df_store::{Hall, OpenedHall};
+use df_hall::{Hall, OpenedHall};
 use df_value::{List, Piece};
 use df_versions::{Naming, OpenFault, Reader};
 use std::alloc::Global;

@@ -14,7 +14,7 @@ use crate::refusal::{Refusal, VersionFault};
 use crate::version_reading::answer_from_version;
 use crate::view_store::ViewStore;
 use df_catalogue::{CatalogueFault, Change, Desk, FrameChange, ViewChange};
-use df_store::{Hall, Missing};
+use df_hall::{Hall, Missing};
 use df_versions::{ChangeFault, Naming, Reader, Told};
 use std::alloc::Global;
 use std::marker::Model;
