@@ -14,7 +14,7 @@ use Rattle.df_catalogue.proofs.FrameChangeFacts.{desks-counted}
 use Rattle.df_shell.proofs.DesksFacts.{AreAfter, InOrder, counted, frame-there, ordered}
 use Rattle.df_shell.specs.Changing.{AnswersTold, IsAnswered, IsKnown, IsLearnt, IsLongEnough}
 use Rattle.df_shell.specs.Halls.{Follows, HallParts, IsKeptInHall, IsMadeInHall, IsRefusedInHall}
-use Rattle.df_shell.specs.declared.refusal.Refusal.{Refusal}
+use Rattle.df_session.specs.declared.refusal.Refusal.{Refusal}
 use Rattle.df_hall.specs.Halls.{AnswersOverHistory}
 use Rattle.df_versions.proofs.Prefixes.{prefix_self, prefix_whole}
 use Rattle.df_versions.specs.Answered.{IsAccepted, IsRefusedAt, told_states}

@@ -1,12 +1,5 @@
 pub mod FindFacts
 pub mod DesksFacts
 pub mod HallFacts
-pub mod AskedFacts
 pub mod CheckFacts
-pub mod WordFacts
-pub mod AreMadeFacts
-pub mod CommandFacts
-pub mod WordList
-pub mod FlagFacts
-pub mod DescribedFacts
-pub mod NumberFacts
+pub mod NextNumberFacts

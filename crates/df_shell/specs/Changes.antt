@@ -8,8 +8,8 @@ use Rattle.df_catalogue.specs.declared.state.State.{State}
 use Rattle.df_catalogue.specs.Changes.{after}
 use Rattle.df_catalogue.specs.Refusals.{refusal_of}
 use Rattle.df_catalogue.specs.Work.{IsCounted, allowed_after}
-use Rattle.df_shell.specs.declared.refusal.Refusal.{Refusal}
-use Rattle.df_shell.specs.declared.refusal.Refusal.TheVariants as refusal
+use Rattle.df_session.specs.declared.refusal.Refusal.{Refusal}
+use Rattle.df_session.specs.declared.refusal.Refusal.TheVariants as refusal
 
 -- nothing refuses the change, it was made and its work counted, and nothing is staged
 abbrev pub IsMade : CatalogueParts → CatalogueParts → Change → Type 0

@@ -4,9 +4,9 @@ use Rattle.df_catalogue.specs.Desks.{desks_after}
 use Rattle.df_catalogue.specs.declared.change.Change.{Change}
 use Rattle.df_catalogue.specs.declared.state.State.{State}
 use Rattle.df_shell.specs.Halls.{Follows, HallParts, HasNoDesk}
-use Rattle.df_shell.specs.declared.refusal.Refusal.{Refusal}
-use Rattle.df_shell.specs.declared.refusal.Refusal.TheVariants as refusal
-use Rattle.df_shell.specs.declared.refusal.VersionFault.TheVariants as version
+use Rattle.df_session.specs.declared.refusal.Refusal.{Refusal}
+use Rattle.df_session.specs.declared.refusal.Refusal.TheVariants as refusal
+use Rattle.df_session.specs.declared.refusal.VersionFault.TheVariants as version
 use Rattle.df_versions.specs.Answered.{IsAccepted, IsRefusedAt}
 use Rattle.df_versions.specs.declared.fault.ChangeFault.{ChangeFault}
 use Rattle.df_versions.specs.declared.fault.ChangeFault.TheVariants.{Ahead, Memory, Refused, Spent}

@@ -10,15 +10,15 @@ use Rattle.df_catalogue.specs.declared.change.Change.{Change}
 use Rattle.df_catalogue.specs.declared.change.Change.TheVariants.{Append, Delete, DropView, Register, Replace}
 use Rattle.df_catalogue.specs.declared.fault.CatalogueFault.TheVariants as fault
 use Rattle.df_catalogue.specs.declared.state.State.{State}
-use Rattle.df_shell.specs.Questions.{IsTold}
+use Rattle.df_session.specs.Told.{IsTold}
 use Rattle.df_shell.specs.Versions.{refusal_with_hall, text_of_version}
-use Rattle.df_shell.specs.declared.command.Question.{Question}
-use Rattle.df_shell.specs.declared.definitions.Definitions.{Definitions}
-use Rattle.df_shell.specs.declared.refusal.Refusal.{Refusal}
-use Rattle.df_shell.specs.declared.refusal.Refusal.TheVariants as refusal
-use Rattle.df_shell.specs.declared.fault.ShellFault.{ShellFault}
-use Rattle.df_shell.specs.declared.fault.ShellFault.TheVariants as shell
-use Rattle.df_shell.specs.declared.refusal.VersionFault.TheVariants as version
+use Rattle.df_session.specs.declared.command.Question.{Question}
+use Rattle.df_session.specs.declared.definitions.Definitions.{Definitions}
+use Rattle.df_session.specs.declared.refusal.Refusal.{Refusal}
+use Rattle.df_session.specs.declared.refusal.Refusal.TheVariants as refusal
+use Rattle.df_session.specs.declared.fault.ShellFault.{ShellFault}
+use Rattle.df_session.specs.declared.fault.ShellFault.TheVariants as shell
+use Rattle.df_session.specs.declared.refusal.VersionFault.TheVariants as version
 use Rattle.df_hall.specs.Closing.{IsMissingAfter, missing_frame}
 use Rattle.df_versions.specs.Answered.{IsAccepted, IsRefusedAt}
 use Rattle.df_versions.specs.Histories.{IsLastState}

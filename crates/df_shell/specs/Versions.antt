@@ -8,18 +8,18 @@ use Rattle.df_catalogue.specs.Pictures.{PictureParts, frame_len_in, value_in, vi
 use Rattle.df_catalogue.specs.declared.fault.CatalogueFault.{CatalogueFault}
 use Rattle.df_plan.specs.CheckedParts.{CheckedParts}
 use Rattle.df_print.specs.Printed.{printed}
-use Rattle.df_shell.specs.Parts.{part_text}
-use Rattle.df_shell.specs.Described.{frames_text, schema_named, schema_text}
-use Rattle.df_shell.specs.declared.command.Part.{Part}
-use Rattle.df_shell.specs.Asked.{frame_index_of, plan_named}
-use Rattle.df_shell.specs.Checks.{check_text}
-use Rattle.df_shell.specs.Questions.{books_line, names_text, numbers_line, refusal_of_question}
-use Rattle.df_shell.specs.declared.command.Question.{Question}
-use Rattle.df_shell.specs.declared.command.Question.TheVariants as question
-use Rattle.df_shell.specs.declared.definitions.Definitions.{Definitions}
-use Rattle.df_shell.specs.declared.refusal.Mistake.TheVariants as mistake
-use Rattle.df_shell.specs.declared.refusal.Refusal.{Refusal}
-use Rattle.df_shell.specs.declared.refusal.Refusal.TheVariants as refusal
+use Rattle.df_session.specs.Parts.{part_text}
+use Rattle.df_session.specs.Described.{frames_text, schema_named, schema_text}
+use Rattle.df_session.specs.declared.command.Part.{Part}
+use Rattle.df_session.specs.Asked.{frame_index_of, plan_named}
+use Rattle.df_session.specs.Told.{books_line, check_text, names_text, numbers_line}
+use Rattle.df_shell.specs.Questions.{refusal_of_question}
+use Rattle.df_session.specs.declared.command.Question.{Question}
+use Rattle.df_session.specs.declared.command.Question.TheVariants as question
+use Rattle.df_session.specs.declared.definitions.Definitions.{Definitions}
+use Rattle.df_session.specs.declared.refusal.Mistake.TheVariants as mistake
+use Rattle.df_session.specs.declared.refusal.Refusal.{Refusal}
+use Rattle.df_session.specs.declared.refusal.Refusal.TheVariants as refusal
 use Rattle.df_text.specs.declared.document.FrameSpec.{FrameSpec}
 
 -- a part of the rows of a view, printed under its name with the schema of its plan, where it has one

@@ -1,16 +1,15 @@
 //! The check of the views.
-ghost use Rattle.std.specs.Prelude.{◌≡◌, IfErr, IfOk, IsOk, option_map, true};
+ghost use Rattle.std.specs.Prelude.{◌≡◌, IfErr, IfOk, IsOk, true};
 ghost use Rattle.std.specs.Option.{option_copied};
 ghost use Rattle.df_catalogue.specs.Reads.{view_names_of, view_rows_of};
 ghost use Rattle.df_catalogue.specs.States.{IsLegal};
-ghost use Rattle.df_shell.specs.Checks.{check_text, first_differing as first_differing_of};
-ghost use Rattle.df_shell.specs.Questions.{IsMemory};
+ghost use Rattle.df_shell.specs.Checks.{first_differing as first_differing_of};
+ghost use Rattle.df_session.specs.Told.{IsMemory, check_text};
 
-use crate::refusal::Refusal;
 use df_catalogue::Catalogue;
-use df_text::escape;
+use df_session::{Refusal, verdict};
 use df_value::Text;
-use std::alloc::{AllocError, Global};
+use std::alloc::Global;
 use std::sync::ledger::Ledger;
 
 /// Computes each view anew from the frames, and compares: `same`, or `differs` and the first view
@@ -66,21 +65,4 @@ fn is_same<Acc: Ledger, Del: Ledger>(
     let rows = catalogue.view_rows(alloc, name)?;
     let computed = catalogue.computed_rows(alloc, name)?;
     Ok(rows == computed)
-}
-
-// What the check says.
-pub fn verdict(alloc: Global, found: Option<&Text>) -> Result<Vec<u8>, AllocError>
-    ensures { IfOk result (λ text. text.items ≡ check_text (option_copied found.entry)) }
-{
-    let mut text = Vec::new(alloc);
-    match found {
-        Some(name) => {
-            let name = escape(alloc, name.as_str())?;
-            text.extend_from_slice(b"differs ")?;
-            text.extend_from_slice(name.as_bytes())?;
-            text.push(b'\n')?;
-        }
-        None => text.extend_from_slice(b"same\n")?,
-    }
-    Ok(text)
 }

@@ -4,17 +4,14 @@ ghost use Rattle.std.specs.List.{range_with_len};
 ghost use Rattle.df_catalogue.specs.Ledgers as ledgers;
 ghost use Rattle.df_versions.specs.Histories.{schemas_of};
 
-use crate::fault::ShellFault;
 use crate::hall_store::HallStore;
-use crate::numbers::Numbers;
-use crate::opening::fill;
-use crate::prepared::{Prepared, prepare};
-use crate::prompts::Prompts;
-use crate::refusal::{Refusal, VersionFault};
-use crate::session::{Session, answer_from};
 use df_catalogue::{Desk, NewFault, PARTS_OF_LEDGER};
 use df_document::{Files, copy_schemas};
 use df_hall::{Hall, OpenedHall};
+use df_session::{
+    Numbers, Prepared, Prompts, Refusal, Session, ShellFault, VersionFault, answer_from, fill,
+    prepare,
+};
 use df_value::{List, Piece};
 use df_versions::{Naming, OpenFault, Reader};
 use std::alloc::Global;

@@ -6,15 +6,12 @@ ghost use Rattle.df_catalogue.specs.ViewChanges.{change_of_views};
 ghost use Rattle.df_shell.specs.Changing.{IsAnswered, IsLearnt, IsLongEnough};
 ghost use Rattle.df_shell.specs.Halls.{Closes, Follows, IsLeftOpen};
 
-use crate::command::Question;
-use crate::definitions::Definitions;
-use crate::fault::ShellFault;
-use crate::numbers::{Numbers, end_of};
-use crate::refusal::{Refusal, VersionFault};
 use crate::version_reading::answer_from_version;
-use crate::view_store::ViewStore;
 use df_catalogue::{CatalogueFault, Change, Desk, FrameChange, ViewChange};
 use df_hall::{Hall, Missing};
+use df_session::{
+    Definitions, Numbers, Question, Refusal, ShellFault, VersionFault, ViewStore, end_of,
+};
 use df_versions::{ChangeFault, Naming, Reader, Told};
 use std::alloc::Global;
 use std::marker::Model;

@@ -1,29 +1,17 @@
 //! The commands that read the catalogue.
-ghost use Rattle.std.specs.Prelude.{◌≡◌, ◌++◌, IfErr, IfOk, OnOk, option_map, string_bytes};
-ghost use Rattle.df_catalogue.specs.Reads.{live_of, view_named, view_names_of};
-ghost use Rattle.df_shell.specs.Asked.{frame_index_of};
-ghost use Rattle.df_shell.specs.Questions.{IsTold, books_line, books_text, frame_text, names_text, numbers_line, rows_text, view_text, work_text};
+ghost use Rattle.std.specs.Prelude.{◌≡◌, IfErr, IfOk, option_map, string_bytes};
+ghost use Rattle.df_catalogue.specs.Reads.{view_named, view_names_of};
+ghost use Rattle.df_session.specs.Asked.{frame_index_of};
+ghost use Rattle.df_session.specs.Told.{IsTold, names_text};
+ghost use Rattle.df_shell.specs.Questions.{books_text, frame_text, rows_text, view_text, work_text};
 
-use crate::command::Part;
-use crate::definitions::Definitions;
-use crate::describing::RowCounts;
-use crate::parts::print_part;
-use crate::refusal::Refusal;
 use df_catalogue::{Catalogue, CatalogueFault};
 use df_expr::WorkCounts;
-use df_text::{escape, print_table};
+use df_session::{Definitions, Part, Refusal, books_of, names_lines, print_part, push_numbers};
+use df_text::print_table;
 use df_value::Text;
 use std::alloc::{AllocError, Global};
 use std::sync::ledger::Ledger;
-
-/// How many rows the frames of a catalogue have.
-impl<Acc: Ledger, Del: Ledger> RowCounts for Catalogue<Acc, Del> {
-    ghost counts = { λ c at. live_of c.state at };
-
-    fn row_count(&self, frame: usize) -> Option<u64> {
-        self.live(frame)
-    }
-}
 
 /// The table of a view, or a part of its rows, as it is printed.
 pub fn show<Acc: Ledger, Del: Ledger>(
@@ -64,18 +52,6 @@ pub fn rows<Acc: Ledger, Del: Ledger>(
     Ok(text)
 }
 
-pub fn push_numbers(alloc: Global, text: &mut Vec<u8>, numbers: &[u32]) -> Result<(), AllocError>
-    ensures { OnOk result (text.new.items ≡ text.old.items ++ numbers_line numbers.now) }
-{
-    text.extend_from_slice(b"numbers")?;
-    for number in numbers {
-        let word = format!(in alloc; " {number}")?;
-        text.extend_from_slice(word.as_bytes())?;
-    }
-    text.push(b'\n')?;
-    Ok(())
-}
-
 /// How many rows a frame accepted, how many were deleted, and how many it has.
 pub fn books<Acc: Ledger, Del: Ledger>(
     alloc: Global,
@@ -99,12 +75,6 @@ pub fn books<Acc: Ledger, Del: Ledger>(
     };
     let text = books_of(alloc, accepted, deleted, live)?;
     Ok(text.into_bytes())
-}
-
-pub fn books_of(alloc: Global, accepted: u64, deleted: u64, live: u64) -> Result<String, AllocError>
-    ensures { IfOk result (λ text. string_bytes text ≡ books_line accepted deleted live) }
-{
-    format!(in alloc; "accepted {accepted}, deleted {deleted}, live {live}\n")
 }
 
 /// What the views counted at the last change of rows.
@@ -146,17 +116,4 @@ pub fn views<Acc: Ledger, Del: Ledger>(
 {
     let names = catalogue.view_names(alloc)?;
     Ok(names_lines(alloc, names.as_slice())?)
-}
-
-/// Names, a line each.
-pub fn names_lines(alloc: Global, names: &[Text]) -> Result<Vec<u8>, AllocError>
-    ensures { IfOk result (λ text. text.items ≡ names_text names.now) }
-{
-    let mut text = Vec::new(alloc);
-    for name in names {
-        let line = escape(alloc, name.as_str())?;
-        text.extend_from_slice(line.as_bytes())?;
-        text.push(b'\n')?;
-    }
-    Ok(text)
 }

@@ -2,14 +2,11 @@
 ghost use Rattle.std.specs.Prelude.{◌≡◌};
 ghost use Rattle.df_catalogue.specs.Ledgers as ledgers;
 
-use crate::fault::ShellFault;
 use crate::opening::open_store;
-use crate::prepared::{Prepared, prepare};
-use crate::prompts::Prompts;
-use crate::session::{Session, answer_from};
 use crate::store::Store;
 use df_catalogue::PARTS_OF_LEDGER;
 use df_document::Files;
+use df_session::{Prepared, Prompts, Session, ShellFault, answer_from, prepare};
 use df_value::List;
 use std::alloc::Global;
 use std::io::{BufRead, Read, Write};

@@ -1,18 +1,17 @@
 //! The catalogue behind a shell.
 ghost use Rattle.std.specs.Prelude.{◌≡◌, true, is_none};
 ghost use Rattle.df_catalogue.specs.Desks.{AreInOrder};
+ghost use Rattle.df_catalogue.specs.Reads.{live_of};
 ghost use Rattle.df_catalogue.specs.States.{IsLegal};
-ghost use Rattle.df_shell.specs.Numbers.{next_numbers};
+ghost use Rattle.df_shell.specs.NextNumbers.{next_numbers};
 
 use crate::checking::check;
-use crate::command::Question;
-use crate::definitions::Definitions;
-use crate::describing::{describe_frames, schema};
-use crate::numbers::{Numbers, end_if_made, end_of};
 use crate::reading::{books, rows, show, views, work};
-use crate::refusal::{Mistake, Refusal};
-use crate::view_store::ViewStore;
 use df_catalogue::{Catalogue, Change, Desk};
+use df_session::{
+    Definitions, Mistake, Numbers, Question, Refusal, RowCounts, ViewStore, describe_frames,
+    describe_table, end_if_made, end_of,
+};
 use std::alloc::Global;
 use std::sync::ledger::Ledger;
 
@@ -51,11 +50,21 @@ impl<Acc: Ledger, Del: Ledger> Store<Acc, Del> {
     }
 }
 
+/// How many rows the frames of the catalogue have.
+impl<Acc: Ledger, Del: Ledger> RowCounts for Store<Acc, Del> {
+    ghost counts = { λ s at. live_of s.catalogue.state at };
+
+    fn row_count(&self, frame: usize) -> Option<u64> {
+        self.catalogue.live(frame)
+    }
+}
+
 impl<Acc: Ledger, Del: Ledger> ViewStore for Store<Acc, Del> {
     ghost use Rattle.std.specs.Prelude.{refl};
     ghost use Rattle.df_shell.specs.Changes.{IsMade, IsRefusedAs};
-    ghost use Rattle.df_shell.specs.Numbers.{next_number_at};
-    ghost use Rattle.df_shell.specs.Questions.{IsTold, refusal_of_question, text_of_question};
+    ghost use Rattle.df_shell.specs.NextNumbers.{next_number_at};
+    ghost use Rattle.df_session.specs.Told.{IsTold};
+    ghost use Rattle.df_shell.specs.Questions.{refusal_of_question, text_of_question};
 
     ghost Makes = { λ old new c. IsMade old.catalogue new.catalogue c };
 
@@ -89,8 +98,8 @@ impl<Acc: Ledger, Del: Ledger> ViewStore for Store<Acc, Del> {
     ) -> Result<Vec<u8>, Refusal> {
         let catalogue = &self.catalogue;
         match question {
-            Question::Frames => Ok(describe_frames(alloc, definitions, catalogue)?),
-            Question::Schema(name) => schema(alloc, definitions, name),
+            Question::Frames => Ok(describe_frames(alloc, definitions, &*self)?),
+            Question::Schema(name) => describe_table(alloc, definitions, name),
             Question::Show(view, part) => show(alloc, catalogue, view, part),
             Question::Rows(frame) => rows(alloc, definitions, catalogue, frame),
             Question::Books(frame) => books(alloc, definitions, catalogue, frame),

@@ -2,19 +2,15 @@
 ghost use Rattle.std.specs.Prelude.{◌≡◌, IfErr, IfOk, find, map, slice_get, string_bytes};
 ghost use Rattle.std.specs.Option.{option_copied};
 ghost use Rattle.df_catalogue.specs.Pictures.{frame_len_in, view_rows_in};
-ghost use Rattle.df_shell.specs.Asked.{frame_index_of, plan_named};
-ghost use Rattle.df_shell.specs.Checks.{check_text};
-ghost use Rattle.df_shell.specs.Questions.{IsMemory, IsTold, names_text};
+ghost use Rattle.df_session.specs.Asked.{frame_index_of, plan_named};
+ghost use Rattle.df_session.specs.Told.{IsMemory, IsTold, check_text, names_text};
 ghost use Rattle.df_shell.specs.Versions.{counted_text, differs_from, first_differing_in, numbered_text, refusal_with_hall, shown_text, text_of_index, text_of_version, version_line};
 
-use crate::checking::verdict;
-use crate::command::{Part, Question};
-use crate::definitions::Definitions;
-use crate::describing::{RowCounts, describe_frames, schema};
-use crate::parts::print_part;
-use crate::reading::{books_of, names_lines, push_numbers};
-use crate::refusal::{Mistake, Refusal};
 use df_catalogue::{CatalogueFault, Desk};
+use df_session::{
+    Definitions, Mistake, Part, Question, Refusal, RowCounts, books_of, describe_frames,
+    describe_table, names_lines, print_part, push_numbers, verdict,
+};
 use df_text::print_table;
 use df_value::Text;
 use df_versions::Version;
@@ -34,8 +30,8 @@ pub fn answer_from_version<Acc: Ledger, Del: Ledger>(
         (refusal_with_hall question.entry) result }
 {
     match question {
-        Question::Frames => Ok(describe_frames(alloc, definitions, version)?),
-        Question::Schema(name) => schema(alloc, definitions, name),
+        Question::Frames => Ok(describe_frames(alloc, definitions, &VersionCounts { version })?),
+        Question::Schema(name) => describe_table(alloc, definitions, name),
         Question::Show(view, part) => show(alloc, definitions, version, view, part),
         Question::Rows(frame) => rows(alloc, definitions, version, frame),
         Question::Books(frame) => books(alloc, definitions, version, desks, frame),
@@ -47,11 +43,16 @@ pub fn answer_from_version<Acc: Ledger, Del: Ledger>(
 }
 
 /// How many rows the frames of a version have.
-impl RowCounts for Version {
-    ghost counts = { λ v at. frame_len_in v.1 at };
+#[derive(Clone, Copy)]
+struct VersionCounts<'a> {
+    version: &'a Version,
+}
+
+impl<'a> RowCounts for VersionCounts<'a> {
+    ghost counts = { λ c at. frame_len_in c.version.now.1 at };
 
     fn row_count(&self, frame: usize) -> Option<u64> {
-        self.frame_len(frame)
+        self.version.frame_len(frame)
     }
 }
 

@@ -1,13 +1,14 @@
 use Rattle.std.proofs.Common.{◌≡◌, ◌∙◌, ap, length, map, replicate, subst, sym}
 use Rattle.std.specs.Prelude.{is_none}
 use Rattle.df_catalogue.specs.declared.state.State.{State}
-use Rattle.df_shell.proofs.NumberFacts.{numbers-empty}
-use Rattle.df_shell.specs.Numbers.{next_numbers}
+use Rattle.df_shell.proofs.NextNumberFacts.{numbers-empty}
+use Rattle.df_shell.specs.NextNumbers.{next_numbers}
 use Rattle.df_catalogue.specs.States.{opening_of}
 use Rattle.df_text.specs.declared.document.FrameSpec.{FrameSpec}
-use Rattle.df_shell.proofs.AreMadeFacts.{all-within}
+use Rattle.df_session.proofs.AreMadeFacts.{all-within}
 use Rattle.df_shell.specs.Changes.{IsMade}
-use Rattle.df_shell.specs.Opening.{AreMade, empty_catalogue, opening_changes}
+use Rattle.df_session.specs.Filling.{AreMade, opening_changes}
+use Rattle.df_shell.specs.Opening.{empty_catalogue}
 use Rattle.df_shell.proofs.opening.open_store.Goals as goal
 
 pub invariant_of-store : goal.invariant_of-store

@@ -5,9 +5,9 @@ use Rattle.std.specs.Global.{Vec}
 use Rattle.df_catalogue.specs.Desks.{DeskParts}
 use Rattle.df_catalogue.specs.Pictures.{PictureParts}
 use Rattle.df_shell.specs.Halls.{HallParts, IsAnswerOfHall}
-use Rattle.df_shell.specs.Questions.{IsTold}
+use Rattle.df_session.specs.Told.{IsTold}
 use Rattle.df_shell.specs.Versions.{refusal_with_hall, text_of_version}
-use Rattle.df_shell.specs.declared.refusal.Refusal.{Refusal}
+use Rattle.df_session.specs.declared.refusal.Refusal.{Refusal}
 use Rattle.df_shell.proofs.hall_store.HallStoreViewStore.answer.Goals as goal
 use Rattle.df_shell.proofs.hall_store.HallStoreViewStore.answer.Goals.{in-Some, in-None}
 

@@ -3,8 +3,8 @@ use Rattle.std.specs.Prelude.{Option, Some, None, is_none}
 use Rattle.std.proofs.lemmas.List.{with_items_is}
 use Rattle.df_catalogue.specs.declared.state.StagedParts.{StagedParts}
 use Rattle.df_catalogue.specs.Desks.{AreInOrder}
-use Rattle.df_shell.proofs.NumberFacts.{numbered-after}
-use Rattle.df_shell.specs.Numbers.{noted}
+use Rattle.df_shell.proofs.NextNumberFacts.{numbered-after}
+use Rattle.df_session.specs.Numbers.{noted}
 use Rattle.df_shell.proofs.store.StoreViewStore.make.Goals as goal
 
 pub apply-made-requires : goal.apply-made-requires

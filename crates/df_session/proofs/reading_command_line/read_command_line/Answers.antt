@@ -1,0 +1,17 @@
+use Rattle.std.proofs.Common.{◌∙◌, ap, codes, Bor, List, map, ℕ, subst}
+use Rattle.clap.specs.Words.{App, first_of, found_of, is_simple, matches_of, one_of}
+use Rattle.clap.proofs.WalkLemmas.{first_value-rows, one_text-rows}
+use Rattle.df_session.specs.CommandLine.{IsFlagOf}
+use Rattle.df_session.proofs.FlagFacts.{is_exact}
+use Rattle.df_session.proofs.reading_command_line.read_command_line.Goals as goal
+
+pub returns-clause-says : goal.returns-clause-says
+returns-clause-says c =
+    let found = found_of c.in_ok-matches.matches in
+    let is_line = c.in_ok-command.ensures in
+    let same = (c.in_ok-matches.ensures.matches (ap is_simple is_line ∙ is_exact)).0 ∙ ap (λ (a : App). matches_of a (map (λ (w : Bor (List ℕ)). w.now) c.args.words.now)) is_line in
+    record {
+      views = c.said_in.ensures.views ∙ (first_value-rows found (codes "views") ∙ ap (first_of (codes "views")) same);
+      hall = subst (λ text. IsFlagOf text c.said_in.result.hall) (one_text-rows found (codes "hall") ∙ ap (one_of (codes "hall")) same) c.said_in.ensures.hall;
+      check = subst (λ text. IsFlagOf text c.said_in.result.check) (one_text-rows found (codes "check") ∙ ap (one_of (codes "check")) same) c.said_in.ensures.check;
+    }

@@ -1,0 +1,74 @@
+-- What the answer to a command says: of a change, that the store made it; of a question, what the store answers.
+use Rattle.std.specs.Prelude.{◌≡◌, ◌⊎◌, ⊤, ℕ, List, [], Option, Some, None, Result, Ok, Err, codes}
+use Rattle.csv.specs.Records.{Row, fields_of}
+use Rattle.std.specs.Global.{Vec}
+use Rattle.df_catalogue.specs.declared.change.Change.{Change}
+use Rattle.df_session.specs.Commands.{IsCommandOf}
+use Rattle.df_session.specs.Asked.{IsAppended, IsMadeAsAsked, IsRefusalOfAppendNext, IsRefusalOfAsked, frame_index_of}
+use Rattle.df_session.specs.Help.{help_list, help_on}
+use Rattle.df_session.specs.declared.answering.Answer.{Answer}
+use Rattle.df_session.specs.declared.answering.Answer.TheVariants as answer
+use Rattle.df_session.specs.declared.command.Command.{Command}
+use Rattle.df_session.specs.declared.command.Command.TheVariants as command
+use Rattle.df_session.specs.declared.command.Question.{Question}
+use Rattle.df_session.specs.declared.definitions.Definitions.{Definitions}
+use Rattle.df_session.specs.declared.refusal.Mistake.TheVariants as mistake
+use Rattle.df_session.specs.declared.refusal.Refusal.{Refusal}
+use Rattle.df_session.specs.declared.refusal.Refusal.TheVariants as refusal
+
+-- the text of an answer
+abbrev pub answer_text : Answer → List ℕ
+answer_text answer.Accepted = codes "ok\n"
+answer_text (answer.Told text) = text.items
+answer_text (answer.Source path) = []
+answer_text answer.Ended = []
+
+-- What may be wrong with words that are read as a command.
+abbrev pub IsWordFault : Refusal → Type 0
+IsWordFault (refusal.Mistake m) = ⊤
+IsWordFault refusal.Memory = ⊤
+IsWordFault r = ⊥
+
+-- A refusal to tell of a command: there is none of the name, or memory was refused.
+abbrev pub IsRefusalOfHelp : Option (List ℕ) → Refusal → Type 0
+IsRefusalOfHelp want r = (r ≡ refusal.Memory) ⊎ ((r ≡ refusal.Mistake mistake.NoCommand) × (want ≡ None))
+
+-- by what a store makes, refuses, keeps where it makes no change, and answers, the numbers that it has for further rows, and the
+-- commands that are told
+module _
+    (Makes : Change → Type 0)
+    (Refuses : Change → Refusal → Type 0)
+    (Keeps : Type 0)
+    (Answers : Question → Result (Vec ℕ) Refusal → Type 0)
+    (Next : ℕ → ℕ → Type 0)
+    (commands : List (List ℕ × List ℕ × List ℕ))
+  where
+    -- The answer to a command, with the lines that were read for it: the change that it asks for was made, or the question is
+    -- answered; else it is refused. Only a change that was made alters the store.
+    abbrev pub IsAnswer : {T : Type 0} → Definitions → Command → Result T Refusal → Result Answer Refusal → Type 0
+    IsAnswer d (command.Change change) lines (Ok answer.Accepted) = IsMadeAsAsked Makes d change lines
+    IsAnswer d (command.Change change) lines (Err r) = IsRefusalOfAsked Refuses d change lines r × Keeps
+    IsAnswer d (command.AppendNext frame) lines (Ok (answer.Told text)) = IsAppended Makes Next d (frame_index_of d frame.now) lines text
+    IsAnswer d (command.AppendNext frame) lines (Err r) =
+        IsRefusalOfAppendNext Refuses d (frame_index_of d frame.now) lines r × Keeps
+    IsAnswer d (command.Question q) lines (Ok (answer.Told text)) = Answers q (Ok text)
+    IsAnswer d (command.Question q) lines (Err r) = Answers q (Err r)
+    IsAnswer d (command.Source path) lines (Ok (answer.Source file)) = (file ≡ path.now) × Keeps
+    IsAnswer d (command.Source path) lines (Err r) = (r ≡ refusal.Memory) × Keeps
+    IsAnswer d command.Help lines (Ok (answer.Told text)) = (text.items ≡ help_list commands) × Keeps
+    IsAnswer d command.Help lines (Err r) = (r ≡ refusal.Memory) × Keeps
+    IsAnswer d (command.HelpOn name) lines (Ok (answer.Told text)) = (help_on name.now commands ≡ Some text.items) × Keeps
+    IsAnswer d (command.HelpOn name) lines (Err r) = IsRefusalOfHelp (help_on name.now commands) r × Keeps
+    IsAnswer d command.Quit lines (Ok answer.Ended) = Keeps
+    IsAnswer d c lines result = ⊥
+
+    -- what is answered to the command that words say
+    abbrev pub IsAnswerToWords : {T : Type 0} → Definitions → Row → Result T Refusal → Result Answer Refusal → Type 0
+    IsAnswerToWords d words lines result = (c : Command) × IsCommandOf (fields_of words) c × IsAnswer d c lines result
+
+    -- The answer to the words of a line: that to the command that they say, or what is wrong with the words. Words that were not
+    -- read are refused for that.
+    abbrev pub IsAnswerToLine : {T : Type 0} → Definitions → Result Row Refusal → Result T Refusal → Result Answer Refusal → Type 0
+    IsAnswerToLine d (Ok words) lines (Ok answer) = IsAnswerToWords d words lines (Ok answer)
+    IsAnswerToLine d (Ok words) lines (Err r) = (IsWordFault r × Keeps) ⊎ IsAnswerToWords d words lines (Err r)
+    IsAnswerToLine d (Err f) lines result = (result ≡ Err f) × Keeps

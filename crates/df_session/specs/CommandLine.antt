@@ -1,0 +1,33 @@
+-- What the words of the program's command line say, over `clap`'s own words.
+use Rattle.std.specs.Prelude.{◌≡◌, ℕ, Bool, true, false, List, Option, Some, None, codes, option_map}
+use Rattle.clap.specs.Words.{App, Rule, first_of, matches_of, new_app, new_rule, one_of, with_rule}
+use Rattle.clap.specs.declared.builder.action.ArgAction.TheVariants.{SetTrue}
+use Rattle.df_session.specs.declared.command_line.CommandLine.{CommandLine}
+
+-- the program's name is not among the words
+abbrev pub program_app : App
+program_app = record (new_app (codes "dfshell")) {
+  top = record (new_app (codes "dfshell")).top { no_binary_name = true; has_version = true };
+}
+
+abbrev pub views_rule : Rule
+views_rule = record (new_rule (codes "views")) { value_names = 1; required = true }
+
+-- a word that stands in the line or does not
+abbrev pub flag_rule : List ℕ → Rule
+flag_rule name = record (new_rule name) { long = Some name; action = Some SetTrue }
+
+-- the command line: [--hall] [--check] VIEWS
+abbrev pub command_line : App
+command_line = with_rule (with_rule (with_rule program_app views_rule) (flag_rule (codes "hall"))) (flag_rule (codes "check"))
+
+-- whether a flag stands, by its text: none where it is no flag of the command
+abbrev pub IsFlagOf : Option (List ℕ) → Bool → Type 0
+IsFlagOf None stands = stands ≡ false
+IsFlagOf (Some text) stands = (text ≡ codes "true" → stands ≡ true) × (text ≡ codes "false" → stands ≡ false)
+
+-- The words say this: the path of the document, and which flags stand.
+pub record Says (words : List (List ℕ)) (line : CommandLine) : Type 0 where
+  pub views : option_map (λ v. v.now) line.views ≡ first_of (codes "views") (matches_of command_line words)
+  pub hall : IsFlagOf (one_of (codes "hall") (matches_of command_line words)) line.hall
+  pub check : IsFlagOf (one_of (codes "check") (matches_of command_line words)) line.check

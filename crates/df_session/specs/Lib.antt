@@ -1,0 +1,13 @@
+pub mod Texts
+pub mod Told
+pub mod Commands
+pub mod Asked
+pub mod Answers
+pub mod CommandLine
+pub mod Greetings
+pub mod Words
+pub mod Help
+pub mod Parts
+pub mod Described
+pub mod Numbers
+pub mod Filling

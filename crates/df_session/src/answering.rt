@@ -1,0 +1,151 @@
+//! The answers to commands.
+ghost use Rattle.std.specs.Prelude.{◌≡◌, IfErr, IfOk, OnErr, OnOk, Some, map};
+ghost use Rattle.csv.specs.Records.{fields_of};
+ghost use Rattle.df_session.specs.Answers.{IsAnswer, IsAnswerToLine, IsRefusalOfHelp, answer_text};
+ghost use Rattle.df_session.specs.Asked.{IsMadeAsAsked, IsRefusalOfAsked};
+ghost use Rattle.df_session.specs.Help.{help_on};
+
+use crate::changing::{append, append_next, delete, drop_view, register, replace};
+use crate::command::{AskedChange, Command, read_command};
+use crate::definitions::Definitions;
+use crate::help::{CommandHelp, explain_command, list_commands};
+use crate::refusal::{Mistake, Refusal};
+use crate::view_store::ViewStore;
+use csv::StringRecord;
+use df_value::Text;
+use std::alloc::{AllocError, Global};
+
+/// What a command is answered, where it is not refused.
+#[derive(Drop)]
+pub enum Answer {
+    /// The change was made.
+    Accepted,
+    /// What was asked for.
+    Told(Vec<u8>),
+    /// Nothing: the commands in the file under this path come next.
+    Source(Text),
+    /// Nothing: the session ends.
+    Ended,
+}
+
+impl Answer {
+    /// The bytes of the answer.
+    pub fn bytes(&self) -> &[u8]
+        ensures { result.now ≡ answer_text self.now }
+    {
+        match self {
+            Answer::Accepted => b"ok\n",
+            Answer::Told(text) => text.as_slice(),
+            Answer::Source(_) | Answer::Ended => b"",
+        }
+    }
+}
+
+/// Does what the words of a line say. `words` and `lines` are what was read, or why it was not; `commands` is the table that
+/// `help` answers from, as [`COMMANDS`](crate::COMMANDS).
+pub fn answer_line<S: ViewStore>(
+    alloc: Global,
+    commands: &[CommandHelp],
+    definitions: &Definitions,
+    store: &mut S,
+    words: Result<StringRecord, Refusal>,
+    lines: Result<Vec<u8>, Refusal>,
+) -> Result<Answer, Refusal>
+    ensures { IsAnswerToLine (S.Makes store.old store.new) (S.Refuses store.old store.new)
+        (S.Keeps store.old store.new) (S.Answers store.old store.new definitions.now)
+        (S.Next store.old) (map (λ c. (c.0.now, c.1.now, c.2.now)) commands.now) definitions.now words lines result }
+{
+    let record = words?;
+    let words = words_of(alloc, &record)?;
+    let command = read_command(alloc, words.as_slice())?;
+    answer_command(alloc, commands, definitions, store, command, lines)
+}
+
+fn words_of(alloc: Global, fields: &StringRecord) -> Result<Vec<&str>, AllocError>
+    ensures { IfOk result (λ words. map (λ w. w.now) words.items ≡ fields_of fields.now) }
+{
+    fields.iter().collect(alloc)
+}
+
+fn answer_command<S: ViewStore>(
+    alloc: Global,
+    commands: &[CommandHelp],
+    definitions: &Definitions,
+    store: &mut S,
+    command: Command<'_>,
+    lines: Result<Vec<u8>, Refusal>,
+) -> Result<Answer, Refusal>
+    ensures { IsAnswer (S.Makes store.old store.new) (S.Refuses store.old store.new)
+        (S.Keeps store.old store.new) (S.Answers store.old store.new definitions.now)
+        (S.Next store.old) (map (λ c. (c.0.now, c.1.now, c.2.now)) commands.now) definitions.now command.entry lines result }
+{
+    match command {
+        Command::Change(change) => {
+            answer_change(alloc, definitions, store, change, lines)?;
+            Ok(Answer::Accepted)
+        }
+        Command::AppendNext(frame) => {
+            let told = append_next(alloc, definitions, store, frame, lines)?;
+            Ok(Answer::Told(told))
+        }
+        Command::Question(question) => {
+            drop(lines);
+            Ok(Answer::Told(store.answer(alloc, definitions, question)?))
+        }
+        Command::Source(path) => {
+            drop(lines);
+            Ok(Answer::Source(Text::from_str(alloc, path)?))
+        }
+        Command::Help => {
+            drop(lines);
+            Ok(Answer::Told(list_commands(alloc, commands)?))
+        }
+        Command::HelpOn(name) => {
+            drop(lines);
+            Ok(Answer::Told(explain(alloc, commands, name)?))
+        }
+        Command::Quit => {
+            drop(lines);
+            Ok(Answer::Ended)
+        }
+    }
+}
+
+fn explain(alloc: Global, commands: &[CommandHelp], name: &str) -> Result<Vec<u8>, Refusal>
+    ensures told { IfOk result (λ text.
+        help_on name.now (map (λ c. (c.0.now, c.1.now, c.2.now)) commands.now)
+        ≡ Some text.items) }
+    ensures refused { IfErr result (IsRefusalOfHelp
+        (help_on name.now (map (λ c. (c.0.now, c.1.now, c.2.now)) commands.now))) }
+{
+    match explain_command(alloc, commands, name)? {
+        Some(text) => Ok(text),
+        None => Err(Refusal::Mistake(Mistake::NoCommand)),
+    }
+}
+
+fn answer_change<S: ViewStore>(
+    alloc: Global,
+    definitions: &Definitions,
+    store: &mut S,
+    asked: AskedChange<'_>,
+    lines: Result<Vec<u8>, Refusal>,
+) -> Result<(), Refusal>
+    ensures made { OnOk result
+        (IsMadeAsAsked (S.Makes store.old store.new) definitions.now asked.entry lines) }
+    ensures refused { IfErr result
+        (IsRefusalOfAsked (S.Refuses store.old store.new) definitions.now asked.entry lines) }
+    ensures same { OnErr result (S.Keeps store.old store.new) }
+{
+    match asked {
+        AskedChange::Append(frame, first) => {
+            append(alloc, definitions, store, frame, first, lines)
+        }
+        AskedChange::Delete(frame, numbers) => delete(alloc, definitions, store, frame, numbers),
+        AskedChange::Replace(frame, numbers) => {
+            replace(alloc, definitions, store, frame, numbers, lines)
+        }
+        AskedChange::Register(view) => register(alloc, definitions, store, view),
+        AskedChange::DropView(view) => drop_view(alloc, store, view),
+    }
+}

@@ -1,0 +1,248 @@
+//! Commands, and the words that they are read of.
+ghost use Rattle.std.specs.Prelude.{◌≡◌, ◌∷◌, [], IfErr, IfOk, codes, map};
+ghost use Rattle.std.specs.List.{AllZip};
+ghost use Rattle.df_session.specs.Answers.{IsWordFault};
+ghost use Rattle.df_session.specs.Commands.{IsChangeOf, IsCommandOf, IsLineCount, IsPartOf, IsQuestionOf, IsRowNumber};
+
+use crate::refusal::{Mistake, Refusal};
+use df_value::List;
+use std::alloc::Global;
+
+/// What a line asks for. Frames and views are named as in the document.
+#[derive(Drop)]
+pub enum Command<'a> {
+    Change(AskedChange<'a>),
+    /// Adds rows to a frame, behind all numbers that it ever accepted.
+    AppendNext(&'a str),
+    Question(Question<'a>),
+    /// The commands in the file under a path.
+    Source(&'a str),
+    /// The commands.
+    Help,
+    /// A command, by its name.
+    HelpOn(&'a str),
+    /// The end of the session.
+    Quit,
+}
+
+/// A change that is asked for.
+#[derive(Drop)]
+pub enum AskedChange<'a> {
+    /// Adds rows to a frame, the first of which has this number.
+    Append(&'a str, u32),
+    /// Takes the rows of these numbers out of a frame.
+    Delete(&'a str, List<u32>),
+    /// Puts rows in the place of those of these numbers.
+    Replace(&'a str, List<u32>),
+    /// Adds the document's view of this name last.
+    Register(&'a str),
+    /// Takes the view of this name out.
+    DropView(&'a str),
+}
+
+/// What is asked about the frames and views.
+#[derive(Clone, Copy)]
+pub enum Question<'a> {
+    /// The names of the frames, how many rows each has, and its columns with their types.
+    Frames,
+    /// The columns of a frame or of a view with their types.
+    Schema(&'a str),
+    /// The table of a view, or a part of its rows.
+    Show(&'a str, Part),
+    /// The table of a frame and the numbers of its rows.
+    Rows(&'a str),
+    /// How many rows a frame accepted, how many were deleted, and how many it has.
+    Books(&'a str),
+    /// The names of the views.
+    Views,
+    /// Whether each view has the rows that its plan gives.
+    Check,
+    /// What the views counted at the last change of rows.
+    Work,
+    /// The number of the newest version.
+    Version,
+}
+
+/// Which rows of a table are shown.
+#[derive(Clone, Copy)]
+pub enum Part {
+    Whole,
+    /// So many, from the first one on.
+    First(usize),
+    /// From this one on, the first being 0, so many.
+    From(usize, usize),
+}
+
+/// The command that words say.
+pub fn read_command<'a>(alloc: Global, words: &[&'a str]) -> Result<Command<'a>, Refusal>
+    ensures said { IfOk result (IsCommandOf (map (λ w. w.now) words.now)) }
+    ensures refused { IfErr result IsWordFault }
+{
+    match words {
+        [name, arguments @ ..] => command_of(alloc, name, arguments),
+        [] => Err(Refusal::Mistake(Mistake::MissingWord)),
+    }
+}
+
+fn command_of<'a>(alloc: Global, name: &str, arguments: &[&'a str]) -> Result<Command<'a>, Refusal>
+    ensures said { IfOk result (IsCommandOf (name.now ∷ map (λ w. w.now) arguments.now)) }
+    ensures refused { IfErr result IsWordFault }
+{
+    match name {
+        "append" => Ok(read_append(arguments)?),
+        "delete" => Ok(Command::Change(read_delete(alloc, arguments)?)),
+        "replace" => Ok(Command::Change(read_replace(alloc, arguments)?)),
+        "register" => Ok(Command::Change(AskedChange::Register(only(arguments)?))),
+        "drop" => Ok(Command::Change(AskedChange::DropView(only(arguments)?))),
+        "source" => Ok(Command::Source(only(arguments)?)),
+        "help" => Ok(read_help(arguments)?),
+        "quit" => bare(Command::Quit, arguments),
+        _ => question_of(name, arguments),
+    }
+}
+
+fn question_of<'a>(name: &str, arguments: &[&'a str]) -> Result<Command<'a>, Refusal>
+    ensures said { IfOk result (IsCommandOf (name.now ∷ map (λ w. w.now) arguments.now)) }
+    ensures refused { IfErr result IsWordFault }
+{
+    match name {
+        "frames" => bare(Command::Question(Question::Frames), arguments),
+        "schema" => Ok(Command::Question(Question::Schema(only(arguments)?))),
+        "show" => Ok(Command::Question(read_show(arguments)?)),
+        "rows" => Ok(Command::Question(Question::Rows(only(arguments)?))),
+        "books" => Ok(Command::Question(Question::Books(only(arguments)?))),
+        "views" => bare(Command::Question(Question::Views), arguments),
+        "check" => bare(Command::Question(Question::Check), arguments),
+        "work" => bare(Command::Question(Question::Work), arguments),
+        "version" => bare(Command::Question(Question::Version), arguments),
+        _ => Err(Refusal::Mistake(Mistake::NoCommand)),
+    }
+}
+
+fn read_append<'a>(arguments: &[&'a str]) -> Result<Command<'a>, Mistake>
+    ensures { IfOk result (IsCommandOf (codes "append" ∷ map (λ w. w.now) arguments.now)) }
+{
+    match arguments {
+        [frame] => Ok(Command::AppendNext(frame)),
+        [frame, first, count] => {
+            let first = row_number(first)?;
+            line_count(count)?;
+            Ok(Command::Change(AskedChange::Append(frame, first)))
+        }
+        [_, _, _, ..] => Err(Mistake::ExtraWord),
+        _ => Err(Mistake::MissingWord),
+    }
+}
+
+fn read_delete<'a>(alloc: Global, arguments: &[&'a str]) -> Result<AskedChange<'a>, Refusal>
+    ensures said { IfOk result (IsChangeOf (codes "delete" ∷ map (λ w. w.now) arguments.now)) }
+    ensures refused { IfErr result IsWordFault }
+{
+    match arguments {
+        [frame, numbers @ ..] => Ok(AskedChange::Delete(frame, row_numbers(alloc, numbers)?)),
+        [] => Err(Refusal::Mistake(Mistake::MissingWord)),
+    }
+}
+
+fn read_replace<'a>(alloc: Global, arguments: &[&'a str]) -> Result<AskedChange<'a>, Refusal>
+    ensures said { IfOk result (IsChangeOf (codes "replace" ∷ map (λ w. w.now) arguments.now)) }
+    ensures refused { IfErr result IsWordFault }
+{
+    match arguments {
+        [frame, numbers @ ..] => Ok(AskedChange::Replace(frame, row_numbers(alloc, numbers)?)),
+        [] => Err(Refusal::Mistake(Mistake::MissingWord)),
+    }
+}
+
+fn read_show<'a>(arguments: &[&'a str]) -> Result<Question<'a>, Mistake>
+    ensures { IfOk result (IsQuestionOf (codes "show" ∷ map (λ w. w.now) arguments.now)) }
+{
+    match arguments {
+        [view, part @ ..] => Ok(Question::Show(view, read_part(part)?)),
+        [] => Err(Mistake::MissingWord),
+    }
+}
+
+fn read_part(words: &[&str]) -> Result<Part, Mistake>
+    ensures { IfOk result (IsPartOf (map (λ w. w.now) words.now)) }
+{
+    match words {
+        [] => Ok(Part::Whole),
+        [count] => Ok(Part::First(row_count(count)?)),
+        ["from", first, count] => {
+            let first = row_count(first)?;
+            Ok(Part::From(first, row_count(count)?))
+        }
+        ["from", _] => Err(Mistake::MissingWord),
+        _ => Err(Mistake::ExtraWord),
+    }
+}
+
+fn read_help<'a>(arguments: &[&'a str]) -> Result<Command<'a>, Mistake>
+    ensures { IfOk result (IsCommandOf (codes "help" ∷ map (λ w. w.now) arguments.now)) }
+{
+    match arguments {
+        [] => Ok(Command::Help),
+        [name] => Ok(Command::HelpOn(name)),
+        _ => Err(Mistake::ExtraWord),
+    }
+}
+
+fn row_numbers(alloc: Global, words: &[&str]) -> Result<List<u32>, Refusal>
+    ensures said { IfOk result (AllZip IsRowNumber (map (λ w. w.now) words.now)) }
+    ensures refused { IfErr result IsWordFault }
+{
+    let mut numbers = Vec::with_capacity(alloc, words.len())?;
+    for word in words {
+        numbers.push(row_number(word)?)?;
+    }
+    Ok(List::from_vec(numbers))
+}
+
+/// The row number that a word says.
+pub fn row_number(word: &str) -> Result<u32, Mistake>
+    ensures { IfOk result (IsRowNumber word.now) }
+{
+    match word.parse::<u32>() {
+        Ok(number) => Ok(number),
+        Err(_) => Err(Mistake::NotRowNumber),
+    }
+}
+
+/// How many lines of CSV a word says.
+pub fn line_count(word: &str) -> Result<u64, Mistake>
+    ensures { IfOk result (IsLineCount word.now) }
+{
+    match word.parse::<u64>() {
+        Ok(count) => Ok(count),
+        Err(_) => Err(Mistake::NotCount),
+    }
+}
+
+fn row_count(word: &str) -> Result<usize, Mistake>
+    ensures { IfOk result (IsLineCount word.now) }
+{
+    Ok(line_count(word)? as usize)
+}
+
+// The word of a command that takes one.
+fn only<'a>(arguments: &[&'a str]) -> Result<&'a str, Mistake>
+    ensures { IfOk result (λ word. map (λ w. w.now) arguments.now ≡ word.now ∷ []) }
+{
+    match arguments {
+        [word] => Ok(word),
+        [] => Err(Mistake::MissingWord),
+        _ => Err(Mistake::ExtraWord),
+    }
+}
+
+// A command that takes no word.
+fn bare<'a>(command: Command<'a>, arguments: &[&'a str]) -> Result<Command<'a>, Refusal>
+    ensures said { IfOk result (λ c. (c ≡ command.entry) × (arguments.now ≡ [])) }
+    ensures refused { IfErr result IsWordFault }
+{
+    match arguments {
+        [] => Ok(command),
+        _ => Err(Refusal::Mistake(Mistake::ExtraWord)),
+    }
+}

@@ -1,0 +1,51 @@
+//! Commands, and a session that answers them from any store of views.
+//!
+//! [`read_command`] reads a [`Command`] from the words of a line, and [`answer_line`] answers it from a [`ViewStore`],
+//! or with a [`Refusal`]. A [`Session`] goes through the commands of an input by [`answer_from`], over a document that
+//! [`prepare`] opened and a store that [`fill`] filled. docs/ARCHITECTURE.md says where to add a command.
+#![tactic(auto)]
+
+mod answering;
+mod changing;
+mod command;
+mod command_line;
+mod definitions;
+mod describing;
+mod document_check;
+mod fault;
+mod filling;
+mod help;
+mod lines;
+mod numbers;
+mod parts;
+mod prepared;
+mod prompts;
+mod reading_command_line;
+mod refusal;
+mod refusal_texts;
+mod rows;
+mod session;
+mod telling;
+mod view_store;
+mod words;
+
+pub use answering::{Answer, answer_line};
+pub use command::{AskedChange, Command, Part, Question, read_command};
+pub use command_line::CommandLine;
+pub use definitions::Definitions;
+pub use describing::{RowCounts, describe_frames, describe_table};
+pub use document_check::{DocumentCheck, check_document};
+pub use fault::{ShellFault, shell_fault_text};
+pub use filling::fill;
+pub use help::{COMMANDS, CommandHelp};
+pub use lines::MOST_BYTES_OF_LINE;
+pub use numbers::{Numbers, end_if_made, end_of};
+pub use parts::print_part;
+pub use prepared::{Prepared, prepare};
+pub use prompts::Prompts;
+pub use reading_command_line::read_command_line;
+pub use refusal::{Mistake, Refusal, VersionFault};
+pub use refusal_texts::refusal_text;
+pub use session::{Buffers, Session, answer_from};
+pub use telling::{books_of, names_lines, push_numbers, verdict};
+pub use view_store::ViewStore;

@@ -1,0 +1,97 @@
+//! Parts of a printed table.
+ghost use Rattle.std.specs.Prelude.{◌≡◌, ◌++◌, IfOk, OnOk, drop, string_bytes, take};
+ghost use Rattle.df_session.specs.Parts as parts;
+ghost use Rattle.df_session.specs.Parts.{around_line, more_line, part_line, part_rows, part_text};
+
+use crate::command::Part;
+use crate::prompts::plural_end;
+use df_text::print_table;
+use df_value::{Row, Schema, Text};
+use std::alloc::{AllocError, Global};
+
+/// A part of the rows of a table, printed, and below it how many rows lie around it.
+pub fn print_part(
+    alloc: Global,
+    name: &Text,
+    schema: &Schema,
+    rows: &[Row],
+    part: Part,
+) -> Result<Vec<u8>, AllocError>
+    ensures { IfOk result (λ text.
+        text.items ≡ part_text name.now schema.now part rows.now) }
+{
+    let mut text = print_table(alloc, name, schema, rows_in(part, rows))?;
+    push_line(alloc, &mut text, part, rows.len())?;
+    Ok(text)
+}
+
+fn rows_in(part: Part, rows: &[Row]) -> &[Row]
+    ensures { result.now ≡ part_rows part rows.now }
+{
+    match part {
+        Part::Whole => rows,
+        Part::First(count) => first_of(count, rows),
+        Part::From(first, count) => first_of(count, behind(first, rows)),
+    }
+}
+
+// At most so many, from the first on.
+fn first_of(count: usize, rows: &[Row]) -> &[Row]
+    ensures { result.now ≡ take count rows.now }
+{
+    if count < rows.len() {
+        &rows[..count]
+    } else {
+        rows
+    }
+}
+
+// Those behind so many.
+fn behind(count: usize, rows: &[Row]) -> &[Row]
+    ensures { result.now ≡ drop count rows.now }
+{
+    if count < rows.len() {
+        &rows[count..]
+    } else {
+        &rows[rows.len()..]
+    }
+}
+
+fn push_line(alloc: Global, text: &mut Vec<u8>, part: Part, total: usize) -> Result<(), AllocError>
+    ensures { OnOk result (text.new.items ≡ text.old.items ++ part_line part total) }
+{
+    match part {
+        Part::Whole => Ok(()),
+        Part::First(count) => push_more(alloc, text, total.saturating_sub(count)),
+        Part::From(first, count) => {
+            let before = first.min(total);
+            let after = total.saturating_sub(first).saturating_sub(count);
+            let line = around(alloc, before, after)?;
+            Ok(text.extend_from_slice(line.as_bytes())?)
+        }
+    }
+}
+
+fn push_more(alloc: Global, text: &mut Vec<u8>, more: usize) -> Result<(), AllocError>
+    ensures { OnOk result (text.new.items ≡ text.old.items ++ more_line more) }
+{
+    if more > 0 {
+        let line = more_rows(alloc, more)?;
+        text.extend_from_slice(line.as_bytes())?;
+    }
+    Ok(())
+}
+
+fn more_rows(alloc: Global, more: usize) -> Result<String, AllocError>
+    ensures { IfOk result (λ line. string_bytes line ≡ parts.more_rows more) }
+{
+    let end = plural_end(more);
+    format!(in alloc; ".. {more} more row{end}\n")
+}
+
+fn around(alloc: Global, before: usize, after: usize) -> Result<String, AllocError>
+    ensures { IfOk result (λ line. string_bytes line ≡ around_line before after) }
+{
+    let end = plural_end(before);
+    format!(in alloc; ".. {before} row{end} before, {after} behind\n")
+}

@@ -1,0 +1,116 @@
+//! The words of the program's command line.
+ghost use Rattle.std.specs.Prelude.{◌≡◌, IfOk, codes, false, map, option_map};
+ghost use Rattle.clap.specs.Words.{FailsBy, app_of, fault_of, first_value, found_of, one_text, rule_of};
+ghost use Rattle.df_session.specs.CommandLine as command_line_spec;
+ghost use Rattle.df_session.specs.CommandLine.{IsFlagOf, Says, flag_rule, program_app, views_rule};
+
+use crate::command_line::CommandLine;
+use clap::{Arg, ArgAction, ArgMatches, Command, Error};
+use std::alloc::{AllocError, Global};
+
+/// The version of the program.
+const VERSION: &str = "1.0.0";
+
+// The end of the help.
+const AFTER_HELP: &str = r#"Commands, one a line of standard input:
+  append FRAME                 and lines of CSV up to a line with a dot alone: adds rows behind all others
+  append FRAME FIRST COUNT     and COUNT lines of CSV: adds rows, numbered from FIRST
+  delete FRAME NUMBER ..       takes the rows of these numbers out
+  replace FRAME NUMBER ..      and as many lines of CSV: puts each row in the place of that of its number
+  register VIEW                adds the document's view of this name
+  drop VIEW                    takes a view out
+  frames                       the frames: how many rows each has, and its columns with their types
+  views                        the names of the views
+  schema NAME                  the columns of a frame, or else of a view, with their types
+  show VIEW                    the table of a view
+  show VIEW COUNT              its first COUNT rows, and how many more there are
+  show VIEW from ROW COUNT     COUNT rows from row ROW on, the first being 0, and how many lie around them
+  rows FRAME                   the table of a frame, and the numbers of its rows
+  books FRAME                  how many rows were accepted and deleted, and how many there are
+  check                        whether each view has the rows that its plan gives: same, or differs and a view
+  work                         what the views counted at the last change of rows; not with --hall
+  version                      the number of the newest version; only with --hall
+  source PATH                  the answers to the commands in a file, as if they stood here
+  help [COMMAND]               this list, or a command with an example
+  quit                         ends the session, as the end of input does
+
+Exit status:
+  0  the input has ended, or the document opens
+  1  with --check: the document opens without the chunks that have a bad cell, which the output names
+  2  a fault, or a refused word: standard error says which"#;
+
+/// Reads the words behind the program's name: `[--hall] [--check] VIEWS`.
+///
+/// Refused are other words, no VIEWS or a second one, and a flag twice. `-h`, `--help` and `--version` are an error too,
+/// whose text is the help or the version: its `use_stderr` is false and its `exit_code` 0, where those of a refusal are
+/// true and 2.
+pub fn read_command_line<'a>(alloc: Global, words: &'a [&'a str]) -> Result<CommandLine<'a>, Error>
+    ensures says { IfOk result (λ line. Says (map (λ word. word.now) words.entry.now) line) }
+    ensures refused { FailsBy (fault_of command_line_spec.command_line
+        (map (λ word. word.now) words.entry.now)) result }
+{
+    let matches = command(alloc)?.try_get_matches_from(words)?;
+    Ok(said_in(&matches))
+}
+
+fn command<'a>(alloc: Global) -> Result<Command<'a>, AllocError>
+    ensures { IfOk result (λ command. app_of command ≡ command_line_spec.command_line) }
+{
+    let hall =
+        "A session through a hall: a lock round the frames and views, and a version after each change";
+    let check = "Opens the document and its files, says how many frames and views it has, and ends";
+    nameless(alloc)
+        .arg(views_word(alloc))?
+        .arg(flag(alloc, "hall", hall))?
+        .arg(flag(alloc, "check", check))
+}
+
+// The command without its arguments. The program's name is not among its words.
+fn nameless<'a>(alloc: Global) -> Command<'a>
+    ensures { app_of result ≡ program_app }
+{
+    Command::new(alloc, "dfshell")
+        .about("Answers commands over the dataframes and views of a document")
+        .version(VERSION)
+        .after_help(AFTER_HELP)
+        .no_binary_name(true)
+}
+
+fn views_word<'a>(alloc: Global) -> Arg<'a>
+    ensures rule { rule_of result ≡ views_rule }
+    ensures own { result.global ≡ false }
+{
+    Arg::new(alloc, "views")
+        .value_name("VIEWS")
+        .required(true)
+        .help("The view document")
+}
+
+fn flag<'a>(alloc: Global, name: &'a str, help: &'a str) -> Arg<'a>
+    ensures rule { rule_of result ≡ flag_rule name.entry.now }
+    ensures own { result.global ≡ false }
+{
+    Arg::new(alloc, name)
+        .long(name)
+        .action(ArgAction::SetTrue)
+        .help(help)
+}
+
+fn said_in<'a>(matches: &ArgMatches<'a>) -> CommandLine<'a>
+    ensures views { option_map (λ v. v.now) result.views
+        ≡ first_value (found_of matches.now) (codes "views") }
+    ensures hall { IsFlagOf (one_text (found_of matches.now) (codes "hall")) result.hall }
+    ensures check { IsFlagOf (one_text (found_of matches.now) (codes "check")) result.check }
+{
+    CommandLine {
+        views: matches.get_str("views"),
+        hall: is_set(matches, "hall"),
+        check: is_set(matches, "check"),
+    }
+}
+
+fn is_set(matches: &ArgMatches<'_>, name: &str) -> bool
+    ensures { IsFlagOf (one_text (found_of matches.now) name.now) result }
+{
+    matches.get_flag(name)
+}

@@ -1,0 +1,127 @@
+//! Why a command is refused.
+ghost use Rattle.std.specs.Prelude.{◌≡◌};
+ghost use Rattle.df_session.specs.declared.refusal.Refusal.TheVariants as refusal;
+
+use df_catalogue::CatalogueFault;
+use df_text::CsvFault;
+use df_value::{ChunkFault, Text};
+use std::alloc::{AllocError, AllocFailed};
+use thiserror::Error;
+
+/// Why a command is refused. The frames and views are then as they were.
+#[derive(Debug, PartialEq, Eq, Drop, Error)]
+pub enum Refusal {
+    /// The line is no command of this shell.
+    #[error("{0}")]
+    Mistake(Mistake),
+    /// The catalogue refuses it.
+    #[error("{0}")]
+    Store(CatalogueFault),
+    /// The lines of a command are no records.
+    #[error("{0}")]
+    Csv(CsvFault),
+    /// The first bad cell of these: the number of its record, from 1, and the name of its
+    /// column.
+    #[error("record {0}, column {1:?}")]
+    Cell(u64, Text),
+    /// The rows of a command are no chunk.
+    #[error("{0}")]
+    Chunk(ChunkFault),
+    /// A hall has no version for it.
+    #[error("{0}")]
+    Version(VersionFault),
+    /// Memory was refused.
+    #[error("out of memory")]
+    Memory,
+}
+
+/// What is wrong with a line.
+#[derive(Clone, Copy, Debug, PartialEq, Eq, Drop, Error)]
+pub enum Mistake {
+    #[error("no such command")]
+    NoCommand,
+    #[error("a word is missing")]
+    MissingWord,
+    #[error("a word too many")]
+    ExtraWord,
+    /// The second word of an append, or a number of a list of them, is no number below 2^32.
+    #[error("not a row number")]
+    NotRowNumber,
+    /// The last word of an append is no number below 2^64.
+    #[error("not a count")]
+    NotCount,
+    #[error("not UTF-8")]
+    NotText,
+    #[error("a line of more than 1048576 bytes")]
+    LongLine,
+    /// The input ends before the lines of a command do.
+    #[error("lines are missing")]
+    MissingLines,
+    /// The lines of CSV behind numbers are not as many rows.
+    #[error("another number of rows")]
+    OtherRowCount,
+    /// The document has no view of this name.
+    #[error("no such view")]
+    NoView,
+    /// The document has no frame and no view of this name.
+    #[error("no such frame or view")]
+    NoTable,
+    /// The file under a path cannot be opened, or a read of it fails.
+    #[error("no such file")]
+    NoFile,
+    /// A file of commands names another.
+    #[error("commands of a file in a file of commands")]
+    NestedSource,
+    /// A question about versions, which a catalogue has not.
+    #[error("only with --hall")]
+    OnlyWithHall,
+    /// A question about the work of a change, of which a hall tells nothing.
+    #[error("not with --hall")]
+    NotWithHall,
+}
+
+/// Why a hall has no version for a command.
+#[derive(Clone, Copy, Debug, PartialEq, Eq, Drop, Error)]
+pub enum VersionFault {
+    /// 2^64 - 1 versions were published.
+    #[error("the versions are spent")]
+    Spent,
+    /// The hall knows fewer changes than the session was told of.
+    #[error("the hall is behind")]
+    Ahead,
+    /// No version can be taken.
+    #[error("no version")]
+    Missing,
+}
+
+impl From<Mistake> for Refusal {
+    ghost from_gives = { λ m e. e ≡ refusal.Mistake m };
+
+    fn from(mistake: Mistake) -> Refusal {
+        Refusal::Mistake(mistake)
+    }
+}
+
+impl From<CatalogueFault> for Refusal {
+    ghost from_gives = { λ f e. e ≡ refusal.Store f };
+
+    fn from(fault: CatalogueFault) -> Refusal {
+        Refusal::Store(fault)
+    }
+}
+
+impl From<AllocError> for Refusal {
+    ghost from_gives = { λ _ e. e ≡ refusal.Memory };
+
+    fn from(_e: AllocError) -> Refusal {
+        Refusal::Memory
+    }
+}
+
+impl<T: Drop> From<AllocFailed<T>> for Refusal {
+    ghost from_gives = { λ _ e. e ≡ refusal.Memory };
+
+    fn from(_e: AllocFailed<T>) -> Refusal {
+        Refusal::Memory
+    }
+}

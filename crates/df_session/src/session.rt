@@ -1,0 +1,331 @@
+//! A session: the commands of an input and their answers, one after another.
+use crate::answering::{Answer, answer_line};
+use crate::definitions::Definitions;
+use crate::fault::ShellFault;
+use crate::help::COMMANDS;
+use crate::lines::{Line, line_buffer, read_line, with_line, with_long_line, without_end};
+use crate::prompts::{COMMAND_PROMPT, Prompts, RECORD_PROMPT, greeting};
+use crate::refusal::{Mistake, Refusal};
+use crate::refusal_texts::refusal_text;
+use crate::view_store::ViewStore;
+use crate::words::{Following, lines_behind, read_words};
+use df_document::Files;
+use df_text::write_text;
+use df_value::{List, Text};
+use std::alloc::{AllocError, Global};
+use std::io::{BufRead, BufReader, Read, Write};
+
+/// What a shell has while it answers.
+pub struct Session<S> {
+    pub definitions: Definitions,
+    pub store: S,
+    pub buffers: Buffers,
+    pub prompts: Prompts,
+}
+
+/// Room for the line of a command, and for a line of CSV behind it.
+pub struct Buffers {
+    command: Vec<u8>,
+    record: Vec<u8>,
+}
+
+// A body that owns one drops it by a call.
+impl Drop for Buffers {
+    fn drop(self) {
+        let Buffers { command, record } = self;
+        drop(command);
+        drop(record);
+    }
+}
+
+impl Buffers {
+    pub fn new(alloc: Global) -> Result<Buffers, AllocError> {
+        let command = line_buffer(alloc)?;
+        let record = line_buffer(alloc)?;
+        Ok(Buffers { command, record })
+    }
+}
+
+/// What comes behind a command.
+#[derive(Drop)]
+enum Turn {
+    /// The next one.
+    Next,
+    /// The commands in the file under this path.
+    Source(Text),
+    /// Nothing: the input has ended.
+    End,
+    /// Nothing: the session ends.
+    Quit,
+}
+
+/// Writes the first lines, those of the refused chunks among them, and answers the commands.
+pub fn answer_from<S: ViewStore, F: Files, I: BufRead, W: Write>(
+    alloc: Global,
+    session: &mut Session<S>,
+    refused: List<u8>,
+    files: &mut F,
+    input: &mut I,
+    output: &mut W,
+) -> Result<(), ShellFault> {
+    greet(alloc, session, output)?;
+    write_answer(output, refused.as_slice())?;
+    drop(refused);
+    answer_all(alloc, session, files, input, output)
+}
+
+fn greet<S, W: Write>(
+    alloc: Global,
+    session: &Session<S>,
+    output: &mut W,
+) -> Result<(), ShellFault> {
+    match session.prompts {
+        Prompts::Shown => write_all(output, greeting(alloc, &session.definitions)?.as_bytes()),
+        Prompts::Hidden => Ok(()),
+    }
+}
+
+fn answer_all<S: ViewStore, F: Files, I: BufRead, W: Write>(
+    alloc: Global,
+    session: &mut Session<S>,
+    files: &mut F,
+    input: &mut I,
+    output: &mut W,
+) -> Result<(), ShellFault> {
+    for _ in 0..u64::MAX {
+        match answer_next(alloc, session, input, output)? {
+            Turn::Next => {}
+            Turn::Source(path) => {
+                if source(alloc, session, files, &path, output)? {
+                    return Ok(());
+                }
+            }
+            Turn::End | Turn::Quit => return Ok(()),
+        }
+    }
+    Ok(())
+}
+
+// Answers the commands in a file, without prompts; whether one of them ends the session.
+fn source<S: ViewStore, F: Files, W: Write>(
+    alloc: Global,
+    session: &mut Session<S>,
+    files: &mut F,
+    path: &Text,
+    output: &mut W,
+) -> Result<bool, ShellFault> {
+    let Some(file) = files.open(path.as_str()) else {
+        write_refusal(alloc, output, &Refusal::Mistake(Mistake::NoFile))?;
+        return Ok(false);
+    };
+    let prompts = session.prompts;
+    session.prompts = Prompts::Hidden;
+    let ended = answer_file(alloc, session, file, output);
+    session.prompts = prompts;
+    ended
+}
+
+fn answer_file<S: ViewStore, R: Read + Drop, W: Write>(
+    alloc: Global,
+    session: &mut Session<S>,
+    file: R,
+    output: &mut W,
+) -> Result<bool, ShellFault> {
+    match BufReader::new(alloc, file) {
+        Ok(mut input) => answer_sourced(alloc, session, &mut input, output),
+        Err(_) => {
+            write_refusal(alloc, output, &Refusal::Memory)?;
+            Ok(false)
+        }
+    }
+}
+
+// The commands of a file name no further file.
+fn answer_sourced<S: ViewStore, I: BufRead, W: Write>(
+    alloc: Global,
+    session: &mut Session<S>,
+    input: &mut I,
+    output: &mut W,
+) -> Result<bool, ShellFault> {
+    for _ in 0..u64::MAX {
+        match answer_next(alloc, session, input, output) {
+            Ok(Turn::Next) => {}
+            Ok(Turn::Source(_)) => {
+                write_refusal(alloc, output, &Refusal::Mistake(Mistake::NestedSource))?;
+            }
+            Ok(Turn::End) => return Ok(false),
+            Ok(Turn::Quit) => return Ok(true),
+            Err(ShellFault::Read) => {
+                write_refusal(alloc, output, &Refusal::Mistake(Mistake::NoFile))?;
+                return Ok(false);
+            }
+            Err(fault) => return Err(fault),
+        }
+    }
+    Ok(false)
+}
+
+// Reads a line, and answers the command that it is.
+fn answer_next<S: ViewStore, I: BufRead, W: Write>(
+    alloc: Global,
+    session: &mut Session<S>,
+    input: &mut I,
+    output: &mut W,
+) -> Result<Turn, ShellFault> {
+    write_prompt(output, session.prompts, COMMAND_PROMPT)?;
+    match read_line(input, &mut session.buffers.command) {
+        Ok(Line::Whole) => take_turn(alloc, session, input, output),
+        Ok(Line::TooLong) => {
+            write_refusal(alloc, output, &Refusal::Mistake(Mistake::LongLine))?;
+            Ok(Turn::Next)
+        }
+        Ok(Line::End) => {
+            write_prompt(output, session.prompts, b"\n")?;
+            Ok(Turn::End)
+        }
+        Err(_) => Err(ShellFault::Read),
+    }
+}
+
+// Reads what belongs to a command, does what it says and writes the answer.
+fn take_turn<S: ViewStore, I: BufRead, W: Write>(
+    alloc: Global,
+    session: &mut Session<S>,
+    input: &mut I,
+    output: &mut W,
+) -> Result<Turn, ShellFault> {
+    let line = without_end(session.buffers.command.as_slice());
+    if is_passed_over(line) {
+        return Ok(Turn::Next);
+    }
+    let words = read_words(alloc, line);
+    let following = lines_behind(alloc, &words, line);
+    let record = &mut session.buffers.record;
+    match read_lines(alloc, session.prompts, input, output, record, following) {
+        Ok(lines) => {
+            let definitions = &session.definitions;
+            let store = &mut session.store;
+            let answer = answer_line(alloc, &COMMANDS, definitions, store, words, lines);
+            tell(alloc, output, answer)
+        }
+        Err(fault) => {
+            drop(words);
+            Err(fault)
+        }
+    }
+}
+
+// Writes the answer to a command, or why it is refused.
+fn tell<W: Write>(
+    alloc: Global,
+    output: &mut W,
+    answer: Result<Answer, Refusal>,
+) -> Result<Turn, ShellFault> {
+    match answer {
+        Ok(Answer::Ended) => Ok(Turn::Quit),
+        Ok(Answer::Source(path)) => Ok(Turn::Source(path)),
+        Ok(answer) => {
+            let written = write_answer(output, answer.bytes());
+            drop(answer);
+            written?;
+            Ok(Turn::Next)
+        }
+        Err(refusal) => {
+            let written = write_refusal(alloc, output, &refusal);
+            drop(refusal);
+            written?;
+            Ok(Turn::Next)
+        }
+    }
+}
+
+// Whether a line is empty or a comment, behind its first blanks.
+fn is_passed_over(line: &[u8]) -> bool {
+    for byte in line {
+        if *byte != b' ' {
+            return *byte == b'#';
+        }
+    }
+    true
+}
+
+// Reads the lines behind a command, also where they cannot be had: then the answer says why.
+fn read_lines<I: BufRead, W: Write>(
+    alloc: Global,
+    prompts: Prompts,
+    input: &mut I,
+    output: &mut W,
+    line: &mut Vec<u8>,
+    following: Following,
+) -> Result<Result<Vec<u8>, Refusal>, ShellFault> {
+    let mut lines = Ok(Vec::new(alloc));
+    for _ in 0..most_lines(following) {
+        write_prompt(output, prompts, RECORD_PROMPT)?;
+        match read_line(input, line) {
+            Ok(Line::Whole) if is_end(following, line.as_slice()) => return Ok(lines),
+            Ok(Line::Whole) => lines = with_line(lines, content(following, line.as_slice())),
+            Ok(Line::TooLong) => lines = with_long_line(lines),
+            Ok(Line::End) => return Ok(Err(Refusal::Mistake(Mistake::MissingLines))),
+            Err(_) => return Err(ShellFault::Read),
+        }
+    }
+    Ok(lines)
+}
+
+fn most_lines(following: Following) -> u64 {
+    match following {
+        Following::Lines(count) => count,
+        Following::UntilDot => u64::MAX,
+    }
+}
+
+// Whether the line ends those that are read.
+fn is_end(following: Following, line: &[u8]) -> bool {
+    following == Following::UntilDot && without_end(line) == b".".as_slice()
+}
+
+// The line without the dot that stands before another.
+fn content(following: Following, line: &[u8]) -> &[u8] {
+    match following {
+        Following::Lines(_) => line,
+        Following::UntilDot => line.strip_prefix(b".").unwrap_or(line),
+    }
+}
+
+// Writes what only a terminal shows.
+fn write_prompt<W: Write>(output: &mut W, prompts: Prompts, text: &[u8]) -> Result<(), ShellFault> {
+    match prompts {
+        Prompts::Shown => write_answer(output, text),
+        Prompts::Hidden => Ok(()),
+    }
+}
+
+fn write_refusal<W: Write>(
+    alloc: Global,
+    output: &mut W,
+    refusal: &Refusal,
+) -> Result<(), ShellFault> {
+    match refusal_text(alloc, refusal) {
+        Ok(text) => {
+            write_all(output, text.as_bytes())?;
+            write_answer(output, b"\n")
+        }
+        Err(_) => write_answer(output, b"memory\n"),
+    }
+}
+
+/// Writes the last part of an answer, so that whoever waits for it has it.
+pub fn write_answer<W: Write>(output: &mut W, text: &[u8]) -> Result<(), ShellFault> {
+    write_all(output, text)?;
+    match output.flush() {
+        Ok(()) => Ok(()),
+        Err(_) => Err(ShellFault::Write),
+    }
+}
+
+fn write_all<W: Write>(output: &mut W, text: &[u8]) -> Result<(), ShellFault> {
+    match write_text(output, text) {
+        Ok(()) => Ok(()),
+        Err(_) => Err(ShellFault::Write),
+    }
+}

@@ -1,6 +1,0 @@
-use Rattle.std.proofs.Common.{flat_map}
-use Rattle.df_shell.specs.Opening.{AreMade, piece_appends}
-use Rattle.df_shell.proofs.opening.enter_pieces.Given as goal
-
-abbrev pub invariant-loop-made : goal.invariant-loop-made
-invariant-loop-made g l = AreMade g.S.ViewStore.Makes l.fn.store l.store (flat_map (piece_appends l.frame) l.yielded)
