@@ -217,11 +217,6 @@ left_by_run old new (Err f) is = left_by_load old new f is
 pub schemas_long : (schemas : List Columns) (frames : List FrameSpec) → schemas ≡ schemas_of frames → length schemas ≡ length frames
 schemas_long schemas frames e = ap length e ∙ length-map frames _
 
--- the headings that are loaded are those of the document
-pub headings_are : (d : SourcedDocument) (views items : List (List ℕ × CheckedParts)) (vs : List ViewSpec) (ps : List CheckedParts) → views ≡ items → items ≡ headings_in vs ps →
-    vs ≡ d.document.views → ps ≡ d.plans → views ≡ headings_in d.document.views d.plans
-headings_are d views items vs ps held made is are = held ∙ (made ∙ (ap (λ xs. headings_in xs ps) is ∙ ap (headings_in d.document.views) are))
-
 -- what is written of a load
 pub output_of_load :
     (d : SourcedDocument) (s : State) (refused : List Refused) (views shown : List (List ℕ × CheckedParts)) (frames : List FrameSpec) (sources : List CsvParts) (o : Output) →

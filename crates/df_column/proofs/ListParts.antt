@@ -48,27 +48,6 @@ one_between (x ∷ xs) (suc n) d lt =
     let e : suc n + 1 ≡ suc (n + 1) = omega arith in
     ap (λ k. drop (suc n) (take k (x ∷ xs))) e ∙ one_between xs n d (omega arith)
 
--- the n items behind the first m
-get_taken : {X : Type 0} (xs : List X) (n i : ℕ) (d : X) → i < n → get_or (take n xs) i d ≡ get_or xs i d
-get_taken xs zero i d lt = absurd (omega arith)
-get_taken [] (suc n) i d lt = refl
-get_taken (x ∷ xs) (suc n) zero d lt = refl
-get_taken (x ∷ xs) (suc n) (suc i) d lt = get_taken xs n i d (omega arith)
-
-get_dropped : {X : Type 0} (xs : List X) (m i : ℕ) (d : X) → get_or (drop m xs) i d ≡ get_or xs (m + i) d
-get_dropped xs zero i d = let e : i ≡ 0 + i = omega arith in ap (λ k. get_or xs k d) e
-get_dropped [] (suc m) i d = refl
-get_dropped (x ∷ xs) (suc m) i d = let e : suc (m + i) ≡ suc m + i = omega arith in get_dropped xs m i d ∙ ap (λ k. get_or (x ∷ xs) k d) e
-
-pub get_part : {X : Type 0} (xs : List X) (m n i : ℕ) (d : X) → i < n → get_or (take n (drop m xs)) i d ≡ get_or xs (m + i) d
-get_part xs m n i d lt = get_taken (drop m xs) n i d lt ∙ get_dropped xs m i d
-
-pub part_length : {X : Type 0} (xs : List X) (m n : ℕ) → record { most : length (take n (drop m xs)) ≤ n; within : m ≤ length xs → m + length (take n (drop m xs)) ≤ length xs; whole : m + n ≤ length xs → length (take n (drop m xs)) ≡ n; last : length xs ≤ m + n → m ≤ length xs → m + length (take n (drop m xs)) ≡ length xs }
-part_length xs m n =
-    let t = length-take n (drop m xs) in
-    let d = length-drop m xs in
-    record { most = omega (arith, t, d); within = λ le. omega (arith, t, d, le); whole = λ le. omega (arith, t, d, le); last = λ le lt. omega (arith, t, d, le, lt) }
-
 pub take_taken : {X : Type 0} (m n : ℕ) (xs : List X) → m ≤ n → take m (take n xs) ≡ take m xs
 take_taken zero n xs le = refl
 take_taken (suc m) zero xs le = absurd (omega arith)
@@ -78,12 +57,6 @@ take_taken (suc m) (suc n) (x ∷ xs) le = ap (λ r. x ∷ r) (take_taken m n xs
 pub map_push : {X Y : Type 0} (f : X → Y) (xs : List X) (x : X) → map f (xs ++ x ∷ []) ≡ map f xs ++ f x ∷ []
 map_push f [] x = refl
 map_push f (y ∷ xs) x = ap (λ r. f y ∷ r) (map_push f xs x)
-
-pub within_part : {X : Type 0} (xs : List X) (m n i : ℕ) → i < n → m + i < length xs → i < length (take n (drop m xs))
-within_part xs m n i small lt =
-    let t = length-take n (drop m xs) in
-    let d = length-drop m xs in
-    omega (arith, t, d, small, lt)
 
 -- one item more of those between two indexes
 pub part_more : {X : Type 0} (xs : List X) (low at : ℕ) (x : X) → low ≤ at → at < length xs → x ≡ get_or xs at x → drop low (take (at + 1) xs) ≡ drop low (take at xs) ++ x ∷ []

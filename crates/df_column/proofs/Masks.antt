@@ -6,9 +6,6 @@ use Rattle.df_column.specs.Masks.{filled_mask, joined_mask, masked_values}
 no_mask : (n : ℕ) → filled_mask [] n ≡ replicate n false
 no_mask n = let e : n - 0 ≡ n = omega arith in ap (λ m. replicate m false) e
 
-pub full_mask : (ns : List Bool) → filled_mask ns (length ns) ≡ ns
-full_mask ns = let e : length ns - length ns ≡ 0 = omega arith in ap (λ m. ns ++ replicate m false) e ∙ append-nil ns
-
 take-nil : (k : ℕ) → take {A = Bool} k [] ≡ []
 take-nil zero = refl
 take-nil (suc k) = refl

@@ -90,12 +90,6 @@ changed_rows t rows out entries h is rising e =
     applied_cells rows out entries (finite.from_sorted (map entry_change entries)) h (sym (finite.entries-from_sorted tag_cmp (map entry_change entries) rising)) e
     ∙ ap (λ m. applied m (finite.from_sorted (map entry_change entries))) is
 
-pub changed_length : (t : TableParts) (rows out : List (Tag × List Cell)) (entries : List Entry) → T (finite.is_sorted tag_cmp rows) → finite.from_sorted rows ≡ t.rows → AreRising entries
-    → out ≡ after_changes tag_cmp rows (map entry_change entries) → length out ≡ finite.len (after_entries t entries).rows
-changed_length t rows out entries h is rising e =
-    sym (ap finite.len (sym (changed_rows t rows out entries h is rising e)) ∙ finite.len-entries (finite.from_sorted {R = tag_cmp} out)
-    ∙ ap length (finite.entries-from_sorted tag_cmp out (changed_sorted rows out entries h e)))
-
 -- the rows that changes make of no rows
 pub made_rows : (rows : List (Tag × List Cell)) (m : TaggedRows) (entries : List Entry) → T (finite.is_sorted tag_cmp rows) → finite.from_sorted rows ≡ m → AreRising entries
     → m ≡ applied finite.empty (finite.from_sorted (map entry_change entries)) → rows ≡ after_changes tag_cmp [] (map entry_change entries)

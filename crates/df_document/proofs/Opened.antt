@@ -62,9 +62,3 @@ pub opened_read :
 opened_read None contents read chunk r is few answers = is
 opened_read (Some b) contents read chunk r is few answers =
     subst (λ (x : List ℕ). KnowsFiles contents x → IsOpening x contents chunk r) is (λ knows. opened_answer read contents chunk r few (answers (knows few)))
-
-pub opened_too_large :
-    (bytes : Option (List ℕ)) (contents : Contents) (chunk : ℕ) → IfSome bytes (λ b. 1048576 < length b) →
-    IfSome bytes (λ b. KnowsFiles contents b → IsOpening b contents chunk (Err fault.TooLarge))
-opened_too_large None contents chunk many = many
-opened_too_large (Some b) contents chunk many = λ knows. too_large b contents chunk many

@@ -22,10 +22,3 @@ pub other_scan :
 other_scan frames g f d other =
     subst (λ u. IsDiff (frame_at frames g) u finite.empty)
     (sym (get_or-set_other frames f g (applied (frame_at frames f) d) finite.empty other)) (no_change (frame_at frames g))
-
-pub same_scan :
-    (frames : List TaggedRows) (f : ℕ) (d : Changes) → f < length frames → IsLean d → Fits (frame_at frames f) d →
-    IsDiff (frame_at frames f) (frame_at (changed frames f d) f) d
-same_scan frames f d within lean fits =
-    subst (λ u. IsDiff (frame_at frames f) u d)
-    (sym (get_or-set_same frames f (applied (frame_at frames f) d) finite.empty within)) (diff_of_applied tag_total tag_same (frame_at frames f) d lean fits)

@@ -8,10 +8,6 @@ use Rattle.df_delta.specs.Work.{IsWithin, evaluations, plus}
 pub room : (i n k e0 e : ℕ) → i < n → n < 2 ^ 64 → e0 + 2 ^ 65 * k < 2 ^ 128 → e ≤ e0 + 2 * i * k → e + 2 * k < 2 ^ 128
 room i n k e0 e h l below so_far = let most : (2 * i + 2) * k ≤ 2 ^ 65 * k = mul-le-mul_right k (omega arith) in omega arith
 
--- and what it counts
-pub entry_more : (i k : ℕ) (m0 m new : Meter) → IsWithin m (plus m0 (evaluations (2 * i * k))) → IsWithin new (plus m (evaluations (2 * k))) → IsWithin new (plus m0 (evaluations (2 * (i + 1) * k)))
-entry_more i k m0 m new h g = (omega (arith, h.0, g.0), omega (arith, h.1, g.1), omega (arith, h.2, g.2), omega (arith, h.3, g.3))
-
 -- fewer entries count less
 pub fewer : (a b k : ℕ) (m0 m : Meter) → a ≤ b → IsWithin m (plus m0 (evaluations (a * k))) → IsWithin m (plus m0 (evaluations (b * k)))
 fewer a b k m0 m le h = let more : a * k ≤ b * k = mul-le-mul_right k le in (omega (arith, h.0, more), h.1, h.2, h.3)

@@ -57,13 +57,6 @@ up_to_below a b c h k = by_case (same_or_below a b h)
     by_case (inl e) = subst (λ x. T (is_below x c)) (sym e) k
     by_case (inr l) = below_trans a b c l k
 
-pub below_up_to : (a b c : Tag) → T (is_below a b) → T (not (is_below c b)) → T (is_below a c)
-below_up_to a b c h k = by_case (same_or_below b c k)
-  where
-    by_case : (b ≡ c) ⊎ T (is_below b c) → T (is_below a c)
-    by_case (inl e) = subst (λ x. T (is_below a x)) e h
-    by_case (inr l) = below_trans a b c h l
-
 -- a tag that is not another and not below it is above it
 pub above_if_other : (a q : Tag) → T (not (is_below q a)) → eq_by_cmp tag_cmp q a ≡ false → T (is_below a q)
 above_if_other a q h other = by_case (same_or_below a q h)

@@ -25,10 +25,6 @@ rolling_value r cells = rolling_cell r.kind r.m (window_of r.w cells)
 abbrev pub rolling_output : Rolling → TaggedRows → TaggedRows
 rolling_output r t = with_each_prefix (put_at r.places) (rolling_value r) r.index t
 
--- the row with the column's cell, which ends at the last of these rows
-abbrev pub rolling_row : Rolling → List (List Cell) → List Cell → List Cell
-rolling_row r rows row = put_at r.places row (rolling_value r (cells_of r.index rows))
-
 -- a changed tag, and those of the next w - 1 of these rows behind it
 abbrev pub reached_by : ℕ → Tag → List (Tag × List Cell) → List Tag
 reached_by w q rows = q ∷ map (λ r. r.0) (take (w - 1) (filter (λ r. is_below q r.0) rows))

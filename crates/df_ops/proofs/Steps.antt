@@ -34,10 +34,6 @@ pub answered : {A E : Type 0} (made : Result A E) (out wanted : A) → IfOk made
 answered (Ok a) out wanted is same = is ∙ same
 answered (Err e) out wanted is same = tt
 
-pub lengths_of : {A E : Type 0} (made : Result (List A) E) (out : List A) (n : ℕ) → IfOk made (λ a. a ≡ out) → length out ≡ n → IfOk made (λ a. length a ≡ n)
-lengths_of (Ok a) out n is same = ap length is ∙ same
-lengths_of (Err e) out n is same = tt
-
 -- and has pushed others before
 pub mapped_behind :
     {X Y : Type 0} (before : List Y) (f : X → Y) (xs : List X) (i : ℕ) (out more : List Y) (x : X) (y : Y) →

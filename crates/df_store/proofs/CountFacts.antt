@@ -51,10 +51,6 @@ one-more-outcome desks now done pushed o one is = record {
       omega (arith, counted, all, more);
 }
 
--- no outcome came
-pub no-outcome : (desks now : List DeskParts) (done : List Outcome) → AreCounted desks [] now [] → AreCounted desks done now done
-no-outcome desks now done none = record { same = λ frame. let counted = none.same frame in omega (arith, counted) }
-
 both :
     (a b c d : List DeskParts) (x y z w : List Outcome) → AreCounted a x b y → AreCounted c z d w → AreCounted (a ++ c) (x ++ z) (b ++ d) (y ++ w)
 both a b c d x y z w p q = record {

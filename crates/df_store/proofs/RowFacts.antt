@@ -71,10 +71,6 @@ chunk-found p frame place c has = record {
 pub none-stand : (p : PictureParts) (frame place : ℕ) (rows : List (ℕ × List Cell)) → rows ≡ [] → HasRows p frame place rows
 none-stand p frame place rows none = record { at = λ k r h. absurd (let e = ap (λ xs. slice_get xs k) (sym none) ∙ h in cc) }
 
--- an outcome gives to its own frame the rows of what it made
-pub own-rows : (o : Outcome) (p : Piece) → p ≡ o.made → made_rows p ≡ job_rows o.frame (job_of o)
-own-rows o p is = ap made_rows is ∙ ap (λ b. if b then made_rows o.made else []) (sym (eq-eqb o.frame o.frame refl))
-
 -- these rows are the first ones of a frame
 abbrev pub Stand : PictureParts → ℕ → List (ℕ × List Cell) → Type 0
 Stand p frame rows = (k : ℕ) (r : ℕ × List Cell) → slice_get rows k ≡ Some r → row_in p frame k ≡ Some r

@@ -40,9 +40,6 @@ one-split old kept given before after is pushed = record {
       omega (arith, one, a, b, c, d);
 }
 
-pub same-sums : (desks : List DeskParts) → HaveSameSums desks desks
-same-sums desks = record { same = λ h adds. refl }
-
 pub sums-through : (a b c : List DeskParts) → HaveSameSums a b → HaveSameSums b c → HaveSameSums a c
 sums-through a b c p q = record { same = λ h adds. q.same h adds ∙ p.same h adds }
 

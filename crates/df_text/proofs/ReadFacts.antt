@@ -25,11 +25,6 @@ pub given : {A : Type 0} (P : A → Type 0) (r : Result A ViewsFault) (x : A) �
 given P (Ok y) x h e = let same : y ≡ x = cc in subst P same h
 given P (Err f) x h e = absurd (cc)
 
--- a fact of what a call answers
-pub answers_give : {A : Type 0} (P : A → Type 0) (want result : Result A ViewsFault) → IfOk want P → Answers fault.Memory want result → IfOk result P
-answers_give P want (Ok x) h a = given P want x h a
-answers_give P want (Err f) h a = tt
-
 -- a fact of each value that was read
 pub all_give : {D A : Type 0} (P : A → Type 0) (read : List A → D → Result A ViewsFault)
     → ((done : List A) (d : D) → IfOk (read done d) P)

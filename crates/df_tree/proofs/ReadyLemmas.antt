@@ -80,10 +80,6 @@ total_closed plan (suc p) (suc n) h =
     let f = total_agree (λ i. closed plan (suc p) (suc i)) (closed (λ i. plan (suc i)) p) n (λ i l. refl) in
     omega (arith, more, f)
 
-pub same_self : (i : ℕ) → same i i ≡ 1
-same_self zero = refl
-same_self (suc i) = same_self i
-
 pub total_moved : (plan : ℕ → ℕ) (p n : ℕ) → p ≤ n → total (moved plan p) (suc n) ≡ total plan n
 total_moved plan zero n h = let f = total_agree (λ i. moved plan zero (suc i)) plan n (λ i l. refl) in omega (arith, f)
 total_moved plan (suc p) zero h = absurd (omega (arith, h))

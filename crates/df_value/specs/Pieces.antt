@@ -20,10 +20,6 @@ rows_of_piece (made.Bad cell) = []
 abbrev pub rows_of_pieces : List Piece → List (List Cell)
 rows_of_pieces pieces = flat_map rows_of_piece pieces
 
--- the numbers of a piece's rows, where it begins with this one
-abbrev pub numbers_of_piece : ℕ → Piece → List ℕ
-numbers_of_piece first piece = range_with_len first (length (rows_of_piece piece))
-
 -- its rows behind their numbers
 abbrev pub numbered_piece : ℕ → Piece → List (ℕ × List Cell)
 numbered_piece first piece = enumerate_from first (rows_of_piece piece)
@@ -32,10 +28,6 @@ numbered_piece first piece = enumerate_from first (rows_of_piece piece)
 abbrev pub refused_piece : ℕ → Piece → List (ℕ × BadCell)
 refused_piece first (made.Good chunk) = []
 refused_piece first (made.Bad cell) = (first, cell) ∷ []
-
--- the numbers of the rows of all chunks, where the piece at each index begins with the number that `start_of` has for it
-abbrev pub numbers_of_pieces : (ℕ → ℕ) → List Piece → List ℕ
-numbers_of_pieces start_of pieces = flat_map (λ p. numbers_of_piece (start_of p.0) p.1) (enumerate_from 0 pieces)
 
 -- their rows behind their numbers
 abbrev pub numbered_rows : (ℕ → ℕ) → List Piece → List (ℕ × List Cell)
