@@ -1,6 +1,5 @@
 pub mod AreMadeFacts
 mod AskedFacts
-mod WordFacts
 mod CommandFacts
 mod WordList
 mod FlagFacts

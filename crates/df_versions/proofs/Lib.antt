@@ -2,7 +2,6 @@ pub mod Histories
 pub mod Prefixes
 pub mod Adding
 pub mod Moves
-pub mod Newest
 pub mod ShownVersions
 pub mod Answered
 pub mod Staged
