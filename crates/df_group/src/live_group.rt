@@ -14,6 +14,7 @@ ghost use Rattle.df_delta.specs.Work.{IsBelow, IsWithin, plus};
 ghost use Rattle.df_group.specs.GroupIndex as index_spec;
 ghost use Rattle.df_group.specs.GroupIndex.{HasTagsOf, IsIndexOf, output_of};
 ghost use Rattle.df_group.specs.GroupRows.{group_output};
+ghost use Rattle.df_group.specs.declared.grouping.Grouping.{Grouping};
 ghost use Rattle.df_group.specs.Projections as projections;
 ghost use Rattle.df_group.specs.Projections.{projected_rows};
 ghost use Rattle.df_group.specs.Work.{finishes};
@@ -25,7 +26,7 @@ use crate::staging::{put_all, stage_all};
 use df_delta::{Delta, LiveNode, keyed_changes};
 use df_expr::Meter;
 use df_ops::Agg;
-use df_value::{Row, Schema, Text};
+use df_value::{Row, Schema, Text, both};
 use indexmap::IndexMap;
 use std::alloc::{AllocError, Global};
 
@@ -120,10 +121,23 @@ impl LiveGroup {
     {
         let changes = keyed_changes(self.alloc, self.grouping.key_indices.as_slice(), delta)?;
         let groups = stage_all(self.alloc, &self.grouping, &self.index, changes, meter)?;
-        let notes = note_all(self.alloc, &self.index, &groups)?;
+        let changes = self.changes_with_room(&groups);
+        both(Ok(StagedGroups { groups }), changes)
+    }
+
+    /// The delta of the output that the staged groups lead to. The index gets room for them.
+    fn changes_with_room(&mut self, groups: &IndexMap<Row, Group>) -> Result<Delta, AllocError>
+        ensures contents { IsUnchanged self.old.index self.new.index }
+        ensures grouping { self.new.grouping ≡ self.old.grouping }
+        ensures diff { IfOk result (λ d. (g : Grouping) (t u : TaggedRows) → IsIndexOf g self.old.index t
+            → index_spec.LeadsTo g self.old.index groups.now u
+            → IsDiff (output_of g t) (output_of g u) d) }
+        ensures room { IfOk result (λ d. index_map_len groups.now ≤ spare self.new.index) }
+    {
+        let notes = note_all(self.alloc, &self.index, groups)?;
         let changes = notes.into_delta()?;
         self.index.reserve(groups.len())?;
-        Ok((StagedGroups { groups }, changes))
+        Ok(changes)
     }
 
     /// Puts the staged groups into the index.
