@@ -82,7 +82,6 @@ pub fn fresh_tree(alloc: Global, plan: &Plan, schemas: &[Schema]) -> Result<Fres
 
 /// The tree of a plan that is a filter.
 #[cycle(fresh)]
-#[tactic(auto, using(crate::proofs::InputChecks::filter_below))]
 fn fresh_filter(
     alloc: Global,
     below: &Boxed<Plan>,
@@ -103,7 +102,6 @@ fn fresh_filter(
 
 /// The tree of a plan that is a select.
 #[cycle(fresh)]
-#[tactic(auto, using(crate::proofs::InputChecks::select_below))]
 fn fresh_select(
     alloc: Global,
     below: &Boxed<Plan>,
@@ -124,7 +122,6 @@ fn fresh_select(
 
 /// The tree of a plan that is a with_columns.
 #[cycle(fresh)]
-#[tactic(auto, using(crate::proofs::InputChecks::with_below))]
 fn fresh_with_columns(
     alloc: Global,
     below: &Boxed<Plan>,
@@ -145,7 +142,6 @@ fn fresh_with_columns(
 
 /// The tree of a plan that is a group-by.
 #[cycle(fresh)]
-#[tactic(auto, using(crate::proofs::InputChecks::group_below))]
 fn fresh_group(
     alloc: Global,
     below: &Boxed<Plan>,
@@ -176,7 +172,6 @@ fn fresh_group(
 
 /// The tree of a plan that is a rolling window.
 #[cycle(fresh)]
-#[tactic(auto, using(crate::proofs::InputChecks::rolling_below))]
 fn fresh_rolling(
     alloc: Global,
     below: &Boxed<Plan>,
@@ -203,7 +198,6 @@ fn fresh_rolling(
 
 /// The tree of a plan that is a cumulative sum.
 #[cycle(fresh)]
-#[tactic(auto, using(crate::proofs::InputChecks::sum_below))]
 fn fresh_sum(
     alloc: Global,
     below: &Boxed<Plan>,
@@ -225,7 +219,6 @@ fn fresh_sum(
 
 /// The tree of a plan that is a rank.
 #[cycle(fresh)]
-#[tactic(auto, using(crate::proofs::InputChecks::rank_below))]
 fn fresh_rank(
     alloc: Global,
     below: &Boxed<Plan>,
@@ -250,7 +243,6 @@ fn fresh_rank(
 
 /// The tree of the left input of a join.
 #[cycle(fresh)]
-#[tactic(auto, using(crate::proofs::InputChecks::left_below))]
 fn fresh_left(
     alloc: Global,
     left: &Boxed<Plan>,
@@ -270,7 +262,6 @@ fn fresh_left(
 
 /// The tree of a plan that is a join, over that of its left input.
 #[cycle(fresh)]
-#[tactic(auto, using(crate::proofs::InputChecks::right_below))]
 fn fresh_join(
     alloc: Global,
     right: &Boxed<Plan>,
