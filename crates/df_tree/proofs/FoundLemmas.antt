@@ -34,10 +34,6 @@ fits_front {I = I} ks at =
     omega (arith, n, m)
 
 module _ {I M : Type 0} (none : M) (plus : M → M → M) (f : I → M) (laws : MonoidLaws none plus) where
-  -- a sum with what is before it is as it is with nothing behind it
-  pub settled_sum : (before sum : M) (xs : List I) → sum ≡ plus before (total none plus f xs) → plus sum none ≡ sum
-  settled_sum before sum xs e = ap (λ s. plus s none) e ∙ laws.right before (total none plus f xs) ∙ sym e
-
   -- one item further on
   pub item_more : (run : List I) (at : ℕ) (before sum next mine : M) (x : I) → sum ≡ plus before (total none plus f (take at run)) → at < length run → x ≡ get_or run at x → mine ≡ f x → next ≡ plus sum mine
       → next ≡ plus before (total none plus f (take (at + 1) run))

@@ -1,8 +1,8 @@
 -- Parts of which one is halved.
 use Rattle.std.proofs.Common.{◌≡◌, ◌≤◌, ◌<◌, ◌+◌, ℕ, zero, suc, List, [], ◌∷◌, ◌++◌, length, refl, sym, ap, ◌∙◌, arith, append_assoc, length-append, subst}
-use Rattle.std.specs.Prelude.{slice_set, take, drop, get_or, max}
+use Rattle.std.specs.Prelude.{slice_set, take, drop, get_or}
 use Rattle.std.specs.List.{insert, remove}
-use denote.Param.Weighed.{most, most-append}
+use denote.Param.Weighed.{most}
 use Rattle.df_tree.specs.Leaves.{items, leaves_of_parts, total, Kept}
 use Rattle.df_tree.proofs.LeafLemmas.{items-one, leaves-append}
 use Rattle.df_tree.proofs.PlanLemmas.{kept-append, kept_empty, kept_refl, total_sum}
@@ -33,9 +33,6 @@ module _ {I : Type 0} where
   -- parts in two lists
   pub leaves_halves : (ks fs bs : List (List (List I × ℕ) × ℕ)) (n : ℕ) → fs ≡ take n ks → bs ≡ drop n ks → leaves_of_parts {I = I} ks ≡ leaves_of_parts {I = I} fs ++ leaves_of_parts {I = I} bs
   leaves_halves ks fs bs n f b = ap (λ l. leaves_of_parts {I = I} l) (rejoined n ks ∙ ap (λ l. l ++ drop n ks) (sym f) ∙ ap (λ l. fs ++ l) (sym b)) ∙ leaves-append {I = I} fs bs
-
-  pub rank_halves : (ks fs bs : List (List (List I × ℕ) × ℕ)) (n : ℕ) → fs ≡ take n ks → bs ≡ drop n ks → most (λ k. k.1 + 1) ks ≡ max (most (λ k. k.1 + 1) fs) (most (λ k. k.1 + 1) bs)
-  rank_halves ks fs bs n f b = ap (λ l. most (λ k. k.1 + 1) l) (rejoined n ks ∙ ap (λ l. l ++ drop n ks) (sym f) ∙ ap (λ l. fs ++ l) (sym b)) ∙ most-append _ fs bs
 
   -- another part at an index
   pub kept_set : (ks : List (List (List I × ℕ) × ℕ)) (at : ℕ) (k l : List (List I × ℕ) × ℕ) → at < length ks → k ≡ get_or ks at k → Kept {I = I} k.0 l.0 → Kept {I = I} (leaves_of_parts {I = I} ks) (leaves_of_parts {I = I} (slice_set ks at l))

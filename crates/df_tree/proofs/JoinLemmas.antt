@@ -184,10 +184,6 @@ module _ {I : Type 0} where
   some_parts [] h = absurd (omega (arith, h))
   some_parts (k ∷ ks) h = omega arith
 
-  pub only_part : (ks rest : List (List (List I × ℕ) × ℕ)) (k : List (List I × ℕ) × ℕ) → ks ≡ rest ++ k ∷ [] → length ks ≤ 1 → items {I = I} k.0 ≡ items_of_parts {I = I} ks
-  only_part ks [] k e h = sym (items-part k) ∙ ap (λ l. items_of_parts {I = I} l) (sym e)
-  only_part ks (r ∷ rest) k e h = let n = ap length e in let m = length-append rest (k ∷ []) in absurd (omega (arith, n, m, h))
-
   pub no_part : (ks : List (List (List I × ℕ) × ℕ)) → length ks ≡ 0 → items_of_parts {I = I} ks ≡ []
   no_part [] e = refl
   no_part (k ∷ ks) e = absurd (omega (arith, e))

@@ -129,13 +129,6 @@ module _ {I : Type 0} where
   pub kept_within : (fs rs ss gs : List (List I × ℕ)) → Kept {I = I} rs ss → Kept {I = I} (fs ++ (rs ++ gs)) (fs ++ (ss ++ gs))
   kept_within fs rs ss gs k = kept-append fs fs (rs ++ gs) (ss ++ gs) (kept_refl fs) (kept-append rs ss gs gs k (kept_refl gs))
 
-  -- one leaf with as much room, and the same with one more reserved
-  pub kept_leaf : (xs ys : List I) (s t : ℕ) → ys ≡ xs → s ≤ t → Kept {I = I} ((xs, s) ∷ []) ((ys, t) ∷ [])
-  kept_leaf xs ys s t e l = record {
-    items = ap (λ zs. zs ++ []) e;
-    ready = λ p r. let n = ap (λ zs. total p (length zs)) e in let here = r.0 in (omega (arith, n, l, here), tt);
-  }
-
   pub reserved_leaf : (xs ys : List I) (s t at : ℕ) → ys ≡ xs → at < length xs → s + 1 ≤ t → 0 < s → Reserved {I = I} ((xs, s) ∷ []) ((ys, t) ∷ []) at
   reserved_leaf xs ys s t at e h l o = record {
     ready = λ p r. let n = ap (λ zs. total (one_more p at) (length zs)) e in let m = total_one_more p at (length xs) h in let here = r.0 in (omega (arith, n, m, l, o, here), tt);

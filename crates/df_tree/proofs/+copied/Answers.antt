@@ -1,11 +1,10 @@
 use Rattle.df_tree.proofs.LevelLemmas.{level_alike}
-use Rattle.df_tree.specs.Level.{IsLevel, IsLevelLink}
+use Rattle.df_tree.specs.Level.{IsLevel}
 use Rattle.std.proofs.Common.{rules, ◌+◌, ap, sym, ◌∙◌, subst, arith}
 use Rattle.std.specs.Prelude.{map}
 use denote.Param.Weighed.{at_most}
-use Rattle.df_tree.specs.Leaves.{alike, alike_node, leaves_of, leaves_of_link, items, rank_of, rank_of_link}
+use Rattle.df_tree.specs.Leaves.{alike, alike_node}
 use Rattle.df_tree.proofs.LeafLemmas.{alike_whole, items-one, take_past}
-use Rattle.df_tree.proofs.Outcomes.{if_ok_then}
 use Rattle.df_tree.proofs.+copied.Goals as goal
 
 pub copying::copied_node-returns-in_ok-copied_parts-in-Parts-clause-alike : goal.copying::copied_node-returns-in_ok-copied_parts-in-Parts-clause-alike

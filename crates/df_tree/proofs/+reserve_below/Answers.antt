@@ -1,12 +1,12 @@
 use Rattle.df_tree.specs.declared.seq.Seq.TheDeep.{deep-Node}
-use Rattle.df_tree.proofs.LevelLemmas.{rank_set, level_set, resummed}
+use Rattle.df_tree.proofs.LevelLemmas.{rank_set, level_set}
 use Rattle.df_tree.specs.Level.{IsLevel}
-use Rattle.std.proofs.Common.{rules, ◌≡◌, ◌<◌, ◌≤◌, ◌+◌, ◌-◌, ℕ, [], ◌∷◌, length, ap, sym, ◌∙◌, arith, subst}
-use Rattle.std.specs.Prelude.{map, min, vec_len, vec_capacity}
-use Rattle.df_tree.specs.Leaves.{items, leaves_of, leaves_of_parts, leaves_of_link, Kept, Reserved, rank_of, rank_of_link}
+use Rattle.std.proofs.Common.{rules, ◌<◌, ◌≤◌, ◌+◌, ◌-◌, ℕ, [], ◌∷◌, length, ap, sym, ◌∙◌, arith, subst}
+use Rattle.std.specs.Prelude.{min, vec_len, vec_capacity}
+use Rattle.df_tree.specs.Leaves.{items, leaves_of, leaves_of_parts, Kept, Reserved, rank_of}
 use Rattle.df_tree.specs.Spots.{IsSpot}
-use Rattle.df_tree.proofs.LeafLemmas.{items-one, items-shared}
-use Rattle.df_tree.proofs.PlanLemmas.{kept_shared, kept_trans, reserved_after, reserved_leaf}
+use Rattle.df_tree.proofs.LeafLemmas.{items-one}
+use Rattle.df_tree.proofs.PlanLemmas.{kept_trans, reserved_after, reserved_leaf}
 use Rattle.df_tree.proofs.SpotLemmas.{kept, reserved, at_in, lower, within}
 use Rattle.df_tree.proofs.Outcomes.{if_ok_then}
 use Rattle.df_tree.proofs.+reserve_below.Goals as goal

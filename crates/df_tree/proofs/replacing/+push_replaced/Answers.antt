@@ -45,8 +45,8 @@ push_replaced-requires g t c κs inside =
     let below = lower {I = g.row.I.Denot} _ _ _ _ spot _ c.index.ensures in
     (omega (arith, below, own, c.decreases), (search rules, (search rules, (within {I = g.row.I.Denot} _ _ _ _ spot _ c.index.ensures, c.requires.some))))
 
-pub push_parts-requires-clause-level : goal.push_parts-requires-clause-level
-push_parts-requires-clause-level g t c =
+pub push_parts-requires : goal.push_parts-requires
+push_parts-requires g t c =
     let own : rank_above {I = g.row.I.Denot} c.in-Parts.parts.items ≡ c.args.seq.now.1 = ap (λ n. rank_of n) (sym c.in-Parts.is) ∙ ap (λ p. p.1) c.node.ensures.alike in
     let spot : IsSpot {I = g.row.I.Denot} c.in-Parts.parts.items c.args.index c.spot_at-spot.result.at c.spot_at-spot.result.rest
     = subst (λ ks. IsSpot {I = g.row.I.Denot} ks c.args.index c.spot_at-spot.result.at c.spot_at-spot.result.rest) c.deref-in-Parts.ensures.value c.spot_at-spot.ensures in
@@ -60,41 +60,7 @@ push_parts-requires-clause-level g t c =
     let back : map (alike {I = g.row.I.Denot}) c.in_ok-rest-in-Parts.rest.items ≡ map (alike {I = g.row.I.Denot}) (drop (suc at) c.in-Parts.parts.items)
     = c.in_ok-rest-in-Parts.ensures ∙ ap (map (alike {I = g.row.I.Denot})) (take_past _ _ many) ∙ ap (λ ks. map (alike {I = g.row.I.Denot}) (drop (at + 1) ks)) c.deref-in-Parts-3.ensures.value ∙ ap (λ n. map (alike {I = g.row.I.Denot}) (drop n c.in-Parts.parts.items)) next in
     let whole = patched {I = g.row.I.Denot} c.in-Parts.parts.items c.in_ok-made-in-Parts.made.items c.in_ok-rest-in-Parts.rest.items c.push_replaced.new.to.items c.append.new.self.items at c.index.result.now c.index.result.now.1 _ level near c.index.ensures refl front back c.in_ok-push_replaced-in-Parts.ensures c.in_ok-append-in-Parts.ensures.items in
-    whole.level
-
-pub push_parts-requires-clause-some : goal.push_parts-requires-clause-some
-push_parts-requires-clause-some g t c =
-    let own : rank_above {I = g.row.I.Denot} c.in-Parts.parts.items ≡ c.args.seq.now.1 = ap (λ n. rank_of n) (sym c.in-Parts.is) ∙ ap (λ p. p.1) c.node.ensures.alike in
-    let spot : IsSpot {I = g.row.I.Denot} c.in-Parts.parts.items c.args.index c.spot_at-spot.result.at c.spot_at-spot.result.rest
-    = subst (λ ks. IsSpot {I = g.row.I.Denot} ks c.args.index c.spot_at-spot.result.at c.spot_at-spot.result.rest) c.deref-in-Parts.ensures.value c.spot_at-spot.ensures in
-    let near = at_in {I = g.row.I.Denot} _ _ _ _ spot in
-    let level : AreLevel {I = g.row.I.Denot} c.in-Parts.parts.items = subst (IsLevel {I = g.row.I.Denot} {M = g.row.I-Measure.Denot}) c.in-Parts.is c.node.ensures.level in
-    let at = c.spot_at-spot.result.at in
-    let ks = c.deref-in-Parts-3.result.now in
-    let many : length (drop (at + 1) ks) ≤ length ks - (at + 1) = let n = length-drop (at + 1) ks in omega (arith, n) in
-    let next : at + 1 ≡ suc at = omega arith in
-    let front : map (alike {I = g.row.I.Denot}) c.in_ok-made-in-Parts.made.items ≡ map (alike {I = g.row.I.Denot}) (take at c.in-Parts.parts.items) = c.in_ok-made-in-Parts.ensures ∙ ap (λ ks. map (alike {I = g.row.I.Denot}) (take at ks)) c.deref-in-Parts-2.ensures.value in
-    let back : map (alike {I = g.row.I.Denot}) c.in_ok-rest-in-Parts.rest.items ≡ map (alike {I = g.row.I.Denot}) (drop (suc at) c.in-Parts.parts.items)
-    = c.in_ok-rest-in-Parts.ensures ∙ ap (map (alike {I = g.row.I.Denot})) (take_past _ _ many) ∙ ap (λ ks. map (alike {I = g.row.I.Denot}) (drop (at + 1) ks)) c.deref-in-Parts-3.ensures.value ∙ ap (λ n. map (alike {I = g.row.I.Denot}) (drop n c.in-Parts.parts.items)) next in
-    let whole = patched {I = g.row.I.Denot} c.in-Parts.parts.items c.in_ok-made-in-Parts.made.items c.in_ok-rest-in-Parts.rest.items c.push_replaced.new.to.items c.append.new.self.items at c.index.result.now c.index.result.now.1 _ level near c.index.ensures refl front back c.in_ok-push_replaced-in-Parts.ensures c.in_ok-append-in-Parts.ensures.items in
-    whole.some
-
-pub push_parts-requires-clause-few : goal.push_parts-requires-clause-few
-push_parts-requires-clause-few g t c =
-    let own : rank_above {I = g.row.I.Denot} c.in-Parts.parts.items ≡ c.args.seq.now.1 = ap (λ n. rank_of n) (sym c.in-Parts.is) ∙ ap (λ p. p.1) c.node.ensures.alike in
-    let spot : IsSpot {I = g.row.I.Denot} c.in-Parts.parts.items c.args.index c.spot_at-spot.result.at c.spot_at-spot.result.rest
-    = subst (λ ks. IsSpot {I = g.row.I.Denot} ks c.args.index c.spot_at-spot.result.at c.spot_at-spot.result.rest) c.deref-in-Parts.ensures.value c.spot_at-spot.ensures in
-    let near = at_in {I = g.row.I.Denot} _ _ _ _ spot in
-    let level : AreLevel {I = g.row.I.Denot} c.in-Parts.parts.items = subst (IsLevel {I = g.row.I.Denot} {M = g.row.I-Measure.Denot}) c.in-Parts.is c.node.ensures.level in
-    let at = c.spot_at-spot.result.at in
-    let ks = c.deref-in-Parts-3.result.now in
-    let many : length (drop (at + 1) ks) ≤ length ks - (at + 1) = let n = length-drop (at + 1) ks in omega (arith, n) in
-    let next : at + 1 ≡ suc at = omega arith in
-    let front : map (alike {I = g.row.I.Denot}) c.in_ok-made-in-Parts.made.items ≡ map (alike {I = g.row.I.Denot}) (take at c.in-Parts.parts.items) = c.in_ok-made-in-Parts.ensures ∙ ap (λ ks. map (alike {I = g.row.I.Denot}) (take at ks)) c.deref-in-Parts-2.ensures.value in
-    let back : map (alike {I = g.row.I.Denot}) c.in_ok-rest-in-Parts.rest.items ≡ map (alike {I = g.row.I.Denot}) (drop (suc at) c.in-Parts.parts.items)
-    = c.in_ok-rest-in-Parts.ensures ∙ ap (map (alike {I = g.row.I.Denot})) (take_past _ _ many) ∙ ap (λ ks. map (alike {I = g.row.I.Denot}) (drop (at + 1) ks)) c.deref-in-Parts-3.ensures.value ∙ ap (λ n. map (alike {I = g.row.I.Denot}) (drop n c.in-Parts.parts.items)) next in
-    let whole = patched {I = g.row.I.Denot} c.in-Parts.parts.items c.in_ok-made-in-Parts.made.items c.in_ok-rest-in-Parts.rest.items c.push_replaced.new.to.items c.append.new.self.items at c.index.result.now c.index.result.now.1 _ level near c.index.ensures refl front back c.in_ok-push_replaced-in-Parts.ensures c.in_ok-append-in-Parts.ensures.items in
-    omega (arith, whole.rank_is, own, c.levels.ensures.rank, c.levels.ensures.few)
+    record { level = whole.level; some = whole.some; few = omega (arith, whole.rank_is, own, c.levels.ensures.rank, c.levels.ensures.few) }
 
 pub returns-in_ok-append-in-Parts : goal.returns-in_ok-append-in-Parts
 returns-in_ok-append-in-Parts g t c =

@@ -1,4 +1,4 @@
-use Rattle.std.proofs.Common.{◌≡◌, List, ◌++◌, ◌∷◌, [], ℕ, append-nil, length, length-append, ap, refl, sym, ◌∙◌, subst, arith}
+use Rattle.std.proofs.Common.{◌≡◌, ◌++◌, ◌∷◌, [], append-nil, length, length-append, ap, refl, sym, ◌∙◌, subst, arith}
 use Rattle.df_tree.specs.Laws.{total}
 use Rattle.df_tree.specs.Level.{AreLevel}
 use Rattle.df_tree.specs.Leaves.{items, items_of_parts, leaves_of_parts, rank_above}

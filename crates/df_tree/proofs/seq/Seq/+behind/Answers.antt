@@ -26,8 +26,8 @@ returns-in_ok-back-in-Parts g t c =
     let rest = c.in_ok-back-in-Parts.ensures ∙ ap (λ l. items_of_parts {I = g.row.I.Denot} l) all ∙ ap (λ l. items_of_parts {I = g.row.I.Denot} (drop (c.spot_at-spot.result.at + 1) l)) c.deref-in-Parts-2.ensures.value in
     if_ok_then c.joined.result c.joined.ensures (λ k h. h ∙ dropped {I = g.row.I.Denot} _ _ _ _ spot c.index.result.now _ _ c.index.ensures c.in_ok-first-in-Parts.ensures rest ∙ ap (drop c.args.count) (sym mine))
 
-pub gathered_copies-requires-clause-level : goal.gathered_copies-requires-clause-level
-gathered_copies-requires-clause-level g t c =
+pub gathered_copies-requires : goal.gathered_copies-requires
+gathered_copies-requires g t c =
     let level : AreLevel {I = g.row.I.Denot} c.deref-in-Parts-2.result.now = subst (λ l. AreLevel {I = g.row.I.Denot} l) (sym c.deref-in-Parts-2.ensures.value) (subst (IsLevel {I = g.row.I.Denot} {M = g.row.I-Measure.Denot}) c.in-Parts.is c.node.ensures.level) in
     let rank : rank_above {I = g.row.I.Denot} c.deref-in-Parts-2.result.now ≡ c.args.self.now.1 = ap (λ l. rank_above {I = g.row.I.Denot} l) c.deref-in-Parts-2.ensures.value ∙ ap (λ n. rank_of n) (sym c.in-Parts.is) ∙ ap (λ p. p.1) c.node.ensures.alike in
     let ks = c.deref-in-Parts-2.result.now in
@@ -35,18 +35,7 @@ gathered_copies-requires-clause-level g t c =
     let many : length (drop (at + 1) ks) ≤ length ks - (at + 1) = let n = length-drop (at + 1) ks in omega (arith, n) in
     let all : take (length ks - (at + 1)) (drop (at + 1) ks) ≡ drop (at + 1) ks = take_past _ _ many in
     let few = level_drop {I = g.row.I.Denot} ks (at + 1) level (omega (arith, rank, c.levels.ensures.rank, c.levels.ensures.few)) in
-    subst (λ l. AreLevel {I = g.row.I.Denot} l) (sym all) few.0
-
-pub gathered_copies-requires-clause-few : goal.gathered_copies-requires-clause-few
-gathered_copies-requires-clause-few g t c =
-    let level : AreLevel {I = g.row.I.Denot} c.deref-in-Parts-2.result.now = subst (λ l. AreLevel {I = g.row.I.Denot} l) (sym c.deref-in-Parts-2.ensures.value) (subst (IsLevel {I = g.row.I.Denot} {M = g.row.I-Measure.Denot}) c.in-Parts.is c.node.ensures.level) in
-    let rank : rank_above {I = g.row.I.Denot} c.deref-in-Parts-2.result.now ≡ c.args.self.now.1 = ap (λ l. rank_above {I = g.row.I.Denot} l) c.deref-in-Parts-2.ensures.value ∙ ap (λ n. rank_of n) (sym c.in-Parts.is) ∙ ap (λ p. p.1) c.node.ensures.alike in
-    let ks = c.deref-in-Parts-2.result.now in
-    let at = c.spot_at-spot.result.at in
-    let many : length (drop (at + 1) ks) ≤ length ks - (at + 1) = let n = length-drop (at + 1) ks in omega (arith, n) in
-    let all : take (length ks - (at + 1)) (drop (at + 1) ks) ≡ drop (at + 1) ks = take_past _ _ many in
-    let few = level_drop {I = g.row.I.Denot} ks (at + 1) level (omega (arith, rank, c.levels.ensures.rank, c.levels.ensures.few)) in
-    subst (λ l. rank_above {I = g.row.I.Denot} l < 64) (sym all) few.1
+    record { level = subst (λ l. AreLevel {I = g.row.I.Denot} l) (sym all) few.0; few = subst (λ l. rank_above {I = g.row.I.Denot} l < 64) (sym all) few.1 }
 
 pub spot_at-spot-requires : goal.spot_at-spot-requires
 spot_at-spot-requires g t c =

@@ -22,19 +22,12 @@ returns-in_ok-last-in-Parts g t c =
     let front = c.in_ok-front-in-Parts.ensures ∙ ap (λ l. items_of_parts {I = g.row.I.Denot} (take c.spot_at-spot.result.at l)) c.deref-in-Parts-2.ensures.value in
     if_ok_then c.joined.result c.joined.ensures (λ k h. h ∙ taken {I = g.row.I.Denot} _ _ _ _ spot c.index.result.now _ _ c.index.ensures front c.in_ok-last-in-Parts.ensures ∙ ap (take c.args.count) (sym mine))
 
-pub gathered_copies-requires-clause-level : goal.gathered_copies-requires-clause-level
-gathered_copies-requires-clause-level g t c =
+pub gathered_copies-requires : goal.gathered_copies-requires
+gathered_copies-requires g t c =
     let level : AreLevel {I = g.row.I.Denot} c.deref-in-Parts-2.result.now = subst (λ l. AreLevel {I = g.row.I.Denot} l) (sym c.deref-in-Parts-2.ensures.value) (subst (IsLevel {I = g.row.I.Denot} {M = g.row.I-Measure.Denot}) c.in-Parts.is c.node.ensures.level) in
     let rank : rank_above {I = g.row.I.Denot} c.deref-in-Parts-2.result.now ≡ c.args.self.now.1 = ap (λ l. rank_above {I = g.row.I.Denot} l) c.deref-in-Parts-2.ensures.value ∙ ap (λ n. rank_of n) (sym c.in-Parts.is) ∙ ap (λ p. p.1) c.node.ensures.alike in
     let few = level_take {I = g.row.I.Denot} c.deref-in-Parts-2.result.now c.spot_at-spot.result.at level (omega (arith, rank, c.levels.ensures.rank, c.levels.ensures.few)) in
-    few.0
-
-pub gathered_copies-requires-clause-few : goal.gathered_copies-requires-clause-few
-gathered_copies-requires-clause-few g t c =
-    let level : AreLevel {I = g.row.I.Denot} c.deref-in-Parts-2.result.now = subst (λ l. AreLevel {I = g.row.I.Denot} l) (sym c.deref-in-Parts-2.ensures.value) (subst (IsLevel {I = g.row.I.Denot} {M = g.row.I-Measure.Denot}) c.in-Parts.is c.node.ensures.level) in
-    let rank : rank_above {I = g.row.I.Denot} c.deref-in-Parts-2.result.now ≡ c.args.self.now.1 = ap (λ l. rank_above {I = g.row.I.Denot} l) c.deref-in-Parts-2.ensures.value ∙ ap (λ n. rank_of n) (sym c.in-Parts.is) ∙ ap (λ p. p.1) c.node.ensures.alike in
-    let few = level_take {I = g.row.I.Denot} c.deref-in-Parts-2.result.now c.spot_at-spot.result.at level (omega (arith, rank, c.levels.ensures.rank, c.levels.ensures.few)) in
-    few.1
+    record { level = few.0; few = few.1 }
 
 pub spot_at-spot-requires : goal.spot_at-spot-requires
 spot_at-spot-requires g t c =

@@ -1,11 +1,6 @@
-use Rattle.std.proofs.Common.{◌≡◌, ◌++◌, length, ap, sym, ◌∙◌, arith, subst}
-use Rattle.std.specs.Prelude.{map}
-use Rattle.df_tree.specs.Laws.{total}
-use Rattle.df_tree.specs.Level.{IsLevel}
-use Rattle.df_tree.specs.Leaves.{items, rank_of, rank_of_link, leaves_of, leaves_of_link, Kept}
+use Rattle.std.proofs.Common.{length, ap, sym, ◌∙◌, arith}
+use Rattle.df_tree.specs.Leaves.{items, rank_of, rank_of_link, leaves_of, leaves_of_link}
 use Rattle.df_tree.proofs.LevelLemmas.{halved_count, halved_second}
-use Rattle.df_tree.proofs.LeafLemmas.{items-shared}
-use Rattle.df_tree.proofs.PlanLemmas.{kept_shared}
 use Rattle.df_tree.proofs.seq.Seq.halved.Goals as goal
 
 pub overflow_sub-self : goal.overflow_sub-self
