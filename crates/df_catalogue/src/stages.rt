@@ -3,7 +3,7 @@
 ghost use Rattle.std.specs.Prelude.{◌≡◌, None, Ok, IfOk, IsSomeAnd, OnErr, OnOk};
 ghost use Rattle.df_plan.specs.Checks.{plan_check};
 ghost use Rattle.df_live.specs.Views.{IsLive};
-ghost use Rattle.df_catalogue.specs.declared.change.Change.TheVariants.{Register, DropView};
+ghost use Rattle.df_catalogue.specs.declared.change.Change.TheVariants.{Append, Delete, Replace, Register, DropView};
 ghost use Rattle.df_catalogue.specs.Changes as changes;
 ghost use Rattle.df_catalogue.specs.FrameChanges as frame_changes;
 ghost use Rattle.df_catalogue.specs.LiveViews.{tagged_frames};
@@ -24,12 +24,54 @@ use df_expr::Meter;
 use df_frame::FrameChange;
 use df_live::LiveView;
 use df_plan::CheckedPlan;
-use df_value::Text;
+use df_value::{Chunk, Row, Text};
 use std::alloc::{AllocError, Global};
 use std::snapshot::Snapshot;
 use std::sync::ledger::Ledger;
 
 impl<Acc: Ledger, Del: Ledger> Catalogue<Acc, Del> {
+    /// Makes [`append`](Catalogue::append) ready, in the place of what was staged before. It is
+    /// refused as that call is, and then nothing is staged.
+    pub fn stage_append(
+        &mut self,
+        alloc: Global,
+        desk: &Desk<Acc, Del>,
+        chunk: &Chunk,
+    ) -> Result<StagedRows<Acc, Del>, CatalogueFault>
+        ensures staged { IsStagedChange self.old (Append desk.now.frame chunk.now) result self.new }
+        ensures token { IfOk result (λ token. token.catalogue.value ≡ self.new) }
+    {
+        self.stage_frame_change(alloc, desk, FrameChange::Append(chunk))
+    }
+
+    /// Makes [`delete`](Catalogue::delete) ready, in the place of what was staged before. It is
+    /// refused as that call is, and then nothing is staged.
+    pub fn stage_delete(
+        &mut self,
+        alloc: Global,
+        desk: &Desk<Acc, Del>,
+        numbers: &[u32],
+    ) -> Result<StagedRows<Acc, Del>, CatalogueFault>
+        ensures staged { IsStagedChange self.old (Delete desk.now.frame numbers.now) result self.new }
+        ensures token { IfOk result (λ token. token.catalogue.value ≡ self.new) }
+    {
+        self.stage_frame_change(alloc, desk, FrameChange::Delete(numbers))
+    }
+
+    /// Makes [`replace`](Catalogue::replace) ready, in the place of what was staged before. It is
+    /// refused as that call is, and then nothing is staged.
+    pub fn stage_replace(
+        &mut self,
+        alloc: Global,
+        desk: &Desk<Acc, Del>,
+        rows: &[(u32, Row)],
+    ) -> Result<StagedRows<Acc, Del>, CatalogueFault>
+        ensures staged { IsStagedChange self.old (Replace desk.now.frame rows.now) result self.new }
+        ensures token { IfOk result (λ token. token.catalogue.value ≡ self.new) }
+    {
+        self.stage_frame_change(alloc, desk, FrameChange::Replace(rows))
+    }
+
     /// Makes [`register`](Catalogue::register) ready, in the place of what was staged before. It is
     /// refused as that call is, and then nothing is staged.
     pub fn stage_register(
