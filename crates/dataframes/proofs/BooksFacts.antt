@@ -12,7 +12,7 @@ use Rattle.df_catalogue.specs.FrameChanges.{change_of}
 use Rattle.df_catalogue.specs.ViewChanges.{change_of_views}
 use Rattle.df_catalogue.specs.declared.view_change.ViewChange.{ViewChange}
 use Rattle.df_catalogue.proofs.FrameChangeFacts.{desks-counted}
-use Rattle.df_store.specs.Halls.{AnswersOverHistory}
+use Rattle.df_hall.specs.Halls.{AnswersOverHistory}
 use Rattle.df_versions.specs.Answered.{told_states}
 use Rattle.df_versions.specs.declared.fault.ChangeFault.{ChangeFault}
 use Rattle.dataframes.specs.Appends.{Appends, IsAppendedChunk}

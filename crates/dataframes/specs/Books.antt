@@ -12,7 +12,7 @@ use Rattle.df_catalogue.specs.Desks.{DeskParts, desks_after}
 use Rattle.df_catalogue.specs.declared.change.Change.{Change}
 use Rattle.df_catalogue.specs.declared.change.Change.TheVariants.{Append, Delete, DropView, Register, Replace}
 use Rattle.df_catalogue.specs.declared.state.State.{State}
-use Rattle.df_store.specs.Halls.{AnswersOverHistory}
+use Rattle.df_hall.specs.Halls.{AnswersOverHistory}
 use Rattle.df_versions.specs.declared.fault.ChangeFault.{ChangeFault}
 use Rattle.dataframes.specs.declared.fault.ServiceFault.{ServiceFault}
 use Rattle.dataframes.specs.declared.fault.ServiceFault.TheVariants.{NoFrame, Rows, Refused}

@@ -4,8 +4,8 @@ use Rattle.df_value.specs.declared.cell.CellType.{CellType}
 use Rattle.df_catalogue.specs.Desks.{AgreeWithBooks, DeskParts}
 use Rattle.df_catalogue.specs.States.{IsLegal}
 use Rattle.df_catalogue.specs.declared.state.State.{State}
-use Rattle.df_store.specs.Closing.{IsMissingAfter, missing_frame, totals_of}
-use Rattle.df_store.specs.declared.totals.Totals.{Totals}
+use Rattle.df_hall.specs.Closing.{IsMissingAfter, missing_frame, totals_of}
+use Rattle.df_hall.specs.declared.totals.Totals.{Totals}
 use Rattle.df_versions.specs.Histories.{IsLastState}
 use Rattle.df_versions.specs.Openings.{open_fault}
 use Rattle.df_versions.specs.declared.fault.OpenFault.TheVariants as open_fault_of

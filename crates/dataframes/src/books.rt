@@ -8,7 +8,7 @@ ghost use Rattle.dataframes.specs.Books.{InOrder, IsAnswered, IsKept, IsNextOr, 
 
 use crate::fault::ServiceFault;
 use df_catalogue::{Desk, FrameChange, ViewChange};
-use df_store::Hall;
+use df_hall::Hall;
 use df_value::{Chunk, ChunkFault, List, Row, Schema};
 use df_versions::{ChangeFault, Naming, Told};
 use std::alloc::Global;

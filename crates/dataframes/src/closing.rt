@@ -5,7 +5,7 @@ ghost use Rattle.dataframes.specs.Closing.{IsClosed, IsUnfinished};
 use crate::fault::FinishFault;
 use crate::opening::Finished;
 use crate::service::OpenService;
-use df_store::Missing;
+use df_hall::Missing;
 use df_versions::Naming;
 use std::sync::Wait;
 use std::sync::ledger::Ledger;

@@ -18,9 +18,9 @@ pub use books::{Appended, Books};
 pub use dashboard::Dashboard;
 pub use df_catalogue::CatalogueFault;
 pub use df_expr::Expr;
+pub use df_hall::{Hall, OpenedHall, Totals};
 pub use df_ops::{Agg, How, RankKind, RollKind};
 pub use df_plan::{CheckedPlan, Plan, PlanFault};
-pub use df_store::{Hall, OpenedHall, Totals};
 pub use df_value::{
     Boxed, Cell, CellType, Chunk, ChunkFault, Duplicate, Frac, List, Row, Schema, SchemaFault, Text,
 };

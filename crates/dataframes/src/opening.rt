@@ -12,7 +12,7 @@ use crate::fault::FinishFault;
 use crate::service::OpenService;
 use crate::threads::{Load, Watch, Watching, run_threads};
 use df_catalogue::PARTS_OF_LEDGER;
-use df_store::{Hall, OpenedHall, Totals};
+use df_hall::{Hall, OpenedHall, Totals};
 use df_value::{Duplicate, List, Schema};
 use df_versions::{Naming, OpenFault, Reader};
 use std::alloc::{AllocError, Global};

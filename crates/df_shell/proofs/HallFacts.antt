@@ -15,7 +15,7 @@ use Rattle.df_shell.proofs.DesksFacts.{AreAfter, InOrder, counted, frame-there, 
 use Rattle.df_shell.specs.Changing.{AnswersTold, IsAnswered, IsKnown, IsLearnt, IsLongEnough}
 use Rattle.df_shell.specs.Halls.{Follows, HallParts, IsKeptInHall, IsMadeInHall, IsRefusedInHall}
 use Rattle.df_session.specs.declared.refusal.Refusal.{Refusal}
-use Rattle.df_store.specs.Halls.{AnswersOverHistory}
+use Rattle.df_hall.specs.Halls.{AnswersOverHistory}
 use Rattle.df_versions.proofs.Prefixes.{prefix_self, prefix_whole}
 use Rattle.df_versions.specs.Answered.{IsAccepted, IsRefusedAt, told_states}
 use Rattle.df_versions.specs.declared.fault.ChangeFault.{ChangeFault}

@@ -19,7 +19,7 @@ use Rattle.df_session.specs.declared.refusal.Refusal.TheVariants as refusal
 use Rattle.df_session.specs.declared.fault.ShellFault.{ShellFault}
 use Rattle.df_session.specs.declared.fault.ShellFault.TheVariants as shell
 use Rattle.df_session.specs.declared.refusal.VersionFault.TheVariants as version
-use Rattle.df_store.specs.Closing.{IsMissingAfter, missing_frame}
+use Rattle.df_hall.specs.Closing.{IsMissingAfter, missing_frame}
 use Rattle.df_versions.specs.Answered.{IsAccepted, IsRefusedAt}
 use Rattle.df_versions.specs.Histories.{IsLastState}
 use Rattle.df_versions.specs.Shown.{Shows}

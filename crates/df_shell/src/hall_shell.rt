@@ -11,7 +11,7 @@ use df_session::{
     Numbers, Prepared, Prompts, Refusal, Session, ShellFault, VersionFault, answer_from, fill,
     prepare,
 };
-use df_store::{Hall, OpenedHall};
+use df_hall::{Hall, OpenedHall};
 use df_value::{List, Piece};
 use df_versions::{Naming, OpenFault, Reader};
 use std::alloc::Global;

@@ -11,7 +11,7 @@ use df_catalogue::{CatalogueFault, Change, Desk, FrameChange, ViewChange};
 use df_session::{
     Definitions, Numbers, Question, Refusal, ShellFault, VersionFault, ViewStore, end_of,
 };
-use df_store::{Hall, Missing};
+use df_hall::{Hall, Missing};
 use df_versions::{ChangeFault, Naming, Reader, Told};
 use std::alloc::Global;
 use std::marker::Model;

@@ -8,12 +8,12 @@ use Rattle.std.proofs.Math.Seq.{get_or-append_seam, take-append_seam}
 use Rattle.std.proofs.lemmas.List.{take-append-le}
 use Rattle.df_value.specs.declared.cell.Cell.{Cell}
 use Rattle.df_catalogue.specs.Pictures.{PictureParts}
+use Rattle.df_hall.proofs.ListFacts.{found, item-at, map-more}
 use Rattle.df_store.specs.declared.expected.Expected.{Expected}
 use Rattle.df_store.specs.declared.jobs.Outcome.{Outcome}
 use Rattle.df_store.specs.Expected.{AreExpected, HasAll, IsCounted, IsExpected, IsFound, most_of_usize, rows_at}
 use Rattle.df_store.specs.Jobs.{job_of}
 use Rattle.df_store.specs.Loaded.{AreLoadedIn, HasRows, IsLoaded, job_rows}
-use Rattle.df_store.proofs.ListFacts.{found, item-at, map-more}
 use Rattle.df_store.proofs.RowFacts.{all-rows, flat-more, loaded}
 
 nothing : 0 ≡ min 0 most_of_usize

@@ -1,9 +1,7 @@
 pub mod ListFacts
-pub mod FirstFacts
 pub mod ShareFacts
 pub mod WorkerFacts
 pub mod CountFacts
-pub mod TotalsFacts
 pub mod JobFacts
 pub mod OutcomeFacts
 pub mod RowFacts
@@ -18,10 +16,5 @@ pub mod LoadFacts
 pub mod LeftFacts
 pub mod RegisterFacts
 pub mod ViewFacts
-pub mod CrossingPlans
-pub mod CrossingTrees
-pub mod CrossingNodes
-pub mod CrossingViews
-pub mod Crosses
 pub mod CrossingPictures
 pub mod CrossingOutcomes

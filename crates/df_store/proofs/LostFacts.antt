@@ -10,9 +10,9 @@ use Rattle.std.proofs.lemmas.List.FromFn.{length-range_with_len}
 use Rattle.std.proofs.lemmas.List.Sorted.{sum_by-IsPermutation}
 use Rattle.std.proofs.lemmas.List.Sums.{sum_by-cons}
 use mathlib.Core.Logic.{inl, inr}
+use Rattle.df_hall.proofs.ListFacts.{same-default}
 use Rattle.df_store.specs.declared.jobs.Outcome.{Outcome}
 use Rattle.df_store.specs.Lost.{HaveOneEach, IsLost, outcomes_of}
-use Rattle.df_store.proofs.ListFacts.{same-default}
 
 is-one : (m n : ℕ) → m ≡ n → ◌≡◌ {A = ℕ} (if m == n then 1 else 0) 1
 is-one m n e = ap (λ b. if b then 1 else 0) (eq-eqb m n e)

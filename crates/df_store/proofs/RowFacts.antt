@@ -10,11 +10,12 @@ use Rattle.df_value.specs.declared.cell.Cell.{Cell}
 use Rattle.df_value.specs.Chunks.{ChunkParts}
 use Rattle.df_value.specs.declared.chunk.Piece.{Piece}
 use Rattle.df_catalogue.specs.Pictures.{AreRowsIn, PictureParts, row_in}
+use Rattle.df_hall.proofs.ListFacts.{found, item-at, take-more}
 use Rattle.df_store.specs.declared.jobs.Outcome.{Outcome}
 use Rattle.df_store.specs.Expected.{rows_at}
 use Rattle.df_store.specs.Jobs.{job_of}
 use Rattle.df_store.specs.Loaded.{HasRows, IsLoaded, chunk_rows, job_rows, made_rows}
-use Rattle.df_store.proofs.ListFacts.{found, item-at, none-past, past, same-items, take-all, take-more}
+use Rattle.df_store.proofs.ListFacts.{none-past, past, same-items, take-all}
 
 nothing-behind : {X : Type 0} (xs : List X) → xs ++ [] ≡ xs
 nothing-behind [] = refl

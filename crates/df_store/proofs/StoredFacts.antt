@@ -5,10 +5,10 @@ use Rattle.std.proofs.Math.Seq.{drop-append_seam}
 use Rattle.df_value.specs.declared.cell.Cell.{Cell}
 use Rattle.df_value.specs.declared.chunk.Piece.{Piece}
 use Rattle.df_value.specs.declared.chunk.Piece.TheVariants.{Bad, Good}
+use Rattle.df_hall.proofs.ListFacts.{take-more}
 use Rattle.df_store.specs.declared.jobs.Outcome.{Outcome}
 use Rattle.df_store.specs.Loaded.{made_rows}
 use Rattle.df_store.specs.Made.{rows_in}
-use Rattle.df_store.proofs.ListFacts.{take-more}
 use Rattle.df_store.proofs.RowFacts.{flat-more, length-enumerate}
 
 -- the rows of these outcomes, one after another

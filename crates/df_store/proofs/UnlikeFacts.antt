@@ -17,13 +17,14 @@ use Rattle.df_frame.specs.declared.state.FrameState.{FrameState}
 use Rattle.df_catalogue.specs.declared.state.State.{State}
 use Rattle.df_frame.proofs.Rising.{rising-filter}
 use Rattle.df_nodes.proofs.Filters.{filter_length}
+use Rattle.df_hall.proofs.ListFacts.{found}
 use Rattle.df_store.specs.declared.expected.Expected.{Expected}
 use Rattle.df_store.specs.declared.jobs.Outcome.{Outcome}
 use Rattle.df_store.specs.Expected.{AreExpected, HasAll, IsFound, StandsAt, most_of_usize, rows_at}
 use Rattle.df_store.specs.Jobs.{AreBegun, BeginsAt, job_of}
 use Rattle.df_store.specs.Loaded.{IsLoaded, IsUnlike, IsUnlikeIn, job_rows, made_rows}
 use Rattle.df_store.proofs.JobFacts.{append-above, append-below}
-use Rattle.df_store.proofs.ListFacts.{found, length-mapped, map-at}
+use Rattle.df_store.proofs.ListFacts.{length-mapped, map-at}
 use Rattle.df_store.proofs.RowFacts.{behind, flat-mapped, map-some}
 use Rattle.df_store.proofs.SortedOrders.{AreInOrder, Follow, Rises, in-order}
 

@@ -1,6 +1,3 @@
-pub mod Rooms
-pub mod Closing
-pub mod Halls
 pub mod Made
 pub mod Jobs
 pub mod Workers

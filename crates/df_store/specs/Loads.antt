@@ -8,11 +8,11 @@ use Rattle.df_catalogue.specs.declared.state.State.{State}
 use Rattle.df_catalogue.specs.Desks.{DeskParts, parts_of}
 use Rattle.df_catalogue.specs.States.{IsLegal}
 use Rattle.df_versions.specs.Histories.{IsLastState}
+use Rattle.df_hall.specs.Closing.{IsUnsettledState, accepted_at, deleted_at}
 use Rattle.df_store.specs.declared.fault.LoadCause.{LoadCause}
 use Rattle.df_store.specs.declared.fault.LoadCause.TheVariants.{Refused, Memory, Spent, Ahead, MissingDesk, Lost, Unlike, ViewsUnlike}
 use Rattle.df_store.specs.declared.fault.Stop.{Stop}
 use Rattle.df_store.specs.declared.jobs.Outcome.{Outcome}
-use Rattle.df_store.specs.Closing.{IsUnsettledState, accepted_at, deleted_at}
 use Rattle.df_store.specs.Faults.{IsCauseAtStart, cause_of_stop}
 use Rattle.df_store.specs.Jobs.{AreOutcomes, jobs_of}
 use Rattle.df_store.specs.Loaded.{AreLoaded, IsUnlike}

@@ -1,6 +1,6 @@
 //! Splitting: the desks of one worker are shared out among all of them.
 ghost use Rattle.std.specs.Prelude.{◌≡◌, ◌+◌, ◌<◌, ◌≤◌, ◌∷◌, ◌++◌, All, drop, length, vec_capacity};
-ghost use Rattle.df_store.specs.Closing.{HaveSameSums};
+ghost use Rattle.df_hall.specs.Closing.{HaveSameSums};
 ghost use Rattle.df_store.specs.Workers.{HasNotBegun, IsIdle, desks_of};
 
 use crate::worker::{Work, Worker};

@@ -7,11 +7,11 @@ ghost use Rattle.df_store.specs.Workers.{AreCounted, IsIdle, IsWorker, all_witho
 use crate::entering::enter_all;
 use crate::fault::Stop;
 use crate::gate::Gate;
-use crate::hall::Hall;
 use crate::jobs::{Outcome, make};
 use crate::joining::{count_of_first_chunk, join};
 use df_catalogue::Desk;
 use df_claims::{ClaimSeat, Claims};
+use df_hall::Hall;
 use df_value::Source;
 use df_versions::{Naming, Told};
 use std::alloc::{AllocError, Global};

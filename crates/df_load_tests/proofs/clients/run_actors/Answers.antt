@@ -3,8 +3,8 @@ use denote.Param.Send.{sendable}
 use Rattle.std.proofs.Crossing.{crosses}
 use Rattle.std.proofs.sync.ledger.Share.TheSendSync as share
 use Rattle.df_versions.proofs.Crosses.{reader_send}
-use Rattle.df_store.proofs.CrossingPlans.{checked_send}
-use Rattle.df_store.proofs.Crosses.{hall_sync}
+use Rattle.df_hall.proofs.CrossingPlans.{checked_send}
+use Rattle.df_hall.proofs.Crosses.{hall_sync}
 use Rattle.df_load_tests.proofs.clients.run_actors.Goals as goal
 
 pub for_each_mut-requires-send-T : goal.for_each_mut-requires-send-T

@@ -2,7 +2,7 @@ use Rattle.std.proofs.Common.{◌≡◌, ◌∙◌, ◌+◌, ℕ, List, ap, get_
 use Rattle.df_value.specs.Chunks.{ChunkParts}
 use Rattle.df_catalogue.specs.Desks.{DeskParts, desk_after}
 use Rattle.df_catalogue.specs.declared.change.Change.TheVariants.{Append}
-use Rattle.df_store.specs.Halls.{having_accepted}
+use Rattle.df_hall.specs.Halls.{having_accepted}
 use Rattle.df_store.specs.Workers.{chunk_of, without_accepted}
 use Rattle.df_store.proofs.CountFacts.{one-committed}
 use Rattle.df_store.proofs.WorkerFacts.{keys-set}

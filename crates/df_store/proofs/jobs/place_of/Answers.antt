@@ -2,9 +2,9 @@ use Rattle.std.proofs.Common.{◌≡◌, ℕ, suc, ◌+◌, ◌-◌, ◌<◌, �
 use Rattle.std.specs.Prelude.{Option, slice_get, option_map}
 use Rattle.std.proofs.Math.Seq.{drop-cons}
 use Rattle.df_value.specs.declared.chunk.Piece.{Piece}
+use Rattle.df_hall.proofs.ListFacts.{same-default}
 use Rattle.df_store.specs.Jobs.{chunks_of, jobs_from, jobs_of, IsPlace}
 use Rattle.df_store.proofs.JobFacts.{job-here, job-later}
-use Rattle.df_store.proofs.ListFacts.{same-default}
 use Rattle.df_store.proofs.jobs.place_of.Goals as goal
 
 -- the sources from a frame on begin with that of the frame

@@ -1,12 +1,12 @@
 use Rattle.std.proofs.Common.{◌++◌, ◌∷◌, [], List, ◌∙◌, ap, get_or, subst, sym, take}
 use Rattle.std.specs.Prelude.{All}
 use Rattle.std.proofs.lemmas.List.Elements.{All-append, All-cons, All-nil}
+use Rattle.df_hall.proofs.ListFacts.{take-more}
 use Rattle.df_store.specs.declared.jobs.Outcome.{Outcome}
 use Rattle.df_store.specs.Jobs.{job_of}
 use Rattle.df_store.specs.Joined.{IsGoodOf}
 use Rattle.df_store.specs.Loaded.{job_rows}
 use Rattle.df_store.specs.Made.{rows_in}
-use Rattle.df_store.proofs.ListFacts.{take-more}
 use Rattle.df_store.proofs.RowFacts.{rows-more}
 use Rattle.df_store.proofs.StoredFacts.{cells-more}
 use Rattle.df_store.proofs.joining.joined_rows.Goals as goal

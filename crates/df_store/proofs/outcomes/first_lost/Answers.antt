@@ -1,7 +1,8 @@
 use Rattle.std.proofs.Common.{◌≡◌, ℕ, ◌+◌, ◌<◌, ◌∙◌, List, [], ◌∷◌, ◌++◌, map, length, take, get_or, ap, sym, arith}
 use Rattle.std.specs.List.{range_with_len}
+use Rattle.df_hall.proofs.ListFacts.{map-more, take-more}
 use Rattle.df_store.specs.declared.jobs.Outcome.{Outcome}
-use Rattle.df_store.proofs.ListFacts.{map-more, take-all, take-more}
+use Rattle.df_store.proofs.ListFacts.{take-all}
 use Rattle.df_store.proofs.OutcomeFacts.{range-more}
 use Rattle.df_store.proofs.LostFacts.{lost-at, lost-behind}
 use Rattle.df_store.proofs.outcomes.first_lost.Goals as goal

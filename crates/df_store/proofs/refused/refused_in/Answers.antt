@@ -1,11 +1,11 @@
 use Rattle.std.proofs.Common.{◌≡◌, ℕ, ◌+◌, ◌<◌, ◌∙◌, List, [], ◌∷◌, ◌++◌, map, length, take, get_or, refl, ap, sym}
 use Rattle.std.specs.Prelude.{Option, Some, None, filter_map}
 use Rattle.std.specs.List.{cons_option}
+use Rattle.df_hall.proofs.ListFacts.{map-more, take-more}
 use Rattle.df_store.specs.declared.jobs.Outcome.{Outcome}
 use Rattle.df_store.specs.declared.refused.Refused.{Refused}
 use Rattle.df_store.specs.Jobs.{job_of}
 use Rattle.df_store.specs.Refused.{refusal}
-use Rattle.df_store.proofs.ListFacts.{map-more, take-more}
 use Rattle.df_store.proofs.refused.refused_in.Goals as goal
 
 cons-append : {X : Type 0} (o : Option X) (xs ys : List X) → cons_option o (xs ++ ys) ≡ cons_option o xs ++ ys

@@ -1,6 +1,6 @@
 use Rattle.std.proofs.Common.{◌≡◌, drop, length}
 use Rattle.std.specs.Prelude.{All}
-use Rattle.df_store.specs.Closing.{HaveSameSums}
+use Rattle.df_hall.specs.Closing.{HaveSameSums}
 use Rattle.df_store.specs.Workers.{HasNotBegun, IsIdle, desks_of}
 use Rattle.df_store.proofs.splitting.share_desks.Given as goal
 

@@ -1,6 +1,6 @@
 use Rattle.std.proofs.Common.{◌≡◌, ◌+◌, ◌≤◌, ◌++◌, length}
 use Rattle.std.specs.Prelude.{vec_capacity}
-use Rattle.df_store.specs.Closing.{HaveSameSums}
+use Rattle.df_hall.specs.Closing.{HaveSameSums}
 use Rattle.df_store.proofs.splitting.split_desks.Given as goal
 
 abbrev pub invariant-loop-at : goal.invariant-loop-at

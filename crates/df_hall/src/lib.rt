@@ -1,0 +1,16 @@
+//! A catalogue behind a lock, which threads share; its opening with readers, and its close.
+//!
+//! A [`Hall`] is a lock round a catalogue that publishes a version for each change. Whoever has a desk of a frame changes the
+//! frame through the hall, and whoever has a reader takes versions without waiting; [`Hall::close`] gives the catalogue
+//! back once the desks account for every row. A load takes the hall apart and closes it by [`settle`].
+#![tactic(auto)]
+
+mod closing;
+mod hall;
+mod opened_hall;
+mod totals;
+
+pub use closing::{Unsettled, missing_frame, settle};
+pub use hall::{Hall, Missing};
+pub use opened_hall::{NamedHall, OpenedHall};
+pub use totals::{Totals, TotalsRoom, frame_count};
