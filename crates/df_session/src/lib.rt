@@ -47,5 +47,5 @@ pub use reading_command_line::read_command_line;
 pub use refusal::{Mistake, Refusal, VersionFault};
 pub use refusal_texts::refusal_text;
 pub use session::{Buffers, Session, answer_from};
-pub use telling::{books_of, names_lines, push_numbers, verdict};
+pub use telling::{books_of, names_lines, print_rows, verdict};
 pub use view_store::ViewStore;

@@ -1,14 +1,30 @@
 //! What is told of frames and views, whatever store has them.
 ghost use Rattle.std.specs.Prelude.{◌≡◌, ◌++◌, IfOk, OnOk, string_bytes};
 ghost use Rattle.std.specs.Option.{option_copied};
+ghost use Rattle.df_print.specs.Printed.{printed};
 ghost use Rattle.df_session.specs.Told.{books_line, check_text, names_text, numbers_line};
 
-use df_text::escape;
-use df_value::Text;
+use df_text::{escape, print_table};
+use df_value::{Row, Schema, Text};
 use std::alloc::{AllocError, Global};
 
-/// The numbers of the rows of a frame, behind what is told before them.
-pub fn push_numbers(alloc: Global, text: &mut Vec<u8>, numbers: &[u32]) -> Result<(), AllocError>
+/// The table of a frame, as it is printed, and the numbers of its rows.
+pub fn print_rows(
+    alloc: Global,
+    name: &Text,
+    schema: &Schema,
+    rows: &[Row],
+    numbers: &[u32],
+) -> Result<Vec<u8>, AllocError>
+    ensures { IfOk result (λ text.
+        text.items ≡ printed name.now schema.now rows.now ++ numbers_line numbers.now) }
+{
+    let mut text = print_table(alloc, name, schema, rows)?;
+    push_numbers(alloc, &mut text, numbers)?;
+    Ok(text)
+}
+
+fn push_numbers(alloc: Global, text: &mut Vec<u8>, numbers: &[u32]) -> Result<(), AllocError>
     ensures { OnOk result (text.new.items ≡ text.old.items ++ numbers_line numbers.now) }
 {
     text.extend_from_slice(b"numbers")?;

@@ -7,8 +7,7 @@ ghost use Rattle.df_shell.specs.Questions.{books_text, frame_text, rows_text, vi
 
 use df_catalogue::{Catalogue, CatalogueFault};
 use df_expr::WorkCounts;
-use df_session::{Definitions, Part, Refusal, books_of, names_lines, print_part, push_numbers};
-use df_text::print_table;
+use df_session::{Definitions, Part, Refusal, books_of, names_lines, print_part, print_rows};
 use df_value::Text;
 use std::alloc::{AllocError, Global};
 use std::sync::ledger::Ledger;
@@ -47,9 +46,8 @@ pub fn rows<Acc: Ledger, Del: Ledger>(
     let spec = &definitions.document.frames.as_slice()[at];
     let rows = catalogue.frame_rows(alloc, at)?;
     let numbers = catalogue.frame_numbers(alloc, at)?;
-    let mut text = print_table(alloc, &spec.name, &spec.schema, rows.as_slice())?;
-    push_numbers(alloc, &mut text, numbers.as_slice())?;
-    Ok(text)
+    let (rows, numbers) = (rows.as_slice(), numbers.as_slice());
+    Ok(print_rows(alloc, &spec.name, &spec.schema, rows, numbers)?)
 }
 
 /// How many rows a frame accepted, how many were deleted, and how many it has.

@@ -1,13 +1,15 @@
 //! The catalogue behind a shell.
-ghost use Rattle.std.specs.Prelude.{◌≡◌, true, is_none};
+ghost use Rattle.std.specs.Prelude.{◌≡◌, None, true, is_none};
 ghost use Rattle.df_catalogue.specs.Desks.{AreInOrder};
 ghost use Rattle.df_catalogue.specs.Reads.{live_of};
 ghost use Rattle.df_catalogue.specs.States.{IsLegal};
+ghost use Rattle.df_catalogue.specs.Transitions.{IsTransition};
+ghost use Rattle.df_catalogue.specs.Work.{IsWorkOf};
 ghost use Rattle.df_shell.specs.NextNumbers.{next_numbers};
 
 use crate::checking::check;
 use crate::reading::{books, rows, show, views, work};
-use df_catalogue::{Catalogue, Change, Desk};
+use df_catalogue::{Catalogue, CatalogueFault, Change, Desk};
 use df_session::{
     Definitions, Mistake, Numbers, Question, Refusal, RowCounts, ViewStore, describe_frames,
     describe_table, end_if_made, end_of,
@@ -48,6 +50,19 @@ impl<Acc: Ledger, Del: Ledger> Store<Acc, Del> {
     {
         let _book = self.catalogue.accepted_book();
     }
+
+    // Makes a change of the catalogue, and notes where its rows end.
+    fn apply(&mut self, alloc: Global, change: Change) -> Result<(), CatalogueFault>
+        ensures state { IsTransition self.old.catalogue.state change result self.new.catalogue.state }
+        ensures work { IsWorkOf self.old.catalogue change result self.new.catalogue }
+        ensures staged { self.new.catalogue.staged ≡ None }
+    {
+        let end = end_of(&change);
+        let desks = self.desks.as_mut_slice();
+        let made = self.catalogue.apply(alloc, desks, change);
+        self.numbers.note(end_if_made(&made, end));
+        made
+    }
 }
 
 /// How many rows the frames of the catalogue have.
@@ -79,11 +94,7 @@ impl<Acc: Ledger, Del: Ledger> ViewStore for Store<Acc, Del> {
     ghost Next = { λ s at n. n ≡ next_number_at s.catalogue.state.frames at };
 
     fn make(&mut self, alloc: Global, change: Change) -> Result<(), Refusal> {
-        let end = end_of(&change);
-        let desks = self.desks.as_mut_slice();
-        let made = self.catalogue.apply(alloc, desks, change);
-        self.numbers.note(end_if_made(&made, end));
-        Ok(made?)
+        Ok(self.apply(alloc, change)?)
     }
 
     fn next_number(&self, frame: usize) -> u64 {

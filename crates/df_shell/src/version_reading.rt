@@ -9,9 +9,8 @@ ghost use Rattle.df_shell.specs.Versions.{counted_text, differs_from, first_diff
 use df_catalogue::{CatalogueFault, Desk};
 use df_session::{
     Definitions, Mistake, Part, Question, Refusal, RowCounts, books_of, describe_frames,
-    describe_table, names_lines, print_part, push_numbers, verdict,
+    describe_table, names_lines, print_part, print_rows, verdict,
 };
-use df_text::print_table;
 use df_value::Text;
 use df_versions::Version;
 use std::alloc::{AllocError, Global};
@@ -92,9 +91,8 @@ fn rows(
     let spec = &definitions.document.frames.as_slice()[at];
     let rows = version.frame_rows(alloc, at)?;
     let numbers = version.frame_numbers(alloc, at)?;
-    let mut text = print_table(alloc, &spec.name, &spec.schema, rows.as_slice())?;
-    push_numbers(alloc, &mut text, numbers.as_slice())?;
-    Ok(text)
+    let (rows, numbers) = (rows.as_slice(), numbers.as_slice());
+    Ok(print_rows(alloc, &spec.name, &spec.schema, rows, numbers)?)
 }
 
 // How many rows were accepted and deleted through the desk of a frame, and how many the frame has.

@@ -5,7 +5,7 @@ use Rattle.df_catalogue.specs.declared.state.StagedParts.{StagedParts}
 use Rattle.df_catalogue.specs.Desks.{AreInOrder}
 use Rattle.df_shell.proofs.NextNumberFacts.{numbered-after}
 use Rattle.df_session.specs.Numbers.{noted}
-use Rattle.df_shell.proofs.store.StoreViewStore.make.Goals as goal
+use Rattle.df_shell.proofs.store.Store.apply.Goals as goal
 
 pub apply-made-requires : goal.apply-made-requires
 apply-made-requires g c = subst (λ ds. AreInOrder ds c.args.self.now.catalogue.state) (sym c.as_mut_slice-desks.ensures.value) c.args.self.now.in_order
