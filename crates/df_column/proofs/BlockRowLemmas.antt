@@ -22,10 +22,6 @@ adds_block dtypes rows old new b e r t = record {
   types = λ h. subst (AreOfDtypes dtypes) (sym e) (types_push dtypes old b t h);
 }
 
--- nothing more, and one thing after another
-pub adds_none : (dtypes : List CellType) (old : List BlockParts) → AddsRows dtypes [] old old
-adds_none dtypes old = record { rows = sym (append-nil (rows_of_blocks old)); types = λ h. h }
-
 pub adds_both : (dtypes : List CellType) (xs ys : List (Tag × List Cell)) (old mid new : List BlockParts) → AddsRows dtypes xs old mid → AddsRows dtypes ys mid new → AddsRows dtypes (xs ++ ys) old new
 adds_both dtypes xs ys old mid new p q = record {
   rows = q.rows ∙ ap (λ es. es ++ ys) p.rows ∙ append_assoc (rows_of_blocks old) xs ys;

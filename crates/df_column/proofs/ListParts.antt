@@ -1,5 +1,5 @@
 -- The first items of a list, those behind them, and the items between two indexes.
-use Rattle.std.proofs.Common.{◌≡◌, ℕ, zero, suc, ◌+◌, ◌<◌, ◌≤◌, List, [], ◌∷◌, ◌++◌, length, map, take, drop, get_or, refl, sym, ap, ◌∙◌, append_assoc, arith, length-take, length-drop}
+use Rattle.std.proofs.Common.{◌≡◌, ℕ, zero, suc, ◌+◌, ◌<◌, ◌≤◌, List, [], ◌∷◌, ◌++◌, length, map, take, drop, get_or, refl, sym, ap, ◌∙◌, append_assoc, arith}
 use Rattle.std.proofs.Math.Seq.{drop-nil, take-nil}
 
 pub take_front : {X : Type 0} (xs ys : List X) (n : ℕ) → n ≡ length xs → take n (xs ++ ys) ≡ xs
@@ -60,15 +60,6 @@ get_dropped xs zero i d = let e : i ≡ 0 + i = omega arith in ap (λ k. get_or 
 get_dropped [] (suc m) i d = refl
 get_dropped (x ∷ xs) (suc m) i d = let e : suc (m + i) ≡ suc m + i = omega arith in get_dropped xs m i d ∙ ap (λ k. get_or (x ∷ xs) k d) e
 
-pub get_part : {X : Type 0} (xs : List X) (m n i : ℕ) (d : X) → i < n → get_or (take n (drop m xs)) i d ≡ get_or xs (m + i) d
-get_part xs m n i d lt = get_taken (drop m xs) n i d lt ∙ get_dropped xs m i d
-
-pub part_length : {X : Type 0} (xs : List X) (m n : ℕ) → record { most : length (take n (drop m xs)) ≤ n; within : m ≤ length xs → m + length (take n (drop m xs)) ≤ length xs; whole : m + n ≤ length xs → length (take n (drop m xs)) ≡ n; last : length xs ≤ m + n → m ≤ length xs → m + length (take n (drop m xs)) ≡ length xs }
-part_length xs m n =
-    let t = length-take n (drop m xs) in
-    let d = length-drop m xs in
-    record { most = omega (arith, t, d); within = λ le. omega (arith, t, d, le); whole = λ le. omega (arith, t, d, le); last = λ le lt. omega (arith, t, d, le, lt) }
-
 pub take_taken : {X : Type 0} (m n : ℕ) (xs : List X) → m ≤ n → take m (take n xs) ≡ take m xs
 take_taken zero n xs le = refl
 take_taken (suc m) zero xs le = absurd (omega arith)
@@ -78,12 +69,6 @@ take_taken (suc m) (suc n) (x ∷ xs) le = ap (λ r. x ∷ r) (take_taken m n xs
 pub map_push : {X Y : Type 0} (f : X → Y) (xs : List X) (x : X) → map f (xs ++ x ∷ []) ≡ map f xs ++ f x ∷ []
 map_push f [] x = refl
 map_push f (y ∷ xs) x = ap (λ r. f y ∷ r) (map_push f xs x)
-
-pub within_part : {X : Type 0} (xs : List X) (m n i : ℕ) → i < n → m + i < length xs → i < length (take n (drop m xs))
-within_part xs m n i small lt =
-    let t = length-take n (drop m xs) in
-    let d = length-drop m xs in
-    omega (arith, t, d, small, lt)
 
 -- one item more of those between two indexes
 pub part_more : {X : Type 0} (xs : List X) (low at : ℕ) (x : X) → low ≤ at → at < length xs → x ≡ get_or xs at x → drop low (take (at + 1) xs) ≡ drop low (take at xs) ++ x ∷ []

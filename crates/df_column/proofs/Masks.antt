@@ -1,13 +1,10 @@
 -- Values under a null mask: their number, one more, and one at an index.
-use Rattle.std.proofs.Common.{◌≡◌, ℕ, zero, suc, ◌<◌, ◌≤◌, ◌-◌, Bool, true, false, cond, List, [], ◌∷◌, ◌++◌, length, get_or, take, drop, Option, Some, None, refl, sym, ap, ◌∙◌, arith, append-nil}
+use Rattle.std.proofs.Common.{◌≡◌, ℕ, zero, suc, ◌<◌, ◌≤◌, ◌-◌, Bool, true, false, cond, List, [], ◌∷◌, ◌++◌, length, get_or, take, drop, Option, Some, None, refl, sym, ap, ◌∙◌, arith}
 use Rattle.std.specs.Prelude.{replicate}
 use Rattle.df_column.specs.Masks.{filled_mask, joined_mask, masked_values}
 
 no_mask : (n : ℕ) → filled_mask [] n ≡ replicate n false
 no_mask n = let e : n - 0 ≡ n = omega arith in ap (λ m. replicate m false) e
-
-pub full_mask : (ns : List Bool) → filled_mask ns (length ns) ≡ ns
-full_mask ns = let e : length ns - length ns ≡ 0 = omega arith in ap (λ m. ns ++ replicate m false) e ∙ append-nil ns
 
 take-nil : (k : ℕ) → take {A = Bool} k [] ≡ []
 take-nil zero = refl

@@ -14,12 +14,6 @@ use Rattle.df_column.proofs.Parts.{all-push, parts-push, rising-push}
 abbrev pub place_from : ℕ → List ℕ → List (List ℕ) → Option ℕ
 place_from i t ts = option_map (λ n. n + i) (place_of t (drop i ts))
 
-pub place_from_start : (t : List ℕ) (ts : List (List ℕ)) → place_from 0 t ts ≡ place_of t ts
-place_from_start t ts = step (place_of t ts) where
-  step : (o : Option ℕ) → option_map (λ n. n + 0) o ≡ o
-  step None = refl
-  step (Some n) = let e : n + 0 ≡ n = omega arith in ap Some e
-
 pub place_from_next : (i : ℕ) (t : List ℕ) (ts : List (List ℕ)) → i < length ts → pointwise ◌==◌ (get_or ts i []) t ≡ false → place_from i t ts ≡ place_from (i + 1) t ts
 place_from_next i t ts lt other =
     ap (λ us. option_map (λ n. n + i) (place_of t us)) (drop_at ts i [] lt)

@@ -6,10 +6,6 @@ use Rattle.df_value.specs.declared.cell.Cell.{Cell}
 use Rattle.df_column.specs.RowRuns.{StandFrom}
 use Rattle.df_column.specs.declared.tag.Tag.{Tag}
 
--- no rows
-pub none_stand : (tagged : List (Tag × List Cell)) (at first : ℕ) (rows : List (List Cell)) → length rows ≡ 0 → StandFrom tagged at first rows
-none_stand tagged at first rows none = record { numbers = λ k d lt. absurd (omega (arith, none, lt)); rows_are = λ k d lt. absurd (omega (arith, none, lt)) }
-
 -- the next rows, in another list of tagged rows that goes along with this one
 module _ (tagged : List (Tag × List Cell)) (at first : ℕ) (rows : List (List Cell)) (n m : ℕ) (other : List (Tag × List Cell)) (low : ℕ) (part : List (List Cell)) where
   pub stand_more : StandFrom tagged at first (take n rows) → n + m ≤ length rows → part ≡ take m (drop n rows) → StandFrom other low (first + n) part → ((i : ℕ) (d : Tag × List Cell) → i < m → get_or tagged ((at + n) + i) d ≡ get_or other (low + i) d)

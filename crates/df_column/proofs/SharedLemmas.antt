@@ -77,12 +77,6 @@ types_rest dtypes (suc k) (b ∷ bs) h = types_rest dtypes k bs h.1
 pub rows_halves : (k : ℕ) (bs : List BlockParts) → rows_of_blocks bs ≡ rows_of_blocks (take k bs) ++ rows_of_blocks (drop k bs)
 rows_halves k bs = ap rows_of_blocks (sym (take-append-drop k bs)) ∙ rows_append (take k bs) (drop k bs)
 
-pub few_front : (k m : ℕ) (bs : List BlockParts) → length (rows_of_blocks bs) ≤ m → length (rows_of_blocks (take k bs)) ≤ m
-few_front k m bs h =
-    let e = ap length (rows_halves k bs) in
-    let a = length-append (rows_of_blocks (take k bs)) (rows_of_blocks (drop k bs)) in
-    omega (arith, e, a, h)
-
 pub sorted_back : (k : ℕ) (bs : List BlockParts) → T (is_sorted tag_cmp (rows_of_blocks bs)) → T (is_sorted tag_cmp (rows_of_blocks (drop k bs)))
 sorted_back k bs h = sorted_second tag_total (rows_of_blocks (take k bs)) (rows_of_blocks (drop k bs)) (subst (λ rs. T (is_sorted tag_cmp rs)) (rows_halves k bs) h)
 
@@ -146,13 +140,6 @@ above_later k zero (suc n) (b ∷ bs) le h = above_later k zero n bs (omega arit
 above_later k (suc m) zero bs le h = absurd (omega arith)
 above_later k (suc m) (suc n) [] le h = tt
 above_later k (suc m) (suc n) (b ∷ bs) le h = above_later k m n bs (omega arith) h
-
-pub above_ends : (bs : List BlockParts) (ends : List ℕ) (at count n : ℕ) (k : Tag) → ends ≡ ends_of 0 bs → IsEndCount ends at count → IsUpperBound k (rows_of_blocks bs) at → suc count ≤ n
-    → T (below_all tag_cmp k (rows_of_blocks (drop n bs)))
-above_ends bs ends at count n k e h up le =
-    let long = ap length e ∙ length_ends 0 bs in
-    above_list k (rows_of_blocks (drop n bs)) (above_later k (suc count) n bs le
-    (above_blocks 0 at count k bs (λ d lt. let q = subst (λ es. at < get_or es count d) e (h.after count d (omega arith) (omega (arith, long, lt))) in omega (arith, q)) up.after))
 
 pub above_last : (bs : List BlockParts) (ends : List ℕ) (at count n : ℕ) (k : Tag) → ends ≡ ends_of 0 bs → 0 < at → IsEndCount ends (at - 1) count → IsUpperBound k (rows_of_blocks bs) at → suc count ≤ n
     → T (below_all tag_cmp k (rows_of_blocks (drop n bs)))

@@ -1,9 +1,7 @@
 -- Where a row of a list of blocks stands.
-use Rattle.std.proofs.Common.{◌≡◌, ℕ, zero, suc, ◌+◌, ◌-◌, ◌<◌, ◌≤◌, true, false, List, [], ◌∷◌, ◌++◌, Some, None, length, map, get_or, nat_le, refl, sym, ap, subst, ◌∙◌, arith, length-append}
-use Rattle.std.specs.List.{slice_get}
+use Rattle.std.proofs.Common.{◌≡◌, ℕ, zero, suc, ◌+◌, ◌-◌, ◌<◌, ◌≤◌, true, false, List, [], ◌∷◌, ◌++◌, length, map, get_or, nat_le, refl, sym, ap, subst, ◌∙◌, arith, length-append}
 use Rattle.std.specs.List.Sorted.{IsNonDecreasing, IsPartitionPoint, IsPartitionedBy}
 use Rattle.std.proofs.lemmas.Bool.{leb-true, leb-false, le-leb}
-use Rattle.std.proofs.lemmas.Option.{get_or_from_slice_get, slice_get-get_or}
 use Rattle.df_value.specs.declared.cell.Cell.{Cell}
 use Rattle.df_column.specs.Blocks.{BlockParts, block_rows, ends_of, rows_of_blocks}
 use Rattle.df_column.specs.Columns.{column_cells}
@@ -116,26 +114,6 @@ ends_from_rise n (b ∷ bs) (suc i) (suc j) d le lt = ends_from_rise (n + length
 
 pub ends_rise : (bs : List BlockParts) (ends : List ℕ) → ends ≡ ends_of 0 bs → IsNonDecreasing ends
 ends_rise bs ends e = subst IsNonDecreasing (sym e) (ends_from_rise 0 bs)
-
-some_end : (bs : List BlockParts) (e : ℕ) → Some e ≡ slice_get (ends_of 0 bs) (length (ends_of 0 bs) - 1) → e ≡ length (rows_of_blocks bs)
-some_end [] e h = absurd (cc h)
-some_end (b ∷ bs) e h = sym (get_or_from_slice_get (ends_of 0 (b ∷ bs)) (length (ends_of 0 (b ∷ bs)) - 1) e 0 (sym h)) ∙ last_end 0 (b ∷ bs) 0 (omega arith) ∙ (let z : 0 + length (rows_of_blocks (b ∷ bs)) ≡ length (rows_of_blocks (b ∷ bs)) = omega arith in z)
-
-no_end : (bs : List BlockParts) → None ≡ slice_get (ends_of 0 bs) (length (ends_of 0 bs) - 1) → 0 ≡ length (rows_of_blocks bs)
-no_end [] h = refl
-no_end (b ∷ bs) h =
-    let l = length_ends 0 (b ∷ bs) in
-    let there = slice_get-get_or (ends_of 0 (b ∷ bs)) (length (ends_of 0 (b ∷ bs)) - 1) 0 (omega arith) in
-    absurd (absent (h ∙ there))
-  where
-    absent : {n : ℕ} → None ≡ Some n → ⊥
-    absent e = cc
-
-pub count_some : (bs : List BlockParts) (ends : List ℕ) (e : ℕ) → ends ≡ ends_of 0 bs → Some e ≡ slice_get ends (length ends - 1) → e ≡ length (rows_of_blocks bs)
-count_some bs ends e is h = some_end bs e (h ∙ ap (λ es. slice_get es (length es - 1)) is)
-
-pub count_none : (bs : List BlockParts) (ends : List ℕ) → ends ≡ ends_of 0 bs → None ≡ slice_get ends (length ends - 1) → 0 ≡ length (rows_of_blocks bs)
-count_none bs ends is h = no_end bs (h ∙ ap (λ es. slice_get es (length es - 1)) is)
 
 -- the tag and the row at a spot
 pub at_spot : (bs : List BlockParts) (at block row : ℕ) (b : BlockParts) (t : Tag) → IsSpot bs at block row → b ≡ get_or bs block b

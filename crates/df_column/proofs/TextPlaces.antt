@@ -66,8 +66,3 @@ places_put ts t places h =
 below_null : (n : ℕ) (places : List (Option ℕ)) → T (list_all (is_below n) places) → T (list_all (is_below n) (places ++ None ∷ []))
 below_null n [] h = tt
 below_null n (p ∷ places) h = T-both _ _ (T-first (is_below n p) _ h) (below_null n places (T-second (is_below n p) _ h))
-
-pub places_null : (ts : List (List ℕ)) (places : List (Option ℕ)) → ArePlaces ts places → record { sound : ArePlaces ts (places ++ None ∷ []); texts : map (pool_text ts) (places ++ None ∷ []) ≡ map (pool_text ts) places ++ None ∷ [] }
-places_null ts places h =
-    let more = length_more places None in
-    record { sound = record { below = below_null (length ts) places h.below; few = omega (arith, more, h.few) }; texts = map_push ts places None }

@@ -14,7 +14,7 @@ use Rattle.df_value.specs.declared.cell.Cell.TheVariants as cell
 use Rattle.df_column.specs.BlockExtremes.{IsExtremeAt, cell_there}
 use Rattle.df_column.specs.Blocks.{BlockParts, block_rows, rows_of_blocks}
 use Rattle.df_column.specs.Columns.{column_cells}
-use Rattle.df_column.specs.Extremes.{cells_at, extreme_in, extreme_of, further, is_above, is_beyond, is_further, is_null, non_null, tags_above}
+use Rattle.df_column.specs.Extremes.{cells_at, extreme_in, extreme_of, further, is_above, is_beyond, is_null, non_null, tags_above}
 use Rattle.df_column.specs.Rows.{are_even, head_cell, later_cells, row_at, tagged_rows}
 use Rattle.df_column.specs.declared.column.Column.{Column}
 use Rattle.df_column.specs.declared.extremes.Extreme.{Extreme}
@@ -27,14 +27,6 @@ use Rattle.df_column.proofs.ExtremeLemmas.{above_step, further_none}
 use Rattle.df_column.proofs.Furthest.{lowest_found, none_found, not_beyond}
 use Rattle.df_column.proofs.Places.{mapped_at, mapped_length}
 use Rattle.df_column.proofs.RowLemmas.{even_laters, length_rows, row_in_rows}
-
-pub further_is : (e : Extreme) (best : Option Cell) (c : Cell) (b : Bool) → b ≡ is_further e best c → further e best (Some c) ≡ cond b (Some c) best
-further_is e None c true h = refl
-further_is e None c false h = cc
-further_is e (Some a) c b h = either (is_beyond e c a) ∙ ap (λ b. cond b (Some c) (Some a)) (sym h) where
-  either : (b : Bool) → Some (cond b c a) ≡ cond b (Some c) (Some a)
-  either true = refl
-  either false = refl
 
 -- the cell of a row in one column
 cell_of_row : (columns : List (List Cell)) (f : List Cell → Cell) (i : ℕ) (d : List Cell) → i < length columns → cell_at (Some i) (map f columns) ≡ f (get_or columns i d)
