@@ -97,29 +97,3 @@ mapped_at f (x ∷ xs) (suc i) d e lt = mapped_at f xs i d e (omega arith)
 pub mapped_length : {X Y : Type 0} (f : X → Y) (xs : List X) → length (map f xs) ≡ length xs
 mapped_length f [] = refl
 mapped_length f (x ∷ xs) = ap suc (mapped_length f xs)
-
-module _ {K X A : Type 0} {R : K → K → Ordering} (o : IsTotalOrder R) (same : IsAntisymmetric R) where
-  keyed_range : (f : A → K × X) (xs : List A) (r : Result ℕ ℕ) → IsSearchInRange r (length xs) → IsSearchInRange r (length (map f xs))
-  keyed_range f xs (Ok i) h = let l = mapped_length f xs in omega (arith, l)
-  keyed_range f xs (Err i) h = let l = mapped_length f xs in omega (arith, l)
-
-  keyed_rises : (f : A → K × X) (n : K × X → ℕ) (xs : List A) (e : A) → IsNonDecreasingBy n (map f xs) → IsNonDecreasingBy (λ x. n (f x)) xs
-  keyed_rises f n xs e h i j d le lt =
-      let l = mapped_length f xs in
-      let at_i = ap n (mapped_at f xs i (f d) d (omega arith)) in
-      let at_j = ap n (mapped_at f xs j (f d) d lt) in
-      let risen = h i j (f d) le (omega (arith, l)) in
-      omega (arith, at_i, at_j, risen)
-
-  keyed_result : (f : A → K × X) (xs : List A) (e : A) (k : K) (r : Result ℕ ℕ) → IsSearchInRange r (length xs) → IsBinarySearchResult (λ x. R (f x).0 k) xs r → IsBinarySearchResult (λ x. R x.0 k) (map f xs) r
-  keyed_result f xs e k (Ok i) range h = λ d. ap (λ x. R x.0 k) (mapped_at f xs i d e range) ∙ h e
-  keyed_result f xs e k (Err i) range h = λ rises.
-      let l = mapped_length f xs in
-      let parts = h (keyed_rises f (λ x. ordering_index (R x.0 k)) xs e rises) in (
-        λ j d low high. ap (λ x. R x.0 k) (mapped_at f xs j d e (omega (arith, range))) ∙ parts.0 j e low high,
-        λ j d low high. ap (λ x. R x.0 k) (mapped_at f xs j d e (omega (arith, l))) ∙ parts.1 j e low (omega (arith, l)),
-      )
-
-  pub placed_by : (f : A → K × X) (xs : List A) (e : A) (k : K) (r : Result ℕ ℕ) → T (is_sorted R (map f xs)) → IsSearchInRange r (length xs) → IsBinarySearchResult (λ x. R (f x).0 k) xs r
-      → record { found : IfOk r (IsPlace R (map f xs) k); absent : IfErr r (IsGap R (map f xs) k) }
-  placed_by f xs e k r h range at = placed o same (map f xs) k r h (keyed_range f xs r range) (keyed_result f xs e k r range at)

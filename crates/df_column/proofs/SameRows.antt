@@ -16,10 +16,6 @@ use Rattle.df_column.proofs.BlockLemmas.{even_at}
 use Rattle.df_column.proofs.Places.{mapped_at}
 use Rattle.df_column.proofs.RowLemmas.{row_in_rows}
 
--- the other way round
-pub swapped : {X : Type 0} (xs : List X) (at : ℕ) (ys : List X) (from count : ℕ) → AreThose xs at ys from count → AreThose ys from xs at count
-swapped xs at ys from count all = record { each = λ k d lt. sym (all.each k d lt) }
-
 -- the next part, in two other lists that go along with these
 pub more_are_those : {X : Type 0} (xs : List X) (at : ℕ) (ys : List X) (from n m : ℕ) (us : List X) (i : ℕ) (vs : List X) (j : ℕ) → AreThose xs at ys from n → AreThose us i vs j m
     → ((k : ℕ) (d : X) → k < m → get_or xs ((at + n) + k) d ≡ get_or us (i + k) d) → ((k : ℕ) (d : X) → k < m → get_or ys ((from + n) + k) d ≡ get_or vs (j + k) d) → AreThose xs at ys from (n + m)

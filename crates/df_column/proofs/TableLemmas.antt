@@ -1,14 +1,14 @@
 -- The blocks of a table, one by one, and its rows as a map.
-use Rattle.std.proofs.Common.{◌≡◌, ℕ, zero, suc, ◌+◌, ◌<◌, ◌≤◌, List, [], ◌∷◌, ◌++◌, Option, Some, None, length, map, drop, take, get_or, refl, sym, ap, subst, ◌∙◌, arith, length-append}
+use Rattle.std.proofs.Common.{◌≡◌, ℕ, zero, suc, ◌+◌, ◌<◌, ◌≤◌, List, [], ◌∷◌, ◌++◌, Option, Some, None, length, map, drop, take, get_or, refl, sym, ap, subst, ◌∙◌, arith}
 use Rattle.std.specs.Prelude.{T}
 use Rattle.std.specs.FinMap as finite
 use Rattle.df_value.specs.Cells.{fits_dtype}
 use Rattle.df_value.specs.Rows.{row_fits}
 use Rattle.df_value.specs.declared.cell.Cell.{Cell}
 use Rattle.df_value.specs.declared.cell.CellType.{CellType}
-use Rattle.df_column.specs.Blocks.{AreOfDtypes, BlockParts, block_rows, ends_of, rows_of_blocks}
+use Rattle.df_column.specs.Blocks.{AreOfDtypes, BlockParts, block_rows, rows_of_blocks}
 use Rattle.df_column.specs.Changes.{IsHead, after_changes, applied}
-use Rattle.df_column.specs.Columns.{column_cells, dtype_of_column}
+use Rattle.df_column.specs.Columns.{dtype_of_column}
 use Rattle.df_column.specs.Rows.{AreNewRows, is_row, is_row_if_any}
 use Rattle.df_column.specs.Tables.{NewRowsFit, AreRising, TableParts, TaggedRows, after_entries, entry_change, new_row_fits, dtypes_of}
 use Rattle.df_column.specs.Tags.{tag_cmp}
@@ -16,27 +16,10 @@ use Rattle.df_column.specs.declared.entry.Entry.{Entry}
 use Rattle.df_column.specs.declared.tag.Tag.{Tag}
 use Rattle.df_column.proofs.Bools.{T-both, T-first, T-second}
 use Rattle.df_column.proofs.MergeLemmas.{drop_at}
-use Rattle.df_column.proofs.RowLemmas.{length_rows}
 use Rattle.df_column.proofs.TableChanges.{applied_cells, applied_sorted}
-
--- one block of a list
-pub ends_step : (bs : List BlockParts) (i n : ℕ) (b : BlockParts) → i < length bs → b ≡ get_or bs i b
-    → ends_of n (drop i bs) ≡ (n + length b.tags) ∷ ends_of (n + length b.tags) (drop (i + 1) bs)
-ends_step bs i n b h e = ap (ends_of n) (drop_at bs i b h ∙ ap (λ c. c ∷ drop (i + 1) bs) (sym e))
 
 pub rows_step : (bs : List BlockParts) (i : ℕ) (b : BlockParts) → i < length bs → b ≡ get_or bs i b → rows_of_blocks (drop i bs) ≡ block_rows b ++ rows_of_blocks (drop (i + 1) bs)
 rows_step bs i b h e = ap rows_of_blocks (drop_at bs i b h ∙ ap (λ c. c ∷ drop (i + 1) bs) (sym e))
-
-pub types_step : (dtypes : List CellType) (bs : List BlockParts) (i : ℕ) (b : BlockParts) → i < length bs → b ≡ get_or bs i b → AreOfDtypes dtypes (drop i bs)
-    → (map dtype_of_column b.columns ≡ dtypes) × AreOfDtypes dtypes (drop (i + 1) bs)
-types_step dtypes bs i b h e all = subst (AreOfDtypes dtypes) (drop_at bs i b h ∙ ap (λ c. c ∷ drop (i + 1) bs) (sym e)) all
-
-pub count_step : (bs : List BlockParts) (i : ℕ) (b : BlockParts) → i < length bs → b ≡ get_or bs i b → length (rows_of_blocks (drop i bs)) ≡ length b.tags + length (rows_of_blocks (drop (i + 1) bs))
-count_step bs i b h e =
-    let l = length_rows b.tags (map column_cells b.columns) in
-    let a = length-append (block_rows b) (rows_of_blocks (drop (i + 1) bs)) in
-    let r = ap length (rows_step bs i b h e) in
-    omega (arith, l, a, r)
 
 -- the first of the blocks from one index up to another
 pub cut_between : (bs : List BlockParts) (at end : ℕ) (b : BlockParts) → at < end → end ≤ length bs → b ≡ get_or bs at b → drop at (take end bs) ≡ b ∷ drop (at + 1) (take end bs)

@@ -82,9 +82,6 @@ unlike_are_null a b unlike at from count within all = record {
       get_or_default (column_cells a) (at + k) d cell.Null (omega (arith, within, lt)) ∙ unlike_types a b unlike (at + k) (from + k) (all.each k cell.Null lt);
 }
 
-pub nulls_are_those : (a b : Column) (at from count : ℕ) → AreNull (column_cells a) at count → AreNull (column_cells b) from count → AreThose (column_cells a) at (column_cells b) from count
-nulls_are_those a b at from count null null_other = record { each = λ k d lt. null.each k d lt ∙ sym (null_other.each k d lt) }
-
 pub null_is : (c : Cell) → is_null c ≡ true → c ≡ cell.Null
 null_is cell.Null h = refl
 null_is (cell.Int v) h = absurd (false≢true h)

@@ -14,7 +14,7 @@ use Rattle.df_value.specs.declared.cell.Cell.TheVariants as cell
 use Rattle.df_column.specs.BlockExtremes.{IsExtremeAt, cell_there}
 use Rattle.df_column.specs.Blocks.{BlockParts, block_rows, rows_of_blocks}
 use Rattle.df_column.specs.Columns.{column_cells}
-use Rattle.df_column.specs.Extremes.{cells_at, extreme_in, extreme_of, further, is_above, is_beyond, is_further, is_null, non_null, tags_above}
+use Rattle.df_column.specs.Extremes.{cells_at, extreme_in, extreme_of, further, is_above, is_beyond, is_null, non_null, tags_above}
 use Rattle.df_column.specs.Rows.{are_even, head_cell, later_cells, row_at, tagged_rows}
 use Rattle.df_column.specs.declared.column.Column.{Column}
 use Rattle.df_column.specs.declared.extremes.Extreme.{Extreme}
