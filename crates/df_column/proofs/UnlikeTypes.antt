@@ -1,5 +1,5 @@
 -- Cells that stand in columns of two types are null.
-use Rattle.std.proofs.Common.{◌≡◌, ◌∙◌, ◌+◌, ◌≤◌, ℕ, zero, suc, List, [], ◌∷◌, arith, get_or, length, true, refl, sym, ap, subst}
+use Rattle.std.proofs.Common.{◌≡◌, ◌∙◌, ◌+◌, ◌≤◌, ℕ, zero, suc, List, [], ◌∷◌, arith, get_or, length, true, refl, sym, subst}
 use Rattle.std.specs.Prelude.{◌≢◌, ◌⊎◌, T}
 use Rattle.std.specs.List.{list_all}
 use Rattle.std.proofs.lemmas.Bool.{false≢true}

@@ -1,14 +1,14 @@
 -- A scan's delta, at the changed frame and at others.
-use Rattle.std.proofs.Common.{◌≢◌, ℕ, ◌<◌, List, length, refl, sym, subst}
-use Rattle.std.proofs.lemmas.List.{get_or-set_same, get_or-set_other}
+use Rattle.std.proofs.Common.{◌≢◌, ℕ, List, refl, sym, subst}
+use Rattle.std.proofs.lemmas.List.{get_or-set_other}
 use Rattle.std.specs.FinMap as finite
 use Rattle.df_column.specs.Changes.{applied}
 use Rattle.df_column.specs.Tables.{TaggedRows}
 use Rattle.df_column.specs.TagOrder.{tag_total, tag_same}
 use Rattle.df_column.specs.Tags.{tag_cmp}
 use Rattle.df_delta.specs.Deltas.{Changes}
-use Rattle.df_delta.specs.Differences.{Fits, IsDiff, IsLean}
-use Rattle.df_delta.proofs.Changes.{IsChange, diff_from_changes, diff_of_applied}
+use Rattle.df_delta.specs.Differences.{IsDiff}
+use Rattle.df_delta.proofs.Changes.{IsChange, diff_from_changes}
 use Rattle.df_live.specs.Frames.{changed, frame_at}
 
 no_change : (t : TaggedRows) → IsDiff t t finite.empty

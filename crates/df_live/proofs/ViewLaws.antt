@@ -45,6 +45,15 @@ pub follows :
     IsChangeOf plan.frames frames f d → MayFollow tree frames f d
 follows tree plan frames f d h over is = (over, h.takes frames is.before, h.takes (changed frames f d) is.after, is.within, is.lean, is.fits)
 
+-- the table after the delta of the tree's output
+pub table_after :
+    (tree : LiveTree) (plan : CheckedParts) (frames after : List TaggedRows) (t u : TableParts) (d : Changes) → IsOf tree plan →
+    t.rows ≡ value plan frames → t.schema ≡ plan.schema → AreFrames plan.frames after → IsDiff (output tree frames) (output tree after) d →
+    (RowsFit t.schema (applied t.rows d) → u.rows ≡ applied t.rows d) → u.rows ≡ value plan after
+table_after tree plan frames after t u d h rows schema are diff gives =
+    let is : applied t.rows d ≡ value plan after = ap (λ r. applied r d) (rows ∙ sym (h.gives frames)) ∙ (diff.gives ∙ h.gives after) in
+    gives (subst (λ s. RowsFit s (applied t.rows d)) (sym schema) (subst (RowsFit plan.schema) (sym is) (h.fits after are))) ∙ is
+
 same_columns : (r : CheckResult) (a b : Columns) → r ≡ Ok a → r ≡ Ok b → a ≡ b
 same_columns r a b f g = cc
 

@@ -1,4 +1,4 @@
-use Rattle.std.proofs.Common.{map}
+use Rattle.std.proofs.Common.{arith, map}
 use Rattle.std.specs.Arc.{arc_value}
 use Rattle.df_column.specs.Columns.{column_cells}
 use Rattle.df_column.proofs.BlockExtremes.{known_of}
@@ -16,3 +16,21 @@ with_spliced-requires-clause-known c = rw (c.columns-columns.ensures.columns, c.
 
 pub with_parts-requires-clause-known : goal.with_parts-requires-clause-known
 with_parts-requires-clause-known c = rw (c.columns-columns.ensures.columns, c.deref-2.ensures) (known_of _ _ (rw c.deref-3.ensures at c.extremes-known.ensures))
+
+pub overflow_sub-len : goal.overflow_sub-len
+overflow_sub-len c = omega (arith, c.in_ok-low.ensures.ordered, c.in_ok-low.ensures.in_range)
+
+pub overflow_add-low : goal.overflow_add-low
+overflow_add-low c = omega (arith, c.in_ok-low.ensures.ordered, c.in_ok-low.ensures.in_range)
+
+pub with_spliced-requires-clause-ordered : goal.with_spliced-requires-clause-ordered
+with_spliced-requires-clause-ordered c = omega (arith, c.in_ok-low.ensures.ordered, c.in_ok-low.ensures.in_range)
+
+pub with_spliced-requires-clause-in_range : goal.with_spliced-requires-clause-in_range
+with_spliced-requires-clause-in_range c = omega (arith, c.in_ok-low.ensures.ordered, c.in_ok-low.ensures.in_range)
+
+pub with_spliced-requires-clause-some : goal.with_spliced-requires-clause-some
+with_spliced-requires-clause-some c = omega arith
+
+pub with_spliced-requires-clause-few : goal.with_spliced-requires-clause-few
+with_spliced-requires-clause-few c = omega arith

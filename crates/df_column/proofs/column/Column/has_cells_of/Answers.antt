@@ -1,9 +1,8 @@
 use Rattle.std.proofs.Common.{◌∙◌, sym}
 use Rattle.std.specs.Prelude.{◌≢◌}
 use Rattle.std.proofs.lemmas.Bool.{false≢true}
-use Rattle.df_column.specs.Columns.{column_cells, dtype_of_column}
-use Rattle.df_column.proofs.SameRows.{swapped}
-use Rattle.df_column.proofs.UnlikeTypes.{nulls_are_those, unlike_are_null}
+use Rattle.df_column.specs.Columns.{dtype_of_column}
+use Rattle.df_column.proofs.UnlikeTypes.{unlike_are_null}
 use Rattle.df_column.proofs.column.Column.has_cells_of.Goals as goal
 
 pub returns-else-are_null : goal.returns-else-are_null

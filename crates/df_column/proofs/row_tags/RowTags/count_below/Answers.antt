@@ -1,5 +1,6 @@
-use Rattle.std.proofs.Common.{rules, ◌-◌, ◌∙◌, ap, arith, drop, map, sym, subst}
+use Rattle.std.proofs.Common.{rules, ◌-◌, ◌∙◌, ap, arith, drop, length, map, sym, subst}
 use Rattle.std.specs.List.{prefix_len}
+use Rattle.std.proofs.lemmas.List.{length-map}
 use Rattle.std.specs.Ordering.{is_lt}
 use Rattle.std.proofs.lemmas.List.Sums.{prefix_len-drop_all, prefix_len-drop_no}
 use Rattle.df_column.specs.RowTags.{number_tag, tags_in}
@@ -38,3 +39,55 @@ pub returns-in-Numbers-clause-count : goal.returns-in-Numbers-clause-count
 returns-in-Numbers-clause-count c =
     let whole = sym c.self.view_is ∙ ap tags_in c.in-Numbers.is ∙ ap (map number_tag) (sym c.deref.ensures.value) in
     c.numbers_below.ensures.count ∙ ap (prefix_len (λ t. is_lt (tag_cmp t c.args.tag))) (sym (kept_rest number_tag c.args.self.now c.deref.result.now c.args.from whole))
+
+pub offset_bounds-deref-from : goal.offset_bounds-deref-from
+offset_bounds-deref-from c =
+    let whole = sym c.self.view_is ∙ ap tags_in c.in-Numbers.is ∙ ap (map number_tag) (sym c.deref.ensures.value) in
+    let many = ap length whole in
+    let same = length-map c.deref.result.now number_tag in
+    omega (arith, many, same, c.requires.from, c.in-Numbers.numbers.ok)
+
+pub slice_bounds-numbers_below-start : goal.slice_bounds-numbers_below-start
+slice_bounds-numbers_below-start c =
+    let whole = sym c.self.view_is ∙ ap tags_in c.in-Numbers.is ∙ ap (map number_tag) (sym c.deref.ensures.value) in
+    let many = ap length whole in
+    let same = length-map c.deref.result.now number_tag in
+    omega (arith, many, same, c.requires.from, c.in-Numbers.numbers.ok)
+
+pub slice_bounds-numbers_below-end : goal.slice_bounds-numbers_below-end
+slice_bounds-numbers_below-end c =
+    let whole = sym c.self.view_is ∙ ap tags_in c.in-Numbers.is ∙ ap (map number_tag) (sym c.deref.ensures.value) in
+    let many = ap length whole in
+    let same = length-map c.deref.result.now number_tag in
+    omega (arith, many, same, c.requires.from, c.in-Numbers.numbers.ok)
+
+pub slice_bounds-numbers_below-count : goal.slice_bounds-numbers_below-count
+slice_bounds-numbers_below-count c =
+    let whole = sym c.self.view_is ∙ ap tags_in c.in-Numbers.is ∙ ap (map number_tag) (sym c.deref.ensures.value) in
+    let many = ap length whole in
+    let same = length-map c.deref.result.now number_tag in
+    omega (arith, many, same, c.requires.from, c.in-Numbers.numbers.ok)
+
+pub offset_bounds-deref-from-in-Whole : goal.offset_bounds-deref-from-in-Whole
+offset_bounds-deref-from-in-Whole c =
+    let whole = sym c.self.view_is ∙ ap tags_in c.in-Whole.is ∙ sym c.deref-in-Whole.ensures.value in
+    let many = ap length whole in
+    omega (arith, many, c.requires.from, c.in-Whole.tags.ok)
+
+pub slice_bounds-tags_below-start : goal.slice_bounds-tags_below-start
+slice_bounds-tags_below-start c =
+    let whole = sym c.self.view_is ∙ ap tags_in c.in-Whole.is ∙ sym c.deref-in-Whole.ensures.value in
+    let many = ap length whole in
+    omega (arith, many, c.requires.from, c.in-Whole.tags.ok)
+
+pub slice_bounds-tags_below-end : goal.slice_bounds-tags_below-end
+slice_bounds-tags_below-end c =
+    let whole = sym c.self.view_is ∙ ap tags_in c.in-Whole.is ∙ sym c.deref-in-Whole.ensures.value in
+    let many = ap length whole in
+    omega (arith, many, c.requires.from, c.in-Whole.tags.ok)
+
+pub slice_bounds-tags_below-count : goal.slice_bounds-tags_below-count
+slice_bounds-tags_below-count c =
+    let whole = sym c.self.view_is ∙ ap tags_in c.in-Whole.is ∙ sym c.deref-in-Whole.ensures.value in
+    let many = ap length whole in
+    omega (arith, many, c.requires.from, c.in-Whole.tags.ok)
