@@ -1,14 +1,14 @@
 -- A scan's delta, at the changed frame and at others.
-use Rattle.std.proofs.Common.{◌≢◌, ℕ, ◌<◌, List, length, refl, sym, subst}
-use Rattle.std.proofs.lemmas.List.{get_or-set_same, get_or-set_other}
+use Rattle.std.proofs.Common.{◌≢◌, ℕ, List, refl, sym, subst}
+use Rattle.std.proofs.lemmas.List.{get_or-set_other}
 use Rattle.std.specs.FinMap as finite
 use Rattle.df_column.specs.Changes.{applied}
 use Rattle.df_column.specs.Tables.{TaggedRows}
 use Rattle.df_column.specs.TagOrder.{tag_total, tag_same}
 use Rattle.df_column.specs.Tags.{tag_cmp}
 use Rattle.df_delta.specs.Deltas.{Changes}
-use Rattle.df_delta.specs.Differences.{Fits, IsDiff, IsLean}
-use Rattle.df_delta.proofs.Changes.{IsChange, diff_from_changes, diff_of_applied}
+use Rattle.df_delta.specs.Differences.{IsDiff}
+use Rattle.df_delta.proofs.Changes.{IsChange, diff_from_changes}
 use Rattle.df_live.specs.Frames.{changed, frame_at}
 
 no_change : (t : TaggedRows) → IsDiff t t finite.empty
@@ -22,10 +22,3 @@ pub other_scan :
 other_scan frames g f d other =
     subst (λ u. IsDiff (frame_at frames g) u finite.empty)
     (sym (get_or-set_other frames f g (applied (frame_at frames f) d) finite.empty other)) (no_change (frame_at frames g))
-
-pub same_scan :
-    (frames : List TaggedRows) (f : ℕ) (d : Changes) → f < length frames → IsLean d → Fits (frame_at frames f) d →
-    IsDiff (frame_at frames f) (frame_at (changed frames f d) f) d
-same_scan frames f d within lean fits =
-    subst (λ u. IsDiff (frame_at frames f) u d)
-    (sym (get_or-set_same frames f (applied (frame_at frames f) d) finite.empty within)) (diff_of_applied tag_total tag_same (frame_at frames f) d lean fits)
