@@ -28,11 +28,3 @@ pub group_tags : (g : Grouping) (t : TaggedRows) → HasTagsOf t (output_of g t)
 group_tags g t q =
     let result = λ (q : Tag) (row : List Cell). at_tag tag_cmp q (group_entry (row_of_rows g) (key_of g.key_indices row) (finite.entries (members_of g.key_indices (key_of g.key_indices row) t))) in
     subst (λ o. IfSome o (λ _. is_some (finite.get t q) ≡ true)) (sym (get-collected tag_cmp result tag_same t q)) (only_rows (result q) (finite.get t q))
-
--- what holds of all tags of some rows holds of the tags that are among them
-pub tags_have : (P : Tag → Type 0) (t u : TaggedRows) → HasTagsOf t u → ((q : Tag) → IfSome (finite.get t q) (λ _. P q)) → (q : Tag) → IfSome (finite.get u q) (λ _. P q)
-tags_have P t u among have q = by_row (finite.get u q) (finite.get t q) (among q) (have q) where
-  by_row : (new old : Option (List Cell)) → IfSome new (λ _. is_some old ≡ true) → IfSome old (λ _. P q) → IfSome new (λ _. P q)
-  by_row None old there p = tt
-  by_row (Some row) None there p = cc there
-  by_row (Some row) (Some o) there p = p
