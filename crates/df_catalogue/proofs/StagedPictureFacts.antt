@@ -1,7 +1,7 @@
 -- Pictures of what is staged.
 use Rattle.std.proofs.Common.{◌≡◌, ◌∙◌, ℕ, ◌+◌, ◌<◌, List, [], ◌∷◌, ◌++◌, zero, suc, refl, ap, sym, map, length, get_or, take, subst}
 use Rattle.std.specs.Prelude.{remove, slice_set, slice_index_or}
-use Rattle.std.proofs.lemmas.List.{map-append, map-set, length-map}
+use Rattle.std.proofs.lemmas.List.{map-append, map-set}
 use Rattle.df_column.specs.Tables.{TableParts, TaggedRows}
 use Rattle.df_live.specs.Frames.{rows_of_frames}
 use Rattle.df_live.specs.Views.{LeadsTo}
@@ -85,7 +85,3 @@ pub pictured-less :
 pictured-less views at out new before removed =
     ap (map named_rows_in) removed
     ∙ (map-removed named_rows_in out at ∙ (ap (λ ps. remove ps at) before ∙ sym (map-removed (λ (v : View). named_rows (view_state v)) views at)))
-
-pub pictured-length : (views : List View) (out : List PicturedView) → map named_rows_in out ≡ map (λ v. named_rows (view_state v)) views → length out ≡ length views
-pictured-length views out e =
-    sym (length-map out named_rows_in) ∙ (ap length e ∙ length-map views (λ (v : View). named_rows (view_state v)))

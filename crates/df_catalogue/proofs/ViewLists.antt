@@ -36,9 +36,6 @@ room_push views staged i v s count lt h new =
     subst (λ (j : ℕ). HaveRoom (set views j v) (staged ++ s ∷ [])) count
     (record { at = pairs_push (λ v s. HasRoomFor v.live s) views staged v s (omega (arith, count, lt)) h.at new })
 
-pub room_last : (views : List View) (staged : List StagedView) (s : StagedView) (d : View) → HaveRoom views (staged ++ s ∷ []) → HasRoomFor (get_or views (length staged) d).live s
-room_last views staged s d h = pairs_last (λ v s. HasRoomFor v.live s) views staged s d h.at
-
 pub room_pop : (views : List View) (staged : List StagedView) (v : View) (s : StagedView) → HaveRoom views (staged ++ s ∷ []) → HaveRoom (set views (length staged) v) staged
 room_pop views staged v s h = record { at = pairs_pop (λ v s. HasRoomFor v.live s) views staged v s h.at }
 
