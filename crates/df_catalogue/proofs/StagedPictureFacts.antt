@@ -1,7 +1,7 @@
 -- Pictures of what is staged.
 use Rattle.std.proofs.Common.{◌≡◌, ◌∙◌, ℕ, ◌+◌, ◌<◌, List, [], ◌∷◌, ◌++◌, zero, suc, refl, ap, sym, map, length, get_or, take, subst}
 use Rattle.std.specs.Prelude.{remove, slice_set, slice_index_or}
-use Rattle.std.proofs.lemmas.List.{map-append, map-set, length-map}
+use Rattle.std.proofs.lemmas.List.{map-append, map-set}
 use Rattle.df_column.specs.Tables.{TableParts, TaggedRows}
 use Rattle.df_live.specs.Frames.{rows_of_frames}
 use Rattle.df_live.specs.Views.{LeadsTo}
