@@ -7,11 +7,11 @@ ghost use Rattle.df_versions.specs.Histories.{schemas_of};
 use crate::hall_store::HallStore;
 use df_catalogue::{Desk, NewFault, PARTS_OF_LEDGER};
 use df_document::{Files, copy_schemas};
+use df_hall::{Hall, OpenedHall};
 use df_session::{
     Numbers, Prepared, Prompts, Refusal, Session, ShellFault, VersionFault, answer_from, fill,
     prepare,
 };
-use df_hall::{Hall, OpenedHall};
 use df_value::{List, Piece};
 use df_versions::{Naming, OpenFault, Reader};
 use std::alloc::Global;

@@ -8,10 +8,10 @@ ghost use Rattle.df_shell.specs.Halls.{Closes, Follows, IsLeftOpen};
 
 use crate::version_reading::answer_from_version;
 use df_catalogue::{CatalogueFault, Change, Desk, FrameChange, ViewChange};
+use df_hall::{Hall, Missing};
 use df_session::{
     Definitions, Numbers, Question, Refusal, ShellFault, VersionFault, ViewStore, end_of,
 };
-use df_hall::{Hall, Missing};
 use df_versions::{ChangeFault, Naming, Reader, Told};
 use std::alloc::Global;
 use std::marker::Model;
