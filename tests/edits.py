@@ -7,7 +7,7 @@
 FOLDER is tests/must-fail, which ./test tries, or tests/wrong-bodies. An edit has lines `file: src/F.rt`, and pairs of
 lines `old: TEXT`, which stands once in that file, and `new: TEXT`. It is refused where the function that it changes is
 not proved with it; a line `proof: FUNCTION` names another function whose proof it must break. Only these proofs are
-tried, over what the edits of the crate before it kept, so that an edit costs seconds. Last the same proofs are tried
+tried, with those of what it calls, over what the edits of the crate before it kept. Last the same proofs are tried
 without an edit: where one fails there, no edit of its crate counts as refused.
 
 The libraries below a crate are taken as `rt ci` left them, or built by `rt lib`. Prints each edit with what refuses it,
