@@ -1,19 +1,23 @@
 #!/usr/bin/env python3
 """Tries edits of the code that the prover must refuse:
 
-    edits.py FOLDER [CRATE ..]          those of FOLDER/CRATE/*.edit, of these crates or of all
-    edits.py FOLDER --since COMMIT      those of the crates that changed since then, and their edits
+    edits.py FOLDER [--proved] [CRATE ..]          those of FOLDER/CRATE/*.edit, of these crates or of all
+    edits.py FOLDER [--proved] --since COMMIT      those of the crates that changed since then, and their edits
 
 FOLDER is tests/must-fail, which ./test tries, or tests/wrong-bodies. An edit has lines `file: src/F.rt`, and pairs of
 lines `old: TEXT`, which stands once in that file, and `new: TEXT`. It is refused where the function that it changes is
 not proved with it; a line `proof: FUNCTION` names another function whose proof it must break. Only these proofs are
-tried, with those of what it calls, over what the edits of the crate before it kept. Last the same proofs are tried
-without an edit: where one fails there, no edit of its crate counts as refused.
+tried, with those of what it calls, over what the edits of the crate before it kept. Edits of different functions are
+tried at once, since a function is proved by its own body and the contracts of what it calls; one that is not refused so
+is tried again alone. Last the same proofs are tried without an edit: where one fails there, no edit of its crate counts
+as refused. `--proved` leaves that out: `rt ci` has just proved the crates as they are.
 
 The libraries below a crate are taken as `rt ci` left them, or built by `rt lib`. Prints each edit with what refuses it,
 and ends with a count of those that are refused. Python 3.11 or later."""
 
+import argparse
 import concurrent.futures
+import dataclasses
 import os
 import pathlib
 import re
@@ -94,27 +98,53 @@ def function_at(file, text, at):
     return f"{head[2]}{head[1] or ''}::{function[2]}"
 
 
-def read_edit(edit, folder):
-    """The changed files of an edit by their path, and the functions whose proofs it must break."""
-    path, old, texts, found, named = "", None, {}, [], []
-    for line in edit.read_text().split("\n"):
+@dataclasses.dataclass
+class Edit:
+    """An edit: its label, its changes (path, old text, new text), and the functions whose proofs it must break."""
+
+    label: str
+    changes: list
+    functions: list
+    # Whether these are just the functions that it changes.
+    is_local: bool
+
+
+def changed(text, path, old, new):
+    if text.count(old) != 1:
+        raise BadEdit(f"its text stands in {path} {text.count(old)} times, and not once")
+    return text.replace(old, new)
+
+
+def read_edit(file, crate):
+    """The edit that a file has."""
+    path, old, texts, changes, found, named = "", None, {}, [], [], []
+    for line in file.read_text().split("\n"):
         word, _, rest = line.partition(": ")
         if word == "file":
             path = rest.strip()
-            texts.setdefault(path, (folder / path).read_text())
+            texts.setdefault(path, (HERE / "crates" / crate / path).read_text())
         elif word == "proof":
             named.append(rest.strip())
         elif word == "old":
             old = rest
         elif line.startswith("new:"):
-            if texts[path].count(old) != 1:
-                raise BadEdit(f"its text stands in {path} {texts[path].count(old)} times, and not once")
+            after = changed(texts[path], path, old, rest)
             found.append(function_at(path, texts[path], texts[path].index(old)))
-            texts[path] = texts[path].replace(old, rest)
+            changes.append((path, old, rest))
+            texts[path] = after
     functions = list(dict.fromkeys(named or filter(None, found)))
     if not functions:
         raise BadEdit("it changes no function: name one by a line 'proof: FUNCTION'")
-    return texts, functions
+    return Edit(f"{crate}/{file.name}", changes, functions, not named and None not in found)
+
+
+def texts_with(crate, edits):
+    """The files that these edits change, as they make them, by path."""
+    texts = {}
+    for path, old, new in (change for edit in edits for change in edit.changes):
+        text = texts.get(path) or (HERE / "crates" / crate / path).read_text()
+        texts[path] = changed(text, path, old, new)
+    return texts
 
 
 def checked(crate, texts, functions, kept):
@@ -133,38 +163,83 @@ def checked(crate, texts, functions, kept):
     return ran.returncode, ran.stdout
 
 
-def refusal(status, said):
-    """Why the prover refuses, or None where it proves all; raises where the prover did not come to a contract."""
-    if status == 0:
-        return None
+GONE = r"is not in scope|has no field|has no `|is no name|was not admitted"
+TOLD = r"(\S+:\d+:\d+: error|note: \S+:\d+:\d+: )"
+UNPROVED = r"fn (\S+): (no proof|not proved)"
+
+
+def told_by(status, said):
+    """The lines that tell what is not proved; raises where the prover did not come to a contract."""
     lines = said.rstrip("\n").split("\n")
     if status != 1 or not re.match(r"only=|logic=not-proved", lines[-1]):
         raise BadEdit(f"it did not come to the prover: {' | '.join(lines[:3])[:300]}")
-    told = [line for line in lines if re.match(r"(\S+:\d+:\d+: error|note: \S+:\d+:\d+: )", line)]
-    gone = [line for line in told if re.search(r"is not in scope|has no field|has no `|is no name|was not admitted", line)]
+    told = [line for line in lines if re.match(TOLD, line)]
+    gone = [line for line in told if re.search(GONE, line)]
     if any(not line.startswith(("proofs/", "./proofs/")) for line in gone) or gone and gone == told:
         raise BadEdit(f"a name is gone: {gone[0][:300]}")
-    if not any(re.match(r"fn \S+: (no proof|not proved)", line) for line in lines):
+    if not any(re.match(UNPROVED, line) for line in lines):
         raise BadEdit(f"no function is refused: {lines[-1][:300]}")
-    return next((line for line in told if line not in gone), "a goal is open")
+    return [line for line in told if line not in gone]
 
 
-def try_edit(crate, edit, kept, functions_of):
-    """Whether the prover refuses an edit, and what it says."""
-    label = f"{crate}/{edit.name}"
+def refusal(status, said):
+    """Why the prover refuses, or None where it proves all; raises where the prover did not come to a contract."""
+    return next(iter(told_by(status, said)), "a goal is open") if status else None
+
+
+def is_about(line, function, texts):
+    """Whether what is told is of this function: of its body, or of its answers."""
+    path, number, _ = re.match(r"(?:note: )?(?:\./)?(\S+?):(\d+):(\d+): ", line).groups()
+    if path not in texts:
+        return f"/{function.replace('::', '/')}/" in path
+    return function_at(path, texts[path], len("\n".join(texts[path].split("\n")[: int(number)]))) == function
+
+
+def refused_at_once(crate, edits, kept):
+    """Why the prover refuses each of these edits, by label, tried all at once: those that it clearly refuses."""
     try:
-        texts, functions = read_edit(edit, HERE / "crates" / crate)
-        functions_of += functions
-        why = refusal(*checked(crate, texts, functions, kept))
+        texts = texts_with(crate, edits)
+        status, said = checked(crate, texts, [it for edit in edits for it in edit.functions], kept)
+        told = told_by(status, said)
+    except BadEdit:
+        return {}
+    unproved = [found[1] for found in map(re.compile(UNPROVED).match, said.split("\n")) if found]
+    whys = {}
+    for edit in edits:
+        for function in edit.functions:
+            why = next((line for line in told if is_about(line, function, texts)), None)
+            if why and any(name.endswith(f"::{function}") for name in unproved):
+                whys[edit.label] = why
+    return whys
+
+
+def try_edit(crate, edit, kept):
+    """Whether the prover refuses an edit, tried alone, and what it says."""
+    try:
+        texts = texts_with(crate, [edit])
+        why = refusal(*checked(crate, texts, edit.functions, kept))
         if why is None:
             why = refusal(*checked(crate, texts, [], kept))
             if why:
-                return False, f"{label}: refused only by {why[:200]}: name that function by a line 'proof: FUNCTION'"
+                return False, f"{edit.label}: refused only by {why[:200]}: name that function by a line 'proof: FUNCTION'"
     except (BadEdit, OSError) as fault:
-        return False, f"{label}: BAD EDIT: {fault}"
+        return False, f"{edit.label}: BAD EDIT: {fault}"
     if why is None:
-        return False, f"{label}: NOT REFUSED"
-    return True, f"{label}: refused: {why[:200]}"
+        return False, f"{edit.label}: NOT REFUSED"
+    return True, f"{edit.label}: refused: {why[:200]}"
+
+
+def at_once(edits):
+    """Groups of edits that change different functions."""
+    groups = []
+    for edit in edits:
+        apart = (it for it in groups if not any({*edit.functions} & {*other.functions} for other in it))
+        group = next(apart, None) if edit.is_local else None
+        if group is None:
+            groups.append([edit])
+        else:
+            group.append(edit)
+    return groups
 
 
 def build_below(crate):
@@ -174,12 +249,22 @@ def build_below(crate):
             subprocess.run(["rt", "lib", "--jobs", "1"], cwd=HERE / "crates" / name, stdout=subprocess.DEVNULL, check=True)
 
 
-def try_crate(crate, edits):
-    """The answers of a crate's edits, in turn."""
-    functions = []
+def try_crate(crate, files, is_proved):
+    """The answers of a crate's edits."""
+    edits, answers = [], []
+    for file in files:
+        try:
+            edits.append(read_edit(file, crate))
+        except (BadEdit, OSError) as fault:
+            answers.append((False, f"{crate}/{file.name}: BAD EDIT: {fault}"))
+    functions = list(dict.fromkeys(it for edit in edits for it in edit.functions))
     with tempfile.TemporaryDirectory(prefix="edits-") as kept:
-        answers = [try_edit(crate, edit, kept, functions) for edit in edits]
-        status, said = checked(crate, {}, list(dict.fromkeys(functions)), kept) if functions else (0, "")
+        for group in at_once(edits):
+            whys = refused_at_once(crate, group, kept) if len(group) > 1 else {}
+            for edit in group:
+                why = whys.get(edit.label)
+                answers.append((True, f"{edit.label}: refused: {why[:200]}") if why else try_edit(crate, edit, kept))
+        status, said = checked(crate, {}, functions, kept) if functions and not is_proved else (0, "")
     if status == 0:
         return answers
     return [(False, f"{crate}: not proved without an edit: {said[-300:]}"), *((False, text) for _, text in answers)]
@@ -194,18 +279,24 @@ def changed_since(commit, folder):
 
 
 def main():
-    folder, wanted = pathlib.Path(sys.argv[1]), sys.argv[2:]
-    if wanted[:1] == ["--since"]:
-        wanted = changed_since(wanted[1], str(folder))
-    crates = {it.name: sorted(it.glob("*.edit")) for it in sorted((HERE / folder).iterdir())}
-    crates = {crate: edits for crate, edits in crates.items() if edits and (not sys.argv[2:] or crate in wanted)}
+    words = argparse.ArgumentParser()
+    words.add_argument("folder", type=pathlib.Path)
+    words.add_argument("crates", nargs="*")
+    words.add_argument("--since")
+    words.add_argument("--proved", action="store_true")
+    asked = words.parse_intermixed_args()
+    wanted = changed_since(asked.since, str(asked.folder)) if asked.since else asked.crates
+    is_wanted = lambda crate: crate in wanted or not (asked.since or asked.crates)
+    crates = {it.name: sorted(it.glob("*.edit")) for it in sorted((HERE / asked.folder).iterdir())}
+    crates = {crate: files for crate, files in crates.items() if files and is_wanted(crate)}
     for crate in crates:
         build_below(crate)
     # The crates with the most below them take longest.
     order = sorted(crates, key=lambda crate: -len(below(crate)) * len(crates[crate]))
     lanes = int(os.environ.get("RT_JOBS", "") or os.cpu_count())
     with concurrent.futures.ThreadPoolExecutor(lanes) as pool:
-        answers = [it for found in pool.map(lambda crate: try_crate(crate, crates[crate]), order) for it in found]
+        tried = pool.map(lambda crate: try_crate(crate, crates[crate], asked.proved), order)
+        answers = [it for found in tried for it in found]
     for _, text in answers:
         print(text)
     refused, edits = sum(is_refused for is_refused, _ in answers), sum(map(len, crates.values()))
