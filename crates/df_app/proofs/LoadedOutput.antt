@@ -20,7 +20,7 @@ use Rattle.df_plan.specs.CheckedParts.{CheckedParts}
 use Rattle.df_plan.specs.Checks.{CheckResult, plan_check}
 use Rattle.df_catalogue.specs.declared.state.State.{State}
 use Rattle.df_catalogue.specs.States.{IsLegal}
-use Rattle.df_store.specs.Loaded.{AreLoaded}
+use Rattle.df_jobs.specs.Loaded.{AreLoaded}
 use Rattle.df_store.specs.Loads.{headings_of}
 use Rattle.df_text.specs.declared.document.FrameSpec.{FrameSpec}
 use Rattle.df_catalogue.specs.New.{new_fault}
@@ -29,9 +29,9 @@ use Rattle.df_catalogue.specs.declared.fault.NewFault.TheVariants as new_fault_a
 use Rattle.df_versions.specs.Openings.{fault_after, open_fault}
 use Rattle.df_versions.specs.declared.fault.OpenFault.{OpenFault}
 use Rattle.df_versions.specs.declared.fault.OpenFault.TheVariants as open_fault_as
-use Rattle.df_store.specs.declared.refused.Refused.{Refused}
-use Rattle.df_store.specs.Jobs.{numbered}
-use Rattle.df_store.specs.Refused.{refusal}
+use Rattle.df_jobs.specs.declared.refused.Refused.{Refused}
+use Rattle.df_jobs.specs.Jobs.{numbered}
+use Rattle.df_jobs.specs.Refused.{refusal}
 use Rattle.df_text.specs.Document.{document_of}
 use Rattle.df_text.specs.declared.document.ViewSpec.{ViewSpec}
 use Rattle.df_text.specs.declared.document.Views.{Views}

@@ -10,10 +10,10 @@ use Rattle.df_value.specs.Pieces.{is_good, refused_piece}
 use Rattle.df_csv.specs.Sources as csv_sources
 use Rattle.df_csv.specs.Sources.{CsvParts}
 use Rattle.df_csv.specs.Typed.{piece_start}
-use Rattle.df_store.specs.declared.refused.Refused.{Refused}
-use Rattle.df_store.specs.Jobs.{jobs_from, numbered}
-use Rattle.df_store.specs.Jobs as jobs
-use Rattle.df_store.specs.Refused.{refusal}
+use Rattle.df_jobs.specs.declared.refused.Refused.{Refused}
+use Rattle.df_jobs.specs.Jobs.{jobs_from, numbered}
+use Rattle.df_jobs.specs.Jobs as jobs
+use Rattle.df_jobs.specs.Refused.{refusal}
 use Rattle.df_text.specs.declared.document.FrameSpec.{FrameSpec}
 use Rattle.df_document.specs.Sources.{pieces_of_sources}
 use Rattle.df_app.specs.Loading.{jobs_of_sources, line_in_frame, line_of, outcome_of_load}

@@ -18,7 +18,7 @@ use Rattle.df_catalogue.specs.declared.state.ViewState.{ViewState}
 use Rattle.df_frame.specs.Frames.{IsFrame, IsNumbered, rows_of}
 use Rattle.df_catalogue.specs.Reads.{view_named, view_rows_of}
 use Rattle.df_catalogue.specs.States.{IsLegal, IsPlanOver, tables_of_frames, value_over}
-use Rattle.df_store.specs.Loaded.{AreLoaded, IsLoaded, job_rows, made_rows}
+use Rattle.df_jobs.specs.Loaded.{AreLoaded, IsLoaded, job_rows, made_rows}
 use Rattle.df_store.specs.Loads.{headings_of}
 use Rattle.df_text.specs.declared.document.ViewSpec.{ViewSpec}
 use Rattle.df_document.specs.Sources.{pieces_of_sources}

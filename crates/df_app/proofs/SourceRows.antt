@@ -20,8 +20,8 @@ use Rattle.df_csv.specs.Records.{FieldRows}
 use Rattle.df_csv.specs.Sources as csv_sources
 use Rattle.df_csv.specs.Sources.{CsvParts}
 use Rattle.df_csv.specs.Typed.{piece_from, piece_count, piece_of, rows_typed}
-use Rattle.df_store.specs.Jobs.{jobs_from, numbered}
-use Rattle.df_store.specs.Loaded.{job_rows, made_rows}
+use Rattle.df_jobs.specs.Jobs.{jobs_from, numbered}
+use Rattle.df_jobs.specs.Loaded.{job_rows, made_rows}
 use Rattle.df_app.specs.Loading.{jobs_of_sources}
 use Rattle.df_app.proofs.RisingRows.{Rows, Rise, From, Below, rise-append, from-append, from-less, enumerated-rise, enumerated-from, enumerated-below}
 

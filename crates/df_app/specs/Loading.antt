@@ -11,11 +11,11 @@ use Rattle.df_catalogue.specs.declared.fault.CatalogueFault.{CatalogueFault}
 use Rattle.df_catalogue.specs.declared.state.State.{State}
 use Rattle.df_catalogue.specs.Reads.{view_rows_of}
 use Rattle.df_catalogue.specs.States.{IsLegal}
-use Rattle.df_store.specs.declared.refused.Refused.{Refused}
-use Rattle.df_store.specs.Jobs as jobs
-use Rattle.df_store.specs.Loaded.{AreLoaded}
+use Rattle.df_jobs.specs.declared.refused.Refused.{Refused}
+use Rattle.df_jobs.specs.Jobs as jobs
+use Rattle.df_jobs.specs.Loaded.{AreLoaded}
 use Rattle.df_store.specs.Loads.{headings_of}
-use Rattle.df_store.specs.Refused.{refusal}
+use Rattle.df_jobs.specs.Refused.{refusal}
 use Rattle.df_text.specs.declared.document.FrameSpec.{FrameSpec}
 use Rattle.df_text.specs.declared.document.ViewSpec.{ViewSpec}
 use Rattle.df_document.specs.Refused.{paired, refused_line}

@@ -6,8 +6,8 @@ use Rattle.df_value.specs.Chunks.{ChunkParts, MakesChunk}
 use Rattle.df_value.specs.declared.cell.Cell.{Cell}
 use Rattle.df_value.specs.declared.chunk.Piece.TheVariants as made
 use Rattle.df_value.specs.Schemas.{Columns}
-use Rattle.df_store.specs.Jobs.{chunks_of, jobs_of}
-use Rattle.df_store.proofs.JobFacts.{jobs-of-chunks}
+use Rattle.df_jobs.specs.Jobs.{chunks_of, jobs_of}
+use Rattle.df_jobs.proofs.JobFacts.{jobs-of-chunks}
 use Rattle.df_load_tests.specs.Pairs.{pair-there, pairs-long, pairs_of, row_of}
 
 -- two sources of at most 255 chunks have few jobs

@@ -7,9 +7,9 @@ use Rattle.std.proofs.lemmas.List.Sums.{sum_by-append, sum_by-cons, sum_by-set, 
 use Rattle.df_catalogue.specs.Desks.{DeskParts, parts_of}
 use Rattle.df_hall.specs.Closing.{AddsUp, HaveSameSums, accepted_at, deleted_at}
 use Rattle.df_hall.specs.Halls.{having_accepted}
-use Rattle.df_store.specs.declared.jobs.Outcome.{Outcome}
+use Rattle.df_jobs.specs.declared.jobs.Outcome.{Outcome}
 use Rattle.df_store.specs.declared.worker.Worker.{Worker}
-use Rattle.df_store.specs.Jobs.{AreOutcomes, IsOutcome}
+use Rattle.df_jobs.specs.Jobs.{AreOutcomes, IsOutcome}
 use Rattle.df_store.specs.Workers.{AreCounted, HaveAccepted, HaveDone, all_without_accepted, desks_of, entered_at, outcomes_in, rows_of, without_accepted}
 
 pub nothing-new : (desks : List DeskParts) (done : List Outcome) → AreCounted desks done desks done

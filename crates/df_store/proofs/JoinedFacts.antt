@@ -1,32 +1,21 @@
 -- Outcomes whose chunks are joined.
 use Rattle.std.proofs.Common.{◌≡◌, true, false, Bool, ℕ, zero, suc, ◌+◌, ◌∙◌, List, [], ◌∷◌, ◌++◌, length, length-append, refl, ap, sym, arith, sum_by}
 use Rattle.std.specs.Prelude.{◌==◌, All, if◌then◌else◌}
-use Rattle.std.specs.List.{enumerate_from}
 use Rattle.std.proofs.lemmas.Bool.{eq-eqb}
 use Rattle.std.proofs.lemmas.List.Sums.{sum_by-append, sum_by-cons}
 use Rattle.df_catalogue.specs.Desks.{DeskParts}
 use Rattle.df_value.specs.declared.cell.CellType.{CellType}
 use Rattle.df_value.specs.declared.chunk.Piece.{Piece}
 use Rattle.df_value.specs.declared.chunk.Piece.TheVariants.{Bad, Good}
-use Rattle.df_store.specs.declared.jobs.Outcome.{Outcome}
-use Rattle.df_store.specs.declared.joining.Joined.{Joined}
-use Rattle.df_store.specs.Jobs.{job_of}
-use Rattle.df_store.specs.Joined.{IsGoodOf, IsJoined}
-use Rattle.df_store.specs.Loaded.{job_rows, made_rows}
+use Rattle.df_jobs.specs.declared.jobs.Outcome.{Outcome}
+use Rattle.df_jobs.specs.declared.joining.Joined.{Joined}
+use Rattle.df_jobs.specs.Jobs.{job_of}
+use Rattle.df_jobs.specs.Joined.{IsGoodOf, IsJoined}
+use Rattle.df_jobs.specs.Loaded.{job_rows, made_rows}
 use Rattle.df_store.specs.Workers.{AreCounted, HaveAccepted, entered_at, rows_of}
-use Rattle.df_store.specs.Expected.{rows_at}
-use Rattle.df_store.proofs.RowFacts.{length-enumerate}
-
-pub enumerate-append : {X : Type 0} (a : ℕ) (xs ys : List X) → enumerate_from a (xs ++ ys) ≡ enumerate_from a xs ++ enumerate_from (a + length xs) ys
-enumerate-append a [] ys = let e : a ≡ a + 0 = omega arith in ap (λ n. enumerate_from n ys) e
-enumerate-append a (x ∷ xs) ys =
-    let e : (a + 1) + length xs ≡ a + length (x ∷ xs) = omega arith in
-    ap (λ zs. (a, x) ∷ zs) (enumerate-append (a + 1) xs ys)
-    ∙ ap (λ n. (a, x) ∷ enumerate_from (a + 1) xs ++ enumerate_from n ys) e
-
--- what a job gives to its own frame is all that it makes
-pub rows-of-own : (frame : ℕ) (o : Outcome) → o.frame ≡ frame → job_rows frame (job_of o) ≡ made_rows o.made
-rows-of-own frame o e = ap (λ b. if b then made_rows o.made else []) (ap (λ n. n == frame) e ∙ eq-eqb frame frame refl)
+use Rattle.df_jobs.specs.Expected.{rows_at}
+use Rattle.df_jobs.proofs.JoinedRows.{rows-of-own}
+use Rattle.df_jobs.proofs.RowFacts.{length-enumerate}
 
 many-made : (p : Piece) → length (made_rows p) ≡ rows_of p
 many-made (Good c) = length-enumerate c.first c.rows

@@ -14,9 +14,9 @@ use Rattle.df_versions.specs.Histories.{IsLastState, last_state}
 use Rattle.df_hall.specs.Closing.{IsSettledState, IsUnsettledState, accepted_at, deleted_at, is_settled, missing_frame, missing_from}
 use Rattle.df_store.specs.declared.fault.LoadCause.{LoadCause}
 use Rattle.df_store.specs.declared.fault.Stop.{Stop}
-use Rattle.df_store.specs.declared.jobs.Outcome.{Outcome}
+use Rattle.df_jobs.specs.declared.jobs.Outcome.{Outcome}
 use Rattle.df_store.specs.Faults.{IsCauseAtStart}
-use Rattle.df_store.specs.Jobs.{AreOutcomes, IsOutcome, jobs_of}
+use Rattle.df_jobs.specs.Jobs.{AreOutcomes, IsOutcome, jobs_of}
 use Rattle.df_store.specs.Loads.{IsCauseAtEnd, IsCauseLeft, IsCauseNotLeft, IsCauseUnsettled, IsDifference, IsLeft, IsNotLeft, is_accounted, unaccounted_from}
 use Rattle.df_store.specs.Workers.{HaveDone, entered_at}
 

@@ -10,8 +10,8 @@ use Rattle.df_catalogue.specs.declared.state.State.{State}
 use Rattle.df_catalogue.specs.Desks.{DeskParts}
 use Rattle.df_value.specs.declared.chunk.Piece.{Piece}
 use Rattle.df_hall.specs.Closing.{accepted_at, deleted_at, is_settled, missing_frame, missing_from}
-use Rattle.df_store.specs.declared.jobs.Outcome.{Outcome}
-use Rattle.df_store.specs.Jobs.{job_of}
+use Rattle.df_jobs.specs.declared.jobs.Outcome.{Outcome}
+use Rattle.df_jobs.specs.Jobs.{job_of}
 use Rattle.df_store.specs.Loads.{AreShares, rows_of_jobs}
 use Rattle.df_store.specs.Workers.{entered_at, rows_of}
 

@@ -8,9 +8,9 @@ use Rattle.df_plan.specs.CheckedParts.{CheckedParts}
 use Rattle.df_catalogue.specs.declared.state.State.{State}
 use Rattle.df_catalogue.specs.declared.state.ViewState.{ViewState}
 use Rattle.df_catalogue.specs.Reads.{view_names_of, view_plan_of}
-use Rattle.df_hall.proofs.ListFacts.{found}
+use Rattle.df_jobs.proofs.ListFacts.{found}
 use Rattle.df_store.specs.Loads.{headings_of}
-use Rattle.df_store.proofs.ListFacts.{length-mapped, map-at, none-past, past, same-items}
+use Rattle.df_jobs.proofs.ListFacts.{length-mapped, map-at, none-past, past, same-items}
 
 name-at : (P : List ℕ → Type 0) (vs : List ViewState) (k : ℕ) (v : ViewState) → AllByRecursion P (map (λ w. w.name) vs) → slice_get vs k ≡ Some v → P v.name
 name-at P [] k v all h = absurd (cc)

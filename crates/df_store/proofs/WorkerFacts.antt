@@ -8,11 +8,11 @@ use Rattle.std.proofs.lemmas.List.Folds.{length-flat_map-take}
 use Rattle.std.proofs.lemmas.List.Sums.{sum_by-le}
 use Rattle.df_catalogue.specs.Desks.{DeskParts}
 use Rattle.df_hall.specs.Closing.{HaveSameSums}
-use Rattle.df_hall.proofs.ListFacts.{take-more}
+use Rattle.df_jobs.proofs.ListFacts.{take-more}
 use Rattle.df_store.specs.declared.worker.Worker.{Worker}
 use Rattle.df_claims.specs.Seats.{ClaimsView}
 use Rattle.df_value.specs.declared.chunk.Piece.{Piece}
-use Rattle.df_store.specs.Jobs.{AreOutcomes, IsOutcome}
+use Rattle.df_jobs.specs.Jobs.{AreOutcomes, IsOutcome}
 use Rattle.df_store.specs.Workers.{HasNotBegun, IsIdle, IsWorker, all_without_accepted, desks_of, outcomes_in, without_accepted}
 
 -- so many workers have at most so many desks each

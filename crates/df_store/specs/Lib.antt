@@ -1,10 +1,3 @@
-pub mod Made
-pub mod Jobs
 pub mod Workers
-pub mod Loaded
-pub mod Expected
-pub mod Joined
-pub mod Refused
-pub mod Lost
 pub mod Loads
 pub mod Faults

@@ -12,11 +12,11 @@ use Rattle.df_hall.specs.Closing.{IsUnsettledState, accepted_at, deleted_at}
 use Rattle.df_store.specs.declared.fault.LoadCause.{LoadCause}
 use Rattle.df_store.specs.declared.fault.LoadCause.TheVariants.{Refused, Memory, Spent, Ahead, MissingDesk, Lost, Unlike, ViewsUnlike}
 use Rattle.df_store.specs.declared.fault.Stop.{Stop}
-use Rattle.df_store.specs.declared.jobs.Outcome.{Outcome}
+use Rattle.df_jobs.specs.declared.jobs.Outcome.{Outcome}
 use Rattle.df_store.specs.Faults.{IsCauseAtStart, cause_of_stop}
-use Rattle.df_store.specs.Jobs.{AreOutcomes, jobs_of}
-use Rattle.df_store.specs.Loaded.{AreLoaded, IsUnlike}
-use Rattle.df_store.specs.Lost.{HaveOneEach, IsLost}
+use Rattle.df_jobs.specs.Jobs.{AreOutcomes, jobs_of}
+use Rattle.df_jobs.specs.Loaded.{AreLoaded, IsUnlike}
+use Rattle.df_jobs.specs.Lost.{HaveOneEach, IsLost}
 use Rattle.df_store.specs.Workers.{entered_at, rows_of}
 
 -- the views of a state, each by its name and its plan

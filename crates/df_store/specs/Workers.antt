@@ -6,12 +6,12 @@ use Rattle.df_value.specs.Chunks.{ChunkParts}
 use Rattle.df_value.specs.declared.chunk.Piece.{Piece}
 use Rattle.df_value.specs.declared.chunk.Piece.TheVariants.{Bad, Good}
 use Rattle.df_hall.specs.Closing.{accepted_at, deleted_at}
-use Rattle.df_store.specs.declared.jobs.Outcome.{Outcome}
+use Rattle.df_jobs.specs.declared.jobs.Outcome.{Outcome}
 use Rattle.df_store.specs.declared.pool.WorkerPool.{WorkerPool}
 use Rattle.df_store.specs.declared.entering.Incoming.{Incoming}
 use Rattle.df_store.specs.declared.entering.Incoming.TheVariants as incoming
 use Rattle.df_store.specs.declared.worker.Worker.{Worker}
-use Rattle.df_store.specs.Jobs.{AreOutcomes}
+use Rattle.df_jobs.specs.Jobs.{AreOutcomes}
 
 -- a worker draws jobs from these claims, has at most so many desks, and what it has done are outcomes of jobs
 pub record IsWorker {A D : Type 0} (claims : ClaimsView) (most : ℕ) (chunks : List (List (ℕ × Piece))) (w : Worker A D) : Type 0 where

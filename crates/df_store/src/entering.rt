@@ -3,16 +3,14 @@ ghost use Rattle.std.specs.Prelude.{◌≡◌, ◌<◌, ◌≤◌, ◌+◌, ◌+
 ghost use Rattle.df_catalogue.specs.Desks.{DeskParts, desk_after};
 ghost use Rattle.df_catalogue.specs.declared.change.Change.TheVariants.{Append};
 ghost use Rattle.df_value.specs.declared.chunk.Piece.{Piece};
-ghost use Rattle.df_store.specs.Jobs.{AreOutcomes};
-ghost use Rattle.df_store.specs.Joined.{IsJoined};
+ghost use Rattle.df_jobs.specs.Jobs.{AreOutcomes};
+ghost use Rattle.df_jobs.specs.Joined.{IsJoined};
 ghost use Rattle.df_store.specs.Workers.{AreCounted, HaveAccepted, all_without_accepted, chunk_of};
 
 use crate::fault::Stop;
-use crate::jobs::Outcome;
-use crate::joining::Joined;
-use crate::made::KeptPiece;
 use core::mem;
 use df_catalogue::{Desk, FrameChange, PreparedChunk};
+use df_jobs::{Joined, KeptPiece, Outcome};
 use df_value::{Chunk, Piece};
 use df_versions::{ChangeFault, Naming, Told, VersionedCatalogue};
 use std::alloc::Global;

@@ -1,21 +1,18 @@
 //! What a load left, compared once with its sources and with the views that were given.
 ghost use Rattle.std.specs.Prelude.{◌≡◌, ◌<◌, ℕ, IfErr, IfNone, IfOk, IfSome, filter_map, length, map};
-ghost use Rattle.df_store.specs.Jobs.{AreBegun, AreOutcomes, chunks_of, job_of, jobs_of};
-ghost use Rattle.df_store.specs.Loaded.{AreLoaded, IsUnlike};
+ghost use Rattle.df_jobs.specs.Jobs.{AreBegun, AreOutcomes, chunks_of, job_of, jobs_of};
+ghost use Rattle.df_jobs.specs.Loaded.{AreLoaded, IsUnlike};
 ghost use Rattle.df_store.specs.Loads as loads;
-ghost use Rattle.df_store.specs.Refused.{refusal};
+ghost use Rattle.df_jobs.specs.Refused.{refusal};
 ghost use Rattle.df_store.specs.Workers.{entered_at};
 
-use crate::comparing::first_unlike;
 use crate::fault::LoadCause;
 use crate::gate::Gate;
-use crate::jobs::Outcome;
-use crate::outcomes::{first_lost, in_order};
-use crate::refused::{Refused, refused_in};
 use crate::views::are_views;
 use crate::worker::Work;
 use df_catalogue::Catalogue;
 use df_hall::frame_count;
+use df_jobs::{Outcome, Refused, first_lost, first_unlike, in_order, refused_in};
 use df_plan::CheckedPlan;
 use df_value::{List, Source, Text};
 use std::alloc::{AllocError, Global};

@@ -4,27 +4,20 @@
 //! commits them under it. What came of them is compared with the sources once.
 #![tactic(auto)]
 
-mod comparing;
 mod entering;
-mod expected;
 mod fault;
 mod findings;
 mod gate;
-mod jobs;
-mod joining;
 mod load;
-mod made;
-mod outcomes;
 mod pool;
-mod refused;
 mod splitting;
 mod views;
 mod worker;
 
 pub use df_claims::{ClaimSeat, Claims};
 pub use df_hall::{Hall, Missing, NamedHall, OpenedHall, Totals, missing_frame};
+pub use df_jobs::Refused;
 pub use df_versions::{ChangeFault, Naming, OpenFault, Reader, Told, Version};
 pub use fault::LoadCause;
 pub use gate::{Gate, OpenGate};
 pub use load::{LoadFault, Loaded, load_all};
-pub use refused::Refused;

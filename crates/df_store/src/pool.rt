@@ -3,18 +3,18 @@ ghost use Rattle.std.specs.Prelude.{◌≡◌, ℕ, ◌+◌, ◌<◌, ◌≤◌,
 ghost use Rattle.df_catalogue.specs.Desks as desks_spec;
 ghost use Rattle.df_claims.specs.Seats.{IsSeatOf};
 ghost use Rattle.df_hall.specs.Closing.{HaveSameSums};
-ghost use Rattle.df_store.specs.Jobs.{chunks_of};
+ghost use Rattle.df_jobs.specs.Jobs.{chunks_of};
 ghost use Rattle.df_store.specs.Workers.{AreCounted, HaveDone, IsIdle, IsPool, IsWorker, all_without_accepted, desks_of, outcomes_in};
 ghost use Rattle.df_store.specs.Faults.{earlier_of, first_stop};
 
 use crate::fault::Stop;
 use crate::gate::Gate;
-use crate::jobs::Outcome;
 use crate::splitting::share_desks;
 use crate::worker::{Work, Worker};
 use df_catalogue::Desk;
 use df_claims::ClaimSeat;
 use df_hall::Hall;
+use df_jobs::Outcome;
 use df_value::Source;
 use df_versions::Naming;
 use std::alloc::{AllocError, Global};

@@ -1,17 +1,16 @@
 //! Workers: threads that make the chunks of jobs, and commit those that are good.
 ghost use Rattle.std.specs.Prelude.{◌≡◌, ◌++◌, IfOk, None, OnOk};
 ghost use Rattle.df_claims.specs.Seats.{IsSeatOf};
-ghost use Rattle.df_store.specs.Jobs.{AreOutcomes, chunks_of};
+ghost use Rattle.df_jobs.specs.Jobs.{AreOutcomes, chunks_of};
 ghost use Rattle.df_store.specs.Workers.{AreCounted, IsIdle, IsWorker, all_without_accepted};
 
 use crate::entering::enter_all;
 use crate::fault::Stop;
 use crate::gate::Gate;
-use crate::jobs::{Outcome, make};
-use crate::joining::{count_of_first_chunk, join};
 use df_catalogue::Desk;
 use df_claims::{ClaimSeat, Claims};
 use df_hall::Hall;
+use df_jobs::{Outcome, count_of_first_chunk, join, make};
 use df_value::Source;
 use df_versions::{Naming, Told};
 use std::alloc::{AllocError, Global};

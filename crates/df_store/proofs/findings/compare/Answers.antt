@@ -1,14 +1,14 @@
 use Rattle.std.proofs.Common.{◌∙◌, length, map, ap, sym, subst}
 use Rattle.std.specs.Prelude.{IfNone, IfSome, filter_map}
 use Rattle.std.proofs.lemmas.Bool.{false≢true}
-use Rattle.df_store.specs.Jobs.{chunks_of, job_of, jobs_of}
-use Rattle.df_store.specs.Loaded.{AreLoaded, IsUnlike}
-use Rattle.df_store.specs.Lost.{IsLost}
-use Rattle.df_store.specs.Refused.{refusal}
-use Rattle.df_store.proofs.BegunFacts.{outcomes-begun}
+use Rattle.df_jobs.specs.Jobs.{chunks_of, job_of, jobs_of}
+use Rattle.df_jobs.specs.Loaded.{AreLoaded, IsUnlike}
+use Rattle.df_jobs.specs.Lost.{IsLost}
+use Rattle.df_jobs.specs.Refused.{refusal}
+use Rattle.df_jobs.proofs.BegunFacts.{outcomes-begun}
 use Rattle.df_store.proofs.LoadFacts.{entered-jobs}
-use Rattle.df_store.proofs.LostFacts.{lost-of-order, one-each}
-use Rattle.df_store.proofs.OutcomeFacts.{compared}
+use Rattle.df_jobs.proofs.LostFacts.{lost-of-order, one-each}
+use Rattle.df_jobs.proofs.OutcomeFacts.{compared}
 use Rattle.df_store.proofs.findings.compare.Goals as goal
 
 pub unlike_frame-requires-clause-begun : goal.unlike_frame-requires-clause-begun

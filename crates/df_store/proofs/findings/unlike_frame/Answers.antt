@@ -1,7 +1,7 @@
 use Rattle.std.proofs.Common.{ℕ, map}
 use Rattle.std.specs.Prelude.{Err, IfOk, IfSome, None, Ok, Option, Result, Some}
-use Rattle.df_store.specs.Jobs.{job_of}
-use Rattle.df_store.proofs.UnlikeFacts.{unlike-of-picture}
+use Rattle.df_jobs.specs.Jobs.{job_of}
+use Rattle.df_jobs.proofs.UnlikeFacts.{unlike-of-picture}
 use Rattle.df_store.proofs.findings.unlike_frame.Goals as goal
 
 where-some : {E : Type 0} {A B : ℕ → Type 0} (r : Result (Option ℕ) E) → IfOk r (λ o. IfSome o A) → ((n : ℕ) → A n → B n) → IfOk r (λ o. IfSome o B)

@@ -1,4 +1,4 @@
-use Rattle.df_store.specs.Jobs.{chunks_of, jobs_of}
+use Rattle.df_jobs.specs.Jobs.{chunks_of, jobs_of}
 use Rattle.df_store.proofs.LeftFacts.{ended-so, given-up, handed-outcomes, handed-rows}
 use Rattle.df_store.proofs.LoadFacts.{shares-of-load}
 use Rattle.df_store.proofs.load.load_all.Goals as goal

@@ -4,7 +4,7 @@ use Rattle.std.specs.Prelude.{IfErr}
 use Rattle.df_catalogue.specs.declared.state.State.{State}
 use Rattle.df_versions.specs.Histories.{last_state}
 use Rattle.df_store.specs.Faults.{IsCauseOfViews}
-use Rattle.df_store.proofs.ListFacts.{looked-up}
+use Rattle.df_jobs.proofs.ListFacts.{looked-up}
 use Rattle.df_store.proofs.RegisterFacts.{of-views}
 use Rattle.df_store.proofs.load.register_all.Goals as goal
 

@@ -4,7 +4,7 @@ use Rattle.std.proofs.Crossing.{crosses}
 use Rattle.df_catalogue.proofs.desk.Desk.TheSendSync as desk
 use Rattle.df_claims.proofs.claims.ClaimSeat.TheSendSync as seat
 use Rattle.df_hall.proofs.Crosses.{hall_sync}
-use Rattle.df_store.proofs.CrossingOutcomes.{outcome_send}
+use Rattle.df_jobs.proofs.CrossingOutcomes.{outcome_send}
 use Rattle.df_store.proofs.worker.Work.TheSendSync as shared
 use Rattle.std.proofs.Common.{rules}
 use Rattle.df_store.proofs.CountFacts.{all-counted}

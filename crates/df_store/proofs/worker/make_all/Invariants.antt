@@ -1,4 +1,4 @@
-use Rattle.df_store.specs.Jobs.{AreOutcomes, chunks_of}
+use Rattle.df_jobs.specs.Jobs.{AreOutcomes, chunks_of}
 use Rattle.df_store.proofs.worker.make_all.Given as goal
 
 abbrev pub invariant-loop-job : goal.invariant-loop-job

@@ -2,9 +2,9 @@ use Rattle.std.proofs.Common.{◌∙◌, ap, length, length-set, drop, set, subs
 use Rattle.std.specs.Prelude.{All, vec_capacity}
 use Rattle.df_hall.specs.Closing.{HaveSameSums}
 use Rattle.df_store.specs.declared.worker.Worker.{Worker}
-use Rattle.df_store.specs.Jobs.{chunks_of}
+use Rattle.df_jobs.specs.Jobs.{chunks_of}
 use Rattle.df_store.specs.Workers.{IsIdle, desks_of, outcomes_in}
-use Rattle.df_store.proofs.ListFacts.{put-back}
+use Rattle.df_jobs.proofs.ListFacts.{put-back}
 use Rattle.df_store.proofs.WorkerFacts.{nothing-done, ready-workers, rest-idle, shared-out}
 use Rattle.df_store.proofs.pool.WorkerPool.new.Goals as goal
 

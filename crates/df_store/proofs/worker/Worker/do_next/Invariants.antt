@@ -1,5 +1,5 @@
 use Rattle.std.proofs.Common.{◌≡◌, length}
-use Rattle.df_store.specs.Jobs.{AreOutcomes, chunks_of}
+use Rattle.df_jobs.specs.Jobs.{AreOutcomes, chunks_of}
 use Rattle.df_store.specs.Workers.{AreCounted, IsWorker, all_without_accepted}
 use Rattle.df_store.proofs.worker.Worker.do_next.Given as goal
 

@@ -1,5 +1,5 @@
 use Rattle.std.proofs.Common.{◌≡◌}
-use Rattle.df_store.specs.Jobs.{chunks_of}
+use Rattle.df_jobs.specs.Jobs.{chunks_of}
 use Rattle.df_store.specs.Workers.{IsWorker}
 use Rattle.df_store.proofs.worker.Worker.draw.Given as goal
 

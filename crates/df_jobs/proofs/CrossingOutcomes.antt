@@ -1,0 +1,29 @@
+-- The outcomes of jobs may go to another thread.
+use denote.Param.Send.{IsSend, sendable}
+use Rattle.std.proofs.Crossing.{crosses}
+use Rattle.df_value.proofs.chunk.Piece.TheSendSync as piece
+use Rattle.df_column.proofs.Crossing.{table_send, table_sync}
+use Rattle.df_frame.specs.contracts.stored.StoredChunk as StoredChunk
+use Rattle.df_frame.specs.contracts.stored.StoredChunk.TheInside as StoredInside
+use Rattle.df_jobs.specs.contracts.made.KeptPiece as KeptPiece
+use Rattle.df_jobs.specs.contracts.made.Made as Made
+use Rattle.df_jobs.specs.contracts.made.Made.TheInside as MadeInside
+use Rattle.df_jobs.specs.contracts.jobs.Outcome as Outcome
+
+stored_inside_send : IsSend StoredInside.the_row
+stored_inside_send = search (sendable, crosses, table_send, table_sync) depth 40
+
+stored_send : IsSend StoredChunk.the_row
+stored_send = let i = stored_inside_send in search sendable depth 20
+
+kept_send : IsSend (KeptPiece.the_field).row
+kept_send = let s = stored_send in search (sendable, crosses, piece.the_field_send) depth 40
+
+made_inside_send : IsSend MadeInside.the_row
+made_inside_send = let k = kept_send in search sendable depth 20
+
+made_send : IsSend Made.the_row
+made_send = let i = made_inside_send in search sendable depth 20
+
+pub outcome_send : IsSend (Outcome.the_field).row
+outcome_send = let m = made_send in search (sendable, crosses) depth 40

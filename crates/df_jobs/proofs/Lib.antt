@@ -1,0 +1,13 @@
+pub mod ListFacts
+pub mod JobFacts
+pub mod OutcomeFacts
+pub mod RowFacts
+pub mod SortedOrders
+pub mod BegunFacts
+pub mod ExpectedFacts
+pub mod UnlikeFacts
+pub mod JoinedRows
+pub mod StoredFacts
+pub mod LostFacts
+pub mod CrossingPictures
+pub mod CrossingOutcomes
