@@ -1,5 +1,4 @@
 pub mod Ran
-mod OptionFacts
 pub mod ChunkSizes
 pub mod RisingRows
 pub mod SourceRows

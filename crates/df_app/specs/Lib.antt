@@ -1,4 +1,3 @@
-pub mod CommandLine
 pub mod Faults
 pub mod Output
 pub mod Loading

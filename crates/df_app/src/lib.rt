@@ -1,25 +1,21 @@
 //! A run of `dfviews`: the bytes of a view document in, the bytes of its printed views out.
 //!
-//! [`words`] reads the command line, [`run`] writes the output of a document and its files, and [`fault_text`] gives the
-//! text of a fault. This crate also offers what its callers need of `df_document`. docs/ARCHITECTURE.md follows a row
-//! through these calls, and says where to add a word of the command line or a fault.
+//! [`run`] writes the output of a document and its files, and [`fault_text`] gives the text of a fault. This crate also
+//! offers what its callers need of `df_document`. docs/ARCHITECTURE.md follows a row through these calls, and
+//! says where to add a fault.
 #![tactic(auto)]
 
-mod command_line;
 mod fault;
 mod fault_texts;
 mod loading;
 mod outcome;
 mod output;
-mod reading_words;
 mod refused;
 mod running;
 
-pub use command_line::Words;
 pub use df_document::{DocumentFault, FileState, Files};
 pub use df_store::{Gate, OpenGate};
 pub use fault::RunFault;
 pub use fault_texts::fault_text;
 pub use outcome::Outcome;
-pub use reading_words::words;
 pub use running::run;

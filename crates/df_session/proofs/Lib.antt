@@ -2,6 +2,5 @@ pub mod AreMadeFacts
 mod AskedFacts
 mod CommandFacts
 mod WordList
-mod FlagFacts
 mod DescribedFacts
 mod NumberFacts

@@ -3,7 +3,6 @@ pub mod Told
 pub mod Commands
 pub mod Asked
 pub mod Answers
-pub mod CommandLine
 pub mod Greetings
 pub mod Words
 pub mod Help

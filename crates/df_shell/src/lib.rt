@@ -15,10 +15,9 @@ mod store;
 mod version_reading;
 
 pub use df_session::{
-    Answer, AskedChange, COMMANDS, Command, CommandHelp, CommandLine, Definitions, DocumentCheck,
+    Answer, AskedChange, COMMANDS, Command, CommandHelp, Definitions, DocumentCheck,
     MOST_BYTES_OF_LINE, Mistake, Part, Prompts, Question, Refusal, ShellFault, VersionFault,
-    ViewStore, answer_line, check_document, read_command, read_command_line, refusal_text,
-    shell_fault_text,
+    ViewStore, answer_line, check_document, read_command, refusal_text, shell_fault_text,
 };
 pub use hall_shell::run_hall_shell;
 pub use hall_store::HallStore;

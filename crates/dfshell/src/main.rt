@@ -8,9 +8,9 @@ use clap::error::ErrorKind;
 use df_document::DocumentFault;
 use df_explain::explain;
 use df_shell::{
-    CommandLine, DocumentCheck, Prompts, ShellFault, check_document, read_command_line,
-    run_hall_shell, run_shell, shell_fault_text,
+    DocumentCheck, Prompts, ShellFault, check_document, run_hall_shell, run_shell, shell_fault_text,
 };
+use df_words::{CommandLine, read_command_line};
 use std::alloc::AllocError;
 use std::fs::File;
 use std::io::{BufReader, IsTerminal};

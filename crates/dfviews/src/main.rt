@@ -9,7 +9,8 @@ ghost use Rattle.std.specs.Prelude.{◌≤◌};
 ghost use Rattle.df_value.specs.Limits.{most_rows_of_chunk};
 
 use clap::error::ErrorKind;
-use df_app::{DocumentFault, Outcome, RunFault, Words, fault_text, run, words};
+use df_app::{DocumentFault, Outcome, RunFault, fault_text, run};
+use df_words::{Words, words};
 use progress::Progress;
 use std::alloc::AllocError;
 use std::io::Read;

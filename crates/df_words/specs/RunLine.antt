@@ -1,10 +1,10 @@
--- What the words of the program's command line say, over `clap`'s own words.
+-- What the words of `dfviews` say, over `clap`'s own words.
 use Rattle.std.specs.Prelude.{◌≡◌, ℕ, List, Option, Some, true, codes, option_map}
 use Rattle.std.specs.Option.{option_map_or}
 use Rattle.std.specs.Str.Parse.{digits_value, without_leading_plus}
 use Rattle.clap.specs.Words.{App, Rule, first_of, matches_of, new_app, new_rule, one_of, with_rule}
 use Rattle.clap.specs.declared.builder.value_parser.ValueParser.TheVariants as parser
-use Rattle.df_app.specs.declared.command_line.Words.{Words}
+use Rattle.df_words.specs.declared.run_line.Words.{Words}
 
 -- the program's name is not among the words
 abbrev pub program_app : App

@@ -1,6 +1,6 @@
-//! What the words of a command line say.
+//! What the words of `dfshell` say.
 
-/// What the words of a command line say.
+/// What the words of `dfshell` say.
 #[derive(Clone, Copy, PartialEq, Eq)]
 pub struct CommandLine<'a> {
     /// The path of the view document. Words without one are refused.

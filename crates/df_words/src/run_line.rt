@@ -1,4 +1,4 @@
-//! What the words of a command line say.
+//! What the words of `dfviews` say.
 
 /// The workers that load, where the words name no number.
 pub const DEFAULT_WORKERS: usize = 4;
@@ -6,7 +6,7 @@ pub const DEFAULT_WORKERS: usize = 4;
 /// The records of a chunk, where the words name no number.
 pub const DEFAULT_CHUNK: usize = 1000;
 
-/// What the words of a command line say.
+/// What the words of `dfviews` say.
 #[derive(Clone, Copy, PartialEq, Eq)]
 pub struct Words<'a> {
     /// The path of the view document; without one it comes from standard input.

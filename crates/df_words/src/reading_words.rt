@@ -1,12 +1,12 @@
-//! The words of the program's command line.
+//! Reading the words of `dfviews`.
 ghost use Rattle.std.specs.Prelude.{◌≡◌, ◌≤◌, IfOk, IfSome, false, codes, map, option_map};
 ghost use Rattle.df_value.specs.Limits.{most_rows_of_chunk};
 ghost use Rattle.clap.specs.Words.{FailsBy, app_of, fault_of, first_value, found_of, one_text, rule_of};
 ghost use Rattle.clap.specs.Values.{IsUnsignedIn};
-ghost use Rattle.df_app.specs.CommandLine as command_line_spec;
-ghost use Rattle.df_app.specs.CommandLine.{Says, program_app, number_or, number_rule, views_rule};
+ghost use Rattle.df_words.specs.RunLine as command_line_spec;
+ghost use Rattle.df_words.specs.RunLine.{Says, program_app, number_or, number_rule, views_rule};
 
-use crate::command_line::{DEFAULT_CHUNK, DEFAULT_WORKERS, Words};
+use crate::run_line::{DEFAULT_CHUNK, DEFAULT_WORKERS, Words};
 use clap::{Arg, ArgMatches, Command, Error, value_parser};
 use std::alloc::{AllocError, Global};
 

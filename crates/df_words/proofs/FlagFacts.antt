@@ -3,7 +3,7 @@ use Rattle.std.proofs.Common.{◌≡◌, ℕ, Bool, true, false, List, refl, cod
 use Rattle.std.specs.Prelude.{Option, Some, None}
 use Rattle.clap.specs.Words.{is_simple}
 use Rattle.clap.proofs.OnLiterals.{clap_on_literals}
-use Rattle.df_session.specs.CommandLine.{IsFlagOf, command_line}
+use Rattle.df_words.specs.SessionLine.{IsFlagOf, command_line}
 
 -- what is told of a flag's text
 pub flag_of :

@@ -26,7 +26,7 @@ use Rattle.clap.specs.declared.builder.value_parser.ValueParser.TheVariants as p
 use Rattle.clap.specs.declared.parser.matches.ArgMatches.{ArgMatches}
 use Rattle.clap.specs.declared.parser.matches.Found.{Found}
 use Rattle.clap.specs.declared.parser.matches.MatchedArg.{MatchedArg}
-use Rattle.df_app.specs.CommandLine.{command_line, number_or}
+use Rattle.df_words.specs.RunLine.{command_line, number_or}
 
 -- each rule of this name has this parser
 abbrev Parses : List ℕ → ValueParser → Rule → Type 0

@@ -1,9 +1,9 @@
 use Rattle.std.proofs.Common.{◌∙◌, ap, codes, Bor, List, map, ℕ, subst}
 use Rattle.clap.specs.Words.{App, first_of, found_of, is_simple, matches_of, one_of}
 use Rattle.clap.proofs.WalkLemmas.{first_value-rows, one_text-rows}
-use Rattle.df_session.specs.CommandLine.{IsFlagOf}
-use Rattle.df_session.proofs.FlagFacts.{is_exact}
-use Rattle.df_session.proofs.reading_command_line.read_command_line.Goals as goal
+use Rattle.df_words.specs.SessionLine.{IsFlagOf}
+use Rattle.df_words.proofs.FlagFacts.{is_exact}
+use Rattle.df_words.proofs.reading_command_line.read_command_line.Goals as goal
 
 pub returns-clause-says : goal.returns-clause-says
 returns-clause-says c =

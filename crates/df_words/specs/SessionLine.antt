@@ -1,8 +1,8 @@
--- What the words of the program's command line say, over `clap`'s own words.
+-- What the words of `dfshell` say, over `clap`'s own words.
 use Rattle.std.specs.Prelude.{◌≡◌, ℕ, Bool, true, false, List, Option, Some, None, codes, option_map}
 use Rattle.clap.specs.Words.{App, Rule, first_of, matches_of, new_app, new_rule, one_of, with_rule}
 use Rattle.clap.specs.declared.builder.action.ArgAction.TheVariants.{SetTrue}
-use Rattle.df_session.specs.declared.command_line.CommandLine.{CommandLine}
+use Rattle.df_words.specs.declared.session_line.CommandLine.{CommandLine}
 
 -- the program's name is not among the words
 abbrev pub program_app : App

@@ -1,9 +1,9 @@
 use Rattle.std.proofs.Common.{◌∙◌, ap, codes, arith, Bor, List, map, ℕ}
 use Rattle.clap.specs.Words.{App, first_of, found_of, is_simple, matches_of, one_of}
 use Rattle.clap.proofs.WalkLemmas.{first_value-rows, one_text-rows}
-use Rattle.df_app.specs.CommandLine.{number_or}
-use Rattle.df_app.proofs.OptionFacts.{chunk_text, is_exact, number_in, workers_text}
-use Rattle.df_app.proofs.reading_words.words.Goals as goal
+use Rattle.df_words.specs.RunLine.{number_or}
+use Rattle.df_words.proofs.OptionFacts.{chunk_text, is_exact, number_in, workers_text}
+use Rattle.df_words.proofs.reading_words.words.Goals as goal
 
 pub words_in-requires-clause-workers : goal.words_in-requires-clause-workers
 words_in-requires-clause-workers c = workers_text _ _ c.in_ok-matches.ensures.parsed c.in_ok-command.ensures

@@ -1,10 +1,10 @@
-//! The words of the program's command line.
+//! Reading the words of `dfshell`.
 ghost use Rattle.std.specs.Prelude.{◌≡◌, IfOk, codes, false, map, option_map};
 ghost use Rattle.clap.specs.Words.{FailsBy, app_of, fault_of, first_value, found_of, one_text, rule_of};
-ghost use Rattle.df_session.specs.CommandLine as command_line_spec;
-ghost use Rattle.df_session.specs.CommandLine.{IsFlagOf, Says, flag_rule, program_app, views_rule};
+ghost use Rattle.df_words.specs.SessionLine as command_line_spec;
+ghost use Rattle.df_words.specs.SessionLine.{IsFlagOf, Says, flag_rule, program_app, views_rule};
 
-use crate::command_line::CommandLine;
+use crate::session_line::CommandLine;
 use clap::{Arg, ArgAction, ArgMatches, Command, Error};
 use std::alloc::{AllocError, Global};
 

@@ -1,0 +1,2 @@
+mod OptionFacts
+mod FlagFacts

@@ -1,0 +1,2 @@
+pub mod RunLine
+pub mod SessionLine
