@@ -3,7 +3,7 @@ use Rattle.std.proofs.Common.{◌≡◌, ◌≢◌, ℕ, zero, suc, ◌+◌, ◌
 use Rattle.std.specs.List.{SameBelow, ShiftedDown}
 use Rattle.std.proofs.lemmas.Grind.{get_or-set_at}
 use Rattle.std.proofs.lemmas.List.{get_or-set_other, length-set}
-use Rattle.df_catalogue.specs.Desks.{DeskParts}
+use Rattle.df_state.specs.Desks.{DeskParts}
 use Rattle.df_hall.specs.Closing.{AreFirst}
 
 same-or-not : (k i : ℕ) → (k ≡ i) ⊎ (k ≢ i)

@@ -7,7 +7,7 @@ use Rattle.std.proofs.Math.ListN.{get_or-append}
 use Rattle.std.proofs.Math.Seq.{get_or-append_seam, take-append_seam}
 use Rattle.std.proofs.lemmas.List.{take-append-le}
 use Rattle.df_value.specs.declared.cell.Cell.{Cell}
-use Rattle.df_catalogue.specs.Pictures.{PictureParts}
+use Rattle.df_state.specs.Pictures.{PictureParts}
 use Rattle.df_hall.proofs.ListFacts.{found, item-at, map-more}
 use Rattle.df_store.specs.declared.expected.Expected.{Expected}
 use Rattle.df_store.specs.declared.jobs.Outcome.{Outcome}

@@ -9,7 +9,7 @@ use Rattle.std.proofs.lemmas.List.Sorted.{IsPermutation-map}
 use Rattle.df_value.specs.declared.cell.Cell.{Cell}
 use Rattle.df_value.specs.Chunks.{ChunkParts}
 use Rattle.df_value.specs.declared.chunk.Piece.{Piece}
-use Rattle.df_catalogue.specs.Pictures.{AreRowsIn, PictureParts, row_in}
+use Rattle.df_state.specs.Pictures.{AreRowsIn, PictureParts, row_in}
 use Rattle.df_hall.proofs.ListFacts.{found, item-at, take-more}
 use Rattle.df_store.specs.declared.jobs.Outcome.{Outcome}
 use Rattle.df_store.specs.Expected.{rows_at}

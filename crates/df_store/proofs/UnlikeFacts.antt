@@ -12,9 +12,9 @@ use Rattle.df_value.specs.declared.chunk.Piece.{Piece}
 use Rattle.df_value.specs.declared.chunk.Piece.TheVariants.{Bad, Good}
 use Rattle.df_frame.specs.Frames.{IsFrame, IsNumbered}
 use Rattle.df_frame.specs.Numbers.{has_number, is_rising}
-use Rattle.df_catalogue.specs.Pictures.{IsPictureOfLegal, PictureParts, picture_of}
+use Rattle.df_state.specs.Pictures.{IsPictureOfLegal, PictureParts, picture_of}
 use Rattle.df_frame.specs.declared.state.FrameState.{FrameState}
-use Rattle.df_catalogue.specs.declared.state.State.{State}
+use Rattle.df_state.specs.declared.state.State.{State}
 use Rattle.df_frame.proofs.Rising.{rising-filter}
 use Rattle.df_nodes.proofs.Filters.{filter_length}
 use Rattle.df_hall.proofs.ListFacts.{found}

@@ -1,0 +1,17 @@
+pub mod Loops
+pub mod AllPass
+pub mod ViewFacts
+pub mod SoundFrames
+pub mod Books
+pub mod Legal
+pub mod StandingRows
+pub mod Refusing
+pub mod StateFacts
+pub mod Places
+pub mod Partners
+pub mod RunFacts
+pub mod FrameChangeFacts
+pub mod TransitionFacts
+pub mod DeskFacts
+pub mod ComputedRows
+pub mod PictureFacts
