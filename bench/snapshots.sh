@@ -11,6 +11,6 @@ work=$(mktemp -d)
 trap 'rm -rf "$work"' EXIT
 cp -r "$here/../crates" "$here/../crates.txt" "$here/../HANDLES" "$work"
 (cd "$work" && git apply "$here/snapshots.patch")
-echo "snapshots: df_value df_ops df_plan df_catalogue df_versions df_hall" >> "$work/crates.txt"
+echo "snapshots: df_value df_ops df_plan df_state df_catalogue df_versions df_hall" >> "$work/crates.txt"
 (cd "$work/crates/snapshots" && rt run < /dev/null >&2)
 python3 "$here/snapshots.py" "$work/crates/snapshots/out/snapshots"

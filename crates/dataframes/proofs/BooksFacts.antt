@@ -4,14 +4,14 @@ use Rattle.std.specs.Prelude.{Option, Some, None, Result, Ok, Err, OnErr, OnOk, 
 use Rattle.df_value.specs.Chunks.{ChunkParts}
 use Rattle.df_value.specs.declared.cell.Cell.{Cell}
 use Rattle.df_value.specs.declared.cell.CellType.{CellType}
-use Rattle.df_catalogue.specs.declared.change.Change.{Change}
-use Rattle.df_catalogue.specs.declared.state.State.{State}
+use Rattle.df_state.specs.declared.change.Change.{Change}
+use Rattle.df_state.specs.declared.state.State.{State}
 use Rattle.df_frame.specs.declared.frame_change.FrameChange.{FrameChange}
-use Rattle.df_catalogue.specs.Desks.{DeskParts, desk_after, desks_after}
-use Rattle.df_catalogue.specs.FrameChanges.{change_of}
-use Rattle.df_catalogue.specs.ViewChanges.{change_of_views}
-use Rattle.df_catalogue.specs.declared.view_change.ViewChange.{ViewChange}
-use Rattle.df_catalogue.proofs.FrameChangeFacts.{desks-counted}
+use Rattle.df_state.specs.Desks.{DeskParts, desk_after, desks_after}
+use Rattle.df_state.specs.FrameChanges.{change_of}
+use Rattle.df_state.specs.ViewChanges.{change_of_views}
+use Rattle.df_state.specs.declared.view_change.ViewChange.{ViewChange}
+use Rattle.df_state.proofs.FrameChangeFacts.{desks-counted}
 use Rattle.df_hall.specs.Halls.{AnswersOverHistory}
 use Rattle.df_versions.specs.Answered.{told_states}
 use Rattle.df_versions.specs.declared.fault.ChangeFault.{ChangeFault}

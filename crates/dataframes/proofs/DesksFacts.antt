@@ -5,17 +5,17 @@ use Rattle.std.specs.List.{range_with_len}
 use Rattle.std.proofs.lemmas.List.{length-map, set-get_or}
 use Rattle.std.proofs.lemmas.List.FromFn.{length-range_with_len}
 use Rattle.std.proofs.lemmas.Option.{slice_get-get_or}
-use Rattle.df_catalogue.specs.Changes.{change_at}
-use Rattle.df_catalogue.specs.Desks.{DeskParts, desk_after, desks_after, first_desk, first_desks}
-use Rattle.df_catalogue.specs.declared.change.Change.{Change}
+use Rattle.df_state.specs.Changes.{change_at}
+use Rattle.df_state.specs.Desks.{DeskParts, desk_after, desks_after, first_desk, first_desks}
+use Rattle.df_state.specs.declared.change.Change.{Change}
 use Rattle.df_frame.specs.declared.frame_change.FrameChange.{FrameChange}
 use Rattle.df_frame.specs.declared.frame_change.FrameChange.TheVariants as Rows
-use Rattle.df_catalogue.specs.declared.view_change.ViewChange.{ViewChange}
-use Rattle.df_catalogue.specs.declared.view_change.ViewChange.TheVariants as Views
-use Rattle.df_catalogue.specs.FrameChanges.{change_of}
-use Rattle.df_catalogue.specs.ViewChanges.{change_of_views}
-use Rattle.df_catalogue.proofs.DeskFacts.{first-in-order, frames-after}
-use Rattle.df_catalogue.proofs.StateFacts.{change-set}
+use Rattle.df_state.specs.declared.view_change.ViewChange.{ViewChange}
+use Rattle.df_state.specs.declared.view_change.ViewChange.TheVariants as Views
+use Rattle.df_state.specs.FrameChanges.{change_of}
+use Rattle.df_state.specs.ViewChanges.{change_of_views}
+use Rattle.df_state.proofs.DeskFacts.{first-in-order, frames-after}
+use Rattle.df_state.proofs.StateFacts.{change-set}
 use Rattle.dataframes.specs.Books.{HasNoFrame, InOrder}
 
 frame-from :

@@ -3,9 +3,9 @@ use Rattle.std.specs.Prelude.{◌≡◌, ◌≤◌, ℕ, List, Result, Ok, Err, 
 use Rattle.df_value.specs.Chunks.{ChunkParts}
 use Rattle.df_value.specs.declared.cell.Cell.{Cell}
 use Rattle.df_value.specs.declared.cell.CellType.{CellType}
-use Rattle.df_catalogue.specs.declared.change.Change.{Change}
-use Rattle.df_catalogue.specs.declared.change.Change.TheVariants.{Append}
-use Rattle.df_catalogue.specs.declared.state.State.{State}
+use Rattle.df_state.specs.declared.change.Change.{Change}
+use Rattle.df_state.specs.declared.change.Change.TheVariants.{Append}
+use Rattle.df_state.specs.declared.state.State.{State}
 use Rattle.dataframes.specs.Books.{BooksParts, IsAnswered, IsNext}
 use Rattle.dataframes.specs.declared.books.Appended.{Appended}
 use Rattle.dataframes.specs.declared.fault.ServiceFault.{ServiceFault}

@@ -8,10 +8,10 @@ use Rattle.df_value.specs.declared.cell.Cell.{Cell}
 use Rattle.df_value.specs.declared.cell.CellType.{CellType}
 use Rattle.df_value.specs.declared.chunk.ChunkFault.{ChunkFault}
 use Rattle.df_value.specs.declared.chunk.ChunkFault.TheVariants as chunk_fault_of
-use Rattle.df_catalogue.specs.Desks.{DeskParts, desks_after}
-use Rattle.df_catalogue.specs.declared.change.Change.{Change}
-use Rattle.df_catalogue.specs.declared.change.Change.TheVariants.{Append, Delete, DropView, Register, Replace}
-use Rattle.df_catalogue.specs.declared.state.State.{State}
+use Rattle.df_state.specs.Desks.{DeskParts, desks_after}
+use Rattle.df_state.specs.declared.change.Change.{Change}
+use Rattle.df_state.specs.declared.change.Change.TheVariants.{Append, Delete, DropView, Register, Replace}
+use Rattle.df_state.specs.declared.state.State.{State}
 use Rattle.df_hall.specs.Halls.{AnswersOverHistory}
 use Rattle.df_versions.specs.declared.fault.ChangeFault.{ChangeFault}
 use Rattle.dataframes.specs.declared.fault.ServiceFault.{ServiceFault}

@@ -1,9 +1,9 @@
 -- The closing of a service.
 use Rattle.std.specs.Prelude.{◌≡◌, ◌⊎◌, ⊤, ℕ, List, None, Some}
 use Rattle.df_value.specs.declared.cell.CellType.{CellType}
-use Rattle.df_catalogue.specs.Desks.{AgreeWithBooks, DeskParts}
-use Rattle.df_catalogue.specs.States.{IsLegal}
-use Rattle.df_catalogue.specs.declared.state.State.{State}
+use Rattle.df_state.specs.Desks.{AgreeWithBooks, DeskParts}
+use Rattle.df_state.specs.States.{IsLegal}
+use Rattle.df_state.specs.declared.state.State.{State}
 use Rattle.df_hall.specs.Closing.{IsMissingAfter, missing_frame, totals_of}
 use Rattle.df_hall.specs.declared.totals.Totals.{Totals}
 use Rattle.df_versions.specs.Histories.{IsLastState}

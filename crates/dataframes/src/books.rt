@@ -1,8 +1,8 @@
 //! The books of a service: a desk for each frame, which counts the rows that the frame accepted, so that the next row's
 //! number is that count.
 ghost use Rattle.std.specs.Prelude.{◌≡◌, Some, length};
-ghost use Rattle.df_catalogue.specs.FrameChanges.{change_of};
-ghost use Rattle.df_catalogue.specs.ViewChanges.{change_of_views};
+ghost use Rattle.df_state.specs.FrameChanges.{change_of};
+ghost use Rattle.df_state.specs.ViewChanges.{change_of_views};
 ghost use Rattle.dataframes.specs.Appends.{Appends, IsAppendedChunk};
 ghost use Rattle.dataframes.specs.Books.{InOrder, IsAnswered, IsKept, IsNextOr, IsNumbered, IsThrough, states_told};
 
@@ -55,7 +55,7 @@ impl<Acc: Ledger, Del: Ledger, J: Naming> Drop for Books<Acc, Del, J> {
 impl<Acc: Ledger, Del: Ledger, J: Naming> Model for Books<Acc, Del, J> {
     ghost use Rattle.std.specs.Prelude.{◌≡◌, length};
     ghost use Rattle.std.specs.Coded.{codes};
-    ghost use Rattle.df_catalogue.specs.contracts.state.State as state_type;
+    ghost use Rattle.df_state.specs.contracts.state.State as state_type;
     ghost use Rattle.dataframes.specs.Books.{BooksParts, InOrder, states_told};
 
     ghost Value = { BooksParts };

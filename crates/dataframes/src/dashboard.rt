@@ -28,8 +28,8 @@ impl<J: Naming> Drop for Dashboard<J> {
 impl<J: Naming> Model for Dashboard<J> {
     ghost use Rattle.std.specs.Prelude.{◌≡◌, List};
     ghost use Rattle.std.specs.Coded.{coded×, coded_list};
-    ghost use Rattle.df_catalogue.specs.contracts.state.State as state_type;
-    ghost use Rattle.df_catalogue.specs.declared.state.State.{State};
+    ghost use Rattle.df_state.specs.contracts.state.State as state_type;
+    ghost use Rattle.df_state.specs.declared.state.State.{State};
 
     ghost Value = { List State × List State };
 

@@ -1,6 +1,6 @@
 //! The running of a service: its opening, its threads and its closing.
 ghost use Rattle.std.specs.Prelude.{◌≡◌, IfErr, IfOk, Ok, length};
-ghost use Rattle.df_catalogue.specs.Ledgers as ledgers;
+ghost use Rattle.df_state.specs.Ledgers as ledgers;
 ghost use Rattle.df_versions.specs.Histories.{schemas_of};
 ghost use Rattle.dataframes.specs.Books.{InOrder};
 ghost use Rattle.dataframes.specs.Closing.{IsClosed, IsUnfinished};

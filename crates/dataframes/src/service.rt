@@ -1,8 +1,8 @@
 //! What loaders share.
 ghost use Rattle.std.specs.Prelude.{◌≡◌};
-ghost use Rattle.df_catalogue.specs.FrameChanges.{change_of};
-ghost use Rattle.df_catalogue.specs.ViewChanges.{change_of_views};
-ghost use Rattle.df_catalogue.specs.declared.change.Change.TheVariants.{Delete, DropView, Register, Replace};
+ghost use Rattle.df_state.specs.FrameChanges.{change_of};
+ghost use Rattle.df_state.specs.ViewChanges.{change_of_views};
+ghost use Rattle.df_state.specs.declared.change.Change.TheVariants.{Delete, DropView, Register, Replace};
 ghost use Rattle.dataframes.specs.Appends.{AnswersOfBooks, AppendsToBooks};
 
 use crate::books::{Appended, Books};

@@ -1,8 +1,8 @@
 //! The rows of a view, with its columns by name.
 ghost use Rattle.std.specs.Prelude.{◌≡◌, IfErr, IfOk, Err, Ok, length, map};
 ghost use Rattle.std.specs.Option.{option_copied};
-ghost use Rattle.df_catalogue.specs.Answers.{AnswersMemoryLast};
-ghost use Rattle.df_catalogue.specs.Pictures as pictures;
+ghost use Rattle.df_state.specs.Answers.{AnswersMemoryLast};
+ghost use Rattle.df_state.specs.Pictures as pictures;
 ghost use Rattle.dataframes.specs.ViewRows.{cell_named, int_of, text_of};
 
 use df_catalogue::CatalogueFault;

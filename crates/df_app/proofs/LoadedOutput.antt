@@ -18,14 +18,14 @@ use Rattle.df_csv.specs.Sources.{CsvParts}
 use Rattle.df_csv.specs.Typed.{piece_count}
 use Rattle.df_plan.specs.CheckedParts.{CheckedParts}
 use Rattle.df_plan.specs.Checks.{CheckResult, plan_check}
-use Rattle.df_catalogue.specs.declared.state.State.{State}
-use Rattle.df_catalogue.specs.States.{IsLegal}
+use Rattle.df_state.specs.declared.state.State.{State}
+use Rattle.df_state.specs.States.{IsLegal}
 use Rattle.df_jobs.specs.Loaded.{AreLoaded}
 use Rattle.df_store.specs.Loads.{headings_of}
 use Rattle.df_text.specs.declared.document.FrameSpec.{FrameSpec}
-use Rattle.df_catalogue.specs.New.{new_fault}
-use Rattle.df_catalogue.specs.declared.fault.NewFault.{NewFault}
-use Rattle.df_catalogue.specs.declared.fault.NewFault.TheVariants as new_fault_as
+use Rattle.df_state.specs.New.{new_fault}
+use Rattle.df_state.specs.declared.fault.NewFault.{NewFault}
+use Rattle.df_state.specs.declared.fault.NewFault.TheVariants as new_fault_as
 use Rattle.df_versions.specs.Openings.{fault_after, open_fault}
 use Rattle.df_versions.specs.declared.fault.OpenFault.{OpenFault}
 use Rattle.df_versions.specs.declared.fault.OpenFault.TheVariants as open_fault_as

@@ -11,13 +11,13 @@ use Rattle.df_csv.specs.Sources.{CsvParts}
 use Rattle.df_plan.specs.CheckedParts.{CheckedParts}
 use Rattle.df_plan.specs.Meaning.{table_of}
 use Rattle.df_print.specs.Printed.{printed}
-use Rattle.df_catalogue.specs.declared.fault.CatalogueFault.TheVariants as catalogue_fault
+use Rattle.df_state.specs.declared.fault.CatalogueFault.TheVariants as catalogue_fault
 use Rattle.df_frame.specs.declared.state.FrameState.{FrameState}
-use Rattle.df_catalogue.specs.declared.state.State.{State}
-use Rattle.df_catalogue.specs.declared.state.ViewState.{ViewState}
+use Rattle.df_state.specs.declared.state.State.{State}
+use Rattle.df_state.specs.declared.state.ViewState.{ViewState}
 use Rattle.df_frame.specs.Frames.{IsFrame, IsNumbered, rows_of}
-use Rattle.df_catalogue.specs.Reads.{view_named, view_rows_of}
-use Rattle.df_catalogue.specs.States.{IsLegal, IsPlanOver, tables_of_frames, value_over}
+use Rattle.df_state.specs.Reads.{view_named, view_rows_of}
+use Rattle.df_state.specs.States.{IsLegal, IsPlanOver, tables_of_frames, value_over}
 use Rattle.df_jobs.specs.Loaded.{AreLoaded, IsLoaded, job_rows, made_rows}
 use Rattle.df_store.specs.Loads.{headings_of}
 use Rattle.df_text.specs.declared.document.ViewSpec.{ViewSpec}

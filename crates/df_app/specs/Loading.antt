@@ -7,10 +7,10 @@ use Rattle.df_csv.specs.Sources as csv_sources
 use Rattle.df_csv.specs.Sources.{CsvParts}
 use Rattle.df_plan.specs.CheckedParts.{CheckedParts}
 use Rattle.df_print.specs.Printed.{printed}
-use Rattle.df_catalogue.specs.declared.fault.CatalogueFault.{CatalogueFault}
-use Rattle.df_catalogue.specs.declared.state.State.{State}
-use Rattle.df_catalogue.specs.Reads.{view_rows_of}
-use Rattle.df_catalogue.specs.States.{IsLegal}
+use Rattle.df_state.specs.declared.fault.CatalogueFault.{CatalogueFault}
+use Rattle.df_state.specs.declared.state.State.{State}
+use Rattle.df_state.specs.Reads.{view_rows_of}
+use Rattle.df_state.specs.States.{IsLegal}
 use Rattle.df_jobs.specs.declared.refused.Refused.{Refused}
 use Rattle.df_jobs.specs.Jobs as jobs
 use Rattle.df_jobs.specs.Loaded.{AreLoaded}

@@ -2,8 +2,8 @@
 ghost use Rattle.std.specs.Prelude.{◌≡◌, ◌≤◌, All, IfErr, IfOk, length, true};
 ghost use Rattle.df_value.specs.Limits as limits;
 ghost use Rattle.df_value.specs.Schemas.{is_base};
-ghost use Rattle.df_catalogue.specs.Desks as desks_spec;
-ghost use Rattle.df_catalogue.specs.Ledgers as ledgers;
+ghost use Rattle.df_state.specs.Desks as desks_spec;
+ghost use Rattle.df_state.specs.Ledgers as ledgers;
 ghost use Rattle.df_text.specs.Document.{IsDocument};
 ghost use Rattle.df_document.specs.Sources.{IsSourceOf};
 ghost use Rattle.df_app.specs.Loading.{IsOutputOfLoad, headings_in};

@@ -1,7 +1,7 @@
 //! The output of a document.
 ghost use Rattle.std.specs.Prelude.{◌≡◌, ◌++◌, All, IfOk, IsOk, OnOk, codes, flat_map, map};
 ghost use Rattle.std.specs.List.{join_by};
-ghost use Rattle.df_catalogue.specs.Reads.{view_rows_of};
+ghost use Rattle.df_state.specs.Reads.{view_rows_of};
 ghost use Rattle.df_app.specs.Loading.{outcome_of_load, printed_in, text_of_load};
 ghost use Rattle.df_app.specs.Output.{refused_block};
 

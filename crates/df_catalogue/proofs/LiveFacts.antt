@@ -20,12 +20,12 @@ use Rattle.df_live.specs.Frames.{AreFrames, changed, frame_at, rows_of_frames}
 use Rattle.df_live.specs.Views.{IsChangeOf, IsLive}
 use Rattle.df_frame.specs.declared.state.FrameState.{FrameState}
 use Rattle.df_catalogue.specs.declared.views.View.{View}
-use Rattle.df_catalogue.specs.Changes.{refreshed_views, view_over}
+use Rattle.df_state.specs.Changes.{refreshed_views, view_over}
 use Rattle.df_frame.specs.Frames.{rows_of, IsFrame, IsNumbered, empty_frame}
 use Rattle.df_frame.specs.FrameParts.{FrameParts, schemas_of, states_of}
 use Rattle.df_frame.specs.FrameTables.{table_parts, tagged_rows_of, row_tag}
 use Rattle.df_catalogue.specs.LiveViews.{headings, tagged_frames, view_state, AreChangesOf, AreLive}
-use Rattle.df_catalogue.specs.States.{tables_of_frames, IsPlanOver}
+use Rattle.df_state.specs.States.{tables_of_frames, IsPlanOver}
 use Rattle.df_frame.proofs.FrameFacts.{empty-sound}
 use Rattle.df_frame.proofs.FrameTableFacts.{empty-table, numbered-cells, numbered-table, table-at}
 use Rattle.df_frame.proofs.RowLookups.{found}

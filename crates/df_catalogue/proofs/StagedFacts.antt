@@ -4,31 +4,31 @@ use Rattle.std.specs.Prelude.{Option, Some, None, Result, Ok, Err, IsSomeAnd, op
 use Rattle.df_expr.specs.declared.meter.Meter.{Meter}
 use Rattle.df_delta.specs.Work.{IsWithin}
 use Rattle.df_plan.specs.CheckedParts.{CheckedParts}
-use Rattle.df_catalogue.specs.declared.change.Change.{Change}
-use Rattle.df_catalogue.specs.declared.change.Change.TheVariants.{Register}
-use Rattle.df_catalogue.specs.declared.fault.CatalogueFault.{CatalogueFault}
-use Rattle.df_catalogue.specs.declared.fault.CatalogueFault.TheVariants as fault
+use Rattle.df_state.specs.declared.change.Change.{Change}
+use Rattle.df_state.specs.declared.change.Change.TheVariants.{Register}
+use Rattle.df_state.specs.declared.fault.CatalogueFault.{CatalogueFault}
+use Rattle.df_state.specs.declared.fault.CatalogueFault.TheVariants as fault
 use Rattle.df_frame.specs.declared.frame_change.FrameChange.{FrameChange}
 use Rattle.df_frame.specs.declared.frame_change.FrameChange.TheVariants.{Append, Delete, Prepared, Replace}
 use Rattle.df_catalogue.specs.declared.staging.StagedFrame.{StagedFrame}
 use Rattle.df_catalogue.specs.declared.staging.Staging.{Staging}
 use Rattle.df_catalogue.specs.declared.staging.Staging.TheVariants.{Rows}
-use Rattle.df_catalogue.specs.declared.state.CatalogueParts.{CatalogueParts}
-use Rattle.df_catalogue.specs.declared.state.RowCounts.{RowCounts}
-use Rattle.df_catalogue.specs.declared.state.StagedParts.{StagedParts}
-use Rattle.df_catalogue.specs.declared.state.State.{State}
+use Rattle.df_state.specs.declared.state.CatalogueParts.{CatalogueParts}
+use Rattle.df_state.specs.declared.state.RowCounts.{RowCounts}
+use Rattle.df_state.specs.declared.state.StagedParts.{StagedParts}
+use Rattle.df_state.specs.declared.state.State.{State}
 use Rattle.df_catalogue.specs.declared.views.View.{View}
-use Rattle.df_catalogue.specs.Answers.{RefusedBy}
-use Rattle.df_catalogue.specs.Changes as changes
-use Rattle.df_catalogue.specs.Desks.{DeskParts, desk_after}
-use Rattle.df_catalogue.specs.FrameChanges.{change_of}
+use Rattle.df_state.specs.Answers.{RefusedBy}
+use Rattle.df_state.specs.Changes as changes
+use Rattle.df_state.specs.Desks.{DeskParts, desk_after}
+use Rattle.df_state.specs.FrameChanges.{change_of}
 use Rattle.df_frame.specs.FrameParts.{FrameParts, schemas_of, states_of}
 use Rattle.df_catalogue.specs.Parts.{state_of}
-use Rattle.df_catalogue.specs.Refusals.{refusal_of}
+use Rattle.df_state.specs.Refusals.{refusal_of}
 use Rattle.df_catalogue.specs.StagedChanges.{counted_desk, counts_of, counts_staged, IsCommit, IsStagedChange, IsStagedFor}
 use Rattle.df_catalogue.specs.Staging.{staged_parts, state_with_rows}
-use Rattle.df_catalogue.specs.States.{IsLegal}
-use Rattle.df_catalogue.specs.Transitions.{IsTransition, IsTransitionOfDesk}
+use Rattle.df_state.specs.States.{IsLegal}
+use Rattle.df_state.specs.Transitions.{IsTransition, IsTransitionOfDesk}
 use Rattle.df_catalogue.specs.Work.{IsCounted, IsWorkOf, allowance, allowed_after}
 use Rattle.df_catalogue.proofs.WorkFacts.{counted-frame}
 

@@ -7,20 +7,20 @@ use Rattle.df_live.specs.Frames.{rows_of_frames}
 use Rattle.df_live.specs.Views.{LeadsTo}
 use Rattle.df_live.specs.declared.view.StagedView.{StagedView}
 use Rattle.df_plan.specs.Meaning.{table_of}
-use Rattle.df_catalogue.specs.declared.picture.PicturedView.{PicturedView}
+use Rattle.df_state.specs.declared.picture.PicturedView.{PicturedView}
 use Rattle.df_catalogue.specs.declared.staging.StagedFrame.{StagedFrame}
 use Rattle.df_frame.specs.declared.state.FrameState.{FrameState}
 use Rattle.df_catalogue.specs.declared.views.View.{View}
-use Rattle.df_catalogue.specs.Changes.{refreshed_views}
+use Rattle.df_state.specs.Changes.{refreshed_views}
 use Rattle.df_frame.specs.FrameParts.{FrameParts, schemas_of, states_of}
 use Rattle.df_frame.specs.FrameTables.{table_parts}
 use Rattle.df_frame.specs.Frames.{rows_of}
-use Rattle.df_catalogue.specs.LiveViews.{tagged_frames, view_state, AreStaged}
-use Rattle.df_catalogue.specs.Pictures.{AreNumberedTables, PictureParts, named_rows, named_rows_in, numbered_rows_in, picture_of, planned_rows, rows_in}
+use Rattle.df_catalogue.specs.LiveViews.{tagged_frames, view_state, AreStaged, planned_rows}
+use Rattle.df_state.specs.Pictures.{AreNumberedTables, PictureParts, named_rows, named_rows_in, numbered_rows_in, picture_of, rows_in}
 use Rattle.df_catalogue.specs.Staging.{frames_with, state_with_rows, IsStagedFrame}
 use Rattle.df_catalogue.proofs.LiveFacts.{frames-rows}
-use Rattle.df_catalogue.proofs.Loops.{mapped-more}
-use Rattle.df_catalogue.proofs.PictureFacts.{frames-seen, tables-numbered}
+use Rattle.df_state.proofs.Loops.{mapped-more}
+use Rattle.df_state.proofs.PictureFacts.{frames-seen, tables-numbered}
 
 -- one view more, with what was staged for it
 pub staged-more :

@@ -11,25 +11,26 @@ use Rattle.df_frame.specs.declared.frame_change.FrameChange.{FrameChange}
 use Rattle.df_frame.specs.declared.frame_change.FrameChange.TheVariants.{Append, Delete, Prepared, Replace}
 use Rattle.df_catalogue.specs.declared.staging.StagedFrame.{StagedFrame}
 use Rattle.df_frame.specs.declared.state.FrameState.{FrameState}
-use Rattle.df_catalogue.specs.declared.state.RowCounts.{RowCounts}
-use Rattle.df_catalogue.specs.declared.state.State.{State}
+use Rattle.df_state.specs.declared.state.RowCounts.{RowCounts}
+use Rattle.df_state.specs.declared.state.State.{State}
 use Rattle.df_catalogue.specs.declared.views.View.{View}
-use Rattle.df_catalogue.specs.Changes.{accepted_rows, after, change_at, deleted_rows, refreshed_views, IsSound}
-use Rattle.df_catalogue.specs.Desks.{accepted_in, deleted_in}
-use Rattle.df_catalogue.specs.FrameChanges.{change_of}
+use Rattle.df_state.specs.Changes.{accepted_rows, after, change_at, deleted_rows, refreshed_views, IsSound}
+use Rattle.df_state.specs.Desks.{accepted_in, deleted_in}
+use Rattle.df_state.specs.FrameChanges.{change_of}
 use Rattle.df_frame.specs.FrameChanges.{frame_after}
 use Rattle.df_frame.specs.FrameParts.{FrameParts, schemas_of, states_of}
 use Rattle.df_frame.specs.FrameTables.{tagged_rows_of}
 use Rattle.df_catalogue.specs.LiveViews.{plans, tagged_frames, view_state, AreChangesOf, AreStaged, HaveRoom}
 use Rattle.df_catalogue.specs.Parts.{state_of}
-use Rattle.df_catalogue.specs.Refusals.{refusal_of}
+use Rattle.df_state.specs.Refusals.{refusal_of}
 use Rattle.df_catalogue.specs.StagedChanges.{counts_of}
 use Rattle.df_catalogue.specs.Staging.{frames_with, state_with_rows, IsStagedFrame}
-use Rattle.df_catalogue.specs.States.{IsLegal}
+use Rattle.df_state.specs.States.{IsLegal}
 use Rattle.df_catalogue.specs.Work.{allowance, work_of_all}
-use Rattle.df_catalogue.proofs.FrameChangeFacts.{after-frame, booked, delta-changes, schemas-set, states-set, IsChangeable}
-use Rattle.df_catalogue.proofs.Legal.{legal-after}
-use Rattle.df_catalogue.proofs.StateFacts.{change-set}
+use Rattle.df_catalogue.proofs.FrameChangeFacts.{delta-changes}
+use Rattle.df_state.proofs.FrameChangeFacts.{after-frame, booked, schemas-set, states-set, IsChangeable}
+use Rattle.df_state.proofs.Legal.{legal-after}
+use Rattle.df_state.proofs.StateFacts.{change-set}
 use Rattle.df_catalogue.proofs.WorkFacts.{counted-views}
 
 -- what is known where a frame was changed so

@@ -5,21 +5,21 @@ use Rattle.std.proofs.lemmas.List.{length-map}
 use Rattle.df_expr.specs.declared.meter.Meter.{Meter}
 use Rattle.df_plan.specs.Checks.{plan_check}
 use Rattle.df_live.specs.Views.{IsLive}
-use Rattle.df_catalogue.specs.declared.change.Change.TheVariants.{Register, DropView}
+use Rattle.df_state.specs.declared.change.Change.TheVariants.{Register, DropView}
 use Rattle.df_catalogue.specs.declared.staging.Staging.TheVariants.{NewView, OldView}
-use Rattle.df_catalogue.specs.declared.state.CatalogueParts.{CatalogueParts}
-use Rattle.df_catalogue.specs.declared.state.State.{State}
-use Rattle.df_catalogue.specs.declared.state.ViewState.{ViewState}
+use Rattle.df_state.specs.declared.state.CatalogueParts.{CatalogueParts}
+use Rattle.df_state.specs.declared.state.State.{State}
+use Rattle.df_state.specs.declared.state.ViewState.{ViewState}
 use Rattle.df_catalogue.specs.declared.views.View.{View}
-use Rattle.df_catalogue.specs.Changes.{after}
+use Rattle.df_state.specs.Changes.{after}
 use Rattle.df_frame.specs.FrameParts.{FrameParts, schemas_of, states_of}
 use Rattle.df_catalogue.specs.LiveViews.{tagged_frames, view_state}
 use Rattle.df_catalogue.specs.Parts.{state_of, IsCatalogue}
-use Rattle.df_catalogue.specs.Refusals.{refusal_of}
+use Rattle.df_state.specs.Refusals.{refusal_of}
 use Rattle.df_catalogue.specs.StagedChanges.{IsStagedFor}
 use Rattle.df_catalogue.specs.Staging.{staged_parts, staged_state, IsNewView, IsOldView}
-use Rattle.df_catalogue.specs.States.{IsLegal}
-use Rattle.df_catalogue.proofs.PartFacts.{found-within}
+use Rattle.df_state.specs.States.{IsLegal}
+use Rattle.df_state.proofs.Places.{found-within}
 use Rattle.df_catalogue.proofs.ViewChangeFacts.{dropped, registered}
 
 -- the same views by another name

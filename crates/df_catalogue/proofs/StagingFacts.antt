@@ -6,18 +6,18 @@ use Rattle.df_expr.specs.declared.meter.Meter.{Meter}
 use Rattle.df_catalogue.specs.declared.staging.StagedFrame.{StagedFrame}
 use Rattle.df_catalogue.specs.declared.staging.Staging.{Staging}
 use Rattle.df_catalogue.specs.declared.staging.Staging.TheVariants.{Rows, NewView, OldView}
-use Rattle.df_catalogue.specs.declared.state.CatalogueParts.{CatalogueParts}
-use Rattle.df_catalogue.specs.declared.state.State.{State}
+use Rattle.df_state.specs.declared.state.CatalogueParts.{CatalogueParts}
+use Rattle.df_state.specs.declared.state.State.{State}
 use Rattle.df_catalogue.specs.declared.views.View.{View}
-use Rattle.df_catalogue.specs.Changes.{refreshed_views, view_over}
-use Rattle.df_catalogue.specs.Desks.{parts_of_no_desk}
+use Rattle.df_state.specs.Changes.{refreshed_views, view_over}
+use Rattle.df_state.specs.Desks.{parts_of_no_desk}
 use Rattle.df_frame.specs.FrameParts.{FrameParts, schemas_of, states_of}
 use Rattle.df_catalogue.specs.LiveViews.{headings, tagged_frames, view_state, AreLive}
 use Rattle.df_catalogue.specs.Parts.{state_of, IsCatalogue}
 use Rattle.df_catalogue.specs.StagedChanges.{IsCommit}
 use Rattle.df_catalogue.specs.Staging.{frames_with, rows_staged, staged_parts, staged_state, staged_work, state_with_rows, IsNewView, IsOldView, IsSoundCatalogue, IsStagedFrame, IsStaging}
-use Rattle.df_catalogue.specs.States.{IsLegal, IsPlanOver}
-use Rattle.df_catalogue.proofs.SoundFrames.{accepted-few, deleted-few}
+use Rattle.df_state.specs.States.{IsLegal, IsPlanOver}
+use Rattle.df_state.proofs.SoundFrames.{accepted-few, deleted-few}
 use Rattle.df_catalogue.proofs.LiveFacts.{headings-plans, refreshed-headings, views-live}
 use Rattle.df_catalogue.proofs.ViewChangeFacts.{live-removed}
 use Rattle.df_catalogue.proofs.ViewLists.{live_push}

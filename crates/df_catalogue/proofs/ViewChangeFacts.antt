@@ -6,22 +6,22 @@ use Rattle.df_value.specs.declared.cell.CellType.{CellType}
 use Rattle.df_column.specs.Tables.{TaggedRows}
 use Rattle.df_plan.specs.Checks.{plan_check}
 use Rattle.df_live.specs.Views.{IsLive}
-use Rattle.df_catalogue.specs.declared.state.State.{State}
+use Rattle.df_state.specs.declared.state.State.{State}
 use Rattle.df_frame.specs.declared.state.FrameState.{FrameState}
-use Rattle.df_catalogue.specs.declared.state.ViewState.{ViewState}
+use Rattle.df_state.specs.declared.state.ViewState.{ViewState}
 use Rattle.df_catalogue.specs.declared.views.View.{View}
-use Rattle.df_catalogue.specs.declared.change.Change.TheVariants.{Register, DropView}
-use Rattle.df_catalogue.specs.declared.fault.CatalogueFault.TheVariants as fault
-use Rattle.df_catalogue.specs.States.{IsLegal}
-use Rattle.df_catalogue.specs.Refusals.{refusal_of, reason_if}
-use Rattle.df_catalogue.specs.Changes.{after, refreshed_views, view_over, without_view}
+use Rattle.df_state.specs.declared.change.Change.TheVariants.{Register, DropView}
+use Rattle.df_state.specs.declared.fault.CatalogueFault.TheVariants as fault
+use Rattle.df_state.specs.States.{IsLegal}
+use Rattle.df_state.specs.Refusals.{refusal_of, reason_if}
+use Rattle.df_state.specs.Changes.{after, refreshed_views, view_over, without_view}
 use Rattle.df_catalogue.specs.LiveViews.{tagged_frames, view_state, AreLive}
 use Rattle.df_catalogue.specs.Parts.{state_of, IsCatalogue}
-use Rattle.df_catalogue.proofs.Legal.{legal-after, register-accepted}
+use Rattle.df_state.proofs.Legal.{legal-after, register-accepted}
 use Rattle.df_catalogue.proofs.LiveFacts.{view-live}
-use Rattle.df_catalogue.proofs.PartFacts.{any-found}
-use Rattle.df_catalogue.proofs.StateFacts.{left-found}
-use Rattle.df_catalogue.proofs.ViewFacts.{refreshed_views-same, tables-filter}
+use Rattle.df_state.proofs.Places.{any-found}
+use Rattle.df_state.proofs.StateFacts.{left-found}
+use Rattle.df_state.proofs.ViewFacts.{refreshed_views-same, tables-filter}
 use Rattle.df_catalogue.proofs.ViewLists.{live_push}
 
 abbrev Columns : Type 0

@@ -10,7 +10,7 @@ use Rattle.df_catalogue.specs.declared.views.View.{View}
 use Rattle.df_catalogue.specs.LiveViews.{headings, AreChangesOf, AreLive, AreStaged, HaveRoom}
 use Rattle.std.proofs.Common.{inl, inr}
 use Rattle.std.proofs.lemmas.List.{get_or-set_same, get_or-set_other}
-use Rattle.df_catalogue.proofs.Partners.{map_set, all_set, pairs_push, pairs_pop, pairs_last, length-last, same_or_not, last_item, earlier_item}
+use Rattle.df_state.proofs.Partners.{map_set, all_set, pairs_push, pairs_pop, pairs_last, length-last, same_or_not, last_item, earlier_item}
 
 pub headings_set :
     (views : List View) (i : ℕ) (v d : View) → v.name ≡ (get_or views i d).name → v.live.plan ≡ (get_or views i d).live.plan →

@@ -8,20 +8,20 @@ use Rattle.df_column.specs.Tables.{TaggedRows}
 use Rattle.df_delta.specs.Work.{IsBelow, IsWithin, no_work, plus}
 use Rattle.df_plan.specs.CheckedParts.{CheckedParts}
 use Rattle.df_live.specs.Views.{most_work, work}
-use Rattle.df_catalogue.specs.declared.change.Change.{Change}
-use Rattle.df_catalogue.specs.declared.change.Change.TheVariants.{Append, Delete, Replace, Register, DropView}
-use Rattle.df_catalogue.specs.declared.fault.CatalogueFault.{CatalogueFault}
+use Rattle.df_state.specs.declared.change.Change.{Change}
+use Rattle.df_state.specs.declared.change.Change.TheVariants.{Append, Delete, Replace, Register, DropView}
+use Rattle.df_state.specs.declared.fault.CatalogueFault.{CatalogueFault}
 use Rattle.df_frame.specs.declared.frame_change.FrameChange.{FrameChange}
 use Rattle.df_frame.specs.declared.frame_change.FrameChange.TheVariants as RowsOf
-use Rattle.df_catalogue.specs.declared.state.CatalogueParts.{CatalogueParts}
-use Rattle.df_catalogue.specs.declared.state.State.{State}
+use Rattle.df_state.specs.declared.state.CatalogueParts.{CatalogueParts}
+use Rattle.df_state.specs.declared.state.State.{State}
 use Rattle.df_catalogue.specs.declared.views.View.{View}
-use Rattle.df_catalogue.specs.Changes.{after}
-use Rattle.df_catalogue.specs.FrameChanges.{change_of}
+use Rattle.df_state.specs.Changes.{after}
+use Rattle.df_state.specs.FrameChanges.{change_of}
 use Rattle.df_catalogue.specs.LiveViews.{headings, plans, view_state}
-use Rattle.df_catalogue.specs.Runs.{AnswersEach, accepted_changes}
+use Rattle.df_state.specs.Runs.{AnswersEach, accepted_changes}
 use Rattle.df_catalogue.specs.Work.{IsCounted, IsWorkOf, IsWorkOfReplay, allowance, allowed_after, allowed_after_all, counting_step, work_of_all}
-use Rattle.df_catalogue.proofs.RunFacts.{accepted_changes-none, accepted_changes-some, fold-more, made}
+use Rattle.df_state.proofs.RunFacts.{accepted_changes-none, accepted_changes-some, fold-more, made}
 
 -- what the plans from the k-th on may count
 abbrev pub work_from : List CheckedParts → ℕ → List TaggedRows → List TaggedRows → Meter

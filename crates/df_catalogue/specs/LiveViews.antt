@@ -1,13 +1,16 @@
 -- The views of a catalogue, each over the same frames, and what was staged for each.
 use Rattle.std.specs.Prelude.{ℕ, ◌<◌, List, length, map, slice_index_or}
 use Rattle.std.specs.FinMap as finite
+use Rattle.df_value.specs.declared.cell.Cell.{Cell}
 use Rattle.df_column.specs.Tables.{TaggedRows}
 use Rattle.df_delta.specs.Deltas.{Changes}
 use Rattle.df_plan.specs.CheckedParts.{CheckedParts}
+use Rattle.df_plan.specs.Meaning.{table_of}
+use Rattle.df_live.specs.Frames.{rows_of_frames}
 use Rattle.df_live.specs.Views.{HasRoomFor, IsChangeOf, IsLive, LeadsTo}
 use Rattle.df_live.specs.declared.view.StagedView.{StagedView}
 use Rattle.df_frame.specs.declared.state.FrameState.{FrameState}
-use Rattle.df_catalogue.specs.declared.state.ViewState.{ViewState}
+use Rattle.df_state.specs.declared.state.ViewState.{ViewState}
 use Rattle.df_catalogue.specs.declared.views.View.{View}
 use Rattle.df_frame.specs.FrameTables.{tagged_rows_of}
 
@@ -26,6 +29,10 @@ plans views = map (λ v. v.live.plan) views
 -- the frames' rows by their tags
 abbrev pub tagged_frames : List FrameState → List TaggedRows
 tagged_frames frames = map tagged_rows_of frames
+
+-- a view's name with the rows of its plan over these frames
+abbrev pub planned_rows : List TaggedRows → View → List ℕ × List (List Cell)
+planned_rows frames v = (v.name, (table_of v.live.plan.plan v.live.plan.frames (rows_of_frames frames)).rows)
 
 -- each view stands over these frames
 pub record AreLive (views : List View) (frames : List TaggedRows) : Type 0 where

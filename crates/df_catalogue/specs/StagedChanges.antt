@@ -1,17 +1,17 @@
 -- A change in two steps: a call stages it, which may be refused and leaves the state as it is; a second one commits it,
 -- which needs no memory and is not refused.
 use Rattle.std.specs.Prelude.{◌≡◌, ◌+◌, Bool, ◌&&◌, Option, Some, None, is_none, is_some, option_and_then, length, Result, OnOk, OnErr, IfErr, IsSomeAnd}
-use Rattle.df_catalogue.specs.declared.change.Change.{Change}
-use Rattle.df_catalogue.specs.declared.change.Change.TheVariants.{Append, Delete, Replace, Register, DropView}
-use Rattle.df_catalogue.specs.declared.fault.CatalogueFault.{CatalogueFault}
-use Rattle.df_catalogue.specs.declared.state.CatalogueParts.{CatalogueParts}
-use Rattle.df_catalogue.specs.declared.state.RowCounts.{RowCounts}
-use Rattle.df_catalogue.specs.declared.state.StagedParts.{StagedParts}
-use Rattle.df_catalogue.specs.Answers.{RefusedBy}
-use Rattle.df_catalogue.specs.Changes as changes
-use Rattle.df_catalogue.specs.Desks.{DeskParts}
-use Rattle.df_catalogue.specs.Refusals.{refusal_of}
-use Rattle.df_catalogue.specs.States.{IsLegal}
+use Rattle.df_state.specs.declared.change.Change.{Change}
+use Rattle.df_state.specs.declared.change.Change.TheVariants.{Append, Delete, Replace, Register, DropView}
+use Rattle.df_state.specs.declared.fault.CatalogueFault.{CatalogueFault}
+use Rattle.df_state.specs.declared.state.CatalogueParts.{CatalogueParts}
+use Rattle.df_state.specs.declared.state.RowCounts.{RowCounts}
+use Rattle.df_state.specs.declared.state.StagedParts.{StagedParts}
+use Rattle.df_state.specs.Answers.{RefusedBy}
+use Rattle.df_state.specs.Changes as changes
+use Rattle.df_state.specs.Desks.{DeskParts}
+use Rattle.df_state.specs.Refusals.{refusal_of}
+use Rattle.df_state.specs.States.{IsLegal}
 use Rattle.df_catalogue.specs.Work.{IsCounted, allowed_after}
 
 -- what the desk counts at a change of rows

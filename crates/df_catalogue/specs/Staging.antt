@@ -6,16 +6,16 @@ use Rattle.df_live.specs.Views.{IsLive}
 use Rattle.df_catalogue.specs.declared.staging.StagedFrame.{StagedFrame}
 use Rattle.df_catalogue.specs.declared.staging.Staging.{Staging}
 use Rattle.df_catalogue.specs.declared.staging.Staging.TheVariants.{Rows, NewView, OldView}
-use Rattle.df_catalogue.specs.declared.state.RowCounts.{RowCounts}
-use Rattle.df_catalogue.specs.declared.state.StagedParts.{StagedParts}
-use Rattle.df_catalogue.specs.declared.state.State.{State}
+use Rattle.df_state.specs.declared.state.RowCounts.{RowCounts}
+use Rattle.df_state.specs.declared.state.StagedParts.{StagedParts}
+use Rattle.df_state.specs.declared.state.State.{State}
 use Rattle.df_catalogue.specs.declared.views.View.{View}
-use Rattle.df_catalogue.specs.Changes.{refreshed_views}
-use Rattle.df_catalogue.specs.Desks.{accepted_in, deleted_in}
+use Rattle.df_state.specs.Changes.{refreshed_views}
+use Rattle.df_state.specs.Desks.{accepted_in, deleted_in}
 use Rattle.df_frame.specs.FrameParts.{FrameParts, schemas_of, states_of}
 use Rattle.df_catalogue.specs.LiveViews.{tagged_frames, view_state, AreStaged, HaveRoom}
 use Rattle.df_catalogue.specs.Parts.{state_of, IsCatalogue}
-use Rattle.df_catalogue.specs.States.{IsLegal}
+use Rattle.df_state.specs.States.{IsLegal}
 
 -- the frames with the changed one in its place
 abbrev pub frames_with : List FrameParts → StagedFrame → List FrameParts

@@ -6,14 +6,14 @@ use Rattle.df_column.specs.Tables.{TaggedRows}
 use Rattle.df_delta.specs.Work.{IsWithin, no_work, plus}
 use Rattle.df_plan.specs.CheckedParts.{CheckedParts}
 use Rattle.df_live.specs.Views.{work}
-use Rattle.df_catalogue.specs.declared.change.Change.{Change}
-use Rattle.df_catalogue.specs.declared.change.Change.TheVariants.{Append, Delete, Replace, Register, DropView}
-use Rattle.df_catalogue.specs.declared.fault.CatalogueFault.{CatalogueFault}
-use Rattle.df_catalogue.specs.declared.state.CatalogueParts.{CatalogueParts}
-use Rattle.df_catalogue.specs.declared.state.State.{State}
-use Rattle.df_catalogue.specs.Changes.{after}
+use Rattle.df_state.specs.declared.change.Change.{Change}
+use Rattle.df_state.specs.declared.change.Change.TheVariants.{Append, Delete, Replace, Register, DropView}
+use Rattle.df_state.specs.declared.fault.CatalogueFault.{CatalogueFault}
+use Rattle.df_state.specs.declared.state.CatalogueParts.{CatalogueParts}
+use Rattle.df_state.specs.declared.state.State.{State}
+use Rattle.df_state.specs.Changes.{after}
 use Rattle.df_catalogue.specs.LiveViews.{tagged_frames}
-use Rattle.df_catalogue.specs.Runs.{Answered, accepted_changes}
+use Rattle.df_state.specs.Runs.{Answered, accepted_changes}
 
 -- what the nodes of these plans may count where the frames become others
 abbrev pub work_of_all : List CheckedParts → List TaggedRows → List TaggedRows → Meter

@@ -1,21 +1,19 @@
 //! The catalogue: frames, views and books.
-ghost use Rattle.std.specs.Prelude.{◌≡◌, ◌≢◌, ◌≤◌, ◌*◌, None, Some, IfErr, IfOk, OnOk, MatchResult, length, map};
-ghost use Rattle.df_catalogue.specs.New as new_spec;
-ghost use Rattle.df_catalogue.specs.Desks as desks_spec;
-ghost use Rattle.df_catalogue.specs.Ledgers as ledgers;
+ghost use Rattle.std.specs.Prelude.{◌≡◌, ◌≢◌, ◌≤◌, ◌*◌, None, Some, IfErr, IfOk, OnOk, length};
+ghost use Rattle.df_state.specs.New as new_spec;
+ghost use Rattle.df_state.specs.Desks as desks_spec;
+ghost use Rattle.df_state.specs.Ledgers as ledgers;
 ghost use Rattle.df_value.specs.Limits as limits;
-ghost use Rattle.df_frame.specs.FrameParts.{empty_parts};
-ghost use Rattle.df_catalogue.specs.States.{opening_of, IsLegal};
+ghost use Rattle.df_state.specs.States.{opening_of, IsLegal};
 ghost use Rattle.df_delta.specs.Work.{no_work};
 
-use crate::desk::{Desk, audit_all};
-use crate::fault::NewFault;
 use crate::staging::Staging;
 use crate::views::View;
 use df_expr::Meter;
 use df_frame::Frame;
-use df_value::{List, MOST_FRAMES, Schema};
-use std::alloc::{AllocError, Global};
+use df_state::{Desk, NewFault, audit_all, check_schemas, empty_frames, open_desks};
+use df_value::{List, Schema};
+use std::alloc::Global;
 use std::marker::Model;
 use std::sync::ledger::{Blank, Book, Ledger, Share};
 
@@ -61,7 +59,7 @@ impl<Acc: Ledger, Del: Ledger> Drop for Catalogue<Acc, Del> {
 }
 
 impl<Acc: Ledger, Del: Ledger> Model for Catalogue<Acc, Del> {
-    ghost use Rattle.df_catalogue.specs.declared.state.CatalogueParts.{CatalogueParts};
+    ghost use Rattle.df_state.specs.declared.state.CatalogueParts.{CatalogueParts};
     ghost use Rattle.df_frame.specs.FrameParts.{schemas_of, states_of};
     ghost use Rattle.df_catalogue.specs.Parts.{state_of};
     ghost use Rattle.df_catalogue.specs.Staging.{IsSoundCatalogue, staged_parts};
@@ -191,51 +189,4 @@ impl<Acc: Ledger, Del: Ledger> Catalogue<Acc, Del> {
             &mut self.deleted_of_no_desk,
         );
     }
-}
-
-fn check_schemas(schemas: &[Schema]) -> Result<(), NewFault>
-    ensures { MatchResult result (λ _. new_spec.new_fault schemas.now ≡ None)
-        (λ f. new_spec.new_fault schemas.now ≡ Some f) }
-{
-    if schemas.len() > MOST_FRAMES {
-        return Err(NewFault::TooManyFrames);
-    }
-    match schemas.iter().position(|s| !s.is_base()) {
-        Some(frame) => Err(NewFault::DerivedType(frame)),
-        None => Ok(()),
-    }
-}
-
-fn empty_frames(alloc: Global, schemas: List<Schema>) -> Result<Vec<Frame>, AllocError>
-    ensures { IfOk result (λ frames. frames.items ≡ map empty_parts schemas) }
-{
-    let mut frames = Vec::with_capacity(alloc, schemas.len())?;
-    for schema in schemas.into_vec() {
-        frames.push(Frame::new(alloc, schema)?)?;
-    }
-    Ok(frames)
-}
-
-fn open_desks<Acc: Ledger, Del: Ledger>(
-    alloc: Global,
-    count: usize,
-    accepted: &mut Share<Acc>,
-    deleted: &mut Share<Del>,
-) -> Result<Vec<Desk<Acc, Del>>, AllocError>
-    requires few { count ≤ limits.most_frames }
-    requires accepted_ledger { Acc.parts ≡ ledgers.parts_of_ledger }
-    requires deleted_ledger { Del.parts ≡ ledgers.parts_of_ledger }
-    requires accepted { (accepted.old.parts ≡ ledgers.parts_of_ledger) × (accepted.old.amount ≡ 0) }
-    requires deleted { (deleted.old.parts ≡ ledgers.parts_of_ledger) × (deleted.old.amount ≡ 0) }
-    ensures desks { IfOk result (λ desks. desks.items ≡ desks_spec.first_desks count) }
-    ensures accepted_parts { OnOk result (accepted.new.parts ≡ desks_spec.parts_of_no_desk count) }
-    ensures accepted_amount { OnOk result (accepted.new.amount ≡ 0) }
-    ensures deleted_parts { OnOk result (deleted.new.parts ≡ desks_spec.parts_of_no_desk count) }
-    ensures deleted_amount { OnOk result (deleted.new.amount ≡ 0) }
-{
-    let mut desks = Vec::with_capacity(alloc, count)?;
-    for frame in 0..count {
-        desks.push(Desk::first(frame, accepted, deleted))?;
-    }
-    Ok(desks)
 }

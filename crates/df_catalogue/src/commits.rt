@@ -3,10 +3,10 @@ ghost use Rattle.std.specs.Prelude.{◌≡◌, Some, IsSomeAnd, option_map};
 ghost use Rattle.df_catalogue.specs.StagedChanges.{IsCommit, counted_desk, counts_staged};
 
 use crate::catalogue::Catalogue;
-use crate::desk::Desk;
 use crate::live_views::commit_all;
 use crate::staged::{StagedRows, StagedViews};
 use crate::staging::{StagedFrame, Staging, take_rows};
+use df_state::Desk;
 use std::sync::ledger::Ledger;
 
 impl<Acc: Ledger, Del: Ledger> Catalogue<Acc, Del> {

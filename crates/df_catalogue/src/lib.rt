@@ -6,32 +6,24 @@
 #![tactic(auto)]
 
 mod catalogue;
-mod change;
 mod changing;
 mod checks;
 mod commits;
-mod desk;
-mod fault;
 mod live_views;
-mod picture;
+mod pictured;
 mod reading;
 mod replay;
-mod schemas;
 mod staged;
 mod staged_pictures;
 mod stages;
 mod staging;
-mod state;
-mod view_change;
 mod views;
 
 pub use catalogue::Catalogue;
-pub use change::Change;
-pub use desk::{Desk, PARTS_OF_LEDGER};
 pub use df_frame::{FrameChange, FrameState, PreparedChunk, StoredChunk};
 pub use df_live::{LiveView, StagedView};
-pub use fault::{CatalogueFault, NewFault};
-pub use picture::Picture;
+pub use df_state::{
+    CatalogueFault, CatalogueParts, Change, Desk, NewFault, PARTS_OF_LEDGER, Picture, RowCounts,
+    StagedParts, State, ViewChange, ViewState,
+};
 pub use staged::{StagedRows, StagedViews};
-pub use state::{CatalogueParts, RowCounts, StagedParts, State, ViewState};
-pub use view_change::ViewChange;

@@ -1,32 +1,18 @@
 //! The views follow a change of a frame: all of them prepare before any commits.
-ghost use Rattle.std.specs.Prelude.{◌≡◌, ◌≤◌, ◌^◌, IfOk, OnOk, List, length, map};
+ghost use Rattle.std.specs.Prelude.{◌≡◌, ◌≤◌, ◌^◌, IfOk, OnOk, List, length};
 ghost use Rattle.df_value.specs.Limits.{most_views};
 ghost use Rattle.df_column.specs.Tables.{TaggedRows};
 ghost use Rattle.df_delta.specs.Work.{IsBelow, IsWithin, no_work, plus};
 ghost use Rattle.df_live.specs.Frames.{changed};
 ghost use Rattle.df_live.specs.Views.{HasRoomFor, IsChangeOf, IsLive, LeadsTo, most_work, work};
-ghost use Rattle.df_frame.specs.FrameTables.{table_parts};
 ghost use Rattle.df_catalogue.specs.LiveViews.{AreChangesOf, AreLive, AreStaged, HaveRoom, headings, plans};
 ghost use Rattle.df_catalogue.specs.Work.{work_of_all};
 
 use crate::views::View;
-use df_column::Table;
 use df_delta::Delta;
 use df_expr::Meter;
-use df_frame::Frame;
 use df_live::StagedView;
 use std::alloc::{AllocError, Global};
-
-/// Tables that share the rows of the frames.
-pub fn shared_tables(alloc: Global, frames: &[Frame]) -> Result<Vec<Table>, AllocError>
-    ensures { IfOk result (λ tables. tables.items ≡ map table_parts frames.now) }
-{
-    let mut tables = Vec::with_capacity(alloc, frames.len())?;
-    for frame in frames {
-        tables.push(frame.share(alloc)?)?;
-    }
-    Ok(tables)
-}
 
 // Prepares one view for the delta of a frame. The view stands as it stood, also where memory is refused.
 fn prepare_view(

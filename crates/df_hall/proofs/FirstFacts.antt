@@ -3,7 +3,8 @@ use Rattle.std.proofs.Common.{◌≡◌, ◌≢◌, ℕ, zero, suc, ◌+◌, ◌
 use Rattle.std.specs.List.{SameBelow, ShiftedDown}
 use Rattle.std.proofs.lemmas.Grind.{get_or-set_at}
 use Rattle.std.proofs.lemmas.List.{get_or-set_other, length-set}
-use Rattle.df_catalogue.specs.Desks.{DeskParts}
+use Rattle.df_state.specs.Desks.{DeskParts}
+use Rattle.df_state.proofs.ListFacts.{before-or-not}
 use Rattle.df_hall.specs.Closing.{AreFirst}
 
 same-or-not : (k i : ℕ) → (k ≡ i) ⊎ (k ≢ i)
@@ -13,14 +14,6 @@ same-or-not zero (suc i) = inr (λ e. omega (arith, e))
 same-or-not (suc k) (suc i) = elim (same-or-not k i) [
   | inl e ↦ inl (omega (arith, e))
   | inr n ↦ inr (λ e. n (omega (arith, e)))
-]
-
-pub before-or-not : (k i : ℕ) → (k < i) ⊎ (i ≤ k)
-before-or-not k zero = inr (omega arith)
-before-or-not zero (suc i) = inl (omega arith)
-before-or-not (suc k) (suc i) = elim (before-or-not k i) [
-  | inl l ↦ inl (omega (arith, l))
-  | inr l ↦ inr (omega (arith, l))
 ]
 
 length-without : {X : Type 0} (xs : List X) (i : ℕ) → i < length xs → length (take i xs ++ drop (i + 1) xs) + 1 ≡ length xs

@@ -1,4 +1,3 @@
-pub mod ListFacts
 pub mod FirstFacts
 pub mod TotalsFacts
 pub mod CrossingPlans

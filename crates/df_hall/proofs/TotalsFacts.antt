@@ -4,7 +4,7 @@ use Rattle.std.specs.Prelude.{Some, slice_get}
 use Rattle.df_frame.specs.declared.state.FrameState.{FrameState}
 use Rattle.df_hall.specs.declared.totals.TotalsRoom.{TotalsRoom}
 use Rattle.df_hall.specs.Rooms.{HasRoomFor, Holds}
-use Rattle.df_hall.proofs.ListFacts.{item-at, map-more, take-one-more}
+use Rattle.df_state.proofs.ListFacts.{item-at, map-more, take-one-more}
 
 pub less-room : (n m : ℕ) (room : TotalsRoom) → HasRoomFor n room → m ≤ n → HasRoomFor m room
 less-room n m room h le = record {

@@ -1,9 +1,9 @@
 -- The close: desks joined to one for each frame, their shares compared with the frames' books, and the totals by frame.
 use Rattle.std.specs.Prelude.{◌≡◌, ◌≢◌, ℕ, ◌+◌, ◌<◌, ◌≤◌, Bool, ◌&&◌, ◌==◌, List, [], ◌∷◌, length, map, sum_by, slice_index_or, Option, Some, None, if◌then◌else◌}
 use Rattle.df_frame.specs.declared.state.FrameState.{FrameState}
-use Rattle.df_catalogue.specs.declared.state.State.{State}
-use Rattle.df_catalogue.specs.Desks.{AgreeWithBooks, DeskParts, joined_desk}
-use Rattle.df_catalogue.specs.States.{IsLegal}
+use Rattle.df_state.specs.declared.state.State.{State}
+use Rattle.df_state.specs.Desks.{AgreeWithBooks, DeskParts, joined_desk}
+use Rattle.df_state.specs.States.{IsLegal}
 use Rattle.df_value.specs.declared.cell.CellType.{CellType}
 use Rattle.df_versions.specs.Histories.{IsHistoryOver, IsLastState, last_state}
 use Rattle.df_hall.specs.declared.totals.Totals.{Totals}

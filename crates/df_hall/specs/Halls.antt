@@ -1,9 +1,9 @@
 -- What a hall answers to a change, and the shares of a desk after one that it accepted.
 use Rattle.std.specs.Prelude.{ℕ, ◌+◌, List, Result}
 use Rattle.df_value.specs.declared.cell.CellType.{CellType}
-use Rattle.df_catalogue.specs.Desks.{DeskParts}
-use Rattle.df_catalogue.specs.declared.change.Change.{Change}
-use Rattle.df_catalogue.specs.declared.state.State.{State}
+use Rattle.df_state.specs.Desks.{DeskParts}
+use Rattle.df_state.specs.declared.change.Change.{Change}
+use Rattle.df_state.specs.declared.state.State.{State}
 use Rattle.df_versions.specs.Answered.{AnswersChange}
 use Rattle.df_versions.specs.Histories.{IsHistoryOver}
 use Rattle.df_versions.specs.declared.fault.ChangeFault.{ChangeFault}

@@ -1,7 +1,7 @@
 //! The close: desks are joined to one for each frame, and their shares compared with the frames' books.
 ghost use Rattle.std.specs.Prelude.{◌≡◌, ◌+◌, ◌<◌, ◌≤◌, ◌==◌, ◌^◌, None, Some, [], IfErr, IfNone, IfOk, IfSome, length, slice_get, if◌then◌else◌};
-ghost use Rattle.df_catalogue.specs.Desks as desks_spec;
-ghost use Rattle.df_catalogue.specs.States.{IsLegal};
+ghost use Rattle.df_state.specs.Desks as desks_spec;
+ghost use Rattle.df_state.specs.States.{IsLegal};
 ghost use Rattle.df_frame.specs.declared.state.FrameState.{FrameState};
 ghost use Rattle.df_hall.specs.Closing as closing;
 ghost use Rattle.df_hall.specs.Rooms.{HasRoomFor, Holds};

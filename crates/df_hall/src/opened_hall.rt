@@ -1,8 +1,8 @@
 //! The opening of a hall.
 ghost use Rattle.std.specs.Prelude.{◌≡◌, ◌≢◌, ◌∷◌, [], All, Err, IfErr, IfOk, None, OnOk, Some, length};
-ghost use Rattle.df_catalogue.specs.Desks.{first_desks};
-ghost use Rattle.df_catalogue.specs.Ledgers as ledgers;
-ghost use Rattle.df_catalogue.specs.States.{opening_of};
+ghost use Rattle.df_state.specs.Desks.{first_desks};
+ghost use Rattle.df_state.specs.Ledgers as ledgers;
+ghost use Rattle.df_state.specs.States.{opening_of};
 ghost use Rattle.df_hall.specs.Rooms.{HasRoomFor, Holds};
 ghost use Rattle.df_value.specs.Limits as limits;
 ghost use Rattle.df_versions.specs.Histories.{schemas_of};
@@ -31,9 +31,9 @@ impl<Acc: Ledger, Del: Ledger> Model for OpenedHall<Acc, Del> {
     ghost use Rattle.std.specs.Prelude.{[], ℕ, List};
     ghost use Rattle.std.specs.Coded.{codes};
     ghost use Rattle.logbook.specs.Pages.{Book, book_coded};
-    ghost use Rattle.df_catalogue.specs.Desks.{DeskParts};
-    ghost use Rattle.df_catalogue.specs.declared.state.State.{State};
-    ghost use Rattle.df_catalogue.specs.contracts.state.State as state_type;
+    ghost use Rattle.df_state.specs.Desks.{DeskParts};
+    ghost use Rattle.df_state.specs.declared.state.State.{State};
+    ghost use Rattle.df_state.specs.contracts.state.State as state_type;
     ghost use Rattle.df_hall.specs.Rooms.{HasRoomFor, Holds};
     ghost use Rattle.df_value.specs.Limits as limits;
 

@@ -1,6 +1,6 @@
 //! Totals by frame, in room that is there before the first change.
 ghost use Rattle.std.specs.Prelude.{◌≡◌, ◌+◌, ◌++◌, ◌<◌, ◌≤◌, ◌∷◌, [], ℕ, IfOk, Some, length, slice_get};
-ghost use Rattle.df_catalogue.specs.States.{IsLegal};
+ghost use Rattle.df_state.specs.States.{IsLegal};
 ghost use Rattle.df_frame.specs.declared.state.FrameState.{FrameState};
 ghost use Rattle.df_hall.specs.Closing as closing;
 ghost use Rattle.df_hall.specs.Rooms.{HasRoomFor, Holds};

@@ -8,7 +8,7 @@ use Rattle.df_value.specs.declared.chunk.Piece.TheVariants.{Bad, Good}
 use Rattle.df_jobs.specs.declared.jobs.Outcome.{Outcome}
 use Rattle.df_jobs.specs.Jobs.{AreBegun, AreOutcomes, BeginsAt, chunks_of, jobs_from, numbered}
 use Rattle.df_jobs.proofs.JobFacts.{numbered-at}
-use Rattle.df_jobs.proofs.ListFacts.{map-at}
+use Rattle.df_state.proofs.ListFacts.{map-at}
 use Rattle.df_jobs.proofs.RowFacts.{append-cases, map-some}
 
 module _ {S : Type 0} (made : S → List Piece) (start : S → ℕ → ℕ) (starts : (source : S) (n : ℕ) (c : ChunkParts) → slice_get (made source) n ≡ Some (Good c) → c.first ≡ start source n) where

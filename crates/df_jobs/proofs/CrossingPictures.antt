@@ -3,9 +3,9 @@ use denote.Param.Send.{IsSync, sendable}
 use Rattle.std.proofs.Crossing.{crosses}
 use Rattle.df_value.proofs.text.Text.TheSendSync as text
 use Rattle.df_column.proofs.Crossing.{table_sync}
-use Rattle.df_catalogue.specs.contracts.picture.Picture as Picture
-use Rattle.df_catalogue.specs.contracts.picture.Picture.TheInside as PictureInside
-use Rattle.df_catalogue.specs.contracts.picture.PicturedView as PicturedView
+use Rattle.df_state.specs.contracts.picture.Picture as Picture
+use Rattle.df_state.specs.contracts.picture.Picture.TheInside as PictureInside
+use Rattle.df_state.specs.contracts.picture.PicturedView as PicturedView
 
 view_sync : IsSync (PicturedView.the_field).row
 view_sync = search (sendable, crosses, text.the_sync, table_sync) depth 40

@@ -7,8 +7,8 @@ use Rattle.std.proofs.Math.ListN.{get_or-append}
 use Rattle.std.proofs.Math.Seq.{get_or-append_seam, take-append_seam}
 use Rattle.std.proofs.lemmas.List.{take-append-le}
 use Rattle.df_value.specs.declared.cell.Cell.{Cell}
-use Rattle.df_catalogue.specs.Pictures.{PictureParts}
-use Rattle.df_jobs.proofs.ListFacts.{found, item-at, map-more}
+use Rattle.df_state.specs.Pictures.{PictureParts}
+use Rattle.df_state.proofs.ListFacts.{found, item-at, map-more}
 use Rattle.df_jobs.specs.declared.expected.Expected.{Expected}
 use Rattle.df_jobs.specs.declared.jobs.Outcome.{Outcome}
 use Rattle.df_jobs.specs.Expected.{AreExpected, HasAll, IsCounted, IsExpected, IsFound, most_of_usize, rows_at}

@@ -2,7 +2,7 @@
 use Rattle.std.proofs.Common.{◌≡◌, ℕ, zero, suc, ◌+◌, ◌-◌, ◌<◌, ◌≤◌, ◌∙◌, List, [], ◌∷◌, ◌++◌, map, length, length-append, refl, ap, arith, sum_by}
 use Rattle.std.specs.Prelude.{Option, Some, None, option_map, slice_get}
 use Rattle.df_value.specs.declared.chunk.Piece.{Piece}
-use Rattle.df_jobs.proofs.ListFacts.{length-mapped, map-at}
+use Rattle.df_state.proofs.ListFacts.{length-mapped, map-at}
 use Rattle.std.proofs.lemmas.List.Sums.{sum_by-cons}
 use Rattle.df_jobs.specs.Jobs.{chunks_of, jobs_from, jobs_of, numbered}
 

@@ -1,4 +1,3 @@
-pub mod ListFacts
 pub mod JobFacts
 pub mod OutcomeFacts
 pub mod RowFacts

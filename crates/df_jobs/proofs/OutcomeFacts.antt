@@ -6,10 +6,10 @@ use Rattle.std.specs.List.Sorted.{IsPermutation}
 use Rattle.std.proofs.lemmas.List.FromFn.{length-range_with_len}
 use Rattle.std.proofs.lemmas.List.Sorted.{All-permutation, IsPermutation-refl}
 use Rattle.df_value.specs.declared.chunk.Piece.{Piece}
-use Rattle.df_jobs.proofs.ListFacts.{found}
+use Rattle.df_state.proofs.ListFacts.{found}
 use Rattle.df_jobs.specs.declared.jobs.Outcome.{Outcome}
 use Rattle.df_jobs.specs.Jobs.{AreOutcomes, IsOutcome, job_of, jobs_of}
-use Rattle.df_jobs.proofs.ListFacts.{length-mapped, map-at, none-past, past, same-items}
+use Rattle.df_state.proofs.ListFacts.{length-mapped, map-at, none-past, past, same-items}
 
 pub range-more : (a n : ℕ) → range_with_len a (n + 1) ≡ range_with_len a n ++ (a + n) ∷ []
 range-more a zero = let e : a ≡ a + zero = omega arith in ap (λ k. k ∷ []) e

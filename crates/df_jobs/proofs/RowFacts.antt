@@ -9,13 +9,13 @@ use Rattle.std.proofs.lemmas.List.Sorted.{IsPermutation-map}
 use Rattle.df_value.specs.declared.cell.Cell.{Cell}
 use Rattle.df_value.specs.Chunks.{ChunkParts}
 use Rattle.df_value.specs.declared.chunk.Piece.{Piece}
-use Rattle.df_catalogue.specs.Pictures.{AreRowsIn, PictureParts, row_in}
-use Rattle.df_jobs.proofs.ListFacts.{found, item-at, take-more}
+use Rattle.df_state.specs.Pictures.{AreRowsIn, PictureParts, row_in}
+use Rattle.df_state.proofs.ListFacts.{found, item-at, take-more}
 use Rattle.df_jobs.specs.declared.jobs.Outcome.{Outcome}
 use Rattle.df_jobs.specs.Expected.{rows_at}
 use Rattle.df_jobs.specs.Jobs.{job_of}
 use Rattle.df_jobs.specs.Loaded.{HasRows, IsLoaded, chunk_rows, job_rows, made_rows}
-use Rattle.df_jobs.proofs.ListFacts.{none-past, past, same-items, take-all}
+use Rattle.df_state.proofs.ListFacts.{none-past, past, same-items, take-all}
 
 nothing-behind : {X : Type 0} (xs : List X) → xs ++ [] ≡ xs
 nothing-behind [] = refl

@@ -7,7 +7,7 @@ use Rattle.std.specs.List.Sorted.{IsPermutation}
 use Rattle.std.proofs.lemmas.Bool.{eqb-true}
 use Rattle.std.proofs.lemmas.List.Sorted.{Contains-permutation, IsPermutation-sym, sum_by-IsPermutation}
 use Rattle.std.proofs.lemmas.List.Sums.{sum_by-cons, sum_by-append}
-use Rattle.df_jobs.proofs.ListFacts.{before-or-not}
+use Rattle.df_state.proofs.ListFacts.{before-or-not}
 
 true-or-not : (b : Bool) → (b ≡ true) ⊎ (b ≡ false)
 true-or-not true = inl refl

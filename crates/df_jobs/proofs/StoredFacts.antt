@@ -5,7 +5,7 @@ use Rattle.std.proofs.Math.Seq.{drop-append_seam}
 use Rattle.df_value.specs.declared.cell.Cell.{Cell}
 use Rattle.df_value.specs.declared.chunk.Piece.{Piece}
 use Rattle.df_value.specs.declared.chunk.Piece.TheVariants.{Bad, Good}
-use Rattle.df_jobs.proofs.ListFacts.{take-more}
+use Rattle.df_state.proofs.ListFacts.{take-more}
 use Rattle.df_jobs.specs.declared.jobs.Outcome.{Outcome}
 use Rattle.df_jobs.specs.Loaded.{made_rows}
 use Rattle.df_jobs.specs.Made.{rows_in}

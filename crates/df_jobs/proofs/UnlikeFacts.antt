@@ -12,19 +12,19 @@ use Rattle.df_value.specs.declared.chunk.Piece.{Piece}
 use Rattle.df_value.specs.declared.chunk.Piece.TheVariants.{Bad, Good}
 use Rattle.df_frame.specs.Frames.{IsFrame, IsNumbered}
 use Rattle.df_frame.specs.Numbers.{has_number, is_rising}
-use Rattle.df_catalogue.specs.Pictures.{IsPictureOfLegal, PictureParts, picture_of}
+use Rattle.df_state.specs.Pictures.{IsPictureOfLegal, PictureParts, picture_of}
 use Rattle.df_frame.specs.declared.state.FrameState.{FrameState}
-use Rattle.df_catalogue.specs.declared.state.State.{State}
+use Rattle.df_state.specs.declared.state.State.{State}
 use Rattle.df_frame.proofs.Rising.{rising-filter}
 use Rattle.df_nodes.proofs.Filters.{filter_length}
-use Rattle.df_jobs.proofs.ListFacts.{found}
+use Rattle.df_state.proofs.ListFacts.{found}
 use Rattle.df_jobs.specs.declared.expected.Expected.{Expected}
 use Rattle.df_jobs.specs.declared.jobs.Outcome.{Outcome}
 use Rattle.df_jobs.specs.Expected.{AreExpected, HasAll, IsFound, StandsAt, most_of_usize, rows_at}
 use Rattle.df_jobs.specs.Jobs.{AreBegun, BeginsAt, job_of}
 use Rattle.df_jobs.specs.Loaded.{IsLoaded, IsUnlike, IsUnlikeIn, job_rows, made_rows}
 use Rattle.df_jobs.proofs.JobFacts.{append-above, append-below}
-use Rattle.df_jobs.proofs.ListFacts.{length-mapped, map-at}
+use Rattle.df_state.proofs.ListFacts.{length-mapped, map-at}
 use Rattle.df_jobs.proofs.RowFacts.{behind, flat-mapped, map-some}
 use Rattle.df_jobs.proofs.SortedOrders.{AreInOrder, Follow, Rises, in-order}
 

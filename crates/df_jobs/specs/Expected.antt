@@ -1,7 +1,7 @@
 -- Where the rows of outcomes are to stand in their frames, and that they were found there.
 use Rattle.std.specs.Prelude.{◌≡◌, ◌≢◌, ◌⊎◌, ◌^◌, ◌-◌, ◌<◌, ℕ, All, IfSome, List, length, map, min, Some, flat_map, get_or, slice_index_or, take}
 use Rattle.df_value.specs.declared.cell.Cell.{Cell}
-use Rattle.df_catalogue.specs.Pictures.{PictureParts, ReachesIn, frame_len_in}
+use Rattle.df_state.specs.Pictures.{PictureParts, ReachesIn, frame_len_in}
 use Rattle.df_jobs.specs.declared.expected.Expected.{Expected}
 use Rattle.df_jobs.specs.declared.jobs.Outcome.{Outcome}
 use Rattle.df_jobs.specs.Jobs.{job_of}

@@ -6,8 +6,8 @@ use Rattle.df_value.specs.declared.cell.Cell.{Cell}
 use Rattle.df_value.specs.Chunks.{ChunkParts}
 use Rattle.df_value.specs.declared.chunk.Piece.{Piece}
 use Rattle.df_value.specs.declared.chunk.Piece.TheVariants.{Good, Bad}
-use Rattle.df_catalogue.specs.Pictures.{PictureParts, row_in}
-use Rattle.df_catalogue.specs.declared.state.State.{State}
+use Rattle.df_state.specs.Pictures.{PictureParts, row_in}
+use Rattle.df_state.specs.declared.state.State.{State}
 use Rattle.df_frame.specs.declared.state.FrameState.{FrameState}
 
 -- the rows of a chunk behind their numbers

@@ -2,7 +2,7 @@
 //! outcome as soon as its rows are found. No row is copied.
 ghost use Rattle.std.specs.Prelude.{◌≡◌, ◌≢◌, ◌↔◌, ◌<◌, ℕ, true, All, IfNone, IfOk, IfSome, IsFalse, IsTrue, get_or, length, map, slice_index_or};
 ghost use Rattle.std.specs.List.Sorted.{IsNonDecreasingBy, IsPermutation};
-ghost use Rattle.df_catalogue.specs.Pictures.{IsPictureOfLegal};
+ghost use Rattle.df_state.specs.Pictures.{IsPictureOfLegal};
 ghost use Rattle.df_jobs.specs.Expected.{HasAll, IsFound, StandsAt};
 ghost use Rattle.df_jobs.specs.Jobs.{AreBegun, job_of};
 ghost use Rattle.df_jobs.specs.Loaded.{AreLoadedIn, HasRows, IsUnlikeIn, chunk_rows, job_rows};
@@ -10,7 +10,7 @@ ghost use Rattle.df_jobs.specs.Loaded.{AreLoadedIn, HasRows, IsUnlikeIn, chunk_r
 use crate::expected::{Expected, expect_all};
 use crate::jobs::Outcome;
 use crate::made::KeptPiece;
-use df_catalogue::Picture;
+use df_state::Picture;
 use df_frame::StoredChunk;
 use df_value::{Chunk, Piece};
 use std::alloc::{AllocError, Global};

@@ -1,6 +1,6 @@
 //! The tests of a hall, and how one is run: in a hall over two empty frames.
 ghost use Rattle.std.specs.Prelude.{◌≡◌, length};
-ghost use Rattle.df_catalogue.specs.Ledgers as ledgers;
+ghost use Rattle.df_state.specs.Ledgers as ledgers;
 ghost use Rattle.df_versions.specs.Histories.{schemas_of};
 
 use crate::changes::change_and_close;

@@ -1,7 +1,7 @@
 -- Lists of changes that were all made, one behind another.
 use Rattle.std.proofs.Common.{List, [], ◌∷◌, ◌++◌, flat_map, map, ap, refl, sym, subst}
 use Rattle.std.proofs.lemmas.List.{flat_map_more, map-append}
-use Rattle.df_catalogue.specs.declared.change.Change.{Change}
+use Rattle.df_state.specs.declared.change.Change.{Change}
 use Rattle.df_session.specs.Filling.{AreMade}
 
 module _ {S : Type 0} (Makes : S → S → Change → Type 0) where

@@ -1,7 +1,7 @@
 -- The numbers behind those of rows, and a change of a list past its end.
 use Rattle.std.proofs.Common.{◌≡◌, ◌≤◌, ◌+◌, ℕ, zero, suc, List, [], ◌∷◌, ap, arith, length, refl}
 use Rattle.std.specs.List.{range_with_len}
-use Rattle.df_catalogue.specs.Changes.{change_at}
+use Rattle.df_state.specs.Changes.{change_at}
 use Rattle.df_session.specs.Numbers.{number_behind}
 
 -- the numbers of rows from one on end behind the last of them

@@ -2,7 +2,7 @@
 use Rattle.std.specs.Prelude.{◌≡◌, ◌⊎◌, ⊤, ℕ, List, [], Option, Some, None, Result, Ok, Err, codes}
 use Rattle.csv.specs.Records.{Row, fields_of}
 use Rattle.std.specs.Global.{Vec}
-use Rattle.df_catalogue.specs.declared.change.Change.{Change}
+use Rattle.df_state.specs.declared.change.Change.{Change}
 use Rattle.df_session.specs.Commands.{IsCommandOf}
 use Rattle.df_session.specs.Asked.{IsAppended, IsMadeAsAsked, IsRefusalOfAppendNext, IsRefusalOfAsked, frame_index_of}
 use Rattle.df_session.specs.Help.{help_list, help_on}

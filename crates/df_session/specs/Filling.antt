@@ -4,8 +4,8 @@ use Rattle.std.specs.List.{enumerate_from, zip}
 use Rattle.df_value.specs.declared.chunk.Piece.{Piece}
 use Rattle.df_value.specs.declared.chunk.Piece.TheVariants as made
 use Rattle.df_plan.specs.CheckedParts.{CheckedParts}
-use Rattle.df_catalogue.specs.declared.change.Change.{Change}
-use Rattle.df_catalogue.specs.declared.change.Change.TheVariants.{Append, Register}
+use Rattle.df_state.specs.declared.change.Change.{Change}
+use Rattle.df_state.specs.declared.change.Change.TheVariants.{Append, Register}
 use Rattle.df_session.specs.declared.definitions.Definitions.{Definitions}
 use Rattle.df_text.specs.declared.document.ViewSpec.{ViewSpec}
 

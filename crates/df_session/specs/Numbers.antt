@@ -1,9 +1,9 @@
 -- The numbers at which further rows of frames begin: behind the highest number that the frame ever accepted, also where its row
 -- was deleted.
 use Rattle.std.specs.Prelude.{◌+◌, ℕ, List, [], ◌∷◌, Option, Some, None, Result, Ok, Err, max}
-use Rattle.df_catalogue.specs.Changes.{change_at}
-use Rattle.df_catalogue.specs.declared.change.Change.{Change}
-use Rattle.df_catalogue.specs.declared.change.Change.TheVariants.{Append, Delete, DropView, Register, Replace}
+use Rattle.df_state.specs.Changes.{change_at}
+use Rattle.df_state.specs.declared.change.Change.{Change}
+use Rattle.df_state.specs.declared.change.Change.TheVariants.{Append, Delete, DropView, Register, Replace}
 use Rattle.df_frame.specs.Frames.{chunk_numbers}
 
 -- the number behind the highest of these, 0 where there is none

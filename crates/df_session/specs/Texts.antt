@@ -1,10 +1,10 @@
 -- The texts of refusals. The codes are this project's own.
 use Rattle.std.specs.Prelude.{◌++◌, ℕ, List, codes, decimal}
 use Rattle.df_document.specs.Texts.{csv_text}
-use Rattle.df_catalogue.specs.declared.fault.CatalogueFault.{CatalogueFault}
-use Rattle.df_catalogue.specs.declared.fault.CatalogueFault.TheVariants as store
-use Rattle.df_catalogue.specs.declared.fault.NewFault.{NewFault}
-use Rattle.df_catalogue.specs.declared.fault.NewFault.TheVariants as opening
+use Rattle.df_state.specs.declared.fault.CatalogueFault.{CatalogueFault}
+use Rattle.df_state.specs.declared.fault.CatalogueFault.TheVariants as store
+use Rattle.df_state.specs.declared.fault.NewFault.{NewFault}
+use Rattle.df_state.specs.declared.fault.NewFault.TheVariants as opening
 use Rattle.df_csv.specs.declared.fault.CsvFault.{CsvFault}
 use Rattle.df_csv.specs.declared.fault.CsvFault.TheVariants as csv
 use Rattle.df_print.specs.Printed.{escaped_text}

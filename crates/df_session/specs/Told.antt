@@ -2,7 +2,7 @@
 -- the refusals where a text is wanted.
 use Rattle.std.specs.Prelude.{◌≡◌, ◌++◌, ◌+◌, ℕ, zero, suc, List, Option, Some, None, Result, MatchResult, codes, decimal, flat_map}
 use Rattle.std.specs.Global.{Vec}
-use Rattle.df_catalogue.specs.declared.fault.CatalogueFault.TheVariants as fault
+use Rattle.df_state.specs.declared.fault.CatalogueFault.TheVariants as fault
 use Rattle.df_print.specs.Printed.{escaped_text}
 use Rattle.df_session.specs.declared.refusal.Refusal.{Refusal}
 use Rattle.df_session.specs.declared.refusal.Refusal.TheVariants as refusal

@@ -3,7 +3,7 @@ ghost use Rattle.std.specs.Prelude.{◌≡◌, ◌<◌, ℕ, List as Seq, Some, 
 ghost use Rattle.df_value.specs.declared.cell.Cell.{Cell};
 ghost use Rattle.df_value.specs.Chunks.{ChunkParts};
 ghost use Rattle.df_plan.specs.CheckedParts.{CheckedParts};
-ghost use Rattle.df_catalogue.specs.declared.change.Change.TheVariants.{Append, Delete, DropView, Register, Replace};
+ghost use Rattle.df_state.specs.declared.change.Change.TheVariants.{Append, Delete, DropView, Register, Replace};
 ghost use Rattle.df_session.specs.Told.{numbers_told};
 ghost use Rattle.df_session.specs.Asked.{AreRowsOf, IsAppended, IsChunkOf, IsLineFault, IsRefusalOfAppend, IsRefusalOfAppendNext, IsRefusalAtFrame, IsRefusalOfChange, IsRefusalOfRegister, IsRefusalOfReplace, IsRowsFault, frame_index_of, plan_named};
 
@@ -12,7 +12,7 @@ use crate::numbers::tell_numbers;
 use crate::refusal::{Mistake, Refusal};
 use crate::rows::{read_chunk, read_rows};
 use crate::view_store::ViewStore;
-use df_catalogue::{CatalogueFault, Change};
+use df_state::{CatalogueFault, Change};
 use df_value::{Chunk, ChunkFault, Duplicate, List, Row, Text};
 use std::alloc::Global;
 

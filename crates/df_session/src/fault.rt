@@ -4,8 +4,8 @@ ghost use Rattle.df_session.specs.declared.fault.ShellFault.TheVariants as fault
 
 use crate::refusal::Refusal;
 use crate::refusal_texts::{new_text, refusal_text};
-use df_catalogue::NewFault;
 use df_document::{DocumentFault, document_fault_text};
+use df_state::NewFault;
 use std::alloc::{AllocError, AllocFailed, Global};
 use thiserror::Error;
 

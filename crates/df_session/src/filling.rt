@@ -6,7 +6,7 @@ ghost use Rattle.df_session.specs.Filling.{AreMade, frame_appends, opening_chang
 use crate::definitions::Definitions;
 use crate::fault::ShellFault;
 use crate::view_store::ViewStore;
-use df_catalogue::Change;
+use df_state::Change;
 use df_value::{Duplicate, List, Piece};
 use std::alloc::Global;
 

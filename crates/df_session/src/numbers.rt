@@ -1,12 +1,12 @@
 //! The numbers at which further rows of frames begin.
 ghost use Rattle.std.specs.Prelude.{◌≡◌, ◌+◌, ◌≤◌, IfOk, max, replicate, slice_index_or, string_bytes};
-ghost use Rattle.df_catalogue.specs.Changes.{change_at};
+ghost use Rattle.df_state.specs.Changes.{change_at};
 ghost use Rattle.df_frame.specs.Frames.{chunk_numbers};
 ghost use Rattle.df_session.specs.Numbers as numbers;
 ghost use Rattle.df_session.specs.Numbers.{noted, number_behind};
 ghost use Rattle.df_session.specs.Told.{numbers_told};
 
-use df_catalogue::{CatalogueFault, Change};
+use df_state::{CatalogueFault, Change};
 use df_value::Chunk;
 use std::alloc::{AllocError, Global};
 use std::marker::Model;

@@ -2,7 +2,7 @@
 ghost use Rattle.std.specs.Prelude.{◌≡◌};
 ghost use Rattle.df_session.specs.declared.refusal.Refusal.TheVariants as refusal;
 
-use df_catalogue::CatalogueFault;
+use df_state::CatalogueFault;
 use df_text::CsvFault;
 use df_value::{ChunkFault, Text};
 use std::alloc::{AllocError, AllocFailed};

@@ -4,8 +4,8 @@ ghost use Rattle.df_session.specs.Texts as texts;
 ghost use Rattle.df_session.specs.Texts.{text_of, text_of_cell};
 
 use crate::refusal::{Mistake, Refusal, VersionFault};
-use df_catalogue::{CatalogueFault, NewFault};
 use df_document::csv_text;
+use df_state::{CatalogueFault, NewFault};
 use df_text::{CsvFault, escape};
 use df_value::{ChunkFault, Text};
 use std::alloc::{AllocError, Global};

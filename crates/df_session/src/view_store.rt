@@ -4,14 +4,14 @@ ghost use Rattle.std.specs.Prelude.{IfErr, OnErr, OnOk};
 use crate::command::Question;
 use crate::definitions::Definitions;
 use crate::refusal::Refusal;
-use df_catalogue::Change;
+use df_state::Change;
 use std::alloc::Global;
 
 /// What holds the frames and views of a session, and answers it.
 pub trait ViewStore {
     ghost use Rattle.std.specs.Prelude.{ℕ, Result};
     ghost use Rattle.std.specs.Global.{Vec as Bytes};
-    ghost use Rattle.df_catalogue.specs.declared.change.Change.{Change as AnyChange};
+    ghost use Rattle.df_state.specs.declared.change.Change.{Change as AnyChange};
     ghost use Rattle.df_session.specs.declared.command.Question.{Question as AnyQuestion};
     ghost use Rattle.df_session.specs.declared.definitions.Definitions.{Definitions as AnyDefinitions};
     ghost use Rattle.df_session.specs.declared.refusal.Refusal.{Refusal as AnyRefusal};

@@ -6,13 +6,13 @@ use Rattle.std.specs.Cmp.Lexicographic.{lists_equiv, nat_list_eq_equiv, pointwis
 use Rattle.df_value.specs.declared.cell.Cell.{Cell}
 use Rattle.df_value.specs.Rows.{row_eq}
 use Rattle.df_value.specs.RowEq.{row_eq-equivalence}
-use Rattle.df_catalogue.specs.Reads.{view_named, view_names_of, view_rows_of}
-use Rattle.df_catalogue.specs.States.{IsLegal, value_over}
-use Rattle.df_catalogue.specs.declared.fault.CatalogueFault.{CatalogueFault}
-use Rattle.df_catalogue.specs.declared.fault.CatalogueFault.TheVariants as fault
+use Rattle.df_state.specs.Reads.{view_named, view_names_of, view_rows_of}
+use Rattle.df_state.specs.States.{IsLegal, value_over}
+use Rattle.df_state.specs.declared.fault.CatalogueFault.{CatalogueFault}
+use Rattle.df_state.specs.declared.fault.CatalogueFault.TheVariants as fault
 use Rattle.df_frame.specs.declared.state.FrameState.{FrameState}
-use Rattle.df_catalogue.specs.declared.state.State.{State}
-use Rattle.df_catalogue.specs.declared.state.ViewState.{ViewState}
+use Rattle.df_state.specs.declared.state.State.{State}
+use Rattle.df_state.specs.declared.state.ViewState.{ViewState}
 use Rattle.df_shell.specs.Checks.{differs, first_differing}
 
 rows_same : (rows : List (List Cell)) → pointwise row_eq rows rows ≡ true

@@ -3,14 +3,14 @@ use Rattle.std.proofs.Common.{◌≡◌, ◌∙◌, ◌≤◌, ◌<◌, ◌⊎�
 use Rattle.std.specs.Prelude.{Option, Some, None, Result, Ok, Err, IfErr, OnErr, OnOk, slice_index_or, slice_set}
 use mathlib.Core.List.{IsPrefix}
 use Rattle.df_value.specs.declared.cell.CellType.{CellType}
-use Rattle.df_catalogue.specs.Changes.{after}
-use Rattle.df_catalogue.specs.declared.change.Change.{Change}
-use Rattle.df_catalogue.specs.declared.fault.CatalogueFault.{CatalogueFault}
-use Rattle.df_catalogue.specs.declared.state.State.{State}
+use Rattle.df_state.specs.Changes.{after}
+use Rattle.df_state.specs.declared.change.Change.{Change}
+use Rattle.df_state.specs.declared.fault.CatalogueFault.{CatalogueFault}
+use Rattle.df_state.specs.declared.state.State.{State}
 use Rattle.df_frame.specs.declared.frame_change.FrameChange.{FrameChange}
-use Rattle.df_catalogue.specs.Desks.{DeskParts, desk_after, desks_after}
-use Rattle.df_catalogue.specs.FrameChanges.{change_of}
-use Rattle.df_catalogue.proofs.FrameChangeFacts.{desks-counted}
+use Rattle.df_state.specs.Desks.{DeskParts, desk_after, desks_after}
+use Rattle.df_state.specs.FrameChanges.{change_of}
+use Rattle.df_state.proofs.FrameChangeFacts.{desks-counted}
 use Rattle.df_shell.proofs.DesksFacts.{AreAfter, InOrder, counted, frame-there, ordered}
 use Rattle.df_shell.specs.Changing.{AnswersTold, IsAnswered, IsKnown, IsLearnt, IsLongEnough}
 use Rattle.df_shell.specs.Halls.{Follows, HallParts, IsKeptInHall, IsMadeInHall, IsRefusedInHall}

@@ -1,11 +1,11 @@
 -- The numbers behind those that a catalogue's frames accepted, change by change.
 use Rattle.std.proofs.Common.{◌≡◌, ◌∙◌, ◌+◌, ◌++◌, ℕ, zero, suc, Bool, true, false, List, [], ◌∷◌, ap, arith, cond, map, max, refl, replicate, sym}
 use Rattle.std.specs.Prelude.{Option, OnErr, OnOk, Result, Ok, Err, filter, nat_lt, not}
-use Rattle.df_catalogue.specs.Changes.{after, change_at}
-use Rattle.df_catalogue.specs.declared.change.Change.{Change}
-use Rattle.df_catalogue.specs.declared.change.Change.TheVariants.{Append, Delete, DropView, Register, Replace}
-use Rattle.df_catalogue.specs.declared.fault.CatalogueFault.{CatalogueFault}
-use Rattle.df_catalogue.specs.declared.state.State.{State}
+use Rattle.df_state.specs.Changes.{after, change_at}
+use Rattle.df_state.specs.declared.change.Change.{Change}
+use Rattle.df_state.specs.declared.change.Change.TheVariants.{Append, Delete, DropView, Register, Replace}
+use Rattle.df_state.specs.declared.fault.CatalogueFault.{CatalogueFault}
+use Rattle.df_state.specs.declared.state.State.{State}
 use Rattle.df_frame.specs.Frames.{chunk_numbers, empty_frame, with_chunk, with_replaced_rows, without_rows}
 use Rattle.df_frame.specs.Numbers.{put_from}
 use Rattle.df_frame.specs.declared.state.FrameState.{FrameState}

@@ -1,12 +1,12 @@
 -- One change of the catalogue, and why it is refused.
 use Rattle.std.specs.Prelude.{◌≡◌, ◌≢◌, Some, None}
-use Rattle.df_catalogue.specs.declared.change.Change.{Change}
-use Rattle.df_catalogue.specs.declared.fault.CatalogueFault.{CatalogueFault}
-use Rattle.df_catalogue.specs.declared.fault.CatalogueFault.TheVariants as fault
-use Rattle.df_catalogue.specs.declared.state.CatalogueParts.{CatalogueParts}
-use Rattle.df_catalogue.specs.declared.state.State.{State}
-use Rattle.df_catalogue.specs.Changes.{after}
-use Rattle.df_catalogue.specs.Refusals.{refusal_of}
+use Rattle.df_state.specs.declared.change.Change.{Change}
+use Rattle.df_state.specs.declared.fault.CatalogueFault.{CatalogueFault}
+use Rattle.df_state.specs.declared.fault.CatalogueFault.TheVariants as fault
+use Rattle.df_state.specs.declared.state.CatalogueParts.{CatalogueParts}
+use Rattle.df_state.specs.declared.state.State.{State}
+use Rattle.df_state.specs.Changes.{after}
+use Rattle.df_state.specs.Refusals.{refusal_of}
 use Rattle.df_catalogue.specs.Work.{IsCounted, allowed_after}
 use Rattle.df_session.specs.declared.refusal.Refusal.{Refusal}
 use Rattle.df_session.specs.declared.refusal.Refusal.TheVariants as refusal

@@ -1,8 +1,8 @@
 -- The steps of a change in a hall: what the hall answers, and what the session learns of it.
 use Rattle.std.specs.Prelude.{◌≡◌, ◌≤◌, ◌<◌, ⊤, List, Option, Some, None, Result, Ok, Err, length}
-use Rattle.df_catalogue.specs.Desks.{desks_after}
-use Rattle.df_catalogue.specs.declared.change.Change.{Change}
-use Rattle.df_catalogue.specs.declared.state.State.{State}
+use Rattle.df_state.specs.Desks.{desks_after}
+use Rattle.df_state.specs.declared.change.Change.{Change}
+use Rattle.df_state.specs.declared.state.State.{State}
 use Rattle.df_shell.specs.Halls.{Follows, HallParts, HasNoDesk}
 use Rattle.df_session.specs.declared.refusal.Refusal.{Refusal}
 use Rattle.df_session.specs.declared.refusal.Refusal.TheVariants as refusal

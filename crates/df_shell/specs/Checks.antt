@@ -2,10 +2,10 @@
 use Rattle.std.specs.Prelude.{ℕ, Bool, not, List, Option, find, option_map}
 use Rattle.std.specs.Cmp.Lexicographic.{pointwise}
 use Rattle.df_value.specs.Rows.{row_eq}
-use Rattle.df_catalogue.specs.States.{value_over}
+use Rattle.df_state.specs.States.{value_over}
 use Rattle.df_frame.specs.declared.state.FrameState.{FrameState}
-use Rattle.df_catalogue.specs.declared.state.State.{State}
-use Rattle.df_catalogue.specs.declared.state.ViewState.{ViewState}
+use Rattle.df_state.specs.declared.state.State.{State}
+use Rattle.df_state.specs.declared.state.ViewState.{ViewState}
 
 -- whether the table of the view has other rows than its plan gives over these frames
 abbrev pub differs : List FrameState → ViewState → Bool

@@ -4,12 +4,12 @@ use Rattle.std.specs.Prelude.{◌≡◌, ◌<◌, ◌⊎◌, ⊤, ℕ, List, Non
 use Rattle.std.specs.Global.{Vec}
 use mathlib.Core.List.{IsPrefix}
 use Rattle.df_value.specs.declared.cell.CellType.{CellType}
-use Rattle.df_catalogue.specs.Desks.{AgreeWithBooks, DeskParts, desks_after}
-use Rattle.df_catalogue.specs.Pictures.{PictureParts}
-use Rattle.df_catalogue.specs.declared.change.Change.{Change}
-use Rattle.df_catalogue.specs.declared.change.Change.TheVariants.{Append, Delete, DropView, Register, Replace}
-use Rattle.df_catalogue.specs.declared.fault.CatalogueFault.TheVariants as fault
-use Rattle.df_catalogue.specs.declared.state.State.{State}
+use Rattle.df_state.specs.Desks.{AgreeWithBooks, DeskParts, desks_after}
+use Rattle.df_state.specs.Pictures.{PictureParts}
+use Rattle.df_state.specs.declared.change.Change.{Change}
+use Rattle.df_state.specs.declared.change.Change.TheVariants.{Append, Delete, DropView, Register, Replace}
+use Rattle.df_state.specs.declared.fault.CatalogueFault.TheVariants as fault
+use Rattle.df_state.specs.declared.state.State.{State}
 use Rattle.df_session.specs.Told.{IsTold}
 use Rattle.df_shell.specs.Versions.{refusal_with_hall, text_of_version}
 use Rattle.df_session.specs.declared.command.Question.{Question}

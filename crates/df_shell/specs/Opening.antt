@@ -1,7 +1,7 @@
 -- The catalogue that a store is opened with.
 use Rattle.std.specs.Prelude.{None, map}
-use Rattle.df_catalogue.specs.declared.state.CatalogueParts.{CatalogueParts}
-use Rattle.df_catalogue.specs.States.{opening_of}
+use Rattle.df_state.specs.declared.state.CatalogueParts.{CatalogueParts}
+use Rattle.df_state.specs.States.{opening_of}
 use Rattle.df_delta.specs.Work.{no_work}
 use Rattle.df_session.specs.declared.definitions.Definitions.{Definitions}
 use Rattle.df_text.specs.declared.document.FrameSpec.{FrameSpec}

@@ -1,12 +1,12 @@
 -- The texts that questions are answered with.
 use Rattle.std.specs.Prelude.{◌++◌, ℕ, List, Option, Some, None, codes, decimal, length, option_map, slice_get}
 use Rattle.df_frame.specs.Frames.{numbers_of, rows_of}
-use Rattle.df_catalogue.specs.Reads.{live_of, view_named, view_names_of}
-use Rattle.df_catalogue.specs.declared.fault.CatalogueFault.TheVariants as fault
+use Rattle.df_state.specs.Reads.{live_of, view_named, view_names_of}
+use Rattle.df_state.specs.declared.fault.CatalogueFault.TheVariants as fault
 use Rattle.df_frame.specs.declared.state.FrameState.{FrameState}
-use Rattle.df_catalogue.specs.declared.state.CatalogueParts.{CatalogueParts}
-use Rattle.df_catalogue.specs.declared.state.State.{State}
-use Rattle.df_catalogue.specs.declared.state.ViewState.{ViewState}
+use Rattle.df_state.specs.declared.state.CatalogueParts.{CatalogueParts}
+use Rattle.df_state.specs.declared.state.State.{State}
+use Rattle.df_state.specs.declared.state.ViewState.{ViewState}
 use Rattle.df_expr.specs.declared.meter.Meter.{Meter}
 use Rattle.df_print.specs.Printed.{printed}
 use Rattle.df_session.specs.Parts.{part_text}

@@ -3,9 +3,9 @@ use Rattle.std.specs.Prelude.{◌++◌, ℕ, Bool, true, not, List, Option, Some
 use Rattle.std.specs.Cmp.Lexicographic.{pointwise}
 use Rattle.df_value.specs.declared.cell.Cell.{Cell}
 use Rattle.df_value.specs.Rows.{row_eq}
-use Rattle.df_catalogue.specs.Desks.{DeskParts}
-use Rattle.df_catalogue.specs.Pictures.{PictureParts, frame_len_in, value_in, view_rows_in}
-use Rattle.df_catalogue.specs.declared.fault.CatalogueFault.{CatalogueFault}
+use Rattle.df_state.specs.Desks.{DeskParts}
+use Rattle.df_state.specs.Pictures.{PictureParts, frame_len_in, value_in, view_rows_in}
+use Rattle.df_state.specs.declared.fault.CatalogueFault.{CatalogueFault}
 use Rattle.df_plan.specs.CheckedParts.{CheckedParts}
 use Rattle.df_print.specs.Printed.{printed}
 use Rattle.df_session.specs.Parts.{part_text}

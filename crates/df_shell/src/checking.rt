@@ -1,8 +1,8 @@
 //! The check of the views.
 ghost use Rattle.std.specs.Prelude.{◌≡◌, IfErr, IfOk, IsOk, true};
 ghost use Rattle.std.specs.Option.{option_copied};
-ghost use Rattle.df_catalogue.specs.Reads.{view_names_of, view_rows_of};
-ghost use Rattle.df_catalogue.specs.States.{IsLegal};
+ghost use Rattle.df_state.specs.Reads.{view_names_of, view_rows_of};
+ghost use Rattle.df_state.specs.States.{IsLegal};
 ghost use Rattle.df_shell.specs.Checks.{first_differing as first_differing_of};
 ghost use Rattle.df_session.specs.Told.{IsMemory, check_text};
 

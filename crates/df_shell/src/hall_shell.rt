@@ -1,7 +1,7 @@
 //! The shell over a hall.
 ghost use Rattle.std.specs.Prelude.{◌≡◌, ◌≢◌, ◌≤◌, length, map};
 ghost use Rattle.std.specs.List.{range_with_len};
-ghost use Rattle.df_catalogue.specs.Ledgers as ledgers;
+ghost use Rattle.df_state.specs.Ledgers as ledgers;
 ghost use Rattle.df_versions.specs.Histories.{schemas_of};
 
 use crate::hall_store::HallStore;

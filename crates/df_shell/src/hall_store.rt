@@ -1,8 +1,8 @@
 //! The hall behind a shell.
 ghost use Rattle.std.specs.Prelude.{◌≡◌, ◌≤◌, IfErr, OnOk, Some, length, map};
 ghost use Rattle.std.specs.List.{range_with_len};
-ghost use Rattle.df_catalogue.specs.FrameChanges.{change_of};
-ghost use Rattle.df_catalogue.specs.ViewChanges.{change_of_views};
+ghost use Rattle.df_state.specs.FrameChanges.{change_of};
+ghost use Rattle.df_state.specs.ViewChanges.{change_of_views};
 ghost use Rattle.df_shell.specs.Changing.{IsAnswered, IsLearnt, IsLongEnough};
 ghost use Rattle.df_shell.specs.Halls.{Closes, Follows, IsLeftOpen};
 
@@ -35,7 +35,7 @@ impl<'r, R: Wait, Acc: Ledger, Del: Ledger, J: Naming> Model for HallStore<'r, R
     ghost use Rattle.std.specs.Prelude.{◌≡◌, length, map};
     ghost use Rattle.std.specs.Coded.{codes};
     ghost use Rattle.std.specs.List.{range_with_len};
-    ghost use Rattle.df_catalogue.specs.contracts.state.State as state_type;
+    ghost use Rattle.df_state.specs.contracts.state.State as state_type;
     ghost use Rattle.df_shell.specs.Changing.{IsKnown};
     ghost use Rattle.df_shell.specs.Halls.{HallParts};
 

@@ -4,7 +4,7 @@ ghost use Rattle.std.specs.Prelude.{◌≡◌, IfOk};
 ghost use Rattle.df_shell.specs.Changes.{IsMade};
 ghost use Rattle.df_shell.specs.Opening.{empty_catalogue};
 ghost use Rattle.df_session.specs.Filling.{AreMade, opening_changes};
-ghost use Rattle.df_catalogue.specs.Ledgers as ledgers;
+ghost use Rattle.df_state.specs.Ledgers as ledgers;
 
 use crate::store::Store;
 use df_catalogue::Catalogue;

@@ -1,6 +1,6 @@
 //! The commands that read the catalogue.
 ghost use Rattle.std.specs.Prelude.{◌≡◌, IfErr, IfOk, option_map, string_bytes};
-ghost use Rattle.df_catalogue.specs.Reads.{view_named, view_names_of};
+ghost use Rattle.df_state.specs.Reads.{view_named, view_names_of};
 ghost use Rattle.df_session.specs.Asked.{frame_index_of};
 ghost use Rattle.df_session.specs.Told.{IsTold, names_text};
 ghost use Rattle.df_shell.specs.Questions.{books_text, frame_text, rows_text, view_text, work_text};

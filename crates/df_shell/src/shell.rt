@@ -1,6 +1,6 @@
 //! The shell: from a document and the lines of input to the answers.
 ghost use Rattle.std.specs.Prelude.{◌≡◌};
-ghost use Rattle.df_catalogue.specs.Ledgers as ledgers;
+ghost use Rattle.df_state.specs.Ledgers as ledgers;
 
 use crate::opening::open_store;
 use crate::store::Store;

@@ -1,9 +1,9 @@
 //! The catalogue behind a shell.
 ghost use Rattle.std.specs.Prelude.{◌≡◌, None, true, is_none};
-ghost use Rattle.df_catalogue.specs.Desks.{AreInOrder};
-ghost use Rattle.df_catalogue.specs.Reads.{live_of};
-ghost use Rattle.df_catalogue.specs.States.{IsLegal};
-ghost use Rattle.df_catalogue.specs.Transitions.{IsTransition};
+ghost use Rattle.df_state.specs.Desks.{AreInOrder};
+ghost use Rattle.df_state.specs.Reads.{live_of};
+ghost use Rattle.df_state.specs.States.{IsLegal};
+ghost use Rattle.df_state.specs.Transitions.{IsTransition};
 ghost use Rattle.df_catalogue.specs.Work.{IsWorkOf};
 ghost use Rattle.df_shell.specs.NextNumbers.{next_numbers};
 

@@ -1,7 +1,7 @@
 //! The questions that a version answers.
 ghost use Rattle.std.specs.Prelude.{◌≡◌, IfErr, IfOk, find, map, slice_get, string_bytes};
 ghost use Rattle.std.specs.Option.{option_copied};
-ghost use Rattle.df_catalogue.specs.Pictures.{frame_len_in, view_rows_in};
+ghost use Rattle.df_state.specs.Pictures.{frame_len_in, view_rows_in};
 ghost use Rattle.df_session.specs.Asked.{frame_index_of, plan_named};
 ghost use Rattle.df_session.specs.Told.{IsMemory, IsTold, check_text, names_text};
 ghost use Rattle.df_shell.specs.Versions.{counted_text, differs_from, first_differing_in, numbered_text, refusal_with_hall, shown_text, text_of_index, text_of_version, version_line};

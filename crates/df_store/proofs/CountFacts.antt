@@ -4,7 +4,7 @@ use Rattle.std.specs.Prelude.{IfOk, Result, Err, if◌then◌else◌}
 use Rattle.std.proofs.lemmas.List.Elements.{All-nil}
 use Rattle.df_value.specs.declared.chunk.Piece.{Piece}
 use Rattle.std.proofs.lemmas.List.Sums.{sum_by-append, sum_by-cons, sum_by-set, sum_by_push}
-use Rattle.df_catalogue.specs.Desks.{DeskParts, parts_of}
+use Rattle.df_state.specs.Desks.{DeskParts, parts_of}
 use Rattle.df_hall.specs.Closing.{AddsUp, HaveSameSums, accepted_at, deleted_at}
 use Rattle.df_hall.specs.Halls.{having_accepted}
 use Rattle.df_jobs.specs.declared.jobs.Outcome.{Outcome}

@@ -3,7 +3,7 @@ use Rattle.std.proofs.Common.{◌≡◌, true, false, Bool, ℕ, zero, suc, ◌+
 use Rattle.std.specs.Prelude.{◌==◌, All, if◌then◌else◌}
 use Rattle.std.proofs.lemmas.Bool.{eq-eqb}
 use Rattle.std.proofs.lemmas.List.Sums.{sum_by-append, sum_by-cons}
-use Rattle.df_catalogue.specs.Desks.{DeskParts}
+use Rattle.df_state.specs.Desks.{DeskParts}
 use Rattle.df_value.specs.declared.cell.CellType.{CellType}
 use Rattle.df_value.specs.declared.chunk.Piece.{Piece}
 use Rattle.df_value.specs.declared.chunk.Piece.TheVariants.{Bad, Good}

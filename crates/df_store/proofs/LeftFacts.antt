@@ -7,9 +7,9 @@ use Rattle.df_value.specs.declared.cell.CellType.{CellType}
 use Rattle.df_value.specs.declared.chunk.Piece.{Piece}
 use Rattle.df_plan.specs.CheckedParts.{CheckedParts}
 use Rattle.df_frame.specs.declared.state.FrameState.{FrameState}
-use Rattle.df_catalogue.specs.declared.state.State.{State}
-use Rattle.df_catalogue.specs.Desks.{AgreeWithBooks, DeskParts, parts_of}
-use Rattle.df_catalogue.specs.States.{IsLegal}
+use Rattle.df_state.specs.declared.state.State.{State}
+use Rattle.df_state.specs.Desks.{AgreeWithBooks, DeskParts, parts_of}
+use Rattle.df_state.specs.States.{IsLegal}
 use Rattle.df_versions.specs.Histories.{IsLastState, last_state}
 use Rattle.df_hall.specs.Closing.{IsSettledState, IsUnsettledState, accepted_at, deleted_at, is_settled, missing_frame, missing_from}
 use Rattle.df_store.specs.declared.fault.LoadCause.{LoadCause}

@@ -6,8 +6,8 @@ use Rattle.std.proofs.lemmas.Bool.{and_parts, eqb-true}
 use Rattle.std.proofs.lemmas.List.Sorted.{sum_by-IsPermutation}
 use Rattle.std.proofs.lemmas.List.Sums.{sum_by-cons}
 use Rattle.df_frame.specs.declared.state.FrameState.{FrameState}
-use Rattle.df_catalogue.specs.declared.state.State.{State}
-use Rattle.df_catalogue.specs.Desks.{DeskParts}
+use Rattle.df_state.specs.declared.state.State.{State}
+use Rattle.df_state.specs.Desks.{DeskParts}
 use Rattle.df_value.specs.declared.chunk.Piece.{Piece}
 use Rattle.df_hall.specs.Closing.{accepted_at, deleted_at, is_settled, missing_frame, missing_from}
 use Rattle.df_jobs.specs.declared.jobs.Outcome.{Outcome}

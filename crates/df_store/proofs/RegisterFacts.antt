@@ -2,9 +2,9 @@
 use Rattle.std.proofs.Common.{◌≡◌, ◌∙◌, ℕ, List, [], ◌∷◌, ◌++◌, ap, arith, subst, sym, Err, Some}
 use Rattle.std.specs.Prelude.{slice_get, unwrap_or}
 use Rattle.df_plan.specs.CheckedParts.{CheckedParts}
-use Rattle.df_catalogue.specs.Refusals.{refusal_of}
-use Rattle.df_catalogue.specs.declared.change.Change.TheVariants.{Register}
-use Rattle.df_catalogue.specs.declared.state.State.{State}
+use Rattle.df_state.specs.Refusals.{refusal_of}
+use Rattle.df_state.specs.declared.change.Change.TheVariants.{Register}
+use Rattle.df_state.specs.declared.state.State.{State}
 use Rattle.df_versions.specs.Answered.{AnswersChange, ChangesHistory, IsReason}
 use Rattle.df_versions.specs.Histories.{last_state}
 use Rattle.df_versions.specs.declared.fault.ChangeFault.{ChangeFault}

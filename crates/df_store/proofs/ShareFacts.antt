@@ -2,7 +2,7 @@
 use Rattle.std.proofs.Common.{◌≡◌, ℕ, ◌+◌, ◌-◌, ◌/◌, ◌<◌, ◌∙◌, List, [], ◌∷◌, ◌++◌, length, get_or, set, refl, ap, sym, arith, sum_by}
 use Rattle.std.specs.Prelude.{flat_map}
 use Rattle.std.proofs.lemmas.List.Sums.{sum_by-append, sum_by-cons, sum_by-set, sum_by_push}
-use Rattle.df_catalogue.specs.Desks.{DeskParts, IsSplit, joined_desk}
+use Rattle.df_state.specs.Desks.{DeskParts, IsSplit, joined_desk}
 use Rattle.df_hall.specs.Closing.{AddsUp, HaveSameSums}
 
 desk : ℕ → ℕ → ℕ → ℕ → DeskParts

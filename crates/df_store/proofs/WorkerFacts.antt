@@ -6,9 +6,9 @@ use Rattle.std.proofs.lemmas.List.Concat.{length-flat_map}
 use Rattle.std.proofs.lemmas.List.Elements.{All-append, All-cons, All-drop, All-nil}
 use Rattle.std.proofs.lemmas.List.Folds.{length-flat_map-take}
 use Rattle.std.proofs.lemmas.List.Sums.{sum_by-le}
-use Rattle.df_catalogue.specs.Desks.{DeskParts}
+use Rattle.df_state.specs.Desks.{DeskParts}
 use Rattle.df_hall.specs.Closing.{HaveSameSums}
-use Rattle.df_jobs.proofs.ListFacts.{take-more}
+use Rattle.df_state.proofs.ListFacts.{take-more}
 use Rattle.df_store.specs.declared.worker.Worker.{Worker}
 use Rattle.df_claims.specs.Seats.{ClaimsView}
 use Rattle.df_value.specs.declared.chunk.Piece.{Piece}

@@ -1,9 +1,9 @@
 -- Which faults the registration of a view and a load of workers are answered with, and which of several comes first.
 use Rattle.std.specs.Prelude.{◌≡◌, ◌⊎◌, ⊤, ℕ, List, Option, Some, None, fold, slice_get}
 use Rattle.df_plan.specs.CheckedParts.{CheckedParts}
-use Rattle.df_catalogue.specs.Refusals.{refusal_of}
-use Rattle.df_catalogue.specs.declared.change.Change.TheVariants.{Register}
-use Rattle.df_catalogue.specs.declared.state.State.{State}
+use Rattle.df_state.specs.Refusals.{refusal_of}
+use Rattle.df_state.specs.declared.change.Change.TheVariants.{Register}
+use Rattle.df_state.specs.declared.state.State.{State}
 use Rattle.df_versions.specs.declared.fault.ChangeFault.{ChangeFault}
 use Rattle.df_versions.specs.declared.fault.ChangeFault.TheVariants as change
 use Rattle.df_store.specs.declared.fault.LoadCause.{LoadCause}

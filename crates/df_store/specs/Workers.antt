@@ -1,6 +1,6 @@
 -- Workers: what each of them holds, and the desks of all of them.
 use Rattle.std.specs.Prelude.{◌≡◌, ◌≤◌, ◌+◌, ◌*◌, ◌==◌, ℕ, All, List, [], flat_map, if◌then◌else◌, IfOk, length, map, Result, sum_by, vec_capacity}
-use Rattle.df_catalogue.specs.Desks.{DeskParts}
+use Rattle.df_state.specs.Desks.{DeskParts}
 use Rattle.df_claims.specs.Seats.{ClaimsView, IsSeatOf}
 use Rattle.df_value.specs.Chunks.{ChunkParts}
 use Rattle.df_value.specs.declared.chunk.Piece.{Piece}

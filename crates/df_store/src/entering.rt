@@ -1,7 +1,7 @@
 //! The commits of a worker: chunks enter their frames through its desks, and the outcomes that stand are kept.
 ghost use Rattle.std.specs.Prelude.{◌≡◌, ◌<◌, ◌≤◌, ◌+◌, ◌++◌, ◌∷◌, [], ℕ, List, IfOk, IfSome, OnErr, OnOk, if◌then◌else◌, length, slice_index_or, vec_capacity};
-ghost use Rattle.df_catalogue.specs.Desks.{DeskParts, desk_after};
-ghost use Rattle.df_catalogue.specs.declared.change.Change.TheVariants.{Append};
+ghost use Rattle.df_state.specs.Desks.{DeskParts, desk_after};
+ghost use Rattle.df_state.specs.declared.change.Change.TheVariants.{Append};
 ghost use Rattle.df_value.specs.declared.chunk.Piece.{Piece};
 ghost use Rattle.df_jobs.specs.Jobs.{AreOutcomes};
 ghost use Rattle.df_jobs.specs.Joined.{IsJoined};

@@ -2,8 +2,8 @@
 //! sources once.
 ghost use Rattle.std.specs.Prelude.{◌≡◌, ◌<◌, ◌≤◌, [], ℕ, Err, IfErr, IfNone, IfOk, IfSome, IsErrAnd, IsOkAnd, MatchOption, None, Ok, Some, filter_map, length};
 ghost use Rattle.df_value.specs.Limits as limits;
-ghost use Rattle.df_catalogue.specs.States.{IsLegal};
-ghost use Rattle.df_catalogue.specs.declared.state.State.{State};
+ghost use Rattle.df_state.specs.States.{IsLegal};
+ghost use Rattle.df_state.specs.declared.state.State.{State};
 ghost use Rattle.df_claims.specs.Seats.{AreAllSeats};
 ghost use Rattle.df_hall.specs.Closing as closing;
 ghost use Rattle.df_hall.specs.Rooms.{HasRoomFor, Holds};

@@ -1,6 +1,6 @@
 //! The workers of a load: they share out desks, run, and give the desks back.
 ghost use Rattle.std.specs.Prelude.{◌≡◌, ℕ, ◌+◌, ◌<◌, ◌≤◌, ◌*◌, ◌++◌, [], All, IfErr, IfOk, None, length, map, vec_capacity};
-ghost use Rattle.df_catalogue.specs.Desks as desks_spec;
+ghost use Rattle.df_state.specs.Desks as desks_spec;
 ghost use Rattle.df_claims.specs.Seats.{IsSeatOf};
 ghost use Rattle.df_hall.specs.Closing.{HaveSameSums};
 ghost use Rattle.df_jobs.specs.Jobs.{chunks_of};

@@ -1,7 +1,7 @@
 //! Whether a catalogue has the views that were given.
 ghost use Rattle.std.specs.Prelude.{◌≡◌, ◌↔◌, IsTrue, Some};
-ghost use Rattle.df_catalogue.specs.Reads as reads;
-ghost use Rattle.df_catalogue.specs.States.{IsLegal};
+ghost use Rattle.df_state.specs.Reads as reads;
+ghost use Rattle.df_state.specs.States.{IsLegal};
 ghost use Rattle.df_store.specs.Loads as loads;
 
 use df_catalogue::Catalogue;

@@ -1,7 +1,7 @@
 //! Catalogues: which frames they are opened over, lists of changes, the most views, and desks.
 ghost use Rattle.std.specs.Prelude.{◌≡◌};
-ghost use Rattle.df_catalogue.specs.Desks.{AreInOrder};
-ghost use Rattle.df_catalogue.specs.Ledgers as ledgers;
+ghost use Rattle.df_state.specs.Desks.{AreInOrder};
+ghost use Rattle.df_state.specs.Ledgers as ledgers;
 
 use crate::given::{chunk, row, scan, schema, schemas};
 use df_catalogue::{Catalogue, CatalogueFault, Change, Desk, NewFault, PARTS_OF_LEDGER};

@@ -5,7 +5,7 @@ use Rattle.std.proofs.lemmas.Bool.Decides.{nat_tests}
 use mathlib.Core.List.{IsPrefix}
 use prog.Atomic.{either}
 use Rattle.logbook.specs.Pages.{Cell, cell, keeps, no_nib, step, Moves, Goes}
-use Rattle.df_catalogue.specs.declared.state.State.{State}
+use Rattle.df_state.specs.declared.state.State.{State}
 use Rattle.df_versions.specs.Histories.{IsHistory, MayFollow}
 use Rattle.df_versions.proofs.Histories.{history-more}
 use Rattle.df_versions.specs.HistoryRule.{IsKept, Adds}

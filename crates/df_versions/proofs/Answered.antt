@@ -1,14 +1,14 @@
 -- What changes of a catalogue that publishes its versions answer.
 use Rattle.std.proofs.Common.{◌≡◌, ◌∙◌, ℕ, ◌≤◌, List, arith, [], ◌∷◌, ◌++◌, ap, subst, sym, append_assoc, Result, Ok, Err, Some, None, OnOk, OnErr, length, length-append, IsSomeAnd}
 use Rattle.df_value.specs.declared.cell.CellType.{CellType}
-use Rattle.df_catalogue.specs.declared.state.State.{State}
-use Rattle.df_catalogue.specs.declared.change.Change.{Change}
-use Rattle.df_catalogue.specs.declared.fault.CatalogueFault.{CatalogueFault}
-use Rattle.df_catalogue.specs.declared.state.CatalogueParts.{CatalogueParts}
-use Rattle.df_catalogue.specs.Answers.{RefusedBy}
-use Rattle.df_catalogue.specs.Changes.{after}
-use Rattle.df_catalogue.specs.Pictures.{next_state}
-use Rattle.df_catalogue.specs.Refusals.{refusal_of}
+use Rattle.df_state.specs.declared.state.State.{State}
+use Rattle.df_state.specs.declared.change.Change.{Change}
+use Rattle.df_state.specs.declared.fault.CatalogueFault.{CatalogueFault}
+use Rattle.df_state.specs.declared.state.CatalogueParts.{CatalogueParts}
+use Rattle.df_state.specs.Answers.{RefusedBy}
+use Rattle.df_state.specs.Changes.{after}
+use Rattle.df_state.specs.Pictures.{next_state}
+use Rattle.df_state.specs.Refusals.{refusal_of}
 use Rattle.df_catalogue.specs.StagedChanges.{IsStagedFor}
 use Rattle.df_versions.specs.Histories.{IsHistory, IsHistoryOver, last_state}
 use Rattle.df_versions.specs.Answered.{IsAccepted, IsRefusedAt, IsReady, IsReason, IsUnpublished, IsUnready, AnswersChange, AnswersNext, ChangesHistory, Reports}

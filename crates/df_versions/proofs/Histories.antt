@@ -2,9 +2,9 @@
 use Rattle.std.proofs.Common.{◌≡◌, ◌∙◌, ℕ, ◌<◌, List, [], ◌∷◌, ◌++◌, length, Some, arith, refl, ap, sym, subst}
 use Rattle.df_value.specs.declared.cell.CellType.{CellType}
 use Rattle.std.specs.List.{AllByRecursion}
-use Rattle.df_catalogue.specs.declared.state.State.{State}
-use Rattle.df_catalogue.specs.States.{IsLegal}
-use Rattle.df_catalogue.proofs.Legal.{legal-after}
+use Rattle.df_state.specs.declared.state.State.{State}
+use Rattle.df_state.specs.States.{IsLegal}
+use Rattle.df_state.proofs.Legal.{legal-after}
 use Rattle.df_versions.specs.Histories.{Step, Steps, IsHistory, IsHistoryOver, MayFollow, last_of, last_state}
 
 steps-snoc : (o : State) (later : List State) (t : State) → Steps o later → Step (last_of o later) t → Steps o (later ++ t ∷ [])

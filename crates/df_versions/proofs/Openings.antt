@@ -3,13 +3,13 @@ use Rattle.std.proofs.Common.{◌≡◌, ◌≢◌, ◌∙◌, ℕ, ◌≤◌, L
 use Rattle.std.proofs.lemmas.Bool.Decides.{nat_tests}
 use Rattle.std.specs.Prelude.{Some, None, option_map, unwrap_or, if◌then◌else◌}
 use Rattle.df_value.specs.declared.cell.CellType.{CellType}
-use Rattle.df_catalogue.specs.New.{new_fault}
-use Rattle.df_catalogue.specs.Pictures.{next_state}
-use Rattle.df_catalogue.specs.States.{opening_of, IsLegal}
-use Rattle.df_catalogue.specs.declared.fault.NewFault.{NewFault}
-use Rattle.df_catalogue.specs.declared.fault.NewFault.TheVariants as catalogue
-use Rattle.df_catalogue.specs.declared.state.CatalogueParts.{CatalogueParts}
-use Rattle.df_catalogue.specs.declared.state.State.{State}
+use Rattle.df_state.specs.New.{new_fault}
+use Rattle.df_state.specs.Pictures.{next_state}
+use Rattle.df_state.specs.States.{opening_of, IsLegal}
+use Rattle.df_state.specs.declared.fault.NewFault.{NewFault}
+use Rattle.df_state.specs.declared.fault.NewFault.TheVariants as catalogue
+use Rattle.df_state.specs.declared.state.CatalogueParts.{CatalogueParts}
+use Rattle.df_state.specs.declared.state.State.{State}
 use Rattle.df_versions.specs.Histories.{IsOpening}
 use Rattle.df_versions.specs.Openings.{fault_after, open_fault, opening_refused, most_readers}
 use Rattle.df_versions.specs.declared.fault.OpenFault.TheVariants as fault

@@ -1,8 +1,8 @@
 -- What a published version shows.
 use Rattle.std.proofs.Common.{◌≡◌, ℕ, ◌+◌, List, [], ◌∷◌, length, refl, sym}
 use Rattle.std.specs.Prelude.{Some, option_map}
-use Rattle.df_catalogue.specs.Pictures.{PictureParts, picture_of}
-use Rattle.df_catalogue.specs.declared.state.State.{State}
+use Rattle.df_state.specs.Pictures.{PictureParts, picture_of}
+use Rattle.df_state.specs.declared.state.State.{State}
 use Rattle.df_versions.specs.Histories.{IsHistory, last_of, last_state}
 use Rattle.df_versions.specs.Shown.{Shows}
 use Rattle.df_versions.proofs.Histories.{ends-legal}

@@ -1,13 +1,13 @@
 -- What a staged change leads to.
 use Rattle.std.proofs.Common.{◌≡◌, List}
 use Rattle.std.specs.Prelude.{Option, Some, None, IsSomeAnd, option_map, unwrap_or}
-use Rattle.df_catalogue.specs.declared.change.Change.{Change}
-use Rattle.df_catalogue.specs.declared.state.CatalogueParts.{CatalogueParts}
-use Rattle.df_catalogue.specs.declared.state.StagedParts.{StagedParts}
-use Rattle.df_catalogue.specs.declared.state.State.{State}
-use Rattle.df_catalogue.specs.Changes.{after, IsSound}
-use Rattle.df_catalogue.specs.Pictures.{next_state}
-use Rattle.df_catalogue.specs.Refusals.{refusal_of}
+use Rattle.df_state.specs.declared.change.Change.{Change}
+use Rattle.df_state.specs.declared.state.CatalogueParts.{CatalogueParts}
+use Rattle.df_state.specs.declared.state.StagedParts.{StagedParts}
+use Rattle.df_state.specs.declared.state.State.{State}
+use Rattle.df_state.specs.Changes.{after, IsSound}
+use Rattle.df_state.specs.Pictures.{next_state}
+use Rattle.df_state.specs.Refusals.{refusal_of}
 use Rattle.df_catalogue.specs.StagedChanges.{IsStagedFor}
 use Rattle.df_versions.specs.Histories.{MayFollow, last_state}
 use Rattle.df_versions.proofs.Histories.{step-follows}

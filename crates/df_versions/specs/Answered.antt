@@ -1,11 +1,11 @@
 -- What a change of a catalogue that publishes its versions answers, and what becomes of the history.
 use Rattle.std.specs.Prelude.{◌≡◌, ◌≢◌, ℕ, ◌<◌, ◌≤◌, ◌-◌, ◌^◌, List, [], ◌∷◌, ◌++◌, length, Option, Some, None, Result, IfOk, IfErr, OnErr}
-use Rattle.df_catalogue.specs.declared.change.Change.{Change}
-use Rattle.df_catalogue.specs.declared.fault.CatalogueFault.{CatalogueFault}
-use Rattle.df_catalogue.specs.declared.fault.CatalogueFault.TheVariants as catalogue_fault
-use Rattle.df_catalogue.specs.declared.state.State.{State}
-use Rattle.df_catalogue.specs.Changes.{after}
-use Rattle.df_catalogue.specs.Refusals.{refusal_of}
+use Rattle.df_state.specs.declared.change.Change.{Change}
+use Rattle.df_state.specs.declared.fault.CatalogueFault.{CatalogueFault}
+use Rattle.df_state.specs.declared.fault.CatalogueFault.TheVariants as catalogue_fault
+use Rattle.df_state.specs.declared.state.State.{State}
+use Rattle.df_state.specs.Changes.{after}
+use Rattle.df_state.specs.Refusals.{refusal_of}
 use Rattle.df_versions.specs.Histories.{IsHistory, last_state}
 use Rattle.df_versions.specs.declared.fault.ChangeFault.{ChangeFault}
 use Rattle.df_versions.specs.declared.fault.ChangeFault.TheVariants.{Ahead, Spent, Refused, Memory}

@@ -1,7 +1,7 @@
 -- The rule of the history, and what its step tells.
 use Rattle.std.specs.Prelude.{ℕ, ◌≡◌, ◌==◌, true, List, [], ◌∷◌, ◌++◌, length, MatchBool}
 use Rattle.logbook.specs.Pages.{Cell, Step, View, Book, Named}
-use Rattle.df_catalogue.specs.declared.state.State.{State}
+use Rattle.df_state.specs.declared.state.State.{State}
 use Rattle.df_versions.specs.Histories.{IsHistory}
 
 -- the first word is the length of the history, which is lawful. A book has two words, of which this one leaves the second at 0

@@ -1,9 +1,9 @@
 -- Why a catalogue that publishes its versions is not opened: the first reason that fits.
 use Rattle.std.specs.Prelude.{ℕ, List, nat_lt, Option, Some, None, if◌then◌else◌}
 use Rattle.df_value.specs.declared.cell.CellType.{CellType}
-use Rattle.df_catalogue.specs.New.{new_fault}
-use Rattle.df_catalogue.specs.declared.fault.NewFault.{NewFault}
-use Rattle.df_catalogue.specs.declared.fault.NewFault.TheVariants as catalogue
+use Rattle.df_state.specs.New.{new_fault}
+use Rattle.df_state.specs.declared.fault.NewFault.{NewFault}
+use Rattle.df_state.specs.declared.fault.NewFault.TheVariants as catalogue
 use Rattle.df_versions.specs.declared.fault.OpenFault.{OpenFault}
 use Rattle.df_versions.specs.declared.fault.OpenFault.TheVariants as fault
 

@@ -1,8 +1,8 @@
 -- What a version shows.
 use Rattle.std.specs.Prelude.{◌≡◌, ◌+◌, ℕ, List, length, Some}
-use Rattle.df_catalogue.specs.Pictures.{PictureParts, picture_of}
-use Rattle.df_catalogue.specs.States.{IsLegal}
-use Rattle.df_catalogue.specs.declared.state.State.{State}
+use Rattle.df_state.specs.Pictures.{PictureParts, picture_of}
+use Rattle.df_state.specs.States.{IsLegal}
+use Rattle.df_state.specs.declared.state.State.{State}
 use Rattle.df_versions.specs.Histories.{IsHistory, last_state}
 
 -- the version of this number and picture shows the last state of a history, which is legal

@@ -3,7 +3,7 @@ use Rattle.std.specs.Prelude.{◌≡◌, ℕ, List, [], ◌∷◌}
 use mathlib.Core.Option.{some}
 use lib.ListN.{get_elem?}
 use Rattle.logbook.specs.Pages.{Book}
-use Rattle.df_catalogue.specs.declared.state.State.{State}
+use Rattle.df_state.specs.declared.state.State.{State}
 use Rattle.df_versions.specs.declared.version.KnownVersions.{KnownVersions}
 use Rattle.df_versions.specs.declared.version.Published.{Published}
 

@@ -2,7 +2,7 @@
 //! value that holds them, which hides the catalogue's parts: what is staged is known of these.
 ghost use Rattle.std.specs.Prelude.{◌≡◌, Some, IfErr, IsSomeAnd, OnErr, OnOk, option_map};
 ghost use Rattle.df_catalogue.specs.StagedChanges.{counted_desk, counts_staged};
-ghost use Rattle.df_catalogue.specs.Pictures.{next_state};
+ghost use Rattle.df_state.specs.Pictures.{next_state};
 ghost use Rattle.df_versions.specs.Answered.{AnswersNext, ChangesHistory, IsReady, IsUnready, Reports, told_states};
 ghost use Rattle.df_versions.specs.Histories.{IsHistoryOver, MayFollow};
 
@@ -21,7 +21,7 @@ pub struct StagedState;
 
 impl<Acc: Ledger, Del: Ledger> Plain<Catalogue<Acc, Del>, State, u64> for StagedState {
     ghost use Rattle.std.specs.Prelude.{None};
-    ghost use Rattle.df_catalogue.specs.Pictures.{next_state};
+    ghost use Rattle.df_state.specs.Pictures.{next_state};
 
     ghost ask = { λ c. next_state c };
 

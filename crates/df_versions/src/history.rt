@@ -2,7 +2,7 @@
 ghost use Rattle.std.specs.Prelude.{◌≡◌, ◌-◌, ◌<◌, ◌^◌, ◌++◌, ◌∷◌, [], length, IsTrue, None, true, false};
 ghost use Rattle.std.specs.List.{AllByRecursion};
 ghost use mathlib.Core.List.{IsPrefix};
-ghost use Rattle.df_catalogue.specs.States.{IsLegal};
+ghost use Rattle.df_state.specs.States.{IsLegal};
 ghost use Rattle.df_versions.specs.Histories.{IsHistory, MayFollow};
 ghost use Rattle.df_versions.specs.HistoryRule.{head_of};
 
@@ -91,8 +91,8 @@ impl Model for History {
     ghost use Rattle.std.specs.Prelude.{◌≡◌, List, length};
     ghost use Rattle.std.specs.Coded.{coded×, coded_list};
     ghost use Rattle.logbook.specs.Pages.{Book, book_coded};
-    ghost use Rattle.df_catalogue.specs.declared.state.State.{State};
-    ghost use Rattle.df_catalogue.specs.contracts.state.State as state_type;
+    ghost use Rattle.df_state.specs.declared.state.State.{State};
+    ghost use Rattle.df_state.specs.contracts.state.State as state_type;
     ghost use Rattle.df_versions.specs.Histories.{IsHistory};
 
     ghost Value = { Book × List State };

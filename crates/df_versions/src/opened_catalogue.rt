@@ -1,9 +1,9 @@
 //! The opening of a catalogue that publishes its versions.
 ghost use Rattle.std.specs.Prelude.{◌≡◌, ◌≢◌, ◌≤◌, ◌∷◌, [], All, Err, IfErr, IfOk, IsOk, None, OnOk, Some, length};
-ghost use Rattle.df_catalogue.specs.Desks.{first_desks};
-ghost use Rattle.df_catalogue.specs.Ledgers as ledgers;
-ghost use Rattle.df_catalogue.specs.States.{opening_of};
-ghost use Rattle.df_catalogue.specs.declared.fault.NewFault.TheVariants as catalogue_fault;
+ghost use Rattle.df_state.specs.Desks.{first_desks};
+ghost use Rattle.df_state.specs.Ledgers as ledgers;
+ghost use Rattle.df_state.specs.States.{opening_of};
+ghost use Rattle.df_state.specs.declared.fault.NewFault.TheVariants as catalogue_fault;
 ghost use Rattle.df_versions.specs.Histories.{IsOpening, schemas_of};
 ghost use Rattle.df_versions.specs.Openings.{open_fault, opening_refused};
 ghost use Rattle.df_versions.specs.declared.fault.OpenFault.TheVariants as open_fault_of;
@@ -36,9 +36,9 @@ impl<Acc: Ledger, Del: Ledger> Model for OpenedCatalogue<Acc, Del> {
     ghost use Rattle.std.specs.Prelude.{◌≡◌, ℕ, List, Some};
     ghost use Rattle.std.specs.Coded.{codes};
     ghost use Rattle.logbook.specs.Pages.{Book, book_coded};
-    ghost use Rattle.df_catalogue.specs.Desks.{DeskParts};
-    ghost use Rattle.df_catalogue.specs.declared.state.State.{State};
-    ghost use Rattle.df_catalogue.specs.contracts.state.State as state_type;
+    ghost use Rattle.df_state.specs.Desks.{DeskParts};
+    ghost use Rattle.df_state.specs.declared.state.State.{State};
+    ghost use Rattle.df_state.specs.contracts.state.State as state_type;
     ghost use Rattle.df_versions.specs.Histories.{last_state};
 
     ghost Value = { Book × (List State × List DeskParts) × ℕ };

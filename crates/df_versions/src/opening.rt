@@ -1,6 +1,6 @@
 //! The opening of a history and of its readers.
 ghost use Rattle.std.specs.Prelude.{◌≡◌, ◌+◌, ◌<◌, ◌≤◌, ◌^◌, ◌∷◌, [], All, IfOk, None, OnOk, drop, length};
-ghost use Rattle.df_catalogue.specs.Pictures.{picture_of};
+ghost use Rattle.df_state.specs.Pictures.{picture_of};
 ghost use Rattle.left_right.specs.Sides.{view};
 ghost use Rattle.df_versions.specs.Histories.{IsHistoryOver, IsOpening, schemas_of};
 ghost use Rattle.df_versions.specs.Newest.{newest};
@@ -29,8 +29,8 @@ impl Model for OpenedVersions {
     ghost use Rattle.std.specs.Coded.{codes};
     ghost use Rattle.logbook.specs.Pages.{Book, book_coded};
     ghost use Rattle.left_right.specs.Sides.{view as view_of};
-    ghost use Rattle.df_catalogue.specs.declared.state.State.{State};
-    ghost use Rattle.df_catalogue.specs.contracts.state.State as state_type;
+    ghost use Rattle.df_state.specs.declared.state.State.{State};
+    ghost use Rattle.df_state.specs.contracts.state.State as state_type;
     ghost use Rattle.df_versions.specs.Histories.{IsHistoryOver, schemas_of};
     ghost use Rattle.df_versions.specs.HistoryRule.{head_of};
 

@@ -1,6 +1,6 @@
 //! The history that is published.
 ghost use Rattle.std.specs.Prelude.{◌≡◌, ◌++◌, ◌∷◌, ◌-◌, ◌^◌, [], None, drop, IfErr, IfOk, IsErr, ◌<◌, length};
-ghost use Rattle.df_catalogue.specs.Pictures.{picture_of};
+ghost use Rattle.df_state.specs.Pictures.{picture_of};
 ghost use Rattle.left_right.specs.Sides.{view};
 ghost use Rattle.df_versions.specs.Histories.{IsHistory, IsHistoryOver, MayFollow};
 ghost use Rattle.df_versions.specs.HistoryRule.{head_of};
@@ -66,8 +66,8 @@ pub struct Publisher<J: Naming> {
 impl<J: Naming> Model for Publisher<J> {
     ghost use Rattle.std.specs.Prelude.{◌≡◌, List};
     ghost use Rattle.std.specs.Coded.{coded_list};
-    ghost use Rattle.df_catalogue.specs.declared.state.State.{State};
-    ghost use Rattle.df_catalogue.specs.contracts.state.State as state_type;
+    ghost use Rattle.df_state.specs.declared.state.State.{State};
+    ghost use Rattle.df_state.specs.contracts.state.State as state_type;
     ghost use Rattle.df_versions.specs.Histories.{IsHistoryOver};
     ghost use Rattle.df_versions.specs.HistoryRule.{head_of};
 

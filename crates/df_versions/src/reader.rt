@@ -36,8 +36,8 @@ impl Model for Reader {
     ghost use Rattle.std.specs.Prelude.{◌≡◌, List};
     ghost use Rattle.std.specs.Coded.{coded×, coded_list};
     ghost use Rattle.logbook.specs.Pages.{Book, book_coded};
-    ghost use Rattle.df_catalogue.specs.contracts.state.State as state_type;
-    ghost use Rattle.df_catalogue.specs.declared.state.State.{State};
+    ghost use Rattle.df_state.specs.contracts.state.State as state_type;
+    ghost use Rattle.df_state.specs.declared.state.State.{State};
     ghost use Rattle.left_right.specs.Sides.{view as view_of};
     ghost use Rattle.df_versions.specs.VersionRule.{Knows};
 

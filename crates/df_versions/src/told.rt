@@ -1,7 +1,7 @@
 //! What the caller of a change is told.
 ghost use Rattle.std.specs.Prelude.{◌≡◌, ◌+◌, length};
 ghost use Rattle.std.specs.List.{AllByRecursion};
-ghost use Rattle.df_catalogue.specs.States.{IsLegal};
+ghost use Rattle.df_state.specs.States.{IsLegal};
 ghost use Rattle.df_versions.specs.Histories.{IsHistoryOver};
 
 use crate::history::{History, Naming};
@@ -26,8 +26,8 @@ impl<J: Naming> Drop for Told<J> {
 impl<J: Naming> Model for Told<J> {
     ghost use Rattle.std.specs.Prelude.{◌≡◌, List};
     ghost use Rattle.std.specs.Coded.{coded_list};
-    ghost use Rattle.df_catalogue.specs.declared.state.State.{State};
-    ghost use Rattle.df_catalogue.specs.contracts.state.State as state_type;
+    ghost use Rattle.df_state.specs.declared.state.State.{State};
+    ghost use Rattle.df_state.specs.contracts.state.State as state_type;
     ghost use Rattle.df_versions.specs.Histories.{IsHistoryOver};
 
     ghost Value = { List State };

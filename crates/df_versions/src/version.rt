@@ -1,12 +1,12 @@
 //! What is published.
 ghost use Rattle.std.specs.Prelude.{◌≡◌, ◌+◌, IfOk, Some, length, map, option_map};
 ghost use Rattle.std.specs.Arc.{arc_value};
-ghost use Rattle.df_catalogue.specs.Answers.{AnswersMemoryLast};
-ghost use Rattle.df_catalogue.specs.Pictures as pictures;
-ghost use Rattle.df_catalogue.specs.Pictures.{IsPictureOfLegal, picture_of};
-ghost use Rattle.df_catalogue.specs.Reads as reads;
-ghost use Rattle.df_catalogue.specs.States.{value_over};
-ghost use Rattle.df_catalogue.specs.declared.state.State.{State};
+ghost use Rattle.df_state.specs.Answers.{AnswersMemoryLast};
+ghost use Rattle.df_state.specs.Pictures as pictures;
+ghost use Rattle.df_state.specs.Pictures.{IsPictureOfLegal, picture_of};
+ghost use Rattle.df_state.specs.Reads as reads;
+ghost use Rattle.df_state.specs.States.{value_over};
+ghost use Rattle.df_state.specs.declared.state.State.{State};
 ghost use Rattle.df_versions.specs.Histories.{last_state};
 
 use crate::history::History;
@@ -38,7 +38,7 @@ impl Drop for Version {
 
 impl Model for Version {
     ghost use Rattle.std.specs.Prelude.{ℕ};
-    ghost use Rattle.df_catalogue.specs.Pictures.{IsPictureOfLegal, PictureParts};
+    ghost use Rattle.df_state.specs.Pictures.{IsPictureOfLegal, PictureParts};
 
     ghost Value = { ℕ × PictureParts };
 

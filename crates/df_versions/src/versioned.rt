@@ -1,8 +1,8 @@
 //! A catalogue of which each change is published: what stands behind the lock of a hall.
 ghost use Rattle.std.specs.Prelude.{◌≡◌, Some, OnErr, OnOk, length, option_map};
-ghost use Rattle.df_catalogue.specs.Desks.{desk_after};
-ghost use Rattle.df_catalogue.specs.FrameChanges.{change_of};
-ghost use Rattle.df_catalogue.specs.ViewChanges.{change_of_views};
+ghost use Rattle.df_state.specs.Desks.{desk_after};
+ghost use Rattle.df_state.specs.FrameChanges.{change_of};
+ghost use Rattle.df_state.specs.ViewChanges.{change_of_views};
 ghost use Rattle.df_versions.specs.Histories.{IsHistoryOver, last_state};
 
 use crate::entering::{check_ready, enter_rows, enter_views, report};
@@ -25,8 +25,8 @@ pub struct VersionedCatalogue<Acc: Ledger, Del: Ledger, J: Naming> {
 impl<Acc: Ledger, Del: Ledger, J: Naming> Model for VersionedCatalogue<Acc, Del, J> {
     ghost use Rattle.std.specs.Prelude.{◌≡◌, List, Some};
     ghost use Rattle.std.specs.Coded.{coded_list};
-    ghost use Rattle.df_catalogue.specs.declared.state.State.{State};
-    ghost use Rattle.df_catalogue.specs.contracts.state.State as state_type;
+    ghost use Rattle.df_state.specs.declared.state.State.{State};
+    ghost use Rattle.df_state.specs.contracts.state.State as state_type;
     ghost use Rattle.df_versions.specs.Histories.{IsHistoryOver, last_state};
 
     ghost Value = { List State };

@@ -3,7 +3,7 @@ use Rattle.std.proofs.lemmas.List.{length-set}
 use Rattle.df_catalogue.specs.declared.views.View.{View}
 use Rattle.df_live.specs.Views.{IsLive}
 use Rattle.df_catalogue.specs.LiveViews.{AreStaged, HaveRoom}
-use Rattle.df_catalogue.proofs.Partners.{length-last}
+use Rattle.df_state.proofs.Partners.{length-last}
 use Rattle.df_catalogue.proofs.ViewLists.{headings_set, room_pop, staged_pop, staged_last, live_more}
 use Rattle.df_catalogue.proofs.live_views.commit_each.Goals as goal
 

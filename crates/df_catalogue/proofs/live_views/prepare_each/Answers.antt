@@ -7,7 +7,7 @@ use Rattle.df_catalogue.specs.declared.views.View.{View}
 use Rattle.df_catalogue.specs.LiveViews.{plans}
 use Rattle.df_catalogue.specs.Work.{work_of_all}
 use Rattle.df_catalogue.proofs.WorkFacts.{counted_all, counted_more, counted_none, few_below, few_more, few_none, plan_at, plans_same}
-use Rattle.df_catalogue.proofs.Partners.{length-last}
+use Rattle.df_state.proofs.Partners.{length-last}
 use Rattle.df_catalogue.proofs.ViewLists.{changes_same, headings_set, live_set, staged_push, room_push}
 use Rattle.df_catalogue.proofs.live_views.prepare_each.Goals as goal
 

@@ -1,5 +1,6 @@
 use Rattle.std.proofs.Common.{◌∙◌, ◌++◌, ◌∷◌, [], refl}
-use Rattle.df_catalogue.proofs.PictureFacts.{state-seen, tables-numbered}
+use Rattle.df_catalogue.proofs.PictureFacts.{state-seen}
+use Rattle.df_state.proofs.PictureFacts.{tables-numbered}
 use Rattle.df_catalogue.proofs.StagedPictureFacts.{pictured-last}
 use Rattle.df_catalogue.proofs.staged_pictures.picture_with_view.Goals as goal
 

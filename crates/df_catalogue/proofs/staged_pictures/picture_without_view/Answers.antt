@@ -1,6 +1,7 @@
 use Rattle.std.proofs.Common.{◌∙◌, refl}
 use Rattle.std.specs.Prelude.{remove}
-use Rattle.df_catalogue.proofs.PictureFacts.{state-seen, tables-numbered}
+use Rattle.df_catalogue.proofs.PictureFacts.{state-seen}
+use Rattle.df_state.proofs.PictureFacts.{tables-numbered}
 use Rattle.df_catalogue.proofs.StagedPictureFacts.{pictured-less}
 use Rattle.df_catalogue.proofs.staged_pictures.picture_without_view.Goals as goal
 

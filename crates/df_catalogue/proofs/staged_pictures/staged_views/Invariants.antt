@@ -1,7 +1,7 @@
 use Rattle.std.proofs.Common.{◌≡◌, List, take, map}
 use Rattle.df_column.specs.Tables.{TaggedRows}
-use Rattle.df_catalogue.specs.LiveViews.{AreStaged}
-use Rattle.df_catalogue.specs.Pictures.{named_rows_in, planned_rows}
+use Rattle.df_catalogue.specs.LiveViews.{AreStaged, planned_rows}
+use Rattle.df_state.specs.Pictures.{named_rows_in}
 use Rattle.df_catalogue.proofs.staged_pictures.staged_views.Given as goal
 
 abbrev pub invariant-loop-at : goal.invariant-loop-at

@@ -1,4 +1,4 @@
-use Rattle.df_catalogue.proofs.Loops.{mapped-more}
+use Rattle.df_state.proofs.Loops.{mapped-more}
 use Rattle.df_catalogue.proofs.views.names_of.Goals as goal
 
 pub loop-view-preserved : goal.loop-view-preserved

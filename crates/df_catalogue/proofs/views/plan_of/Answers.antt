@@ -1,6 +1,6 @@
 use Rattle.std.proofs.Common.{◌∙◌, Some, refl, sym, ap}
 use Rattle.std.specs.Prelude.{bytes_eq, option_map}
-use Rattle.df_catalogue.proofs.PartFacts.{none-named, placed-found}
+use Rattle.df_state.proofs.Places.{none-named, placed-found}
 use Rattle.df_catalogue.proofs.views.plan_of.Goals as goal
 
 pub returns-in_err-at : goal.returns-in_err-at

@@ -1,6 +1,6 @@
 use Rattle.std.proofs.Common.{ℕ, ◌<◌, ◌≢◌}
 use Rattle.std.specs.Prelude.{slice_index_or}
-use Rattle.df_catalogue.specs.Desks.{DeskParts}
+use Rattle.df_state.specs.Desks.{DeskParts}
 use Rattle.df_hall.proofs.closing.earlier.Given as goal
 
 abbrev pub invariant-loop-to : goal.invariant-loop-to

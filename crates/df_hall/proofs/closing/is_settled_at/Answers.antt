@@ -1,5 +1,5 @@
 use Rattle.std.proofs.Common.{arith}
-use Rattle.df_catalogue.proofs.SoundFrames.{accepted-few, deleted-few}
+use Rattle.df_state.proofs.SoundFrames.{accepted-few, deleted-few}
 use Rattle.df_hall.proofs.closing.is_settled_at.Goals as goal
 
 pub sums-accepted-requires-clause-accepted : goal.sums-accepted-requires-clause-accepted

@@ -1,7 +1,7 @@
 use Rattle.std.proofs.Common.{◌∙◌, ap, arith}
-use Rattle.df_catalogue.specs.Desks.{DeskParts}
+use Rattle.df_state.specs.Desks.{DeskParts}
 use Rattle.df_hall.proofs.FirstFacts.{joined-first}
-use Rattle.df_hall.proofs.ListFacts.{same-default}
+use Rattle.df_state.proofs.ListFacts.{same-default}
 use Rattle.df_hall.proofs.closing.join_at.Goals as goal
 
 pub returns-clause-first : goal.returns-clause-first

@@ -1,9 +1,9 @@
 use Rattle.std.proofs.Common.{◌≡◌, ℕ, ◌+◌, ◌<◌, ◌∙◌, Bool, true, false, List, drop, length, refl, ap, sym, arith}
 use Rattle.std.specs.Prelude.{Option, Some, slice_get, if◌then◌else◌}
 use Rattle.df_frame.specs.declared.state.FrameState.{FrameState}
-use Rattle.df_catalogue.specs.Desks.{DeskParts}
+use Rattle.df_state.specs.Desks.{DeskParts}
 use Rattle.df_hall.specs.Closing.{is_settled, missing_from}
-use Rattle.df_hall.proofs.ListFacts.{item-at}
+use Rattle.df_state.proofs.ListFacts.{item-at}
 use Rattle.df_hall.proofs.closing.missing_in.Goals as goal
 
 on-true : (b c : Bool) (m : Option ℕ) (frame : ℕ) → b ≡ c → b ≡ true → (if c then m else Some frame) ≡ m

@@ -1,7 +1,7 @@
 use Rattle.std.proofs.Common.{◌≡◌, ℕ, ◌+◌, ◌<◌, ◌≤◌, ◌==◌, ◌^◌, Bool, true, false, List, take, length, get_or, ap, arith, sum_by}
 use Rattle.std.specs.Prelude.{if◌then◌else◌}
 use Rattle.std.proofs.lemmas.List.Sums.{sum_by_more_le_part}
-use Rattle.df_catalogue.specs.Desks.{DeskParts}
+use Rattle.df_state.specs.Desks.{DeskParts}
 use Rattle.df_hall.proofs.closing.sums.Goals as goal
 
 part : (b : Bool) (n : ℕ) → (if b then n else 0) ≤ n

@@ -2,7 +2,7 @@ use Rattle.std.proofs.Common.{◌≡◌, ◌∙◌, ℕ, ap, arith, get_or, leng
 use Rattle.std.specs.Prelude.{IfNone, IfSome, None, Option, Some}
 use Rattle.df_jobs.specs.Expected.{AreExpected, HasAll}
 use Rattle.df_jobs.proofs.ExpectedFacts.{all-found, frame-found}
-use Rattle.df_jobs.proofs.ListFacts.{put-back}
+use Rattle.df_state.proofs.ListFacts.{put-back}
 use Rattle.df_jobs.proofs.UnlikeFacts.{frame-unlike}
 use Rattle.df_jobs.proofs.comparing.first_unlike.Goals as goal
 

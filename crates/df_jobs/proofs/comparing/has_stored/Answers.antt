@@ -1,5 +1,5 @@
 use Rattle.std.proofs.Common.{subst, sym}
-use Rattle.df_catalogue.specs.Pictures.{ReachesIn}
+use Rattle.df_state.specs.Pictures.{ReachesIn}
 use Rattle.df_jobs.proofs.RowFacts.{chunk-found, chunk-stands, length-enumerate}
 use Rattle.df_jobs.proofs.comparing.has_stored.Goals as goal
 

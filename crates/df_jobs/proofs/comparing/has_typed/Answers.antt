@@ -1,5 +1,5 @@
 use Rattle.std.proofs.Common.{◌≡◌, ◌∙◌, ap, length, subst, sym}
-use Rattle.df_catalogue.specs.Pictures.{AreRowsIn, ReachesIn}
+use Rattle.df_state.specs.Pictures.{AreRowsIn, ReachesIn}
 use Rattle.df_jobs.proofs.RowFacts.{chunk-found, chunk-stands, length-enumerate}
 use Rattle.df_jobs.proofs.comparing.has_typed.Goals as goal
 

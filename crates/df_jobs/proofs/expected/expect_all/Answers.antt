@@ -1,7 +1,7 @@
 use Rattle.std.proofs.Common.{◌≡◌, ◌∙◌, ◌++◌, ◌∷◌, [], ap, length, subst, sym}
 use Rattle.df_jobs.specs.Expected.{AreExpected}
 use Rattle.df_jobs.proofs.ExpectedFacts.{expected-more}
-use Rattle.df_jobs.proofs.ListFacts.{put-back}
+use Rattle.df_state.proofs.ListFacts.{put-back}
 use Rattle.df_jobs.proofs.expected.expect_all.Goals as goal
 
 pub loop-outcome-preserved : goal.loop-outcome-preserved

@@ -1,7 +1,7 @@
 use Rattle.std.proofs.Common.{◌∙◌, length, ap, sym, arith, sum_by}
 use Rattle.std.proofs.lemmas.List.Sums.{sum_by_more_le_part}
 use Rattle.df_jobs.proofs.JobFacts.{jobs-of-chunks}
-use Rattle.df_jobs.proofs.ListFacts.{take-all}
+use Rattle.df_state.proofs.ListFacts.{take-all}
 use Rattle.df_jobs.proofs.jobs.job_count.Goals as goal
 
 pub overflow_add-count : goal.overflow_add-count

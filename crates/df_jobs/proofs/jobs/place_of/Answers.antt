@@ -2,7 +2,7 @@ use Rattle.std.proofs.Common.{◌≡◌, ℕ, suc, ◌+◌, ◌-◌, ◌<◌, �
 use Rattle.std.specs.Prelude.{Option, slice_get, option_map}
 use Rattle.std.proofs.Math.Seq.{drop-cons}
 use Rattle.df_value.specs.declared.chunk.Piece.{Piece}
-use Rattle.df_jobs.proofs.ListFacts.{same-default}
+use Rattle.df_state.proofs.ListFacts.{same-default}
 use Rattle.df_jobs.specs.Jobs.{chunks_of, jobs_from, jobs_of, IsPlace}
 use Rattle.df_jobs.proofs.JobFacts.{job-here, job-later}
 use Rattle.df_jobs.proofs.jobs.place_of.Goals as goal

@@ -1,7 +1,7 @@
 use Rattle.std.proofs.Common.{◌++◌, ◌∷◌, [], List, ◌∙◌, ap, get_or, subst, sym, take}
 use Rattle.std.specs.Prelude.{All}
 use Rattle.std.proofs.lemmas.List.Elements.{All-append, All-cons, All-nil}
-use Rattle.df_jobs.proofs.ListFacts.{take-more}
+use Rattle.df_state.proofs.ListFacts.{take-more}
 use Rattle.df_jobs.specs.declared.jobs.Outcome.{Outcome}
 use Rattle.df_jobs.specs.Jobs.{job_of}
 use Rattle.df_jobs.specs.Joined.{IsGoodOf}

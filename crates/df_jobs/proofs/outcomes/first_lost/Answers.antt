@@ -1,8 +1,8 @@
 use Rattle.std.proofs.Common.{◌≡◌, ℕ, ◌+◌, ◌<◌, ◌∙◌, List, [], ◌∷◌, ◌++◌, map, length, take, get_or, ap, sym, arith}
 use Rattle.std.specs.List.{range_with_len}
-use Rattle.df_jobs.proofs.ListFacts.{map-more, take-more}
+use Rattle.df_state.proofs.ListFacts.{map-more, take-more}
 use Rattle.df_jobs.specs.declared.jobs.Outcome.{Outcome}
-use Rattle.df_jobs.proofs.ListFacts.{take-all}
+use Rattle.df_state.proofs.ListFacts.{take-all}
 use Rattle.df_jobs.proofs.OutcomeFacts.{range-more}
 use Rattle.df_jobs.proofs.LostFacts.{lost-at, lost-behind}
 use Rattle.df_jobs.proofs.outcomes.first_lost.Goals as goal

@@ -1,7 +1,7 @@
 use Rattle.std.proofs.Common.{◌≡◌, ℕ, ◌+◌, ◌<◌, ◌∙◌, List, [], ◌∷◌, ◌++◌, map, length, take, get_or, refl, ap, sym}
 use Rattle.std.specs.Prelude.{Option, Some, None, filter_map}
 use Rattle.std.specs.List.{cons_option}
-use Rattle.df_jobs.proofs.ListFacts.{map-more, take-more}
+use Rattle.df_state.proofs.ListFacts.{map-more, take-more}
 use Rattle.df_jobs.specs.declared.jobs.Outcome.{Outcome}
 use Rattle.df_jobs.specs.declared.refused.Refused.{Refused}
 use Rattle.df_jobs.specs.Jobs.{job_of}

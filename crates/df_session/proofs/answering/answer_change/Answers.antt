@@ -1,6 +1,6 @@
 use Rattle.std.proofs.Common.{refl}
 use Rattle.std.proofs.lemmas.Result.{on_ok_weaker}
-use Rattle.df_catalogue.specs.declared.change.Change.TheVariants.{Append, Delete, DropView, Register, Replace}
+use Rattle.df_state.specs.declared.change.Change.TheVariants.{Append, Delete, DropView, Register, Replace}
 use Rattle.df_session.proofs.answering.answer_change.Goals as goal
 
 -- the change that each of the commands makes

@@ -1,5 +1,5 @@
 use Rattle.std.proofs.Common.{subst, sym}
-use Rattle.df_catalogue.specs.declared.change.Change.TheVariants.{Register}
+use Rattle.df_state.specs.declared.change.Change.TheVariants.{Register}
 use Rattle.df_session.proofs.changing.register.Goals as goal
 
 pub returns-clause-made : goal.returns-clause-made

@@ -2,7 +2,7 @@ use Rattle.std.proofs.Common.{◌≡◌, ◌∙◌, ap, map, subst, sym}
 use Rattle.std.proofs.lemmas.Iterator.{YieldsList-from_slice, YieldsList-from_zip}
 use Rattle.std.proofs.lemmas.Simd.{map-map}
 use Rattle.std.proofs.lemmas.Iterator.Consumers.{YieldsList-end}
-use Rattle.df_catalogue.specs.declared.change.Change.TheVariants.{Register}
+use Rattle.df_state.specs.declared.change.Change.TheVariants.{Register}
 use Rattle.df_session.proofs.AreMadeFacts.{all-each}
 use Rattle.df_session.specs.Filling.{AreMade, registration}
 use Rattle.df_session.proofs.filling.register_views.Goals as goal

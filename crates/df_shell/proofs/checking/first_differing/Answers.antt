@@ -1,6 +1,6 @@
 use Rattle.std.proofs.Common.{subst, sym}
 use Rattle.std.specs.Prelude.{IsOk}
-use Rattle.df_catalogue.specs.Reads.{view_rows_of}
+use Rattle.df_state.specs.Reads.{view_rows_of}
 use Rattle.df_shell.proofs.CheckFacts.{rows_there}
 use Rattle.df_shell.proofs.checking.first_differing.Goals as goal
 

@@ -1,9 +1,9 @@
 use Rattle.std.proofs.Common.{◌≡◌, ◌∙◌, ap, length, map, replicate, subst, sym}
 use Rattle.std.specs.Prelude.{is_none}
-use Rattle.df_catalogue.specs.declared.state.State.{State}
+use Rattle.df_state.specs.declared.state.State.{State}
 use Rattle.df_shell.proofs.NextNumberFacts.{numbers-empty}
 use Rattle.df_shell.specs.NextNumbers.{next_numbers}
-use Rattle.df_catalogue.specs.States.{opening_of}
+use Rattle.df_state.specs.States.{opening_of}
 use Rattle.df_text.specs.declared.document.FrameSpec.{FrameSpec}
 use Rattle.df_session.proofs.AreMadeFacts.{all-within}
 use Rattle.df_shell.specs.Changes.{IsMade}

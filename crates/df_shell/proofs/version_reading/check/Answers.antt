@@ -1,6 +1,6 @@
 use Rattle.std.proofs.Common.{◌∙◌, Bool, List, ℕ, ap}
 use Rattle.std.specs.Prelude.{find}
-use Rattle.df_catalogue.specs.Pictures.{view_rows_in}
+use Rattle.df_state.specs.Pictures.{view_rows_in}
 use Rattle.df_session.specs.Asked.{plan_named}
 use Rattle.df_session.specs.Told.{check_text}
 use Rattle.df_shell.specs.Versions.{differs_from}

@@ -2,7 +2,7 @@ use Rattle.std.proofs.Common.{◌≡◌, ◌∙◌, ap, sym}
 use Rattle.std.specs.Prelude.{Ok, Some, not}
 use Rattle.std.specs.Cmp.Lexicographic.{pointwise}
 use Rattle.df_value.specs.Rows.{row_eq}
-use Rattle.df_catalogue.specs.Pictures.{view_rows_in}
+use Rattle.df_state.specs.Pictures.{view_rows_in}
 use Rattle.df_session.specs.Asked.{plan_named}
 use Rattle.df_shell.specs.Versions.{differs_from}
 use Rattle.df_shell.proofs.version_reading.differs.Goals as goal

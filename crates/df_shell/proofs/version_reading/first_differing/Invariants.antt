@@ -1,6 +1,6 @@
 use Rattle.std.proofs.Common.{◌≡◌, take}
 use Rattle.std.specs.Prelude.{None, find}
-use Rattle.df_catalogue.specs.Pictures.{view_rows_in}
+use Rattle.df_state.specs.Pictures.{view_rows_in}
 use Rattle.df_session.specs.Asked.{plan_named}
 use Rattle.df_shell.specs.Versions.{differs_from}
 use Rattle.df_shell.proofs.version_reading.first_differing.Given as goal

@@ -1,7 +1,7 @@
 use Rattle.std.proofs.Common.{◌≡◌, ◌∙◌, ◌+◌, ℕ, List, ap, get_or, length, sym, arith}
 use Rattle.df_value.specs.Chunks.{ChunkParts}
-use Rattle.df_catalogue.specs.Desks.{DeskParts, desk_after}
-use Rattle.df_catalogue.specs.declared.change.Change.TheVariants.{Append}
+use Rattle.df_state.specs.Desks.{DeskParts, desk_after}
+use Rattle.df_state.specs.declared.change.Change.TheVariants.{Append}
 use Rattle.df_hall.specs.Halls.{having_accepted}
 use Rattle.df_store.specs.Workers.{chunk_of, without_accepted}
 use Rattle.df_store.proofs.CountFacts.{one-committed}

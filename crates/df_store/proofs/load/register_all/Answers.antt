@@ -1,10 +1,10 @@
 use Rattle.std.proofs.Common.{◌≡◌, ◌∙◌, ap, subst, sym, Err, Some}
 use Rattle.std.proofs.lemmas.Result.{err_from_is_err_and}
 use Rattle.std.specs.Prelude.{IfErr}
-use Rattle.df_catalogue.specs.declared.state.State.{State}
+use Rattle.df_state.specs.declared.state.State.{State}
 use Rattle.df_versions.specs.Histories.{last_state}
 use Rattle.df_store.specs.Faults.{IsCauseOfViews}
-use Rattle.df_jobs.proofs.ListFacts.{looked-up}
+use Rattle.df_state.proofs.ListFacts.{looked-up}
 use Rattle.df_store.proofs.RegisterFacts.{of-views}
 use Rattle.df_store.proofs.load.register_all.Goals as goal
 

@@ -1,5 +1,5 @@
 use Rattle.std.proofs.Common.{◌∙◌, ap}
-use Rattle.df_catalogue.specs.Desks.{parts_of}
+use Rattle.df_state.specs.Desks.{parts_of}
 use Rattle.df_jobs.specs.Jobs.{chunks_of}
 use Rattle.df_store.specs.Workers.{desks_of, outcomes_in}
 use Rattle.df_store.proofs.CountFacts.{all-done, nothing-done, parts-in-all}

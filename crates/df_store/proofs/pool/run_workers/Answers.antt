@@ -1,7 +1,7 @@
 use denote.Param.{param}
 use denote.Param.Send.{sendable}
 use Rattle.std.proofs.Crossing.{crosses}
-use Rattle.df_catalogue.proofs.desk.Desk.TheSendSync as desk
+use Rattle.df_state.proofs.desk.Desk.TheSendSync as desk
 use Rattle.df_claims.proofs.claims.ClaimSeat.TheSendSync as seat
 use Rattle.df_hall.proofs.Crosses.{hall_sync}
 use Rattle.df_jobs.proofs.CrossingOutcomes.{outcome_send}

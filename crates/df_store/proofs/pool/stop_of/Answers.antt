@@ -1,11 +1,11 @@
 use Rattle.std.proofs.Common.{◌≡◌, ℕ, ◌+◌, ◌<◌, ◌∙◌, List, [], ◌∷◌, ◌++◌, map, length, take, get_or, ap, sym}
 use Rattle.std.specs.Prelude.{Option, None}
 use Rattle.std.proofs.lemmas.List.Sums.{fold-append}
-use Rattle.df_jobs.proofs.ListFacts.{map-more, take-more}
+use Rattle.df_state.proofs.ListFacts.{map-more, take-more}
 use Rattle.df_store.specs.Faults.{earlier_of, first_stop}
 use Rattle.df_store.specs.declared.fault.Stop.{Stop}
 use Rattle.df_store.specs.declared.worker.Worker.{Worker}
-use Rattle.df_jobs.proofs.ListFacts.{take-all}
+use Rattle.df_state.proofs.ListFacts.{take-all}
 use Rattle.df_store.proofs.pool.stop_of.Goals as goal
 
 one-more :

@@ -1,5 +1,5 @@
 use Rattle.std.proofs.Common.{List, arith}
-use Rattle.df_catalogue.specs.Desks.{DeskParts}
+use Rattle.df_state.specs.Desks.{DeskParts}
 use Rattle.df_store.specs.declared.worker.Worker.{Worker}
 use Rattle.df_store.proofs.ShareFacts.{split-between}
 use Rattle.df_store.proofs.splitting.split_between.Goals as goal

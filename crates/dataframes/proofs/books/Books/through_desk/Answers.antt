@@ -2,8 +2,8 @@ use Rattle.std.proofs.Common.{◌≡◌, ◌∙◌, ◌<◌, List, ap, arith, le
 use Rattle.std.proofs.lemmas.List.{length-set, with_items_is}
 use Rattle.std.specs.Vec.{with_items}
 use Rattle.std.specs.Prelude.{Some, slice_set}
-use Rattle.df_catalogue.specs.Desks.{DeskParts}
-use Rattle.df_catalogue.specs.FrameChanges.{change_of}
+use Rattle.df_state.specs.Desks.{DeskParts}
+use Rattle.df_state.specs.FrameChanges.{change_of}
 use Rattle.df_versions.specs.Answered.{told_states}
 use Rattle.dataframes.proofs.BooksFacts.{desk-answered, told-length}
 use Rattle.dataframes.proofs.DesksFacts.{no-frame}

@@ -1,4 +1,4 @@
-use Rattle.df_catalogue.proofs.TransitionFacts.{in-order-after}
+use Rattle.df_state.proofs.TransitionFacts.{in-order-after}
 use Rattle.df_catalogue.proofs.catalogue.Catalogue.apply.Goals as goal
 
 pub returns-in-Append-clause-state : goal.returns-in-Append-clause-state

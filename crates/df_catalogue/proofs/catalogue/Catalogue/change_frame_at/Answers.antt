@@ -1,13 +1,13 @@
 use Rattle.std.proofs.Common.{◌≡◌, ◌<◌, length, arith, subst, ap}
 use Rattle.std.specs.Prelude.{Some, slice_get, slice_index_or}
 use Rattle.std.proofs.lemmas.List.{length-map}
-use Rattle.df_catalogue.specs.FrameChanges.{change_of}
-use Rattle.df_catalogue.specs.States.{IsLegal}
-use Rattle.df_catalogue.specs.Transitions.{IsTransition}
+use Rattle.df_state.specs.FrameChanges.{change_of}
+use Rattle.df_state.specs.States.{IsLegal}
+use Rattle.df_state.specs.Transitions.{IsTransition}
 use Rattle.df_catalogue.specs.Work.{IsWorkOf}
-use Rattle.df_catalogue.proofs.DeskFacts.{desk-read, desks-long, frames-long}
-use Rattle.df_catalogue.proofs.FrameChangeFacts.{desks-transition}
-use Rattle.df_catalogue.proofs.StateFacts.{state-of}
+use Rattle.df_state.proofs.DeskFacts.{desk-read, desks-long, frames-long}
+use Rattle.df_state.proofs.FrameChangeFacts.{desks-transition}
+use Rattle.df_state.proofs.StateFacts.{state-of}
 use Rattle.df_catalogue.proofs.catalogue.Catalogue.change_frame_at.Given.{Over}
 use Rattle.df_catalogue.proofs.catalogue.Catalogue.change_frame_at.Goals as goal
 

@@ -1,8 +1,8 @@
 use Rattle.std.proofs.Common.{◌∙◌, sym, ap, subst}
 use Rattle.std.specs.Prelude.{Ok}
-use Rattle.df_catalogue.specs.States.{IsLegal, value_over}
-use Rattle.df_catalogue.proofs.StateFacts.{state-of}
-use Rattle.df_catalogue.proofs.ComputedRows.{computed}
+use Rattle.df_state.specs.States.{IsLegal, value_over}
+use Rattle.df_state.proofs.StateFacts.{state-of}
+use Rattle.df_state.proofs.ComputedRows.{computed}
 use Rattle.df_catalogue.proofs.catalogue.Catalogue.computed_rows.Goals as goal
 
 pub returns-in_ok-table_over-in-Some-clause-answer : goal.returns-in_ok-table_over-in-Some-clause-answer

@@ -1,7 +1,7 @@
 use Rattle.std.proofs.Common.{◌∙◌, sym, ap}
 use Rattle.std.specs.Prelude.{Ok, ok_or, option_map}
 use Rattle.std.specs.Option.{option_copied}
-use Rattle.df_catalogue.specs.declared.fault.CatalogueFault.TheVariants as fault
+use Rattle.df_state.specs.declared.fault.CatalogueFault.TheVariants as fault
 use Rattle.df_frame.specs.Frames.{numbers_of}
 use Rattle.df_catalogue.proofs.catalogue.Catalogue.frame_numbers.Goals as goal
 

@@ -1,8 +1,9 @@
 use Rattle.std.proofs.Common.{◌∙◌, ap, map}
 use Rattle.df_frame.specs.FrameTables.{table_parts}
-use Rattle.df_catalogue.specs.Pictures.{picture_of}
-use Rattle.df_catalogue.proofs.PictureFacts.{state-seen, tables-numbered}
-use Rattle.df_catalogue.proofs.StateFacts.{state-of}
+use Rattle.df_state.specs.Pictures.{picture_of}
+use Rattle.df_catalogue.proofs.PictureFacts.{state-seen}
+use Rattle.df_state.proofs.PictureFacts.{tables-numbered}
+use Rattle.df_state.proofs.StateFacts.{state-of}
 use Rattle.df_catalogue.proofs.catalogue.Catalogue.picture.Goals as goal
 
 pub of-requires : goal.of-requires

@@ -1,8 +1,8 @@
 use Rattle.std.proofs.Common.{Err, sym, subst}
 use Rattle.std.proofs.lemmas.Result.{err_from_is_err_and}
-use Rattle.df_catalogue.specs.declared.change.Change.TheVariants.{Register}
+use Rattle.df_state.specs.declared.change.Change.TheVariants.{Register}
 use Rattle.df_catalogue.specs.StagedChanges.{IsStagedChange}
-use Rattle.df_catalogue.specs.Transitions.{IsTransition}
+use Rattle.df_state.specs.Transitions.{IsTransition}
 use Rattle.df_catalogue.specs.Work.{IsWorkOf}
 use Rattle.df_catalogue.proofs.StagedFacts.{refused-state, refused-work, whole-state, whole-work}
 use Rattle.df_catalogue.proofs.catalogue.Catalogue.register.Goals as goal

@@ -1,16 +1,16 @@
 use Rattle.std.proofs.Common.{◌∙◌, ap, sym}
 use Rattle.std.specs.Prelude.{bytes_eq, not, option_map}
-use Rattle.df_catalogue.specs.declared.change.Change.TheVariants.{DropView}
-use Rattle.df_catalogue.specs.declared.fault.CatalogueFault.TheVariants as fault
+use Rattle.df_state.specs.declared.change.Change.TheVariants.{DropView}
+use Rattle.df_state.specs.declared.fault.CatalogueFault.TheVariants as fault
 use Rattle.df_catalogue.specs.declared.staging.Staging.TheVariants.{OldView}
-use Rattle.df_catalogue.specs.Refusals.{reason_if}
+use Rattle.df_state.specs.Refusals.{reason_if}
 use Rattle.df_catalogue.specs.Staging.{staged_parts}
-use Rattle.df_catalogue.proofs.PartFacts.{any-none}
-use Rattle.df_catalogue.proofs.Refusing.{by-reason}
+use Rattle.df_state.proofs.Places.{any-none}
+use Rattle.df_state.proofs.Refusing.{by-reason}
 use Rattle.df_catalogue.proofs.StagedFacts.{not-staged, staged-made}
 use Rattle.df_catalogue.proofs.StagedViewsFacts.{removal-for, removal-staged}
 use Rattle.df_catalogue.proofs.StagingFacts.{nothing-staged, something-staged}
-use Rattle.df_catalogue.proofs.StateFacts.{state-of, work-of}
+use Rattle.df_state.proofs.StateFacts.{state-of, work-of}
 use Rattle.df_catalogue.proofs.catalogue.Catalogue.stage_drop.Goals as goal
 
 pub invariant_of-self : goal.invariant_of-self

@@ -1,9 +1,9 @@
 use Rattle.std.proofs.Common.{◌∙◌, Ok, Err, Some, ap, refl, sym, subst}
 use Rattle.std.proofs.lemmas.Result.{err_from_is_err_and}
-use Rattle.df_catalogue.specs.Answers.{RefusedBy}
-use Rattle.df_catalogue.specs.FrameChanges.{change_of}
+use Rattle.df_state.specs.Answers.{RefusedBy}
+use Rattle.df_state.specs.FrameChanges.{change_of}
 use Rattle.df_catalogue.specs.StagedChanges.{IsStagedChange}
-use Rattle.df_catalogue.proofs.Refusing.{by-reason}
+use Rattle.df_state.proofs.Refusing.{by-reason}
 use Rattle.df_catalogue.proofs.StagedFacts.{not-staged, out-of-memory, staged-after, staged-at}
 use Rattle.df_catalogue.proofs.catalogue.Catalogue.stage_frame_change.Goals as goal
 

@@ -1,12 +1,12 @@
 use Rattle.std.proofs.Common.{◌≡◌, ◌∙◌, Ok, Err, Some, None, ap, refl, sym, subst}
 use Rattle.std.specs.Prelude.{IsSomeAnd}
 use Rattle.std.proofs.lemmas.Result.{err_from_is_err_and}
-use Rattle.df_catalogue.specs.declared.change.Change.TheVariants.{Register}
-use Rattle.df_catalogue.specs.Answers.{RefusedBy}
-use Rattle.df_catalogue.specs.Refusals.{refusal_of}
+use Rattle.df_state.specs.declared.change.Change.TheVariants.{Register}
+use Rattle.df_state.specs.Answers.{RefusedBy}
+use Rattle.df_state.specs.Refusals.{refusal_of}
 use Rattle.df_catalogue.specs.StagedChanges.{IsStagedChange, IsStagedFor}
-use Rattle.df_catalogue.proofs.Legal.{register-accepted}
-use Rattle.df_catalogue.proofs.Refusing.{by-reason}
+use Rattle.df_state.proofs.Legal.{register-accepted}
+use Rattle.df_state.proofs.Refusing.{by-reason}
 use Rattle.df_catalogue.proofs.StagedFacts.{no-room, not-staged, staged-after}
 use Rattle.df_catalogue.proofs.catalogue.Catalogue.stage_register.Goals as goal
 

@@ -3,19 +3,20 @@ use Rattle.std.specs.Prelude.{option_map, OnErr}
 use Rattle.std.proofs.lemmas.Result.{err_from_is_err_and}
 use Rattle.df_catalogue.specs.declared.staging.StagedFrame.{StagedFrame}
 use Rattle.df_catalogue.specs.declared.staging.Staging.TheVariants.{Rows}
-use Rattle.df_catalogue.specs.declared.state.State.{State}
+use Rattle.df_state.specs.declared.state.State.{State}
 use Rattle.df_delta.specs.Differences.{IsDiff}
-use Rattle.df_catalogue.specs.FrameChanges.{change_of}
+use Rattle.df_state.specs.FrameChanges.{change_of}
 use Rattle.df_frame.specs.FrameChanges.{frame_after}
 use Rattle.df_frame.specs.FrameTables.{tagged_rows_of}
 use Rattle.df_frame.specs.FrameParts.{schemas_of, states_of}
 use Rattle.df_catalogue.specs.LiveViews.{tagged_frames, AreStaged}
 use Rattle.df_catalogue.specs.Staging.{staged_parts}
-use Rattle.df_catalogue.proofs.FrameChangeFacts.{accepted-of, changeable-of, deleted-of, fits-after, free-of, sound-of, views-kept}
+use Rattle.df_catalogue.proofs.FrameChangeFacts.{changeable-of, fits-after, views-kept}
+use Rattle.df_state.proofs.FrameChangeFacts.{accepted-of, deleted-of, free-of, sound-of}
 use Rattle.df_catalogue.proofs.StagedRowsFacts.{rows-after, rows-counts, rows-led, rows-sound, rows-work, IsRowsOf}
 use Rattle.df_catalogue.proofs.StagedFacts.{rows-for, staged-some}
 use Rattle.df_catalogue.proofs.StagingFacts.{none-staged, nothing-staged, something-staged}
-use Rattle.df_catalogue.proofs.StateFacts.{staged-of, state-of}
+use Rattle.df_state.proofs.StateFacts.{staged-of, state-of}
 use Rattle.df_catalogue.proofs.catalogue.Catalogue.stage_rows.Goals as goal
 
 pub changed-requires-clause-sound : goal.changed-requires-clause-sound

@@ -1,6 +1,6 @@
 use Rattle.std.proofs.Common.{◌<◌, ◌∙◌, ap, length, arith}
 use Rattle.std.specs.Prelude.{option_map, vec_capacity}
-use Rattle.df_catalogue.specs.declared.change.Change.TheVariants.{Register}
+use Rattle.df_state.specs.declared.change.Change.TheVariants.{Register}
 use Rattle.df_catalogue.specs.declared.staging.Staging.TheVariants.{NewView}
 use Rattle.df_frame.specs.FrameParts.{schemas_of, states_of}
 use Rattle.df_catalogue.specs.Parts.{state_of}
@@ -8,7 +8,7 @@ use Rattle.df_catalogue.specs.Staging.{staged_parts}
 use Rattle.df_catalogue.proofs.StagedFacts.{staged-some}
 use Rattle.df_catalogue.proofs.StagedViewsFacts.{same-views, view-for, view-staged}
 use Rattle.df_catalogue.proofs.StagingFacts.{none-staged, nothing-staged, something-staged}
-use Rattle.df_catalogue.proofs.StateFacts.{staged-of, state-of, work-of}
+use Rattle.df_state.proofs.StateFacts.{staged-of, state-of, work-of}
 use Rattle.df_catalogue.proofs.catalogue.Catalogue.stage_view.Goals as goal
 
 pub invariant_of-self : goal.invariant_of-self

@@ -3,7 +3,7 @@ use Rattle.std.specs.Prelude.{bytes_eq, IfSome}
 use Rattle.std.proofs.lemmas.List.{length-map}
 use Rattle.df_catalogue.specs.LiveViews.{view_state}
 use Rattle.df_catalogue.proofs.PartFacts.{views-position}
-use Rattle.df_catalogue.proofs.StateFacts.{state-of}
+use Rattle.df_state.proofs.StateFacts.{state-of}
 use Rattle.df_catalogue.proofs.catalogue.Catalogue.view_index.Goals as goal
 
 pub returns-clause-value : goal.returns-clause-value

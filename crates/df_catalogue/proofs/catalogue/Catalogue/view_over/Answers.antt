@@ -3,12 +3,12 @@ use Rattle.std.proofs.lemmas.Result.{IfOk-weaker}
 use Rattle.df_live.specs.Frames.{AreFrames}
 use Rattle.df_live.specs.Tables.{tables_of}
 use Rattle.df_live.specs.Views.{IsLive}
-use Rattle.df_catalogue.specs.declared.state.State.{State}
+use Rattle.df_state.specs.declared.state.State.{State}
 use Rattle.df_frame.specs.FrameParts.{schemas_of, states_of}
 use Rattle.df_frame.specs.FrameTables.{table_parts}
 use Rattle.df_catalogue.specs.LiveViews.{tagged_frames}
 use Rattle.df_catalogue.proofs.LiveFacts.{are-frames, tables-rows, tables-schemas}
-use Rattle.df_catalogue.proofs.StateFacts.{state-of}
+use Rattle.df_state.proofs.StateFacts.{state-of}
 use Rattle.df_catalogue.proofs.catalogue.Catalogue.view_over.Goals as goal
 
 pub new-requires-clause-schemas : goal.new-requires-clause-schemas

@@ -1,8 +1,9 @@
 use Rattle.std.proofs.Common.{◌≡◌, ◌∙◌, Some, refl, sym, ap}
 use Rattle.std.specs.Prelude.{bytes_eq, position}
 use Rattle.std.specs.FinMap as finite
-use Rattle.df_catalogue.proofs.PartFacts.{none-named, views-position, views-table}
-use Rattle.df_catalogue.proofs.StateFacts.{state-of}
+use Rattle.df_catalogue.proofs.PartFacts.{views-position, views-table}
+use Rattle.df_state.proofs.Places.{none-named}
+use Rattle.df_state.proofs.StateFacts.{state-of}
 use Rattle.df_catalogue.proofs.catalogue.Catalogue.view_table.Goals as goal
 
 pub returns-in_err-at-clause-table : goal.returns-in_err-at-clause-table

@@ -1,8 +1,8 @@
 use Rattle.std.proofs.Common.{◌≡◌, ◌∙◌, ap, arith, length, max, sym}
 use Rattle.std.specs.Prelude.{slice_set}
 use Rattle.std.proofs.lemmas.Option.{slice_get-get_or}
-use Rattle.df_catalogue.specs.Changes.{change_at}
-use Rattle.df_catalogue.proofs.StateFacts.{change-set}
+use Rattle.df_state.specs.Changes.{change_at}
+use Rattle.df_state.proofs.StateFacts.{change-set}
 use Rattle.df_session.proofs.NumberFacts.{changed-past}
 use Rattle.df_session.proofs.numbers.Numbers.raise.Goals as goal
 

@@ -3,8 +3,8 @@ use Rattle.std.proofs.lemmas.List.{length-set, with_items_is}
 use Rattle.std.proofs.lemmas.Option.{slice_get_past}
 use Rattle.std.specs.Vec.{with_items}
 use Rattle.std.specs.Prelude.{Some, slice_set}
-use Rattle.df_catalogue.specs.Desks.{DeskParts}
-use Rattle.df_catalogue.specs.FrameChanges.{change_of}
+use Rattle.df_state.specs.Desks.{DeskParts}
+use Rattle.df_state.specs.FrameChanges.{change_of}
 use Rattle.df_shell.proofs.DesksFacts.{InOrder, no-desk}
 use Rattle.df_shell.proofs.HallFacts.{desk-answered}
 use Rattle.df_shell.specs.Changing.{IsAnswered}

@@ -1,6 +1,6 @@
 use Rattle.std.proofs.Common.{ap, subst}
 use Rattle.std.specs.Prelude.{Some}
-use Rattle.df_catalogue.specs.ViewChanges.{change_of_views}
+use Rattle.df_state.specs.ViewChanges.{change_of_views}
 use Rattle.df_shell.proofs.DesksFacts.{are-same, desks-kept}
 use Rattle.df_shell.proofs.HallFacts.{answered}
 use Rattle.df_shell.specs.Changing.{IsAnswered}

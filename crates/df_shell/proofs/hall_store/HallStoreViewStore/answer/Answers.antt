@@ -2,8 +2,8 @@ use Rattle.std.proofs.Common.{List, ℕ, ap, inl, inr, refl, subst, sym}
 use Rattle.std.specs.Arc.{arc_value}
 use Rattle.std.specs.Prelude.{Result}
 use Rattle.std.specs.Global.{Vec}
-use Rattle.df_catalogue.specs.Desks.{DeskParts}
-use Rattle.df_catalogue.specs.Pictures.{PictureParts}
+use Rattle.df_state.specs.Desks.{DeskParts}
+use Rattle.df_state.specs.Pictures.{PictureParts}
 use Rattle.df_shell.specs.Halls.{HallParts, IsAnswerOfHall}
 use Rattle.df_session.specs.Told.{IsTold}
 use Rattle.df_shell.specs.Versions.{refusal_with_hall, text_of_version}

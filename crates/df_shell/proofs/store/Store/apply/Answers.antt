@@ -1,8 +1,8 @@
 use Rattle.std.proofs.Common.{◌≡◌, ◌∙◌, true, ap, arith, length, refl, subst, sym}
 use Rattle.std.specs.Prelude.{Option, Some, None, is_none}
 use Rattle.std.proofs.lemmas.List.{with_items_is}
-use Rattle.df_catalogue.specs.declared.state.StagedParts.{StagedParts}
-use Rattle.df_catalogue.specs.Desks.{AreInOrder}
+use Rattle.df_state.specs.declared.state.StagedParts.{StagedParts}
+use Rattle.df_state.specs.Desks.{AreInOrder}
 use Rattle.df_shell.proofs.NextNumberFacts.{numbered-after}
 use Rattle.df_session.specs.Numbers.{noted}
 use Rattle.df_shell.proofs.store.Store.apply.Goals as goal

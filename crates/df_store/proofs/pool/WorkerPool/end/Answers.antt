@@ -4,7 +4,7 @@ use Rattle.std.specs.Prelude.{Option}
 use Rattle.df_store.specs.declared.fault.Stop.{Stop}
 use Rattle.df_store.specs.declared.worker.Worker.{Worker}
 use Rattle.df_store.specs.Workers.{desks_of}
-use Rattle.df_jobs.proofs.ListFacts.{put-back}
+use Rattle.df_state.proofs.ListFacts.{put-back}
 use Rattle.df_store.proofs.WorkerFacts.{all-running, few-desks}
 use Rattle.df_store.proofs.pool.WorkerPool.end.Goals as goal
 

@@ -4,7 +4,7 @@ use Rattle.df_hall.specs.Closing.{HaveSameSums}
 use Rattle.df_store.specs.declared.worker.Worker.{Worker}
 use Rattle.df_jobs.specs.Jobs.{chunks_of}
 use Rattle.df_store.specs.Workers.{IsIdle, desks_of, outcomes_in}
-use Rattle.df_jobs.proofs.ListFacts.{put-back}
+use Rattle.df_state.proofs.ListFacts.{put-back}
 use Rattle.df_store.proofs.WorkerFacts.{nothing-done, ready-workers, rest-idle, shared-out}
 use Rattle.df_store.proofs.pool.WorkerPool.new.Goals as goal
 

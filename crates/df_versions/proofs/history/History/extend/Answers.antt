@@ -1,5 +1,5 @@
 use Rattle.std.proofs.Common.{◌≡◌, sym, ◌∙◌, ap, subst, List}
-use Rattle.df_catalogue.specs.declared.state.State.{State}
+use Rattle.df_state.specs.declared.state.State.{State}
 use Rattle.df_versions.specs.Histories.{MayFollow}
 use Rattle.df_versions.proofs.Adding.{adds_moves}
 use Rattle.df_versions.proofs.history.History.extend.Goals as goal

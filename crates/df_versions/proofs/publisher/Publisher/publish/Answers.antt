@@ -1,8 +1,8 @@
 use Rattle.std.proofs.Common.{◌≡◌, ◌∙◌, ap, subst, sym, List, ◌++◌, ◌∷◌, [], length}
 use Rattle.std.specs.Arc.{arc_value}
 use Rattle.std.specs.Prelude.{option_map, Some}
-use Rattle.df_catalogue.specs.Pictures.{picture_of}
-use Rattle.df_catalogue.specs.declared.state.State.{State}
+use Rattle.df_state.specs.Pictures.{picture_of}
+use Rattle.df_state.specs.declared.state.State.{State}
 use Rattle.df_versions.specs.Histories.{last_state, MayFollow}
 use Rattle.df_versions.proofs.Histories.{follower-legal, last_state-more}
 use Rattle.df_versions.proofs.Prefixes.{longer_by_one}

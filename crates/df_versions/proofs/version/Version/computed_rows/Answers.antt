@@ -1,7 +1,7 @@
 use Rattle.std.proofs.Common.{◌∙◌, ap}
 use Rattle.std.proofs.lemmas.Result.{IfOk-weaker}
-use Rattle.df_catalogue.specs.Pictures.{value_in}
-use Rattle.df_catalogue.proofs.PictureFacts.{value-of-state}
+use Rattle.df_state.specs.Pictures.{value_in}
+use Rattle.df_state.proofs.PictureFacts.{value-of-state}
 use Rattle.df_versions.proofs.version.Version.computed_rows.Goals as goal
 
 pub returns-clause-state : goal.returns-clause-state

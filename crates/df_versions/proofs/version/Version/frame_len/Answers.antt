@@ -1,6 +1,6 @@
 use Rattle.std.proofs.Common.{◌∙◌, ap}
-use Rattle.df_catalogue.specs.Pictures.{frame_len_in}
-use Rattle.df_catalogue.proofs.PictureFacts.{len-of-state}
+use Rattle.df_state.specs.Pictures.{frame_len_in}
+use Rattle.df_state.proofs.PictureFacts.{len-of-state}
 use Rattle.df_versions.proofs.version.Version.frame_len.Goals as goal
 
 pub returns-clause-state : goal.returns-clause-state

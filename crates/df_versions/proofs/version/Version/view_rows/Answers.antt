@@ -1,7 +1,7 @@
 use Rattle.std.proofs.Common.{◌∙◌, ap, subst}
-use Rattle.df_catalogue.specs.Answers.{AnswersMemoryLast}
-use Rattle.df_catalogue.specs.Pictures.{view_rows_in}
-use Rattle.df_catalogue.proofs.PictureFacts.{view-of-state}
+use Rattle.df_state.specs.Answers.{AnswersMemoryLast}
+use Rattle.df_state.specs.Pictures.{view_rows_in}
+use Rattle.df_state.proofs.PictureFacts.{view-of-state}
 use Rattle.df_versions.proofs.version.Version.view_rows.Goals as goal
 
 pub returns-clause-state : goal.returns-clause-state

@@ -1,7 +1,7 @@
 use Rattle.std.proofs.Common.{subst}
 use Rattle.std.proofs.lemmas.Result.{on_ok_weaker}
-use Rattle.df_catalogue.specs.FrameChanges.{change_of}
-use Rattle.df_catalogue.specs.Pictures.{next_state}
+use Rattle.df_state.specs.FrameChanges.{change_of}
+use Rattle.df_state.specs.Pictures.{next_state}
 use Rattle.df_catalogue.proofs.StagedFacts.{staged-frame, whole-desk}
 use Rattle.df_versions.specs.Histories.{IsHistoryOver}
 use Rattle.df_versions.proofs.Answered.{entered-ends, entered-over, reported-answers, staged-answers}

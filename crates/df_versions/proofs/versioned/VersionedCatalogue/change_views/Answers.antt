@@ -1,6 +1,6 @@
 use Rattle.std.proofs.Common.{subst}
-use Rattle.df_catalogue.specs.ViewChanges.{change_of_views}
-use Rattle.df_catalogue.specs.Pictures.{next_state}
+use Rattle.df_state.specs.ViewChanges.{change_of_views}
+use Rattle.df_state.specs.Pictures.{next_state}
 use Rattle.df_versions.specs.Histories.{IsHistoryOver}
 use Rattle.df_versions.proofs.Answered.{entered-ends, entered-over, reported-answers, staged-answers}
 use Rattle.df_versions.proofs.Staged.{staged-follows}

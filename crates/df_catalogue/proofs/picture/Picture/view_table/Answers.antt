@@ -1,7 +1,0 @@
-use Rattle.std.proofs.Common.{ap}
-use Rattle.df_catalogue.specs.Pictures.{PictureParts}
-use Rattle.df_catalogue.proofs.PictureFacts.{view-rows}
-use Rattle.df_catalogue.proofs.picture.Picture.view_table.Goals as goal
-
-pub returns : goal.returns
-returns c = rw (c.table_named.ensures, c.as_slice.ensures.value, ← (ap (λ (p : PictureParts). p.views) c.self.view_is)) (view-rows _ c.args.name.now)

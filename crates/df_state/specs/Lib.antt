@@ -1,0 +1,15 @@
+pub mod Ledgers
+pub mod States
+pub mod Schemas
+pub mod Refusals
+pub mod Changes
+pub mod Answers
+pub mod Desks
+pub mod Transitions
+pub mod Runs
+pub mod FrameChanges
+pub mod ViewChanges
+pub mod DeskShares
+pub mod Reads
+pub mod Pictures
+pub mod New
