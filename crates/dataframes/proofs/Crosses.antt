@@ -7,8 +7,8 @@ use Rattle.std.proofs.Crossing.{crosses}
 use Rattle.std.proofs.sync.ledger.Share.TheSendSync as share
 use Rattle.df_value.proofs.schema.Schema.TheSendSync as schema
 use Rattle.df_versions.specs.declared.history.Naming.{Ghosts as Names}
-use Rattle.df_versions.proofs.Crosses.{told_send, versioned_send}
-use Rattle.df_hall.proofs.Crosses.{catalogue_send}
+use Rattle.df_versions.proofs.Crosses.{told_send}
+use Rattle.df_hall.proofs.Crosses.{catalogue_send, versioned_send}
 use Rattle.df_hall.specs.contracts.hall.Hall as Hall
 use Rattle.dataframes.specs.contracts.books.Books as Books
 use Rattle.dataframes.specs.contracts.books.Books.TheInside as BooksInside

@@ -16,7 +16,9 @@ use Rattle.df_frame.specs.contracts.frame.Frame as Frame
 use Rattle.df_frame.specs.contracts.frame.Frame.TheInside as FrameInside
 use Rattle.df_frame.proofs.ranges.Ranges.TheSendSync as ranges
 use Rattle.df_versions.specs.declared.history.Naming.{Ghosts as Names}
-use Rattle.df_versions.proofs.Crosses.{versioned_send}
+use Rattle.df_versions.proofs.Crosses.{publisher_send}
+use Rattle.df_hall.specs.contracts.versioned.VersionedCatalogue as Versioned
+use Rattle.df_hall.specs.contracts.versioned.VersionedCatalogue.TheInside as VersionedInside
 use Rattle.df_hall.specs.contracts.hall.Hall as Hall
 use Rattle.df_hall.proofs.CrossingViews.{live_send, staged_send}
 
@@ -42,5 +44,12 @@ module _ (A D : RattleType) (a : Ghosts A.Denot) (d : Ghosts D.Denot) where
   catalogue_send = let v = view_send in let s = staging_send in let f = frame_send in search (sendable, crosses, book.the_send, share.the_send) depth 40
 
 module _ (A D J : RattleType) (a : Ghosts A.Denot) (d : Ghosts D.Denot) (j : Names J.Denot) where
+  -- what stands behind a lock may go to another thread where its catalogue may
+  versioned_inside_send : IsSend (Catalogue.the_row A D a d) → IsSend (VersionedInside.the_row A D J a d j)
+  versioned_inside_send c = let p = publisher_send J j in search sendable depth 20
+
+  pub versioned_send : IsSend (Catalogue.the_row A D a d) → IsSend (Versioned.the_row A D J a d j)
+  versioned_send c = let i = versioned_inside_send c in search sendable depth 20
+
   pub hall_sync : IsSync (Hall.the_row A D J j a d)
   hall_sync = let v = versioned_send A D J a d j (catalogue_send A D a d) in search (sendable, crosses) depth 20

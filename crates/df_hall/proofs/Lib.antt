@@ -1,3 +1,5 @@
+pub mod Staged
+pub mod Answered
 pub mod FirstFacts
 pub mod TotalsFacts
 pub mod CrossingPlans

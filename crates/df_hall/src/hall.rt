@@ -14,10 +14,11 @@ ghost use Rattle.df_versions.specs.Histories.{IsHistoryOver, IsLastState, last_s
 
 use crate::closing::{Unsettled, settle};
 use crate::totals::{Totals, TotalsRoom};
+use crate::versioned::VersionedCatalogue;
 use df_catalogue::{Catalogue, Desk, FrameChange, ViewChange};
 use df_plan::CheckedPlan;
 use df_value::{Chunk, Row, Text};
-use df_versions::{ChangeFault, Naming, Publisher, Told, VersionedCatalogue};
+use df_versions::{ChangeFault, Naming, Publisher, Told};
 use std::alloc::Global;
 use std::sync::ledger::Ledger;
 use std::sync::{Mutex, MutexGuard, Wait};

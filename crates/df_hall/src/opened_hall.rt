@@ -10,10 +10,11 @@ ghost use Rattle.df_versions.specs.Openings.{open_fault};
 ghost use Rattle.df_versions.specs.declared.fault.OpenFault.TheVariants as open_fault_of;
 
 use crate::hall::Hall;
+use crate::opened_catalogue::OpenedCatalogue;
 use crate::totals::TotalsRoom;
 use df_catalogue::Desk;
 use df_value::{List, Schema};
-use df_versions::{Naming, OpenFault, OpenedCatalogue, Reader};
+use df_versions::{Naming, OpenFault, Reader};
 use std::alloc::Global;
 use std::marker::Model;
 use std::sync::Wait;

@@ -10,8 +10,8 @@ ghost use Rattle.df_jobs.specs.Loaded.{AreLoadedIn, HasRows, IsUnlikeIn, chunk_r
 use crate::expected::{Expected, expect_all};
 use crate::jobs::Outcome;
 use crate::made::KeptPiece;
-use df_state::Picture;
 use df_frame::StoredChunk;
+use df_state::Picture;
 use df_value::{Chunk, Piece};
 use std::alloc::{AllocError, Global};
 use std::thread;

@@ -10,9 +10,10 @@ ghost use Rattle.df_store.specs.Workers.{AreCounted, HaveAccepted, all_without_a
 use crate::fault::Stop;
 use core::mem;
 use df_catalogue::{Desk, FrameChange, PreparedChunk};
+use df_hall::VersionedCatalogue;
 use df_jobs::{Joined, KeptPiece, Outcome};
 use df_value::{Chunk, Piece};
-use df_versions::{ChangeFault, Naming, Told, VersionedCatalogue};
+use df_versions::{ChangeFault, Naming, Told};
 use std::alloc::Global;
 use std::sync::Wait;
 use std::sync::ledger::Ledger;

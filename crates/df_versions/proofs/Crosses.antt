@@ -1,7 +1,6 @@
 -- What of versions may go to another thread, and what threads may share.
 use denote.RattleType.{RattleType}
 use denote.Param.Send.{IsSend, IsSync, sendable}
-use Rattle.std.specs.declared.sync.ledger.Ledger.{Ghosts}
 use Rattle.std.proofs.Crossing.{crosses}
 use Rattle.logbook.proofs.word.Word.TheSendSync as word
 use Rattle.logbook.proofs.tokens.Seen.TheSendSync as seen
@@ -12,7 +11,6 @@ use Rattle.atomic_table.proofs.shared.Seat.TheSendSync as seat
 use Rattle.atomic_table.proofs.shared.Shared.TheSendSync as shared
 use Rattle.df_value.proofs.text.Text.TheSendSync as text
 use Rattle.df_column.proofs.Crossing.{table_send, table_sync}
-use Rattle.df_catalogue.specs.contracts.catalogue.Catalogue as Catalogue
 use Rattle.df_versions.specs.declared.history.Naming.{Ghosts as Names}
 use Rattle.df_versions.specs.contracts.history.History as History
 use Rattle.df_versions.specs.contracts.history.History.TheInside as HistoryInside
@@ -24,8 +22,6 @@ use Rattle.df_versions.specs.contracts.version.Version as Version
 use Rattle.df_versions.specs.contracts.publisher.Publisher as Publisher
 use Rattle.df_versions.specs.contracts.publisher.Publisher.TheInside as PublisherInside
 use Rattle.df_versions.specs.contracts.version.Published as Published
-use Rattle.df_versions.specs.contracts.versioned.VersionedCatalogue as Versioned
-use Rattle.df_versions.specs.contracts.versioned.VersionedCatalogue.TheInside as VersionedInside
 
 pub version_send : IsSend Version.the_row
 version_send = search (sendable, crosses, text.the_send, table_send) depth 40
@@ -71,17 +67,11 @@ reader_inside_send = let h = history_send in let p = published_send in let q = p
 pub reader_send : IsSend Reader.the_row
 reader_send = let i = reader_inside_send in search sendable depth 20
 
--- what stands behind a lock may go to another thread where its catalogue may
-module _ (A D J : RattleType) (a : Ghosts A.Denot) (d : Ghosts D.Denot) (j : Names J.Denot) where
+-- what publishes versions may go to another thread
+module _ (J : RattleType) (j : Names J.Denot) where
   publisher_inside_send : IsSend (PublisherInside.the_row J j)
   publisher_inside_send = let h = history_send in let p = published_send in let q = published_sync in
       search (sendable, crosses, part.the_send, deed.the_send, word.the_send, seat.the_send, lease.the_send, lease.the_sync, shared.the_send, shared.the_sync) depth 60
 
-  publisher_send : IsSend (Publisher.the_row J j)
+  pub publisher_send : IsSend (Publisher.the_row J j)
   publisher_send = let i = publisher_inside_send in search sendable depth 20
-
-  versioned_inside_send : IsSend (Catalogue.the_row A D a d) → IsSend (VersionedInside.the_row A D J a d j)
-  versioned_inside_send c = let p = publisher_send in search sendable depth 20
-
-  pub versioned_send : IsSend (Catalogue.the_row A D a d) → IsSend (Versioned.the_row A D J a d j)
-  versioned_send c = let i = versioned_inside_send c in search sendable depth 20

@@ -3,7 +3,5 @@ pub mod Prefixes
 pub mod Adding
 pub mod Moves
 pub mod ShownVersions
-pub mod Answered
-pub mod Staged
 pub mod Openings
 pub mod Crosses

@@ -1,7 +1,7 @@
 //! Why a catalogue is not opened, and why a change is not made or not published.
 use crate::history::Naming;
 use crate::told::Told;
-use df_catalogue::CatalogueFault;
+use df_state::CatalogueFault;
 
 /// Why a version is not published.
 #[derive(Clone, Copy, PartialEq, Eq, Drop)]

@@ -6,7 +6,7 @@ ghost use Rattle.df_state.specs.States.{IsLegal};
 ghost use Rattle.df_versions.specs.Histories.{IsHistory, MayFollow};
 ghost use Rattle.df_versions.specs.HistoryRule.{head_of};
 
-use df_catalogue::State;
+use df_state::State;
 use logbook::{Gain, Offer, Plain, Play, Rule, Seen, Start, Word};
 use std::marker::{Brand, Model};
 

@@ -7,24 +7,18 @@
 //! alone. At run time it is a number.
 #![tactic(auto)]
 
-mod entering;
 mod fault;
 mod history;
-mod opened_catalogue;
 mod opening;
 mod publisher;
 mod reader;
 mod told;
 mod version;
-mod versioned;
 
-pub use entering::StagedState;
 pub use fault::{ChangeFault, OpenFault, PublishFault};
 pub use history::{Head, History, Naming};
-pub use opened_catalogue::{MOST_READERS, OpenedCatalogue};
 pub use opening::OpenedVersions;
 pub use publisher::Publisher;
 pub use reader::Reader;
 pub use told::Told;
 pub use version::Version;
-pub use versioned::VersionedCatalogue;

@@ -9,7 +9,7 @@ use crate::history::{Head, History, Naming, open};
 use crate::publisher::{Publisher, extended, show};
 use crate::reader::Reader;
 use crate::version::{Notes, Published, Version, VersionWriter};
-use df_catalogue::{Picture, State};
+use df_state::{Picture, State};
 use logbook::Plain;
 use std::alloc::{AllocError, Global};
 use std::marker::Model;

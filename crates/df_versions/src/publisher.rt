@@ -12,7 +12,7 @@ use crate::history::{Head, History, Naming};
 use crate::told::Told;
 use crate::version::{Published, Sees, Version, VersionWriter};
 use core::mem::replace_with;
-use df_catalogue::{Picture, State};
+use df_state::{Picture, State};
 use logbook::Plain;
 use std::alloc::Global;
 use std::marker::{Model, PhantomData};

@@ -15,7 +15,7 @@ use Rattle.df_versions.specs.Answered.{IsAccepted, IsRefusedAt, IsReady, IsReaso
 use Rattle.df_versions.specs.declared.fault.ChangeFault.{ChangeFault}
 use Rattle.df_versions.specs.declared.fault.ChangeFault.TheVariants.{Ahead, Spent, Refused, Memory}
 use Rattle.df_versions.proofs.Histories.{ends_split, last_state-more, over-longer}
-use Rattle.df_versions.proofs.Staged.{staged-next}
+use Rattle.df_hall.proofs.Staged.{staged-next}
 
 -- a history that was made longer by what the change makes of its last state
 told-accepted :

@@ -6,11 +6,8 @@ ghost use Rattle.df_state.specs.ViewChanges.{change_of_views};
 ghost use Rattle.df_versions.specs.Histories.{IsHistoryOver, last_state};
 
 use crate::entering::{check_ready, enter_rows, enter_views, report};
-use crate::fault::ChangeFault;
-use crate::history::Naming;
-use crate::publisher::Publisher;
-use crate::told::Told;
 use df_catalogue::{Catalogue, Desk, FrameChange, ViewChange};
+use df_versions::{ChangeFault, Naming, Publisher, Told};
 use std::alloc::Global;
 use std::marker::Model;
 use std::sync::Wait;

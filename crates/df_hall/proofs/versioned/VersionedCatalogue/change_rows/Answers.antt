@@ -4,9 +4,9 @@ use Rattle.df_state.specs.FrameChanges.{change_of}
 use Rattle.df_state.specs.Pictures.{next_state}
 use Rattle.df_catalogue.proofs.StagedFacts.{staged-frame, whole-desk}
 use Rattle.df_versions.specs.Histories.{IsHistoryOver}
-use Rattle.df_versions.proofs.Answered.{entered-ends, entered-over, reported-answers, staged-answers}
-use Rattle.df_versions.proofs.Staged.{staged-follows}
-use Rattle.df_versions.proofs.versioned.VersionedCatalogue.change_rows.Goals as goal
+use Rattle.df_hall.proofs.Answered.{entered-ends, entered-over, reported-answers, staged-answers}
+use Rattle.df_hall.proofs.Staged.{staged-follows}
+use Rattle.df_hall.proofs.versioned.VersionedCatalogue.change_rows.Goals as goal
 
 pub enter_rows-requires-clause-next : goal.enter_rows-requires-clause-next
 enter_rows-requires-clause-next g c =

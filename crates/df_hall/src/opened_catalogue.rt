@@ -9,13 +9,10 @@ ghost use Rattle.df_versions.specs.Openings.{open_fault, opening_refused};
 ghost use Rattle.df_versions.specs.declared.fault.OpenFault.TheVariants as open_fault_of;
 
 use crate::entering::StagedState;
-use crate::fault::OpenFault;
-use crate::history::Naming;
-use crate::opening::OpenedVersions;
-use crate::reader::Reader;
 use crate::versioned::VersionedCatalogue;
 use df_catalogue::{Catalogue, Desk, NewFault};
 use df_value::{List, Schema};
+use df_versions::{Naming, OpenFault, OpenedVersions, Reader};
 use std::alloc::{AllocError, Global};
 use std::marker::Model;
 use std::sync::Wait;

@@ -2,9 +2,9 @@ use Rattle.std.proofs.Common.{subst}
 use Rattle.df_state.specs.ViewChanges.{change_of_views}
 use Rattle.df_state.specs.Pictures.{next_state}
 use Rattle.df_versions.specs.Histories.{IsHistoryOver}
-use Rattle.df_versions.proofs.Answered.{entered-ends, entered-over, reported-answers, staged-answers}
-use Rattle.df_versions.proofs.Staged.{staged-follows}
-use Rattle.df_versions.proofs.versioned.VersionedCatalogue.change_views.Goals as goal
+use Rattle.df_hall.proofs.Answered.{entered-ends, entered-over, reported-answers, staged-answers}
+use Rattle.df_hall.proofs.Staged.{staged-follows}
+use Rattle.df_hall.proofs.versioned.VersionedCatalogue.change_views.Goals as goal
 
 pub enter_views-requires-clause-next : goal.enter_views-requires-clause-next
 enter_views-requires-clause-next g c =

@@ -6,11 +6,8 @@ ghost use Rattle.df_state.specs.Pictures.{next_state};
 ghost use Rattle.df_versions.specs.Answered.{AnswersNext, ChangesHistory, IsReady, IsUnready, Reports, told_states};
 ghost use Rattle.df_versions.specs.Histories.{IsHistoryOver, MayFollow};
 
-use crate::fault::{ChangeFault, PublishFault};
-use crate::history::Naming;
-use crate::publisher::Publisher;
-use crate::told::Told;
 use df_catalogue::{Catalogue, CatalogueFault, Desk, StagedRows, StagedViews, State};
+use df_versions::{ChangeFault, Naming, PublishFault, Publisher, Told};
 use logbook::Plain;
 use std::alloc::Global;
 use std::sync::Wait;
