@@ -1,5 +1,5 @@
 -- What the books answer, step by step.
-use Rattle.std.proofs.Common.{◌≡◌, ◌∙◌, ◌<◌, ℕ, List, ap, arith, length, refl, subst, sym}
+use Rattle.std.proofs.Common.{◌≡◌, ◌<◌, ℕ, List, ap, arith, length, refl, subst, sym}
 use Rattle.std.specs.Prelude.{Option, Some, None, Result, Ok, Err, OnErr, OnOk, slice_index_or, slice_set}
 use Rattle.df_value.specs.Chunks.{ChunkParts}
 use Rattle.df_value.specs.declared.cell.Cell.{Cell}
@@ -9,18 +9,16 @@ use Rattle.df_state.specs.declared.state.State.{State}
 use Rattle.df_frame.specs.declared.frame_change.FrameChange.{FrameChange}
 use Rattle.df_state.specs.Desks.{DeskParts, desk_after, desks_after}
 use Rattle.df_state.specs.FrameChanges.{change_of}
-use Rattle.df_state.specs.ViewChanges.{change_of_views}
-use Rattle.df_state.specs.declared.view_change.ViewChange.{ViewChange}
 use Rattle.df_state.proofs.FrameChangeFacts.{desks-counted}
 use Rattle.df_hall.specs.Halls.{AnswersOverHistory}
 use Rattle.df_versions.specs.Answered.{told_states}
 use Rattle.df_versions.specs.declared.fault.ChangeFault.{ChangeFault}
 use Rattle.dataframes.specs.Appends.{Appends, IsAppendedChunk}
-use Rattle.dataframes.specs.Books.{BooksParts, InOrder, IsAnswered, IsKept, IsNext, IsThrough, states_told}
+use Rattle.dataframes.specs.Books.{BooksParts, InOrder, IsNext, IsThrough, states_told}
 use Rattle.dataframes.specs.declared.books.Appended.{Appended}
 use Rattle.dataframes.specs.declared.fault.ServiceFault.{ServiceFault}
 use Rattle.dataframes.specs.declared.fault.ServiceFault.TheVariants as fault
-use Rattle.dataframes.proofs.DesksFacts.{AreAfter, counted, desks-kept, frame-there, ordered}
+use Rattle.dataframes.proofs.DesksFacts.{AreAfter, counted, frame-there, ordered}
 
 -- of how many states was told
 pub told-length : (o : Option (List State)) → told_states o ≡ length (states_told o)
@@ -63,28 +61,6 @@ module _ {J : Type 0} where
   are-same : (desks : List DeskParts) (c : Change) (r : Result (List State) (ChangeFault J)) → desks_after desks c ≡ desks → AreAfter desks c r desks
   are-same desks c (Ok x) e = sym e
   are-same desks c (Err f) e = refl
-
-  -- a change of views goes through no desk
-  pub views-answered :
-      (schemas : List (List (List ℕ × CellType))) (floor : ℕ) (p : BooksParts) (c : ViewChange) (r : Result (List State) (ChangeFault J)) →
-      floor ≡ length p.told → AnswersOverHistory {J = J} schemas floor (change_of_views c) r →
-      IsThrough {J = J} schemas p (change_of_views c) (Some r) p
-  views-answered schemas floor p c r e h =
-      answered schemas floor p p.desks (change_of_views c) r e h (are-same p.desks (change_of_views c) r (desks-kept p.desks c))
-
-  -- what was answered is kept
-  pub kept-answer :
-      (schemas : List (List (List ℕ × CellType))) (old mid new : BooksParts) (c : Change) (answer : Result (List State) (ChangeFault J))
-      (result : Result (List State) (ServiceFault J)) → IsThrough {J = J} schemas old c (Some answer) mid → IsKept mid answer result new →
-      IsAnswered {J = J} schemas old c result new
-  kept-answer schemas old mid new c (Ok told) (Ok now) t k = (
-    subst (λ x. AnswersOverHistory {J = J} schemas (length old.told) c (Ok x)) (sym k.0) t.0,
-    k.1 ∙ (λ i. record { told = (sym k.0) i; desks = (ap (λ p. p.desks) t.1) i }),
-  )
-  kept-answer schemas old mid new c (Ok told) (Err f) t k = absurd k
-  kept-answer schemas old mid new c (Err f) (Ok now) t k = absurd k
-  kept-answer schemas old mid new c (Err f) (Err now) t k =
-      subst (λ x. IsAnswered {J = J} schemas old c (Err x) new) (sym k.0) (t.0, k.1 ∙ t.1)
 
   -- an answer to the next chunk of a frame is one to its rows
   pub appended :

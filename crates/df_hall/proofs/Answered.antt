@@ -11,7 +11,7 @@ use Rattle.df_state.specs.Pictures.{next_state}
 use Rattle.df_state.specs.Refusals.{refusal_of}
 use Rattle.df_catalogue.specs.StagedChanges.{IsStagedFor}
 use Rattle.df_versions.specs.Histories.{IsHistory, IsHistoryOver, last_state}
-use Rattle.df_versions.specs.Answered.{IsAccepted, IsRefusedAt, IsReady, IsReason, IsUnpublished, IsUnready, AnswersChange, AnswersNext, ChangesHistory, Reports}
+use Rattle.df_versions.specs.Answered.{IsAccepted, IsRefusedAt, IsReady, IsReason, IsUnpublished, AnswersChange, AnswersNext, ChangesHistory, Reports}
 use Rattle.df_versions.specs.declared.fault.ChangeFault.{ChangeFault}
 use Rattle.df_versions.specs.declared.fault.ChangeFault.TheVariants.{Ahead, Spent, Refused, Memory}
 use Rattle.df_versions.proofs.Histories.{ends_split, last_state-more, over-longer}
@@ -77,17 +77,6 @@ module _ {J : Type 0} where
       IsReady log floor → Reports log f r → AnswersChange self floor c (Err r)
   reported-answers log self s c floor f r is ends by ready h =
       subst (λ (l : List State). AnswersChange l floor c (Err r)) is (record { accepted = tt; later = tt; refused = reported-reason log s c floor f r ends by ready h })
-
-  unready-reason : (log : List State) (c : Change) (floor : ℕ) (r : ChangeFault J) → IsUnready log floor r → IsReason log floor c r
-  unready-reason log c floor Ahead h = h
-  unready-reason log c floor Spent h = h
-  unready-reason log c floor (Refused g t) h = absurd h
-  unready-reason log c floor Memory h = absurd h
-
-  -- where no change can be made
-  pub unready-answers : (log self : List State) (c : Change) (floor : ℕ) (r : ChangeFault J) → log ≡ self → IsUnready log floor r → AnswersChange self floor c (Err r)
-  unready-answers log self c floor r is h =
-      subst (λ (l : List State). AnswersChange l floor c (Err r)) is (record { accepted = tt; later = tt; refused = unready-reason log c floor r h })
 
   -- the history is still over the same schemas where a staged change was entered
   pub entered-over :

@@ -19,15 +19,6 @@ use Rattle.df_jobs.proofs.RowFacts.{all-rows, flat-more, loaded}
 nothing : 0 ≡ min 0 most_of_usize
 nothing = omega arith
 
--- nothing is expected before the first outcome
-pub none-expected : (frames : ℕ) (counts : List ℕ) → length counts ≡ frames → ((at : ℕ) → get_or counts at 0 ≡ 0) → AreExpected frames [] [] counts
-none-expected frames counts many none = record {
-  len = refl;
-  outcomes = refl;
-  many = many;
-  counted = λ frame low. record { rows = none frame ∙ nothing; each = λ less at d e h. absurd (omega (arith, h)) };
-}
-
 -- a sum that stays below a number has parts that do
 below : (a n most c : ℕ) → c ≡ min (a + n) most → c < most → (a < most) × (c ≡ a + n)
 below a n most c is less = omega (arith, is, less)

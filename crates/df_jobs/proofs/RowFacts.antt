@@ -4,11 +4,10 @@ use Rattle.std.specs.Prelude.{Option, Some, None, option_map, option_and_then, s
 use Rattle.std.specs.List.{enumerate_from}
 use Rattle.std.specs.List.Sorted.{IsPermutation}
 use mathlib.Core.Logic.{inl, inr}
-use Rattle.std.proofs.lemmas.Bool.{eq-eqb, eqb-true}
+use Rattle.std.proofs.lemmas.Bool.{eqb-true}
 use Rattle.std.proofs.lemmas.List.Sorted.{IsPermutation-map}
 use Rattle.df_value.specs.declared.cell.Cell.{Cell}
 use Rattle.df_value.specs.Chunks.{ChunkParts}
-use Rattle.df_value.specs.declared.chunk.Piece.{Piece}
 use Rattle.df_state.specs.Pictures.{AreRowsIn, PictureParts, row_in}
 use Rattle.df_state.proofs.ListFacts.{found, item-at, take-more}
 use Rattle.df_jobs.specs.declared.jobs.Outcome.{Outcome}

@@ -8,7 +8,7 @@ use Rattle.df_state.specs.declared.change.Change.{Change}
 use Rattle.df_state.specs.declared.fault.CatalogueFault.{CatalogueFault}
 use Rattle.df_state.specs.declared.state.State.{State}
 use Rattle.df_frame.specs.declared.frame_change.FrameChange.{FrameChange}
-use Rattle.df_state.specs.Desks.{DeskParts, desk_after, desks_after}
+use Rattle.df_state.specs.Desks.{DeskParts, desk_after}
 use Rattle.df_state.specs.FrameChanges.{change_of}
 use Rattle.df_state.proofs.FrameChangeFacts.{desks-counted}
 use Rattle.df_shell.proofs.DesksFacts.{AreAfter, InOrder, counted, frame-there, ordered}
@@ -53,13 +53,6 @@ module _ {J : Type 0} where
   told-of o known c (Err Ahead) k h = tt
   told-of o known c (Err Spent) k h = tt
   told-of o known c (Err Memory) k h = tt
-
-  pub long-enough : (known : List State) (c : Change) (r : Result (List State) (ChangeFault J)) → AnswersTold known c r → IsLongEnough known r
-  long-enough known c (Ok now) h = omega (arith, h.1)
-  long-enough known c (Err (Refused f now)) h = h.1
-  long-enough known c (Err Ahead) h = tt
-  long-enough known c (Err Spent) h = tt
-  long-enough known c (Err Memory) h = tt
 
   -- the answer to a change, with the desks after it
   pub answered :

@@ -1,9 +1,9 @@
 -- What the desks of workers count, and the outcomes that they brought.
-use Rattle.std.proofs.Common.{◌≡◌, ℕ, suc, ◌+◌, ◌<◌, ◌==◌, ◌∙◌, Bool, true, false, List, [], ◌∷◌, ◌++◌, length, get_or, set, refl, ap, sym, arith, sum_by}
+use Rattle.std.proofs.Common.{◌≡◌, ℕ, suc, ◌+◌, ◌<◌, ◌==◌, ◌∙◌, Bool, true, false, List, [], ◌∷◌, ◌++◌, length, get_or, set, refl, ap, sym, arith}
 use Rattle.std.specs.Prelude.{IfOk, Result, Err, if◌then◌else◌}
 use Rattle.std.proofs.lemmas.List.Elements.{All-nil}
 use Rattle.df_value.specs.declared.chunk.Piece.{Piece}
-use Rattle.std.proofs.lemmas.List.Sums.{sum_by-append, sum_by-cons, sum_by-set, sum_by_push}
+use Rattle.std.proofs.lemmas.List.Sums.{sum_by-append, sum_by-cons, sum_by-set}
 use Rattle.df_state.specs.Desks.{DeskParts, parts_of}
 use Rattle.df_hall.specs.Closing.{AddsUp, HaveSameSums, accepted_at, deleted_at}
 use Rattle.df_hall.specs.Halls.{having_accepted}
@@ -14,12 +14,6 @@ use Rattle.df_store.specs.Workers.{AreCounted, HaveAccepted, HaveDone, all_witho
 
 pub nothing-new : (desks : List DeskParts) (done : List Outcome) → AreCounted desks done desks done
 nothing-new desks done = record { same = λ frame. refl }
-
-pub counted-through :
-    (a b c : List DeskParts) (x y z : List Outcome) → AreCounted a x b y → AreCounted b y c z → AreCounted a x c z
-counted-through a b c x y z p q = record {
-  same = λ frame. let first = p.same frame in let next = q.same frame in omega (arith, first, next);
-}
 
 if-sum : (b : Bool) (m n : ℕ) → (if b then m + n else 0) ≡ (if b then m else 0) + (if b then n else 0)
 if-sum true m n = refl
@@ -37,18 +31,6 @@ one-committed desks at d now frame rows low of_frame is = record {
       let more : h now ≡ h was + (if frame == f then rows else 0) =
       ap h is ∙ (if-sum (was.frame == f) was.accepted rows ∙ ap (λ n. h was + (if n == f then rows else 0)) of_frame) in
       omega (arith, moved, more);
-}
-
--- one more outcome behind those that were there
-pub one-more-outcome :
-    (desks now : List DeskParts) (done pushed : List Outcome) (o : Outcome) → AreCounted desks [] now (o ∷ []) → pushed ≡ done ++ o ∷ [] → AreCounted desks done now pushed
-one-more-outcome desks now done pushed o one is = record {
-  same = λ frame.
-      let h : Outcome → ℕ = λ x. if x.frame == frame then rows_of x.made else 0 in
-      let counted = one.same frame in
-      let all = ap (sum_by h) is in
-      let more = sum_by_push h done o in
-      omega (arith, counted, all, more);
 }
 
 both :

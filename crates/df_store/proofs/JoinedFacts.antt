@@ -1,7 +1,6 @@
 -- Outcomes whose chunks are joined.
 use Rattle.std.proofs.Common.{◌≡◌, true, false, Bool, ℕ, zero, suc, ◌+◌, ◌∙◌, List, [], ◌∷◌, ◌++◌, length, length-append, refl, ap, sym, arith, sum_by}
 use Rattle.std.specs.Prelude.{◌==◌, All, if◌then◌else◌}
-use Rattle.std.proofs.lemmas.Bool.{eq-eqb}
 use Rattle.std.proofs.lemmas.List.Sums.{sum_by-append, sum_by-cons}
 use Rattle.df_state.specs.Desks.{DeskParts}
 use Rattle.df_value.specs.declared.cell.CellType.{CellType}

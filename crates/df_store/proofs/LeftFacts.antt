@@ -1,5 +1,5 @@
 -- What a load that was refused leaves.
-use Rattle.std.proofs.Common.{◌≡◌, ℕ, ◌+◌, ◌<◌, ◌==◌, ◌&&◌, ◌∙◌, List, [], ◌∷◌, length, refl, ap, sym, subst, arith, inl, inr}
+use Rattle.std.proofs.Common.{◌≡◌, ℕ, ◌+◌, ◌==◌, ◌&&◌, ◌∙◌, List, [], ◌∷◌, length, refl, ap, sym, subst, arith, inl, inr}
 use Rattle.std.proofs.lemmas.List.Elements.{All-nil}
 use Rattle.std.specs.Prelude.{IfErr, IfNone, IfOk, IfSome, IsErrAnd, MatchOption, Option, Result, Err, None, Ok, Some, if◌then◌else◌}
 use Rattle.core.specs.Result.{result_ok}

@@ -1,5 +1,5 @@
 -- Why the registration of a view, before any chunk is made, gives a load up.
-use Rattle.std.proofs.Common.{◌≡◌, ◌∙◌, ℕ, List, [], ◌∷◌, ◌++◌, ap, arith, subst, sym, Err, Some}
+use Rattle.std.proofs.Common.{◌≡◌, ◌∙◌, ℕ, List, ap, arith, subst, sym, Err, Some}
 use Rattle.std.specs.Prelude.{slice_get, unwrap_or}
 use Rattle.df_plan.specs.CheckedParts.{CheckedParts}
 use Rattle.df_state.specs.Refusals.{refusal_of}

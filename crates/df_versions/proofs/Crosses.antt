@@ -51,14 +51,8 @@ module _ (J : RattleType) (j : Names J.Denot) where
   told_inside_send : IsSend (ToldInside.the_row J j)
   told_inside_send = let h = history_send in search (sendable, crosses) depth 40
 
-  told_inside_sync : IsSync (ToldInside.the_row J j)
-  told_inside_sync = let h = history_sync in search (sendable, crosses) depth 40
-
   pub told_send : IsSend (Told.the_row J j)
   told_send = let i = told_inside_send in search sendable depth 20
-
-  pub told_sync : IsSync (Told.the_row J j)
-  told_sync = let i = told_inside_sync in search sendable depth 20
 
 reader_inside_send : IsSend ReaderInside.the_row
 reader_inside_send = let h = history_send in let p = published_send in let q = published_sync in

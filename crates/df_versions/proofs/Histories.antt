@@ -1,5 +1,5 @@
 -- One more step makes a longer history, and all states of a history are legal.
-use Rattle.std.proofs.Common.{◌≡◌, ◌∙◌, ℕ, ◌<◌, List, [], ◌∷◌, ◌++◌, length, Some, arith, refl, ap, sym, subst}
+use Rattle.std.proofs.Common.{◌≡◌, ℕ, List, [], ◌∷◌, ◌++◌, Some, arith, refl, ap, sym, subst}
 use Rattle.df_value.specs.declared.cell.CellType.{CellType}
 use Rattle.std.specs.List.{AllByRecursion}
 use Rattle.df_state.specs.declared.state.State.{State}

@@ -3,5 +3,4 @@ pub mod Prefixes
 pub mod Adding
 pub mod Moves
 pub mod ShownVersions
-pub mod Openings
 pub mod Crosses
