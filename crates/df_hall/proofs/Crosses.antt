@@ -52,4 +52,4 @@ module _ (A D J : RattleType) (a : Ghosts A.Denot) (d : Ghosts D.Denot) (j : Nam
   versioned_send c = let i = versioned_inside_send c in search sendable depth 20
 
   pub hall_sync : IsSync (Hall.the_row A D J j a d)
-  hall_sync = let v = versioned_send A D J a d j (catalogue_send A D a d) in search (sendable, crosses) depth 20
+  hall_sync = let v = versioned_send (catalogue_send A D a d) in search (sendable, crosses) depth 20
