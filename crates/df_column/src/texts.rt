@@ -17,9 +17,9 @@ use df_value::{Cell, Text};
 use std::alloc::{AllocError, Global};
 use std::marker::Model;
 
-mod by_hash;
+mod adding;
 
-use by_hash::spliced_by_hash;
+use adding::{Lookup, push_rows, spliced_anew};
 
 /// The texts of up to so many picked rows are looked for along a pool that stays, and those of a block of up to so many rows
 /// along a new one. For more of them the hashes of all texts of the block are made.
@@ -55,32 +55,6 @@ impl Model for Texts {
     ghost view = { λ t. map (pool_text t.pool) t.places };
 
     ghost invariant = { λ t. ArePlaces t.pool t.places };
-}
-
-/// Adds the text or a null to the places, and a new text to the pool.
-fn push_text(
-    places: &mut Masked<u16>,
-    pool: &mut TextPool,
-    text: Option<&str>,
-) -> Result<(), AllocError>
-    requires sound { ArePlaces pool.old places.old }
-    requires few { length places.old < most_rows }
-    ensures sound { OnOk result (ArePlaces pool.new places.new) }
-    ensures len { OnOk result (length places.new ≡ length places.old + 1) }
-    ensures texts { OnOk result (map (pool_text pool.new) places.new ≡
-        map (pool_text pool.old) places.old ++ text_now text.entry ∷ []) }
-{
-    match text {
-        Some(text) => {
-            let place = pool.put(text)?;
-            places.push(Some(place as u16), 0)?;
-            Ok(())
-        }
-        None => {
-            places.push(None, 0)?;
-            Ok(())
-        }
-    }
 }
 
 /// The text of the cell, none for a null.
@@ -199,16 +173,6 @@ impl Texts {
         self.places.get(at).is_none()
     }
 
-    /// No texts, with room for this many places.
-    fn with_capacity(alloc: Global, capacity: usize) -> Result<Texts, AllocError>
-        ensures { IfOk result (λ t. t ≡ []) }
-    {
-        Ok(Texts {
-            places: Masked::with_capacity(alloc, capacity)?,
-            pool: TextPool::new(alloc),
-        })
-    }
-
     /// The cells up to one index, those of the picked rows, and the cells from another index on. A picked row is an old one,
     /// or a new one whose cell stands at the column's index. Where few rows are picked, the pool stays, with the new texts;
     /// texts that no row has any more stay in it, unless it has more texts than rows stay.
@@ -234,10 +198,7 @@ impl Texts {
             let texts = all.rotated(alloc, low, low + (self.len() - high))?;
             return Ok(texts);
         }
-        if low + picks.len() + (self.len() - high) <= FEW_ROWS {
-            return self.spliced_along_pool(alloc, low, high, column, picks);
-        }
-        let texts = spliced_by_hash(alloc, self, low, high, column, picks)?;
+        let texts = spliced_anew(alloc, self, low, high, column, picks)?;
         Ok(texts)
     }
 
@@ -283,53 +244,12 @@ impl Texts {
         Ok(Texts { places, pool })
     }
 
-    /// The cells as [`Texts::spliced`] has them. Each text may be compared with each of the pool.
-    fn spliced_along_pool(
-        &self,
-        alloc: Global,
-        low: usize,
-        high: usize,
-        column: usize,
-        picks: &[Pick<'_>],
-    ) -> Result<Texts, AllocError>
-        requires ordered { low ≤ high }
-        requires in_range { high ≤ length self.now }
-        requires within { AreWithin (length self.now) picks.now }
-        requires fits { AreFit dtype_as.Text column picks.now }
-        requires few { low + length picks.now + (length self.now - high) ≤ most_rows }
-        ensures { IfOk result (λ t. map text_cell t ≡
-            spliced low high (picked_cells (map text_cell self.now) column picks.now) (map text_cell self.now)) }
-    {
-        let none = Texts::with_capacity(alloc, low + picks.len() + (self.len() - high))?;
-        let front = none.with_range(self, 0, low)?;
-        let middle = front.with_picked(self, column, picks)?;
-        let all = middle.with_range(self, high, self.len())?;
-        Ok(all)
-    }
-
-    /// These texts, and then those of another column from one index up to another.
-    fn with_range(self, old: &Texts, low: usize, high: usize) -> Result<Texts, AllocError>
-        requires ordered { low ≤ high }
-        requires in_range { high ≤ length old.now }
-        requires few { length self + (high - low) ≤ most_rows }
-        ensures { IfOk result (λ t. t ≡ self ++ drop low (take high old.now)) }
-    {
-        let Texts {
-            mut places,
-            mut pool,
-        } = self;
-        for at in low..high {
-            push_text(&mut places, &mut pool, old.get(at))?;
-        }
-        Ok(Texts { places, pool })
-    }
-
     /// These texts, and then those of the picked rows, in the old column or at this index of a new row.
-    pub(crate) fn with_picked(
+    fn with_picked<'a>(
         self,
-        old: &Texts,
+        old: &'a Texts,
         column: usize,
-        picks: &[Pick<'_>],
+        picks: &[Pick<'a>],
     ) -> Result<Texts, AllocError>
         requires within { AreWithin (length old.now) picks.now }
         requires fits { AreFit dtype_as.Text column picks.now }
@@ -341,9 +261,8 @@ impl Texts {
             mut places,
             mut pool,
         } = self;
-        for pick in picks {
-            push_text(&mut places, &mut pool, text_from(old, column, pick.origin))?;
-        }
+        let mut lookup = Lookup::Along;
+        push_rows(&mut places, &mut pool, &mut lookup, old, column, picks)?;
         Ok(Texts { places, pool })
     }
 }

@@ -1,7 +1,7 @@
 use Rattle.std.proofs.Common.{ap, ◌∙◌, sym, ◌++◌, ◌∷◌, [], arith, map}
 use Rattle.df_column.specs.Texts.{pool_text, text_now}
 use Rattle.df_column.proofs.TextPlaces.{places_put, place_small}
-use Rattle.df_column.proofs.texts.by_hash.push_known.Goals as goal
+use Rattle.df_column.proofs.texts.adding.push_text.Goals as goal
 
 pub overflow_cast-place : goal.overflow_cast-place
 overflow_cast-place c =

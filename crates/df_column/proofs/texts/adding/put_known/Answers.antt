@@ -1,7 +1,7 @@
 use Rattle.std.proofs.Common.{◌∙◌, ap, refl, sym}
 use Rattle.df_column.specs.Pools.{place_of, place_or_end, with_text}
 use Rattle.df_column.proofs.KnownLemmas.{known_new, known_place, known_there, not_false, not_true}
-use Rattle.df_column.proofs.texts.by_hash.put_known.Goals as goal
+use Rattle.df_column.proofs.texts.adding.put_known.Goals as goal
 
 pub returns-then-not-is_new-clause-place : goal.returns-then-not-is_new-clause-place
 returns-then-not-is_new-clause-place c =
