@@ -1,6 +1,7 @@
 //! The texts of one column of a block.
 ghost use Rattle.std.specs.Prelude.{◌≡◌, ◌<◌, ◌≤◌, ◌+◌, ◌-◌, ◌++◌, ◌∷◌, [], T, List, ℕ, true, drop, length, map, slice_index_or, take, IfOk, IfSome, IsTrue, OnOk, Option};
 ghost use Rattle.df_value.specs.CellEq.{cell_eq};
+ghost use Rattle.df_value.specs.CellOrder.{cell_cmp};
 ghost use Rattle.df_value.specs.Cells.{fits_dtype};
 ghost use Rattle.df_value.specs.declared.cell.Cell.{Cell};
 ghost use Rattle.df_value.specs.declared.cell.CellType.TheVariants as dtype_as;
@@ -10,11 +11,14 @@ ghost use Rattle.df_column.specs.Sizes.{most_rows};
 ghost use Rattle.df_column.specs.Texts.{ArePlaces, pool_text, text_now};
 ghost use Rattle.df_column.specs.ValueCells.{text_cell};
 
+use crate::best::Ranked;
+use crate::compare::compare_texts;
 use crate::masked::Masked;
 use crate::picks::{Origin, Pick};
 use crate::pool::TextPool;
 use df_value::{Cell, Text};
 use std::alloc::{AllocError, Global};
+use std::cmp::Ordering;
 use std::marker::Model;
 
 mod adding;
@@ -104,6 +108,36 @@ fn is_cell_of(text: Option<&str>, cell: &Cell) -> bool
     }
 }
 
+impl Ranked for Texts {
+    ghost cells = { map text_cell };
+
+    fn count(&self) -> usize
+        ensures { result ≡ length (map text_cell self.now) }
+    {
+        self.len()
+    }
+
+    // No text is read.
+    fn is_null(&self, at: usize) -> bool
+        requires { at < length (map text_cell self.now) }
+        ensures { (d : Cell) → result ≡ extremes.is_null (slice_index_or (map text_cell self.now) at d) }
+    {
+        self.places.get(at).is_none()
+    }
+
+    fn compare(&self, a: usize, b: usize) -> Ordering
+        requires first { a < length (map text_cell self.now) }
+        requires second { b < length (map text_cell self.now) }
+        ensures { (d : Cell) → result ≡ cell_cmp (slice_index_or (map text_cell self.now) a d)
+            (slice_index_or (map text_cell self.now) b d) }
+    {
+        if self.are_known_same(a, b) {
+            return Ordering::Equal;
+        }
+        compare_texts(self.get(a), self.get(b))
+    }
+}
+
 impl Texts {
     /// No texts.
     pub fn new(alloc: Global) -> Self
@@ -145,7 +179,7 @@ impl Texts {
     }
 
     /// Whether it is known without a look at the texts that those at two indices are the same: a pool has each text once.
-    pub(crate) fn are_known_same(&self, a: usize, b: usize) -> bool
+    fn are_known_same(&self, a: usize, b: usize) -> bool
         requires first { a < length self.now }
         requires second { b < length self.now }
         ensures { result ≡ true → (d : Option (List ℕ)) →
@@ -163,14 +197,6 @@ impl Texts {
         ensures { (d : Cell) → result ≡ cell_eq (slice_index_or (map text_cell self.now) at d) cell.now }
     {
         is_cell_of(self.get(at), cell)
-    }
-
-    /// Whether the cell at this index is null. No text is read.
-    pub(crate) fn is_null(&self, at: usize) -> bool
-        requires { at < length (map text_cell self.now) }
-        ensures { (d : Cell) → result ≡ extremes.is_null (slice_index_or (map text_cell self.now) at d) }
-    {
-        self.places.get(at).is_none()
     }
 
     /// The cells up to one index, those of the picked rows, and the cells from another index on. A picked row is an old one,

@@ -4,7 +4,7 @@ use Rattle.df_value.specs.CellOrders.{to_itself}
 use Rattle.df_value.specs.CellOrder.{cell_cmp}
 use Rattle.df_column.specs.ValueCells.{text_cell}
 use Rattle.df_column.proofs.Places.{mapped_at, mapped_length}
-use Rattle.df_column.proofs.texts.Texts.compare.Goals as goal
+use Rattle.df_column.proofs.texts.TextsRanked.compare.Goals as goal
 
 pub get-requires : goal.get-requires
 get-requires c = let l = mapped_length text_cell c.args.self.now in omega (arith, l, c.requires.first)

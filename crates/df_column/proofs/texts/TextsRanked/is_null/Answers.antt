@@ -6,7 +6,7 @@ use Rattle.df_column.specs.ValueCells.{text_cell}
 use Rattle.df_column.proofs.CellTests.{null_place}
 use Rattle.df_column.proofs.Places.{mapped_at, mapped_length}
 use Rattle.df_column.proofs.TextPlaces.{text_at_place}
-use Rattle.df_column.proofs.texts.Texts.is_null.Goals as goal
+use Rattle.df_column.proofs.texts.TextsRanked.is_null.Goals as goal
 
 at_place : (v : List (Option (List ℕ))) (ts : List (List ℕ)) (places : List (Option ℕ)) (i : ℕ) → map (pool_text ts) places ≡ v → i < length (map text_cell v) → i < length places
 at_place v ts places i e lt =
