@@ -384,8 +384,7 @@ fn with_run(alloc: Global, leaves: Leaves, run: Run) -> Result<Leaves, AllocErro
     }
     let middle = len / 2;
     let first = with_leaf(alloc, leaves, run.part(alloc, 0, middle)?)?;
-    let both = with_leaf(alloc, first, run.part(alloc, middle, len)?)?;
-    Ok(both)
+    with_leaf(alloc, first, run.part(alloc, middle, len)?)
 }
 
 /// The leaves with the blocks of a run behind them in one leaf.
@@ -395,6 +394,5 @@ fn with_leaf(alloc: Global, leaves: Leaves, run: Run) -> Result<Leaves, AllocErr
     ensures { IfOk result (λ l. l ≡ leaves ++ run) }
 {
     let leaf = SharedLeaf::new(alloc, Leaf::new(alloc, run)?)?;
-    let made = leaves.pushed(alloc, &leaf)?;
-    Ok(made)
+    leaves.pushed(alloc, &leaf)
 }

@@ -240,8 +240,7 @@ impl Run {
         let none = Run::new(alloc).with_room(room.saturating_add(1))?;
         let front = none.joined(self, 0, low)?;
         let both = front.joined(other, 0, many)?;
-        let made = both.joined(self, high, self.len())?;
-        Ok(made)
+        both.joined(self, high, self.len())
     }
 
     /// Where the row at this index of all rows stands. Behind the last row, the index behind the last block.
