@@ -219,8 +219,7 @@ impl Run {
         requires in_range { high ≤ length self.now }
         ensures { IfOk result (λ r. r ≡ drop low (take high self.now)) }
     {
-        let part = Run::new(alloc).joined(self, low, high)?;
-        Ok(part)
+        Run::new(alloc).joined(self, low, high)
     }
 
     /// The blocks up to one index, those of another run, and the blocks from another index on, shared.
