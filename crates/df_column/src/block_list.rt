@@ -190,8 +190,7 @@ impl BlockList {
         if tail.len() < TOO_MANY_BEHIND {
             return Ok(BlockList { leaves, tail });
         }
-        let list = with_first_leaf(alloc, leaves, tail)?;
-        Ok(list)
+        with_first_leaf(alloc, leaves, tail)
     }
 
     /// The list with the blocks of another one behind it, from one index up to another. Whole leaves are shared.

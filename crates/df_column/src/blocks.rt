@@ -360,6 +360,5 @@ pub fn with_changes(
     }
     let tags = RowTags::new(alloc);
     let picks = merge(alloc, &tags, rest)?;
-    let list = with_parts(alloc, made, &tags, columns, &[], &picks, MOST_ROWS)?;
-    Ok(list)
+    with_parts(alloc, made, &tags, columns, &[], &picks, MOST_ROWS)
 }

@@ -221,11 +221,9 @@ impl Texts {
         let kept = self.without(alloc, low, high, picks.len())?;
         if let Some(kept) = kept {
             let all = kept.with_picked(self, column, picks)?;
-            let texts = all.rotated(alloc, low, low + (self.len() - high))?;
-            return Ok(texts);
+            return all.rotated(alloc, low, low + (self.len() - high));
         }
-        let texts = spliced_anew(alloc, self, low, high, column, picks)?;
-        Ok(texts)
+        spliced_anew(alloc, self, low, high, column, picks)
     }
 
     /// The texts up to one index and those from another index on, over this pool, with room for so many places more. None
