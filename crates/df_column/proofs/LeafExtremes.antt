@@ -1,8 +1,10 @@
 -- The least and the greatest cell of blocks one behind the other.
-use Rattle.std.proofs.Common.{◌≡◌, ℕ, ◌+◌, ◌<◌, ◌≤◌, List, [], ◌∷◌, ◌++◌, append-nil, length, map, drop, take, get_or, sym, ap, ◌∙◌}
-use Rattle.std.specs.Prelude.{Option, Some}
+use Rattle.std.proofs.Common.{◌≡◌, ℕ, ◌+◌, ◌<◌, ◌≤◌, List, [], ◌∷◌, ◌++◌, append-nil, length, length-append, map, drop, take, get_or, ltb, true, false, refl, sym, ap, ◌∙◌, arith}
+use Rattle.std.specs.Prelude.{Option, Some, None}
+use Rattle.std.proofs.lemmas.Bool.{ltb-false, ltb-true}
+use Rattle.std.proofs.lemmas.List.{get_or_append_left, get_or_push}
 use Rattle.df_value.specs.declared.cell.Cell.{Cell}
-use Rattle.df_column.specs.BlockLists.{extreme_cell}
+use Rattle.df_column.specs.BlockLists.{AreExtremeCells, extreme_cell}
 use Rattle.df_column.specs.Blocks.{BlockParts, block_rows, rows_of_blocks}
 use Rattle.df_column.specs.Extremes.{cells_at, extreme_of, further}
 use Rattle.df_column.specs.declared.extremes.Extreme.{Extreme}
@@ -40,3 +42,12 @@ extreme_of_three e all a b d i first x y z cut one two three =
     three ∙ ap (λ o. further e o (extreme_cell e d i)) both
     ∙ further_of_three e f (extreme_cell e b i) (extreme_cell e d i) ∙ further_of_three e first (extreme_cell e a i) (further e (extreme_cell e b i) (extreme_cell e d i))
     ∙ ap (further e first) (ap (further e (extreme_cell e a i)) (sym (extreme_both e b d i)) ∙ sym (extreme_both e a (b ++ d) i) ∙ ap (λ bs. extreme_cell e bs i) (sym cut))
+
+-- one column more of those whose extremes are there
+pub cells_more : (e : Extreme) (bs : List BlockParts) (cells : List (Option Cell)) (c : Option Cell) (n : ℕ) → length cells ≡ n → AreExtremeCells e bs cells → c ≡ extreme_cell e bs n → AreExtremeCells e bs (cells ++ c ∷ [])
+cells_more e bs cells c n l h is = λ i lt.
+    let k = length-append cells (c ∷ []) in
+    elim (ltb i n) as (λ b. ltb i n ≡ b → get_or (cells ++ c ∷ []) i None ≡ extreme_cell e bs i) [
+      | true ↦ λ t. let less : i < length cells = omega (arith, l, ltb-true i n t) in get_or_append_left cells (c ∷ []) None i less ∙ h i less
+      | false ↦ λ f. let at : i ≡ n = omega (arith, l, k, lt, ltb-false i n f) in get_or_push cells c None i (l ∙ sym at) ∙ is ∙ ap (extreme_cell e bs) (sym at)
+    ] refl

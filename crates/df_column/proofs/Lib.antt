@@ -18,7 +18,6 @@ pub mod Furthest
 pub mod ExtremeLemmas
 pub mod SplicedExtremes
 pub mod BlockExtremes
-mod BestValues
 mod OldRuns
 pub mod ZoneLemmas
 pub mod SpotLemmas

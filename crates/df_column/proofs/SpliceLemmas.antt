@@ -5,6 +5,7 @@ use Rattle.df_column.specs.Picks.{spliced}
 use Rattle.df_column.proofs.KnownLemmas.{take_next}
 use Rattle.df_column.proofs.ListParts.{all_taken}
 use Rattle.df_column.proofs.MergeLemmas.{drop_past}
+use Rattle.df_column.proofs.Places.{mapped_length}
 
 pub spliced_length : {X : Type 0} (low high : ℕ) (more xs : List X) → low ≤ high → high ≤ length xs → length (spliced low high more xs) ≡ low + length more + (length xs - high)
 spliced_length low high more xs p q =
@@ -37,6 +38,36 @@ pub range_next : {X : Type 0} (xs : List X) (low at : ℕ) (d : X) → low ≤ a
 range_next xs low at d le lt =
     let l = length-take at xs in
     ap (drop low) (take_next xs at d lt) ∙ drop_front low (take at xs) (get_or xs at d ∷ []) (omega (arith, l, le, lt))
+
+-- the items up to an index, others, and the items from another index on, as they are joined
+pub joined_made : {X : Type 0} (low high m n : ℕ) (xs ys none one two three : List X) → none ≡ [] → one ≡ none ++ drop 0 (take low xs) → two ≡ one ++ drop 0 (take m ys) → m ≡ length ys → three ≡ two ++ drop high (take n xs) → n ≡ length xs
+    → three ≡ spliced low high ys xs
+joined_made low high m n xs ys none one two three start first second many third all =
+    third
+    ∙ ap (λ r. two ++ r) (ap (drop high) (take_all n xs (omega (arith, all))))
+    ∙ ap (λ r. r ++ drop high xs) (second ∙ ap (λ r. one ++ r) (take_all m ys (omega (arith, many))) ∙ ap (λ r. r ++ ys) (first ∙ ap (λ r. r ++ take low xs) start))
+    ∙ append_assoc (take low xs) ys (drop high xs)
+
+-- how many items there are after those up to an index, and after more of them
+pub front_count : {X Y : Type 0} (f g : X → Y) (none one : List X) (low : ℕ) (ys : List Y) → none ≡ [] → map g one ≡ map f none ++ drop 0 (take low ys) → low ≤ length ys → length one ≡ low
+front_count f g none one low ys start first le =
+    let a = mapped_length g one in
+    let b = ap length first in
+    let d = length-append (map f none) (take low ys) in
+    let e = mapped_length f none in
+    let k = ap length start in
+    let t = length-take low ys in
+    omega (arith, a, b, d, e, k, t, le)
+
+pub both_count : {X Y Z : Type 0} (g h : X → Y) (cell : Y → Z) (one two : List X) (more : List Z) → map cell (map h two) ≡ map cell (map g one) ++ more → length two ≡ length one + length more
+both_count g h cell one two more second =
+    let a = mapped_length cell (map h two) in
+    let b = mapped_length h two in
+    let d = ap length second in
+    let e = length-append (map cell (map g one)) more in
+    let k = mapped_length cell (map g one) in
+    let m = mapped_length g one in
+    omega (arith, a, b, d, e, k, m)
 
 module _ {X Y : Type 0} (f : X → Y) where
   part_before : (low : ℕ) (none one xs : List X) → none ≡ [] → one ≡ none ++ take low xs → map f one ≡ take low (map f xs)

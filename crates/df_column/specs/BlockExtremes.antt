@@ -19,11 +19,6 @@ abbrev pub cell_there : List Cell → Option ℕ → Option Cell
 cell_there cells None = None
 cell_there cells (Some i) = Some (slice_index_or cells i cell.Null)
 
--- the cell of a value that is there
-abbrev pub some_cell : {X : Type 0} → (Option X → Cell) → Option X → Option Cell
-some_cell cell_of None = None
-some_cell cell_of (Some v) = Some (cell_of (Some v))
-
 -- at this index stands the cell that no other lies beyond; there is no index where all cells are null
 pub record IsExtremeAt (e : Extreme) (cells : List Cell) (at : Option ℕ) : Type 0 where
   pub within : IfSome at (λ i. i < length cells)

@@ -5,6 +5,7 @@ pub mod Bounds
 pub mod Masks
 pub mod Pools
 pub mod Texts
+pub mod Lookups
 pub mod ValueCells
 pub mod Picks
 pub mod RowTags

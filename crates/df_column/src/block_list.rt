@@ -190,8 +190,7 @@ impl BlockList {
         if tail.len() < TOO_MANY_BEHIND {
             return Ok(BlockList { leaves, tail });
         }
-        let list = with_first_leaf(alloc, leaves, tail)?;
-        Ok(list)
+        with_first_leaf(alloc, leaves, tail)
     }
 
     /// The list with the blocks of another one behind it, from one index up to another. Whole leaves are shared.
@@ -384,8 +383,7 @@ fn with_run(alloc: Global, leaves: Leaves, run: Run) -> Result<Leaves, AllocErro
     }
     let middle = len / 2;
     let first = with_leaf(alloc, leaves, run.part(alloc, 0, middle)?)?;
-    let both = with_leaf(alloc, first, run.part(alloc, middle, len)?)?;
-    Ok(both)
+    with_leaf(alloc, first, run.part(alloc, middle, len)?)
 }
 
 /// The leaves with the blocks of a run behind them in one leaf.
@@ -395,6 +393,5 @@ fn with_leaf(alloc: Global, leaves: Leaves, run: Run) -> Result<Leaves, AllocErr
     ensures { IfOk result (λ l. l ≡ leaves ++ run) }
 {
     let leaf = SharedLeaf::new(alloc, Leaf::new(alloc, run)?)?;
-    let made = leaves.pushed(alloc, &leaf)?;
-    Ok(made)
+    leaves.pushed(alloc, &leaf)
 }

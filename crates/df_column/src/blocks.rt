@@ -38,8 +38,7 @@ fn with_shared(alloc: Global, out: BlockList, block: &Arc<Block>) -> Result<Bloc
         (block_rows (arc_value block.now)) out) }
 {
     let block = Arc::try_clone(block)?;
-    let made = out.pushed(alloc, block)?;
-    Ok(made)
+    out.pushed(alloc, block)
 }
 
 /// The list with one block behind it: of the rows of these tags and columns, with the picked rows in place of those from
@@ -68,8 +67,7 @@ pub fn with_spliced(
 {
     let block = Block::spliced(alloc, tags, columns, known, low, high, picks)?;
     let block = Arc::new(alloc, block)?;
-    let made = out.pushed(alloc, block)?;
-    Ok(made)
+    out.pushed(alloc, block)
 }
 
 /// The list with the picked rows behind it, in blocks of this size.
@@ -148,8 +146,7 @@ fn with_grown(
     let columns = block.columns();
     let known = block.extremes();
     let rows = tags.len();
-    let made = with_spliced(alloc, out, tags, columns, known, rows, rows, picks)?;
-    Ok(made)
+    with_spliced(alloc, out, tags, columns, known, rows, rows, picks)
 }
 
 /// A last block that has so many rows is closed: further rows go into a new one, since each row that comes into a block
@@ -188,8 +185,7 @@ fn with_filled(
     let tags = block.tags();
     let columns = block.columns();
     let known = block.extremes();
-    let made = with_parts(alloc, grown, tags, columns, known, rest, MOST_ROWS)?;
-    Ok(made)
+    with_parts(alloc, grown, tags, columns, known, rest, MOST_ROWS)
 }
 
 /// The list with the rows of a last block and then the new rows of these entries behind it.
@@ -364,6 +360,5 @@ pub fn with_changes(
     }
     let tags = RowTags::new(alloc);
     let picks = merge(alloc, &tags, rest)?;
-    let list = with_parts(alloc, made, &tags, columns, &[], &picks, MOST_ROWS)?;
-    Ok(list)
+    with_parts(alloc, made, &tags, columns, &[], &picks, MOST_ROWS)
 }

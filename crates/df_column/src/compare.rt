@@ -8,23 +8,14 @@ ghost use Rattle.df_column.specs.Extremes.{is_above};
 ghost use Rattle.df_column.specs.Texts.{text_now};
 ghost use Rattle.df_column.specs.ValueCells.{text_cell};
 
+use crate::best::Ranked;
 use crate::column::Column;
 use crate::texts::Texts;
 use df_value::Cell;
 use std::cmp::Ordering;
 
-/// Whether the cell is null.
-fn is_null(cell: &Cell) -> bool
-    ensures { result ≡ extremes.is_null cell.now }
-{
-    match cell {
-        Cell::Null => true,
-        _ => false,
-    }
-}
-
 /// How two texts compare as cells, where no text is null.
-fn compare_texts(a: Option<&str>, b: Option<&str>) -> Ordering
+pub(crate) fn compare_texts(a: Option<&str>, b: Option<&str>) -> Ordering
     ensures { result ≡ cell_cmp (text_cell (text_now a.entry)) (text_cell (text_now b.entry)) }
 {
     match (a, b) {
@@ -52,19 +43,6 @@ fn compare_text(text: Option<&str>, cell: &Cell) -> Ordering
 }
 
 impl Texts {
-    /// How two of the cells compare.
-    pub(crate) fn compare(&self, a: usize, b: usize) -> Ordering
-        requires first { a < length (map text_cell self.now) }
-        requires second { b < length (map text_cell self.now) }
-        ensures { (d : Cell) → result ≡ cell_cmp (slice_index_or (map text_cell self.now) a d)
-            (slice_index_or (map text_cell self.now) b d) }
-    {
-        if self.are_known_same(a, b) {
-            return Ordering::Equal;
-        }
-        compare_texts(self.get(a), self.get(b))
-    }
-
     /// How the cell at this index compares with another.
     fn compare_with(&self, at: usize, cell: &Cell) -> Ordering
         requires { at < length (map text_cell self.now) }
@@ -81,11 +59,11 @@ impl Column {
         ensures { (d : Cell) → result ≡ extremes.is_null (slice_index_or (column_cells self.now) at d) }
     {
         match self {
-            Column::Int(values) => is_null(&values.cell(at)),
-            Column::Wide(values) => is_null(&values.cell(at)),
+            Column::Int(values) => values.is_null(at),
+            Column::Wide(values) => values.is_null(at),
             Column::Text(texts) => texts.is_null(at),
-            Column::Bool(values) => is_null(&values.cell(at)),
-            Column::Frac(values) => is_null(&values.cell(at)),
+            Column::Bool(values) => values.is_null(at),
+            Column::Frac(values) => values.is_null(at),
         }
     }
 

@@ -5,13 +5,9 @@ ghost use Rattle.df_value.specs.declared.cell.Cell.{Cell};
 ghost use Rattle.df_column.specs.BlockExtremes.{AreExtremes, AreExtremesOf, AreSplicedFrom, IsExtremeAt, IsKnownBefore, IsSearch, IsSplicedFrom, no_extremes};
 ghost use Rattle.df_column.specs.Columns.{column_cells};
 ghost use Rattle.df_column.specs.Extremes as extremes;
-ghost use Rattle.df_column.specs.ValueCells.{text_cell};
 
-use crate::best::{Search, best_text_in, best_value_in};
+use crate::best::{Ranked, Search, best_in};
 use crate::column::Column;
-use crate::masked::Masked;
-use crate::texts::Texts;
-use crate::values::CellValue;
 use std::alloc::{AllocError, Global};
 use std::cmp::Ordering;
 
@@ -80,51 +76,27 @@ fn search_after(known: Option<usize>, splice: Splice, len: usize) -> Search
     }
 }
 
-/// Where one extreme stands among values after a splice.
-fn value_extreme<T: CellValue>(
+/// Where one extreme stands among cells after a splice.
+fn extreme_in<C: Ranked>(
     extreme: Extreme,
-    values: &Masked<T>,
+    column: &C,
     known: Option<usize>,
     splice: Splice,
 ) -> Option<usize>
-    requires { IsKnownBefore extreme splice (map T.cell_of values.now) known }
-    ensures { IsExtremeAt extreme (map T.cell_of values.now) result }
+    requires { IsKnownBefore extreme splice (C.cells column.now) known }
+    ensures { IsExtremeAt extreme (C.cells column.now) result }
 {
-    best_value_in(extreme, values, search_after(known, splice, values.len()))
+    best_in(extreme, column, search_after(known, splice, column.count()))
 }
 
-/// Where both extremes stand among values after a splice.
-fn value_extremes<T: CellValue>(values: &Masked<T>, known: Extremes, splice: Splice) -> Extremes
-    requires { IsSplicedFrom splice (map T.cell_of values.now) known }
-    ensures { AreExtremesOf (map T.cell_of values.now) result }
+/// Where both extremes stand among cells after a splice.
+fn extremes_in<C: Ranked>(column: &C, known: Extremes, splice: Splice) -> Extremes
+    requires { IsSplicedFrom splice (C.cells column.now) known }
+    ensures { AreExtremesOf (C.cells column.now) result }
 {
     Extremes {
-        least: value_extreme(Extreme::Least, values, known.least, splice),
-        greatest: value_extreme(Extreme::Greatest, values, known.greatest, splice),
-    }
-}
-
-/// Where one extreme stands among texts after a splice.
-fn text_extreme(
-    extreme: Extreme,
-    texts: &Texts,
-    known: Option<usize>,
-    splice: Splice,
-) -> Option<usize>
-    requires { IsKnownBefore extreme splice (map text_cell texts.now) known }
-    ensures { IsExtremeAt extreme (map text_cell texts.now) result }
-{
-    best_text_in(extreme, texts, search_after(known, splice, texts.len()))
-}
-
-/// Where both extremes stand among texts after a splice.
-fn text_extremes(texts: &Texts, known: Extremes, splice: Splice) -> Extremes
-    requires { IsSplicedFrom splice (map text_cell texts.now) known }
-    ensures { AreExtremesOf (map text_cell texts.now) result }
-{
-    Extremes {
-        least: text_extreme(Extreme::Least, texts, known.least, splice),
-        greatest: text_extreme(Extreme::Greatest, texts, known.greatest, splice),
+        least: extreme_in(Extreme::Least, column, known.least, splice),
+        greatest: extreme_in(Extreme::Greatest, column, known.greatest, splice),
     }
 }
 
@@ -134,11 +106,11 @@ fn extremes_from(column: &Column, known: Extremes, splice: Splice) -> Extremes
     ensures { AreExtremesOf (column_cells column.now) result }
 {
     match column {
-        Column::Int(values) => value_extremes(values, known, splice),
-        Column::Wide(values) => value_extremes(values, known, splice),
-        Column::Text(texts) => text_extremes(texts, known, splice),
-        Column::Bool(values) => value_extremes(values, known, splice),
-        Column::Frac(values) => value_extremes(values, known, splice),
+        Column::Int(values) => extremes_in(values, known, splice),
+        Column::Wide(values) => extremes_in(values, known, splice),
+        Column::Text(texts) => extremes_in(texts, known, splice),
+        Column::Bool(values) => extremes_in(values, known, splice),
+        Column::Frac(values) => extremes_in(values, known, splice),
     }
 }
 

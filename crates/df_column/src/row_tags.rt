@@ -203,6 +203,26 @@ fn numbers_with(
     Ok(KeptTags::Whole(tags))
 }
 
+/// The tags as they are kept, with those of the picked rows in place of the ones from `low` up to `high`.
+fn spliced_kept(
+    alloc: Global,
+    kept: &KeptTags,
+    low: usize,
+    high: usize,
+    picks: &[Pick<'_>],
+) -> Result<KeptTags, AllocError>
+    requires ordered { low ≤ high }
+    requires in_range { high ≤ length (row_tags.tags_in kept.now) }
+    requires few { low + length picks.now + (length (row_tags.tags_in kept.now) - high) ≤ most_rows }
+    ensures { IfOk result (λ k. row_tags.tags_in k ≡
+        spliced low high (map (λ p. p.tag) picks.now) (row_tags.tags_in kept.now)) }
+{
+    match kept {
+        KeptTags::Numbers(numbers) => numbers_with(alloc, numbers, low, high, picks),
+        KeptTags::Whole(tags) => Ok(KeptTags::Whole(spliced_tags(alloc, tags, low, high, picks)?)),
+    }
+}
+
 impl RowTags {
     /// No tags.
     pub fn new(alloc: Global) -> RowTags
@@ -278,11 +298,11 @@ impl RowTags {
         requires few { low + length picks.now + (length self.now - high) ≤ most_rows }
         ensures { IfOk result (λ v. v ≡ spliced low high (map (λ p. p.tag) picks.now) self.now) }
     {
-        let kept = match &self.kept {
-            _ if low == 0 && high == self.len() => numbers_with(alloc, &[], 0, 0, picks)?,
-            KeptTags::Numbers(numbers) => numbers_with(alloc, numbers, low, high, picks)?,
-            KeptTags::Whole(tags) => KeptTags::Whole(spliced_tags(alloc, tags, low, high, picks)?),
-        };
+        if low == 0 && high == self.len() {
+            let kept = numbers_with(alloc, &[], 0, 0, picks)?;
+            return Ok(RowTags { kept });
+        }
+        let kept = spliced_kept(alloc, &self.kept, low, high, picks)?;
         Ok(RowTags { kept })
     }
 }

@@ -219,8 +219,7 @@ impl Run {
         requires in_range { high ≤ length self.now }
         ensures { IfOk result (λ r. r ≡ drop low (take high self.now)) }
     {
-        let part = Run::new(alloc).joined(self, low, high)?;
-        Ok(part)
+        Run::new(alloc).joined(self, low, high)
     }
 
     /// The blocks up to one index, those of another run, and the blocks from another index on, shared.
@@ -240,8 +239,7 @@ impl Run {
         let none = Run::new(alloc).with_room(room.saturating_add(1))?;
         let front = none.joined(self, 0, low)?;
         let both = front.joined(other, 0, many)?;
-        let made = both.joined(self, high, self.len())?;
-        Ok(made)
+        both.joined(self, high, self.len())
     }
 
     /// Where the row at this index of all rows stands. Behind the last row, the index behind the last block.

@@ -80,8 +80,7 @@ fn with_range_changed(
     let back = reached(blocks, front, entries);
     let before = BlockList::new(alloc).joined(alloc, blocks, 0, front)?;
     let changed = with_changes(alloc, before, blocks, front..back, true, columns, entries)?;
-    let made = changed.joined(alloc, blocks, back, blocks.len())?;
-    Ok(made)
+    changed.joined(alloc, blocks, back, blocks.len())
 }
 
 /// How many of the first blocks end before the first change, where all others begin behind the last one.

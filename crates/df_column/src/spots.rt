@@ -44,8 +44,7 @@ pub fn row_at(alloc: Global, blocks: &BlockList, at: usize) -> Result<Row, Alloc
         (slice_index_or (rows_of_blocks blocks.now) at d).1) }
 {
     let spot = locate(blocks, at);
-    let row = blocks.get(spot.block).row(alloc, spot.row)?;
-    Ok(row)
+    blocks.get(spot.block).row(alloc, spot.row)
 }
 
 /// Whether the row at this index is this one.

@@ -1,6 +1,7 @@
 //! The texts of one column of a block.
 ghost use Rattle.std.specs.Prelude.{◌≡◌, ◌<◌, ◌≤◌, ◌+◌, ◌-◌, ◌++◌, ◌∷◌, [], T, List, ℕ, true, drop, length, map, slice_index_or, take, IfOk, IfSome, IsTrue, OnOk, Option};
 ghost use Rattle.df_value.specs.CellEq.{cell_eq};
+ghost use Rattle.df_value.specs.CellOrder.{cell_cmp};
 ghost use Rattle.df_value.specs.Cells.{fits_dtype};
 ghost use Rattle.df_value.specs.declared.cell.Cell.{Cell};
 ghost use Rattle.df_value.specs.declared.cell.CellType.TheVariants as dtype_as;
@@ -10,16 +11,19 @@ ghost use Rattle.df_column.specs.Sizes.{most_rows};
 ghost use Rattle.df_column.specs.Texts.{ArePlaces, pool_text, text_now};
 ghost use Rattle.df_column.specs.ValueCells.{text_cell};
 
+use crate::best::Ranked;
+use crate::compare::compare_texts;
 use crate::masked::Masked;
 use crate::picks::{Origin, Pick};
 use crate::pool::TextPool;
 use df_value::{Cell, Text};
 use std::alloc::{AllocError, Global};
+use std::cmp::Ordering;
 use std::marker::Model;
 
-mod by_hash;
+mod adding;
 
-use by_hash::spliced_by_hash;
+use adding::{Lookup, push_rows, spliced_anew};
 
 /// The texts of up to so many picked rows are looked for along a pool that stays, and those of a block of up to so many rows
 /// along a new one. For more of them the hashes of all texts of the block are made.
@@ -55,32 +59,6 @@ impl Model for Texts {
     ghost view = { λ t. map (pool_text t.pool) t.places };
 
     ghost invariant = { λ t. ArePlaces t.pool t.places };
-}
-
-/// Adds the text or a null to the places, and a new text to the pool.
-fn push_text(
-    places: &mut Masked<u16>,
-    pool: &mut TextPool,
-    text: Option<&str>,
-) -> Result<(), AllocError>
-    requires sound { ArePlaces pool.old places.old }
-    requires few { length places.old < most_rows }
-    ensures sound { OnOk result (ArePlaces pool.new places.new) }
-    ensures len { OnOk result (length places.new ≡ length places.old + 1) }
-    ensures texts { OnOk result (map (pool_text pool.new) places.new ≡
-        map (pool_text pool.old) places.old ++ text_now text.entry ∷ []) }
-{
-    match text {
-        Some(text) => {
-            let place = pool.put(text)?;
-            places.push(Some(place as u16), 0)?;
-            Ok(())
-        }
-        None => {
-            places.push(None, 0)?;
-            Ok(())
-        }
-    }
 }
 
 /// The text of the cell, none for a null.
@@ -130,6 +108,36 @@ fn is_cell_of(text: Option<&str>, cell: &Cell) -> bool
     }
 }
 
+impl Ranked for Texts {
+    ghost cells = { map text_cell };
+
+    fn count(&self) -> usize
+        ensures { result ≡ length (map text_cell self.now) }
+    {
+        self.len()
+    }
+
+    // No text is read.
+    fn is_null(&self, at: usize) -> bool
+        requires { at < length (map text_cell self.now) }
+        ensures { (d : Cell) → result ≡ extremes.is_null (slice_index_or (map text_cell self.now) at d) }
+    {
+        self.places.get(at).is_none()
+    }
+
+    fn compare(&self, a: usize, b: usize) -> Ordering
+        requires first { a < length (map text_cell self.now) }
+        requires second { b < length (map text_cell self.now) }
+        ensures { (d : Cell) → result ≡ cell_cmp (slice_index_or (map text_cell self.now) a d)
+            (slice_index_or (map text_cell self.now) b d) }
+    {
+        if self.are_known_same(a, b) {
+            return Ordering::Equal;
+        }
+        compare_texts(self.get(a), self.get(b))
+    }
+}
+
 impl Texts {
     /// No texts.
     pub fn new(alloc: Global) -> Self
@@ -171,7 +179,7 @@ impl Texts {
     }
 
     /// Whether it is known without a look at the texts that those at two indices are the same: a pool has each text once.
-    pub(crate) fn are_known_same(&self, a: usize, b: usize) -> bool
+    fn are_known_same(&self, a: usize, b: usize) -> bool
         requires first { a < length self.now }
         requires second { b < length self.now }
         ensures { result ≡ true → (d : Option (List ℕ)) →
@@ -189,24 +197,6 @@ impl Texts {
         ensures { (d : Cell) → result ≡ cell_eq (slice_index_or (map text_cell self.now) at d) cell.now }
     {
         is_cell_of(self.get(at), cell)
-    }
-
-    /// Whether the cell at this index is null. No text is read.
-    pub(crate) fn is_null(&self, at: usize) -> bool
-        requires { at < length (map text_cell self.now) }
-        ensures { (d : Cell) → result ≡ extremes.is_null (slice_index_or (map text_cell self.now) at d) }
-    {
-        self.places.get(at).is_none()
-    }
-
-    /// No texts, with room for this many places.
-    fn with_capacity(alloc: Global, capacity: usize) -> Result<Texts, AllocError>
-        ensures { IfOk result (λ t. t ≡ []) }
-    {
-        Ok(Texts {
-            places: Masked::with_capacity(alloc, capacity)?,
-            pool: TextPool::new(alloc),
-        })
     }
 
     /// The cells up to one index, those of the picked rows, and the cells from another index on. A picked row is an old one,
@@ -231,14 +221,9 @@ impl Texts {
         let kept = self.without(alloc, low, high, picks.len())?;
         if let Some(kept) = kept {
             let all = kept.with_picked(self, column, picks)?;
-            let texts = all.rotated(alloc, low, low + (self.len() - high))?;
-            return Ok(texts);
+            return all.rotated(alloc, low, low + (self.len() - high));
         }
-        if low + picks.len() + (self.len() - high) <= FEW_ROWS {
-            return self.spliced_along_pool(alloc, low, high, column, picks);
-        }
-        let texts = spliced_by_hash(alloc, self, low, high, column, picks)?;
-        Ok(texts)
+        spliced_anew(alloc, self, low, high, column, picks)
     }
 
     /// The texts up to one index and those from another index on, over this pool, with room for so many places more. None
@@ -283,53 +268,12 @@ impl Texts {
         Ok(Texts { places, pool })
     }
 
-    /// The cells as [`Texts::spliced`] has them. Each text may be compared with each of the pool.
-    fn spliced_along_pool(
-        &self,
-        alloc: Global,
-        low: usize,
-        high: usize,
-        column: usize,
-        picks: &[Pick<'_>],
-    ) -> Result<Texts, AllocError>
-        requires ordered { low ≤ high }
-        requires in_range { high ≤ length self.now }
-        requires within { AreWithin (length self.now) picks.now }
-        requires fits { AreFit dtype_as.Text column picks.now }
-        requires few { low + length picks.now + (length self.now - high) ≤ most_rows }
-        ensures { IfOk result (λ t. map text_cell t ≡
-            spliced low high (picked_cells (map text_cell self.now) column picks.now) (map text_cell self.now)) }
-    {
-        let none = Texts::with_capacity(alloc, low + picks.len() + (self.len() - high))?;
-        let front = none.with_range(self, 0, low)?;
-        let middle = front.with_picked(self, column, picks)?;
-        let all = middle.with_range(self, high, self.len())?;
-        Ok(all)
-    }
-
-    /// These texts, and then those of another column from one index up to another.
-    fn with_range(self, old: &Texts, low: usize, high: usize) -> Result<Texts, AllocError>
-        requires ordered { low ≤ high }
-        requires in_range { high ≤ length old.now }
-        requires few { length self + (high - low) ≤ most_rows }
-        ensures { IfOk result (λ t. t ≡ self ++ drop low (take high old.now)) }
-    {
-        let Texts {
-            mut places,
-            mut pool,
-        } = self;
-        for at in low..high {
-            push_text(&mut places, &mut pool, old.get(at))?;
-        }
-        Ok(Texts { places, pool })
-    }
-
     /// These texts, and then those of the picked rows, in the old column or at this index of a new row.
-    pub(crate) fn with_picked(
+    fn with_picked<'a>(
         self,
-        old: &Texts,
+        old: &'a Texts,
         column: usize,
-        picks: &[Pick<'_>],
+        picks: &[Pick<'a>],
     ) -> Result<Texts, AllocError>
         requires within { AreWithin (length old.now) picks.now }
         requires fits { AreFit dtype_as.Text column picks.now }
@@ -341,9 +285,8 @@ impl Texts {
             mut places,
             mut pool,
         } = self;
-        for pick in picks {
-            push_text(&mut places, &mut pool, text_from(old, column, pick.origin))?;
-        }
+        let mut lookup = Lookup::Along;
+        push_rows(&mut places, &mut pool, &mut lookup, old, column, picks)?;
         Ok(Texts { places, pool })
     }
 }

@@ -148,8 +148,7 @@ impl Table {
         let Some(index) = index else {
             return Ok(None);
         };
-        let cell = self.blocks().extreme(alloc, extreme, index)?;
-        Ok(cell)
+        self.blocks().extreme(alloc, extreme, index)
     }
 
     /// The tags of the rows whose cell at an index is not null and above the value, by rising tag. A leaf or a block whose

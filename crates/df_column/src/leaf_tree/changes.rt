@@ -90,11 +90,9 @@ fn changed_leaf(
     let made = with_changes(alloc, none, &blocks, low..high, false, columns, entries)?;
     if let Some(edited) = spliced_leaf(alloc, leaf, low, high, &made)? {
         let edited = SharedLeaf::new(alloc, edited)?;
-        let tree = LeafTree::Empty.pushed(alloc, &edited)?;
-        return Ok(tree);
+        return LeafTree::Empty.pushed(alloc, &edited);
     }
-    let tree = leaves_with(alloc, &blocks, low, high, &made)?;
-    Ok(tree)
+    leaves_with(alloc, &blocks, low, high, &made)
 }
 
 /// The tree of both sides and of what stands between them: the leaf after the changes, itself where there are no changes.
@@ -119,12 +117,10 @@ fn with_changed_leaf(
         → AreOfDtypes (map dtype_of_column columns.now) (blocks_in t)) }
 {
     if entries.is_empty() {
-        let tree = linked(alloc, left, leaf, right)?;
-        return Ok(tree);
+        return linked(alloc, left, leaf, right);
     }
     let middle = changed_leaf(alloc, leaf.leaf(), columns, entries)?;
-    let tree = joined_three(alloc, left, &middle, right)?;
-    Ok(tree)
+    joined_three(alloc, left, &middle, right)
 }
 
 impl LeafTree {

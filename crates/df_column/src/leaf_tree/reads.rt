@@ -121,8 +121,7 @@ impl LeafTree {
         let node: &Node = node;
         let best = node.left.furthest(alloc, extreme, best, index)?;
         let best = node.leaf.leaf().furthest(alloc, extreme, best, index)?;
-        let best = node.right.furthest(alloc, extreme, best, index)?;
-        Ok(best)
+        node.right.furthest(alloc, extreme, best, index)
     }
 
     /// Pushes the tags of the rows whose cell at an index is above the value. A leaf whose greatest cell there is not above

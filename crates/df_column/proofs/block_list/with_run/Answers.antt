@@ -1,4 +1,5 @@
 use Rattle.std.proofs.Common.{◌≡◌, ◌∙◌, ◌++◌, ◌/◌, ap, append_assoc, arith, drop, length, length-drop, length-take, sym, take}
+use Rattle.std.proofs.lemmas.Result.{IfOk-weaker}
 use Rattle.df_column.specs.BlockLists.{rows_in}
 use Rattle.df_column.proofs.BlockListLemmas.{rows_both}
 use Rattle.df_column.proofs.LeafEnds.{part_rows}
@@ -35,11 +36,13 @@ with_leaf-requires-3 c =
 
 pub returns : goal.returns
 returns c =
-    c.in_ok-both.ensures
+    IfOk-weaker c.with_leaf-3.result _ _
+    (λ both h. h
     ∙ ap (λ bs. bs ++ c.in_ok-part-2.field-0) c.in_ok-first.ensures
     ∙ append_assoc c.args.leaves c.in_ok-part.field-0 c.in_ok-part-2.field-0
     ∙ ap (λ bs. c.args.leaves ++ bs)
     (ap (λ bs. bs ++ c.in_ok-part-2.field-0) c.in_ok-part.ensures
     ∙ ap (λ bs. drop 0 (take (c.len-len.result / 2) c.args.run) ++ bs) c.in_ok-part-2.ensures
     ∙ take_longer c.args.run 0 (c.len-len.result / 2) c.len-len.result (omega arith) (omega arith)
-    ∙ all_taken c.args.run c.len-len.result (omega (arith, c.len-len.ensures.value)))
+    ∙ all_taken c.args.run c.len-len.result (omega (arith, c.len-len.ensures.value))))
+    c.with_leaf-3.ensures

@@ -2,6 +2,8 @@ use Rattle.std.proofs.Common.{◌≡◌, ◌∙◌, ◌++◌, ◌+◌, [], ap, a
 use Rattle.std.specs.Prelude.{T}
 use Rattle.std.specs.Arc.{arc_value}
 use Rattle.std.specs.FinMap.{is_sorted}
+use Rattle.std.proofs.lemmas.Result.{IfOk-weaker}
+use Rattle.df_column.specs.BlockRows.{AddsRows}
 use Rattle.df_column.specs.Blocks.{AreOfDtypes, block_rows, rows_of_blocks}
 use Rattle.df_column.specs.Changes.{after_changes}
 use Rattle.df_column.specs.Columns.{column_cells, dtype_of_column}
@@ -77,10 +79,11 @@ returns c =
     let changes = map entry_change c.loop-at.rest.now in
     let e : c.loop-at.at ≡ c.args.range.end = omega (arith, c.loop-at.invariant.within, c.loop-at-test.false) in
     let gone : drop c.loop-at.at (take c.args.range.end c.args.blocks.now) ≡ [] = ap (λ n. drop n (take c.args.range.end c.args.blocks.now)) e ∙ none_between c.args.blocks.now c.args.range.end in
-    let made = c.in_ok-list-2.ensures in
     let picked = ap (picked_rows columns) c.deref.ensures.value ∙ rw c.new-tags.ensures at (c.in_ok-picks.ensures.rows columns) in
-    record {
+    IfOk-weaker c.with_parts.result _ _
+    (λ list (made : AddsRows (map dtype_of_column c.args.columns.now) (picked_rows columns c.deref.result.now) c.loop-at.made list). record {
       rows = made.rows ∙ ap (λ rs. rows_of_blocks c.loop-at.made ++ rs) picked
           ∙ ap (λ bs. rows_of_blocks c.loop-at.made ++ after_changes tag_cmp (rows_of_blocks bs) changes) (sym gone) ∙ c.loop-at.invariant.rows;
       types = λ h. made.types (c.loop-at.invariant.types h);
-    }
+    })
+    c.with_parts.ensures

@@ -1,4 +1,5 @@
 use Rattle.std.proofs.Common.{map}
+use Rattle.std.proofs.lemmas.Result.{IfOk-weaker}
 use Rattle.std.specs.Arc.{arc_value}
 use Rattle.df_column.specs.Blocks.{block_rows}
 use Rattle.df_column.specs.Columns.{column_cells, dtype_of_column}
@@ -21,6 +22,8 @@ with_parts-requires-clause-rows c =
 
 pub returns : goal.returns
 returns c =
-    let made = rw (c.columns-columns.ensures.columns, c.deref-2.ensures) at c.in_ok-made.ensures in
-    adds_parts (map dtype_of_column (arc_value c.args.block.now).columns) (map column_cells (arc_value c.args.block.now).columns) (block_rows (arc_value c.args.block.now))
-    c.split_at.result.0.now c.split_at.result.1.now c.args.picks.now _ _ _ _ c.split_at.ensures.front c.split_at.ensures.back c.in_ok-grown.ensures made
+    let made = rw (c.columns-columns.ensures.columns, c.deref-2.ensures) at c.with_parts.ensures in
+    IfOk-weaker c.with_parts.result _ _
+    (λ list h. adds_parts (map dtype_of_column (arc_value c.args.block.now).columns) (map column_cells (arc_value c.args.block.now).columns) (block_rows (arc_value c.args.block.now))
+    c.split_at.result.0.now c.split_at.result.1.now c.args.picks.now _ _ _ _ c.split_at.ensures.front c.split_at.ensures.back c.in_ok-grown.ensures h)
+    made

@@ -1,4 +1,5 @@
 use Rattle.std.proofs.Common.{arith, length, map, refl}
+use Rattle.std.proofs.lemmas.Result.{IfOk-weaker}
 use Rattle.std.specs.Arc.{arc_value}
 use Rattle.df_column.specs.Blocks.{block_rows}
 use Rattle.df_column.specs.Columns.{column_cells}
@@ -19,5 +20,7 @@ pub returns : goal.returns
 returns c =
     let block = arc_value c.args.block.now in
     let long = length_rows block.tags (map column_cells block.columns) in
-    let made = rw (c.len-rows.ensures, c.tags-tags.ensures.tags, c.deref.ensures, c.columns-columns.ensures.columns, c.deref-2.ensures) at c.in_ok-made.ensures in
-    adds_same _ _ _ _ _ _ refl (spliced_behind (length block.tags) _ (block_rows block) (omega (arith, long))) made
+    let made = rw (c.len-rows.ensures, c.tags-tags.ensures.tags, c.deref.ensures, c.columns-columns.ensures.columns, c.deref-2.ensures) at c.with_spliced.ensures in
+    IfOk-weaker c.with_spliced.result _ _
+    (λ list h. adds_same _ _ _ _ _ _ refl (spliced_behind (length block.tags) _ (block_rows block) (omega (arith, long))) h)
+    made

@@ -1,4 +1,5 @@
 use Rattle.std.proofs.Common.{ap, map}
+use Rattle.std.proofs.lemmas.Result.{IfOk-weaker}
 use Rattle.std.specs.Arc.{arc_value}
 use Rattle.df_column.specs.Blocks.{block_rows}
 use Rattle.df_column.specs.Columns.{dtype_of_column}
@@ -6,4 +7,7 @@ use Rattle.df_column.proofs.BlockRowLemmas.{adds_block}
 use Rattle.df_column.proofs.blocks.with_shared.Goals as goal
 
 pub returns : goal.returns
-returns c = adds_block _ _ _ _ (arc_value c.in_ok-block.block) c.in_ok-made.ensures (ap block_rows c.in_ok-block.ensures) (ap (λ b. map dtype_of_column b.columns) c.in_ok-block.ensures)
+returns c =
+    IfOk-weaker c.pushed.result _ _
+    (λ made h. adds_block _ _ _ _ (arc_value c.in_ok-block.block) h (ap block_rows c.in_ok-block.ensures) (ap (λ b. map dtype_of_column b.columns) c.in_ok-block.ensures))
+    c.pushed.ensures

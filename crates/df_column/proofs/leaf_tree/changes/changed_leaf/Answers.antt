@@ -1,6 +1,7 @@
 use Rattle.std.proofs.Common.{◌≡◌, ◌∙◌, ◌++◌, T, ap, drop, map, subst, sym, take}
 use Rattle.std.specs.FinMap.{is_sorted}
 use Rattle.std.specs.Option.{IfSome}
+use Rattle.std.proofs.lemmas.Result.{IfOk-weaker}
 use Rattle.df_column.specs.Blocks.{AreOfDtypes, rows_of_blocks}
 use Rattle.df_column.specs.Changes.{after_changes}
 use Rattle.df_column.specs.Columns.{dtype_of_column}
@@ -27,11 +28,13 @@ returns-in-Some-clause-rows c =
     let made = c.in_ok-made.made in
     let added = after_changes tag_cmp (rows_of_blocks (drop low (take high old))) (map entry_change c.args.entries.now) in
     let edited = subst (λ o. IfSome o (λ l. l ≡ take low c.args.leaf.now ++ (made ++ drop high c.args.leaf.now))) c.in-Some.is c.in_ok-edited.ensures in
-    let is : blocks_in c.in_ok-tree.tree ≡ take low old ++ (made ++ drop high old) =
-    only_blocks (leaves_of c.in_ok-tree.tree) c.in_ok-edited-2.edited _ c.in_ok-tree.ensures (c.in_ok-edited-2.ensures ∙ edited ∙ ap (λ bs. take low bs ++ (made ++ drop high bs)) (sym own)) in
-    rows_replaced old made (blocks_in c.in_ok-tree.tree) low high c.args.entries.now c.reached-high.ensures.ordered c.untouched-low.ensures.apart c.reached-high.ensures.apart
+    IfOk-weaker c.pushed.result _ _
+    (λ tree h. let is : blocks_in tree ≡ take low old ++ (made ++ drop high old) =
+    only_blocks (leaves_of tree) c.in_ok-edited-2.edited _ h (c.in_ok-edited-2.ensures ∙ edited ∙ ap (λ bs. take low bs ++ (made ++ drop high bs)) (sym own)) in
+    rows_replaced old made (blocks_in tree) low high c.args.entries.now c.reached-high.ensures.ordered c.untouched-low.ensures.apart c.reached-high.ensures.apart
     (only_rows dtypes added c.new-none.result made c.new-none.ensures c.in_ok-made.ensures) is
-    ∙ ap (λ bs. after_changes tag_cmp (rows_of_blocks bs) (map entry_change c.args.entries.now)) own
+    ∙ ap (λ bs. after_changes tag_cmp (rows_of_blocks bs) (map entry_change c.args.entries.now)) own)
+    c.pushed.ensures
 
 pub returns-in-Some-clause-types : goal.returns-in-Some-clause-types
 returns-in-Some-clause-types c =
@@ -43,10 +46,12 @@ returns-in-Some-clause-types c =
     let made = c.in_ok-made.made in
     let added = after_changes tag_cmp (rows_of_blocks (drop low (take high old))) (map entry_change c.args.entries.now) in
     let edited = subst (λ o. IfSome o (λ l. l ≡ take low c.args.leaf.now ++ (made ++ drop high c.args.leaf.now))) c.in-Some.is c.in_ok-edited.ensures in
-    let is : blocks_in c.in_ok-tree.tree ≡ take low old ++ (made ++ drop high old) =
-    only_blocks (leaves_of c.in_ok-tree.tree) c.in_ok-edited-2.edited _ c.in_ok-tree.ensures (c.in_ok-edited-2.ensures ∙ edited ∙ ap (λ bs. take low bs ++ (made ++ drop high bs)) (sym own)) in
-    types_replaced dtypes old made (blocks_in c.in_ok-tree.tree) low high (subst (AreOfDtypes dtypes) (sym own) c.requires.types)
-    (only_types dtypes added c.new-none.result made c.new-none.ensures c.in_ok-made.ensures) is
+    IfOk-weaker c.pushed.result _ _
+    (λ tree h. let is : blocks_in tree ≡ take low old ++ (made ++ drop high old) =
+    only_blocks (leaves_of tree) c.in_ok-edited-2.edited _ h (c.in_ok-edited-2.ensures ∙ edited ∙ ap (λ bs. take low bs ++ (made ++ drop high bs)) (sym own)) in
+    types_replaced dtypes old made (blocks_in tree) low high (subst (AreOfDtypes dtypes) (sym own) c.requires.types)
+    (only_types dtypes added c.new-none.result made c.new-none.ensures c.in_ok-made.ensures) is)
+    c.pushed.ensures
 
 pub returns-clause-rows : goal.returns-clause-rows
 returns-clause-rows c =
@@ -57,9 +62,11 @@ returns-clause-rows c =
     let own : old ≡ c.args.leaf.now = c.in_ok-blocks.ensures ∙ c.run.ensures in
     let made = c.in_ok-made.made in
     let added = after_changes tag_cmp (rows_of_blocks (drop low (take high old))) (map entry_change c.args.entries.now) in
-    rows_replaced old made (blocks_in c.in_ok-tree-2.tree) low high c.args.entries.now c.reached-high.ensures.ordered c.untouched-low.ensures.apart c.reached-high.ensures.apart
-    (only_rows dtypes added c.new-none.result made c.new-none.ensures c.in_ok-made.ensures) c.in_ok-tree-2.ensures
-    ∙ ap (λ bs. after_changes tag_cmp (rows_of_blocks bs) (map entry_change c.args.entries.now)) own
+    IfOk-weaker c.leaves_with.result _ _
+    (λ tree h. rows_replaced old made (blocks_in tree) low high c.args.entries.now c.reached-high.ensures.ordered c.untouched-low.ensures.apart c.reached-high.ensures.apart
+    (only_rows dtypes added c.new-none.result made c.new-none.ensures c.in_ok-made.ensures) h
+    ∙ ap (λ bs. after_changes tag_cmp (rows_of_blocks bs) (map entry_change c.args.entries.now)) own)
+    c.leaves_with.ensures
 
 pub returns-clause-types : goal.returns-clause-types
 returns-clause-types c =
@@ -70,5 +77,7 @@ returns-clause-types c =
     let own : old ≡ c.args.leaf.now = c.in_ok-blocks.ensures ∙ c.run.ensures in
     let made = c.in_ok-made.made in
     let added = after_changes tag_cmp (rows_of_blocks (drop low (take high old))) (map entry_change c.args.entries.now) in
-    types_replaced dtypes old made (blocks_in c.in_ok-tree-2.tree) low high (subst (AreOfDtypes dtypes) (sym own) c.requires.types)
-    (only_types dtypes added c.new-none.result made c.new-none.ensures c.in_ok-made.ensures) c.in_ok-tree-2.ensures
+    IfOk-weaker c.leaves_with.result _ _
+    (λ tree h. types_replaced dtypes old made (blocks_in tree) low high (subst (AreOfDtypes dtypes) (sym own) c.requires.types)
+    (only_types dtypes added c.new-none.result made c.new-none.ensures c.in_ok-made.ensures) h)
+    c.leaves_with.ensures

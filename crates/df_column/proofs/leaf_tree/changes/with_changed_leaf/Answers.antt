@@ -1,5 +1,6 @@
 use Rattle.std.proofs.Common.{◌∙◌, ◌++◌, ap, length, map, sym}
 use Rattle.std.proofs.lemmas.Bool.{eqb-true}
+use Rattle.std.proofs.lemmas.Result.{IfOk-weaker}
 use Rattle.df_column.specs.Blocks.{rows_of_blocks}
 use Rattle.df_column.specs.Changes.{after_changes}
 use Rattle.df_column.specs.Columns.{dtype_of_column}
@@ -14,21 +15,29 @@ returns-then-is_empty-clause-rows c =
     let none = eqb-true (length c.args.entries.now) 0 (sym c.is_empty.ensures ∙ c.if-is_empty.true) in
     let left = rows_of_blocks (blocks_in c.args.left.now) in
     let right = rows_of_blocks (blocks_in c.args.right.now) in
-    rows_linked (leaves_of c.args.left.now) (leaves_of c.args.right.now) (leaves_of c.in_ok-tree.tree) c.args.leaf.now c.in_ok-tree.ensures
-    ∙ ap (λ rs. left ++ (rs ++ right)) (sym (nothing_changed (rows_of_blocks c.args.leaf.now) c.args.entries.now none))
+    IfOk-weaker c.linked.result _ _
+    (λ tree h. rows_linked (leaves_of c.args.left.now) (leaves_of c.args.right.now) (leaves_of tree) c.args.leaf.now h
+    ∙ ap (λ rs. left ++ (rs ++ right)) (sym (nothing_changed (rows_of_blocks c.args.leaf.now) c.args.entries.now none)))
+    c.linked.ensures
 
 pub returns-then-is_empty-clause-types : goal.returns-then-is_empty-clause-types
 returns-then-is_empty-clause-types c =
-    types_linked (leaves_of c.args.left.now) (leaves_of c.args.right.now) (leaves_of c.in_ok-tree.tree) c.args.leaf.now c.in_ok-tree.ensures (map dtype_of_column c.args.columns.now) c.requires.types
+    IfOk-weaker c.linked.result _ _
+    (λ tree h. types_linked (leaves_of c.args.left.now) (leaves_of c.args.right.now) (leaves_of tree) c.args.leaf.now h (map dtype_of_column c.args.columns.now) c.requires.types)
+    c.linked.ensures
 
 pub returns-clause-rows : goal.returns-clause-rows
 returns-clause-rows c =
     let left = rows_of_blocks (blocks_in c.args.left.now) in
     let right = rows_of_blocks (blocks_in c.args.right.now) in
-    rows_spliced (leaves_of c.args.left.now) (leaves_of c.in_ok-middle.middle) (leaves_of c.args.right.now) (leaves_of c.in_ok-tree-2.tree) c.in_ok-tree-2.ensures
+    IfOk-weaker c.joined_three.result _ _
+    (λ tree h. rows_spliced (leaves_of c.args.left.now) (leaves_of c.in_ok-middle.middle) (leaves_of c.args.right.now) (leaves_of tree) h
     ∙ ap (λ rs. left ++ (rs ++ right)) c.in_ok-middle.ensures.rows
-    ∙ ap (λ bs. left ++ (after_changes tag_cmp (rows_of_blocks bs) (map entry_change c.args.entries.now) ++ right)) c.leaf.ensures
+    ∙ ap (λ bs. left ++ (after_changes tag_cmp (rows_of_blocks bs) (map entry_change c.args.entries.now) ++ right)) c.leaf.ensures)
+    c.joined_three.ensures
 
 pub returns-clause-types : goal.returns-clause-types
 returns-clause-types c =
-    types_spliced (leaves_of c.args.left.now) (leaves_of c.in_ok-middle.middle) (leaves_of c.args.right.now) (leaves_of c.in_ok-tree-2.tree) c.in_ok-tree-2.ensures (map dtype_of_column c.args.columns.now) c.in_ok-middle.ensures.types
+    IfOk-weaker c.joined_three.result _ _
+    (λ tree h. types_spliced (leaves_of c.args.left.now) (leaves_of c.in_ok-middle.middle) (leaves_of c.args.right.now) (leaves_of tree) h (map dtype_of_column c.args.columns.now) c.in_ok-middle.ensures.types)
+    c.joined_three.ensures

@@ -1,5 +1,5 @@
-use Rattle.df_column.specs.Picks.{picked_cells}
-use Rattle.std.proofs.Common.{◌-◌, arith, map}
+use Rattle.std.proofs.Common.{◌-◌, arith, map, subst}
+use Rattle.df_column.specs.Picks.{AreWithin, picked_cells}
 use Rattle.df_column.proofs.Places.{mapped_length}
 use Rattle.df_column.proofs.SpliceLemmas.{spliced_made}
 use Rattle.df_column.proofs.masked.Masked.spliced.Goals as goal
@@ -23,3 +23,6 @@ push_values-requires g c = let l = mapped_length g.T.CellValue.cell_of c.args.se
 
 pub push_values-requires-2 : goal.push_values-requires-2
 push_values-requires-2 g c = let l = mapped_length g.T.CellValue.cell_of c.args.self.now in omega (arith, l)
+
+pub push_picked-requires-clause-within : goal.push_picked-requires-clause-within
+push_picked-requires-clause-within g c = subst (λ n. AreWithin n c.args.picks.now) (mapped_length g.T.CellValue.cell_of c.args.self.now) c.requires.within

@@ -1,6 +1,7 @@
-use Rattle.std.proofs.Common.{◌∙◌, ◌++◌, ◌+◌, ap, append_assoc, arith, drop, sym}
+use Rattle.std.proofs.Common.{◌∙◌, ◌++◌, ◌+◌, ap, append-nil, append_assoc, arith, drop, sym}
 use Rattle.std.specs.Arc.{arc_value}
 use Rattle.df_column.specs.Blocks.{block_rows, rows_of_blocks}
+use Rattle.df_column.proofs.MergeLemmas.{drop_past}
 use Rattle.df_column.proofs.TableLemmas.{rows_step}
 use Rattle.df_column.proofs.table.Table.tagged_rows.Goals as goal
 
@@ -11,3 +12,9 @@ loop-at-preserved c =
     let step = rows_step c.blocks-blocks.result.now c.loop-at.at b (omega (arith, c.len-at-end.ensures, c.loop-at-test.true)) (c.get.ensures b) in
     ap (λ out. out ++ later) (c.in_ok-push_tagged_rows.ensures ∙ ap (λ p. c.loop-at.out.items ++ block_rows p) c.deref.ensures)
     ∙ append_assoc c.loop-at.out.items (block_rows b) later ∙ ap (λ rs. c.loop-at.out.items ++ rs) (sym step) ∙ c.loop-at.invariant
+
+pub returns : goal.returns
+returns c =
+    let out = c.loop-at.out.items in
+    let end = drop_past c.blocks-blocks.result.now c.loop-at.at (omega (arith, c.len-at-end.ensures, c.loop-at-test.false)) in
+    sym (append-nil out) ∙ ap (λ bs. out ++ rows_of_blocks bs) (sym end) ∙ c.loop-at.invariant ∙ c.blocks-blocks.ensures.rows
