@@ -18,7 +18,7 @@ use Rattle.df_state.specs.declared.fault.CatalogueFault.{CatalogueFault}
 use Rattle.df_state.specs.declared.fault.CatalogueFault.TheVariants as fault
 use Rattle.df_state.specs.Changes.{accepted_rows, after, change_at, deleted_rows, refreshed_views, IsSound}
 use Rattle.df_state.specs.Desks.{DeskParts, accepted_in, deleted_in, desk_after, desks_after}
-use Rattle.df_state.specs.FrameChanges.{change_of}
+use Rattle.df_state.specs.FrameChanges.{change_of, frame_refusal}
 use Rattle.df_frame.specs.FrameChanges as of_frame
 use Rattle.df_frame.specs.FrameChanges.{frame_after, FrameTakes, TakesChunk, TakesNumbers}
 use Rattle.df_frame.specs.FrameParts.{FrameParts, schemas_of, states_of}
@@ -35,6 +35,13 @@ use Rattle.df_state.proofs.StateFacts.{change-set}
 
 abbrev Columns : Type 0
 Columns = List (List ℕ × CellType)
+
+-- frames refuse the change for the reason for which a state of them does
+pub refusal-of-frames : (s : State) (f : ℕ) (c : FrameChange) → frame_refusal s.schemas s.frames f c ≡ refusal_of s (change_of f c)
+refusal-of-frames s f (Append chunk) = refl
+refusal-of-frames s f (Prepared chunk) = refl
+refusal-of-frames s f (Delete ns) = refl
+refusal-of-frames s f (Replace rows) = refl
 
 append-there :
     (c : ChunkParts) (o : Option Columns) (p : Option FrameState) → append_refusal c o p ≡ None →

@@ -1,19 +1,97 @@
 //! Whether a change of one frame is refused. Where memory is refused to a check it answers the same, by another way.
-ghost use Rattle.std.specs.Prelude.{◌≡◌, Some, map};
-ghost use Rattle.std.specs.List.{list_all};
+ghost use Rattle.std.specs.Prelude.{◌≡◌, IfSome, Some, map, option_map, slice_get};
+ghost use Rattle.std.specs.List.{AllZip, list_all};
+ghost use Rattle.std.specs.Option.{option_copied};
 ghost use Rattle.df_value.specs.Rows.{row_fits, rows_fit};
-ghost use Rattle.df_frame.specs.Frames.{IsNumbered};
+ghost use Rattle.df_frame.specs.FrameParts.{schemas_of, states_of};
+ghost use Rattle.df_frame.specs.Frames.{IsFrame, IsNumbered};
 ghost use Rattle.df_state.specs.Answers.{AnswersTest};
-ghost use Rattle.df_state.specs.Refusals.{append_refusal, numbers_refusal, replace_refusal};
+ghost use Rattle.df_state.specs.FrameChanges.{frame_refusal};
+ghost use Rattle.df_state.specs.Refusals.{append_refusal, delete_refusal, numbers_refusal, replace_refusal};
 
 use crate::fault::CatalogueFault;
 use crate::schemas::schema_eq;
-use df_frame::{Frame, HasNumber, Numbered, first_doubled_number};
+use df_frame::{Frame, FrameChange, HasNumber, Numbered, first_doubled_number};
 use df_value::{Chunk, Schema};
 use std::alloc::Global;
 
-/// Whether a frame would take the chunk.
-pub fn check_chunk(frame: &Frame, chunk: &Chunk) -> Result<(), CatalogueFault>
+/// Whether the rows of a frame can be changed so.
+pub fn check_frame_change(
+    alloc: Global,
+    frames: &[Frame],
+    frame: usize,
+    change: FrameChange,
+) -> Result<(), CatalogueFault>
+    requires { AllZip IsFrame (schemas_of frames.now) (states_of frames.now) }
+    ensures { AnswersTest
+        (frame_refusal (schemas_of frames.now) (states_of frames.now) frame change.entry) result }
+{
+    match change {
+        FrameChange::Append(chunk) => check_append(frames, frame, chunk),
+        FrameChange::Prepared(prepared) => check_append(frames, frame, prepared.chunk()),
+        FrameChange::Delete(numbers) => check_delete(alloc, frames, frame, numbers),
+        FrameChange::Replace(rows) => check_replace(alloc, frames, frame, rows),
+    }
+}
+
+/// The frame of this index.
+pub fn frame_at(frames: &[Frame], frame: usize) -> Option<&Frame>
+    requires { AllZip IsFrame (schemas_of frames.now) (states_of frames.now) }
+    ensures schema { option_map (λ f. f.schema) (option_copied result)
+        ≡ slice_get (schemas_of frames.now) frame }
+    ensures state { option_map (λ f. f.state) (option_copied result)
+        ≡ slice_get (states_of frames.now) frame }
+    ensures sound { IfSome result (λ frame. IsNumbered frame.now.state) }
+{
+    frames.get(frame)
+}
+
+// Whether a frame would take the chunk.
+fn check_append(frames: &[Frame], frame: usize, chunk: &Chunk) -> Result<(), CatalogueFault>
+    requires { AllZip IsFrame (schemas_of frames.now) (states_of frames.now) }
+    ensures { AnswersTest (append_refusal chunk.now (slice_get (schemas_of frames.now) frame)
+        (slice_get (states_of frames.now) frame)) result }
+{
+    match frame_at(frames, frame) {
+        Some(frame) => check_chunk(frame, chunk),
+        None => Err(CatalogueFault::NoFrame),
+    }
+}
+
+// Whether the rows of these numbers can be taken out of a frame.
+fn check_delete(
+    alloc: Global,
+    frames: &[Frame],
+    frame: usize,
+    numbers: &[u32],
+) -> Result<(), CatalogueFault>
+    requires { AllZip IsFrame (schemas_of frames.now) (states_of frames.now) }
+    ensures { AnswersTest (delete_refusal numbers.now (slice_get (states_of frames.now) frame)) result }
+{
+    match frame_at(frames, frame) {
+        Some(frame) => check_numbers(alloc, frame, numbers),
+        None => Err(CatalogueFault::NoFrame),
+    }
+}
+
+// Whether these rows can come in the place of those of their numbers.
+fn check_replace(
+    alloc: Global,
+    frames: &[Frame],
+    frame: usize,
+    rows: &[Numbered],
+) -> Result<(), CatalogueFault>
+    requires { AllZip IsFrame (schemas_of frames.now) (states_of frames.now) }
+    ensures { AnswersTest (replace_refusal rows.now (slice_get (schemas_of frames.now) frame)
+        (slice_get (states_of frames.now) frame)) result }
+{
+    match frame_at(frames, frame) {
+        Some(frame) => check_rows(alloc, frame, rows),
+        None => Err(CatalogueFault::NoFrame),
+    }
+}
+
+fn check_chunk(frame: &Frame, chunk: &Chunk) -> Result<(), CatalogueFault>
     requires { IsNumbered frame.now.state }
     ensures { AnswersTest
         (append_refusal chunk.now (Some frame.now.schema) (Some frame.now.state)) result }
@@ -30,8 +108,7 @@ pub fn check_chunk(frame: &Frame, chunk: &Chunk) -> Result<(), CatalogueFault>
     Ok(())
 }
 
-/// Whether these rows can come in the place of those of their numbers.
-pub fn check_rows(alloc: Global, frame: &Frame, rows: &[Numbered]) -> Result<(), CatalogueFault>
+fn check_rows(alloc: Global, frame: &Frame, rows: &[Numbered]) -> Result<(), CatalogueFault>
     ensures { AnswersTest
         (replace_refusal rows.now (Some frame.now.schema) (Some frame.now.state)) result }
 {
@@ -41,8 +118,7 @@ pub fn check_rows(alloc: Global, frame: &Frame, rows: &[Numbered]) -> Result<(),
     check_numbers(alloc, frame, rows)
 }
 
-/// Whether the rows of these numbers can be taken out of a frame.
-pub fn check_numbers<N: HasNumber>(
+fn check_numbers<N: HasNumber>(
     alloc: Global,
     frame: &Frame,
     items: &[N],

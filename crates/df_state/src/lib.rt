@@ -17,7 +17,7 @@ mod tables;
 mod view_change;
 
 pub use change::Change;
-pub use checks::{check_chunk, check_numbers, check_rows};
+pub use checks::{check_frame_change, frame_at};
 pub use desk::{Desk, PARTS_OF_LEDGER, audit_all};
 pub use fault::{CatalogueFault, NewFault};
 pub use opening::{check_schemas, empty_frames, open_desks};
