@@ -178,30 +178,40 @@ fn same_plan(a: &Plan, b: &Plan) -> bool
         | (Plan::WithColumns(x, items), Plan::WithColumns(y, others)) => {
             same_plan(x.get(), y.get()) && same(items, others)
         }
-        (Plan::GroupBy(x, keys, aggs), Plan::GroupBy(y, other_keys, other_aggs)) => {
-            same_plan(x.get(), y.get()) && same(keys, other_keys) && same(aggs, other_aggs)
+        (Plan::GroupBy(x, keys, aggs), Plan::GroupBy(y, others, other_aggs)) => {
+            same_plan(x.get(), y.get()) && same_lists(keys, others, aggs, other_aggs)
         }
-        (
-            Plan::Join(x, z, how, keys, equal),
-            Plan::Join(y, w, other_how, other_keys, other_equal),
-        ) => {
+        // The second operand stands in parentheses, so that each operand is one branch of the proof.
+        (Plan::Join(x, z, how, on, equal), Plan::Join(y, w, other_how, other_on, other_equal)) => {
             same_plan(x.get(), y.get())
-                && same_plan(z.get(), w.get())
-                && same_match(*how, *other_how, keys, other_keys, *equal, *other_equal)
+                && (same_plan(z.get(), w.get())
+                    && same_match(*how, *other_how, on, other_on, *equal, *other_equal))
         }
-        (Plan::Rolling(x, output, kind, column, w, m), Plan::Rolling(y, name, roll, of, v, n)) => {
+        (Plan::Rolling(x, output, kind, of, w, m), Plan::Rolling(y, name, other, column, v, n)) => {
             same_plan(x.get(), y.get())
-                && same_names(output, name, column, of)
-                && same_window(*kind, *roll, *w, *v, *m, *n)
+                && (same_names(output, name, of, column)
+                    && same_window(*kind, *other, *w, *v, *m, *n))
         }
-        (Plan::CumSum(x, output, column), Plan::CumSum(y, name, of)) => {
-            same_plan(x.get(), y.get()) && same_names(output, name, column, of)
+        (Plan::CumSum(x, output, of), Plan::CumSum(y, name, column)) => {
+            same_plan(x.get(), y.get()) && same_names(output, name, of, column)
         }
-        (Plan::Rank(x, output, kind, column), Plan::Rank(y, name, rank, of)) => {
-            same_plan(x.get(), y.get()) && *kind == *rank && same_names(output, name, column, of)
+        (Plan::Rank(x, output, kind, of), Plan::Rank(y, name, other, column)) => {
+            same_plan(x.get(), y.get()) && (*kind == *other && same_names(output, name, of, column))
         }
         _ => false,
     }
+}
+
+// Whether two groupings have one list of keys, and one of aggregates.
+fn same_lists(
+    keys: &List<Text>,
+    other_keys: &List<Text>,
+    aggs: &List<(Text, Agg)>,
+    other_aggs: &List<(Text, Agg)>,
+) -> bool
+    ensures { IsTrue result ↔ ((keys.now ≡ other_keys.now) × (aggs.now ≡ other_aggs.now)) }
+{
+    same(keys, other_keys) && same(aggs, other_aggs)
 }
 
 // Whether two joins match rows alike.
