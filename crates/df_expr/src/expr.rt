@@ -1,6 +1,9 @@
 //! The forms of an expression.
 ghost use Rattle.std.specs.Prelude.{◌≡◌, ◌↔◌, IsTrue, IfOk};
+ghost use Rattle.df_expr.specs.Operators.{binary_expr, unary_expr};
+ghost use Rattle.df_expr.specs.declared.expr.Expr.TheVariants as form;
 
+use crate::operators::{Binary, Unary};
 use df_value::{Boxed, Cell, CellType, Duplicate, Exact, Text, same};
 use std::alloc::{AllocError, Global};
 
@@ -103,19 +106,33 @@ impl Duplicate for Expr {
         match self {
             Expr::Column(name) => Ok(Expr::Column(name.copy(alloc)?)),
             Expr::Literal(cell, dtype) => Ok(Expr::Literal(cell.copy(alloc)?, *dtype)),
-            Expr::Arith(op, a, b) => Ok(Expr::Arith(*op, copy_of(alloc, a)?, copy_of(alloc, b)?)),
-            Expr::Compare(op, a, b) => Ok(Expr::Compare(
-                *op,
-                copy_of(alloc, a)?,
-                copy_of(alloc, b)?,
-            )),
-            Expr::EqMissing(a, b) => Ok(Expr::EqMissing(copy_of(alloc, a)?, copy_of(alloc, b)?)),
-            Expr::And(a, b) => Ok(Expr::And(copy_of(alloc, a)?, copy_of(alloc, b)?)),
-            Expr::Or(a, b) => Ok(Expr::Or(copy_of(alloc, a)?, copy_of(alloc, b)?)),
-            Expr::Not(a) => Ok(Expr::Not(copy_of(alloc, a)?)),
-            Expr::IsNull(a) => Ok(Expr::IsNull(copy_of(alloc, a)?)),
-            Expr::IsNotNull(a) => Ok(Expr::IsNotNull(copy_of(alloc, a)?)),
-            Expr::FillNull(a, b) => Ok(Expr::FillNull(copy_of(alloc, a)?, copy_of(alloc, b)?)),
+            Expr::Arith(op, a, b) => {
+                let a = copy_of(alloc, a)?;
+                copy_binary(alloc, b, Binary::Arith(*op), a)
+            }
+            Expr::Compare(op, a, b) => {
+                let a = copy_of(alloc, a)?;
+                copy_binary(alloc, b, Binary::Compare(*op), a)
+            }
+            Expr::EqMissing(a, b) => {
+                let a = copy_of(alloc, a)?;
+                copy_binary(alloc, b, Binary::EqMissing, a)
+            }
+            Expr::And(a, b) => {
+                let a = copy_of(alloc, a)?;
+                copy_binary(alloc, b, Binary::And, a)
+            }
+            Expr::Or(a, b) => {
+                let a = copy_of(alloc, a)?;
+                copy_binary(alloc, b, Binary::Or, a)
+            }
+            Expr::Not(a) => copy_unary(alloc, a, Unary::Not),
+            Expr::IsNull(a) => copy_unary(alloc, a, Unary::IsNull),
+            Expr::IsNotNull(a) => copy_unary(alloc, a, Unary::IsNotNull),
+            Expr::FillNull(a, b) => {
+                let a = copy_of(alloc, a)?;
+                copy_fill_null(alloc, b, a)
+            }
         }
     }
 }
@@ -125,6 +142,35 @@ fn copy_of(alloc: Global, expr: &Boxed<Expr>) -> Result<Boxed<Expr>, AllocError>
     ensures { IfOk result (λ r. r ≡ expr.now) }
 {
     Ok(Boxed::new(alloc, expr.get().copy(alloc)?)?)
+}
+
+// The operator over a copy of its operand.
+#[cycle(copying)]
+fn copy_unary(alloc: Global, a: &Boxed<Expr>, operator: Unary) -> Result<Expr, AllocError>
+    ensures { IfOk result (λ r. r ≡ unary_expr operator a.now) }
+{
+    Ok(operator.over(copy_of(alloc, a)?))
+}
+
+// The operator over the copy of its left operand, which is made, and a copy of its right one. The
+// right one comes before it, since the recursion ends by its depth.
+#[cycle(copying)]
+fn copy_binary(
+    alloc: Global,
+    b: &Boxed<Expr>,
+    operator: Binary,
+    a: Boxed<Expr>,
+) -> Result<Expr, AllocError>
+    ensures { IfOk result (λ r. r ≡ binary_expr operator a b.now) }
+{
+    Ok(operator.over(a, copy_of(alloc, b)?))
+}
+
+#[cycle(copying)]
+fn copy_fill_null(alloc: Global, b: &Boxed<Expr>, a: Boxed<Expr>) -> Result<Expr, AllocError>
+    ensures { IfOk result (λ r. r ≡ form.FillNull a b.now) }
+{
+    Ok(Expr::FillNull(a, copy_of(alloc, b)?))
 }
 
 /// Whether two expressions are one and the same.

@@ -4,13 +4,13 @@ ghost use Rattle.df_value.specs.declared.cell.Cell.{Cell as AnyCell};
 ghost use Rattle.df_value.specs.declared.cell.Cell.TheVariants as cell;
 ghost use Rattle.df_value.specs.CellEq.{cell_eq};
 ghost use Rattle.df_value.specs.Order.{order_of};
-ghost use Rattle.df_expr.specs.Operators.{binary_value, unary_value};
+ghost use Rattle.df_expr.specs.Operators.{binary_expr, binary_value, unary_expr, unary_value};
 ghost use Rattle.df_expr.specs.Value as value_spec;
 ghost use Rattle.df_expr.specs.Value.{arith_of, compare_of, holds};
 
-use crate::expr::{ArithOp, CompareOp};
+use crate::expr::{ArithOp, CompareOp, Expr};
 use crate::logic::{cell_of, kleene_and, kleene_not, kleene_or, truth_of};
-use df_value::{Cell, compare};
+use df_value::{Boxed, Cell, compare};
 use std::cmp::Ordering;
 
 /// The result of two Int cells, wrapped at 64 bits; null where a cell is null or no Int.
@@ -74,6 +74,17 @@ pub enum Unary {
 }
 
 impl Unary {
+    /// The expression of it over an operand.
+    pub(crate) fn over(self, a: Boxed<Expr>) -> Expr
+        ensures { result ≡ unary_expr self a }
+    {
+        match self {
+            Unary::Not => Expr::Not(a),
+            Unary::IsNull => Expr::IsNull(a),
+            Unary::IsNotNull => Expr::IsNotNull(a),
+        }
+    }
+
     /// Its value over a cell.
     pub fn apply(self, a: &Cell) -> Cell
         ensures { result ≡ unary_value self a.now }
@@ -108,6 +119,19 @@ pub enum Binary {
 }
 
 impl Binary {
+    /// The expression of it over two operands.
+    pub(crate) fn over(self, a: Boxed<Expr>, b: Boxed<Expr>) -> Expr
+        ensures { result ≡ binary_expr self a b }
+    {
+        match self {
+            Binary::Arith(op) => Expr::Arith(op, a, b),
+            Binary::Compare(op) => Expr::Compare(op, a, b),
+            Binary::EqMissing => Expr::EqMissing(a, b),
+            Binary::And => Expr::And(a, b),
+            Binary::Or => Expr::Or(a, b),
+        }
+    }
+
     /// Its value over two cells.
     pub fn apply(self, a: &Cell, b: &Cell) -> Cell
         ensures { result ≡ binary_value self a.now b.now }

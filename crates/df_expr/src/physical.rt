@@ -4,6 +4,7 @@ ghost use Rattle.df_expr.specs.Lent.{cell_of_value};
 ghost use Rattle.df_expr.specs.Meters.{with_evals};
 ghost use Rattle.df_expr.specs.Physical as physical;
 ghost use Rattle.df_expr.specs.Physical.{physical_value, IsPhysical};
+ghost use Rattle.df_expr.specs.declared.physical.PhysicalExpr.TheVariants as form;
 
 use crate::evaluation::cell_at;
 use crate::expr::Expr;
@@ -77,39 +78,75 @@ fn physical_of(
     match expr {
         Expr::Column(name) => Ok(PhysicalExpr::Column(column_index(name, columns))),
         Expr::Literal(cell, _) => Ok(PhysicalExpr::Literal(cell.copy(alloc)?)),
-        Expr::Arith(op, a, b) => Ok(PhysicalExpr::Binary(
-            Binary::Arith(*op),
-            boxed(alloc, a, columns)?,
-            boxed(alloc, b, columns)?,
-        )),
-        Expr::Compare(op, a, b) => Ok(PhysicalExpr::Binary(
-            Binary::Compare(*op),
-            boxed(alloc, a, columns)?,
-            boxed(alloc, b, columns)?,
-        )),
-        Expr::EqMissing(a, b) => Ok(PhysicalExpr::Binary(
-            Binary::EqMissing,
-            boxed(alloc, a, columns)?,
-            boxed(alloc, b, columns)?,
-        )),
-        Expr::And(a, b) => Ok(PhysicalExpr::Binary(
-            Binary::And,
-            boxed(alloc, a, columns)?,
-            boxed(alloc, b, columns)?,
-        )),
-        Expr::Or(a, b) => Ok(PhysicalExpr::Binary(
-            Binary::Or,
-            boxed(alloc, a, columns)?,
-            boxed(alloc, b, columns)?,
-        )),
-        Expr::Not(a) => Ok(PhysicalExpr::Unary(Unary::Not, boxed(alloc, a, columns)?)),
-        Expr::IsNull(a) => Ok(PhysicalExpr::Unary(Unary::IsNull, boxed(alloc, a, columns)?)),
-        Expr::IsNotNull(a) => Ok(PhysicalExpr::Unary(Unary::IsNotNull, boxed(alloc, a, columns)?)),
-        Expr::FillNull(a, b) => Ok(PhysicalExpr::FillNull(
-            boxed(alloc, a, columns)?,
-            boxed(alloc, b, columns)?,
-        )),
+        Expr::Arith(op, a, b) => {
+            let a = boxed(alloc, a, columns)?;
+            binary(alloc, b, columns, Binary::Arith(*op), a)
+        }
+        Expr::Compare(op, a, b) => {
+            let a = boxed(alloc, a, columns)?;
+            binary(alloc, b, columns, Binary::Compare(*op), a)
+        }
+        Expr::EqMissing(a, b) => {
+            let a = boxed(alloc, a, columns)?;
+            binary(alloc, b, columns, Binary::EqMissing, a)
+        }
+        Expr::And(a, b) => {
+            let a = boxed(alloc, a, columns)?;
+            binary(alloc, b, columns, Binary::And, a)
+        }
+        Expr::Or(a, b) => {
+            let a = boxed(alloc, a, columns)?;
+            binary(alloc, b, columns, Binary::Or, a)
+        }
+        Expr::Not(a) => unary(alloc, a, columns, Unary::Not),
+        Expr::IsNull(a) => unary(alloc, a, columns, Unary::IsNull),
+        Expr::IsNotNull(a) => unary(alloc, a, columns, Unary::IsNotNull),
+        Expr::FillNull(a, b) => {
+            let a = boxed(alloc, a, columns)?;
+            fill_null(alloc, b, columns, a)
+        }
     }
+}
+
+// An operator over its operand.
+#[cycle(resolving)]
+fn unary(
+    alloc: Global,
+    a: &Boxed<Expr>,
+    columns: &[(Text, CellType)],
+    operator: Unary,
+) -> Result<PhysicalExpr, AllocError>
+    ensures { IfOk result (λ p. p ≡ form.Unary operator (physical.physical_of columns.now a.now)) }
+{
+    Ok(PhysicalExpr::Unary(operator, boxed(alloc, a, columns)?))
+}
+
+// An operator over its left operand, which is made, and its right one. The right one comes before
+// it, since the recursion ends by its depth.
+#[cycle(resolving)]
+fn binary(
+    alloc: Global,
+    b: &Boxed<Expr>,
+    columns: &[(Text, CellType)],
+    operator: Binary,
+    a: Boxed<PhysicalExpr>,
+) -> Result<PhysicalExpr, AllocError>
+    ensures { IfOk result
+        (λ p. p ≡ form.Binary operator a (physical.physical_of columns.now b.now)) }
+{
+    Ok(PhysicalExpr::Binary(operator, a, boxed(alloc, b, columns)?))
+}
+
+#[cycle(resolving)]
+fn fill_null(
+    alloc: Global,
+    b: &Boxed<Expr>,
+    columns: &[(Text, CellType)],
+    a: Boxed<PhysicalExpr>,
+) -> Result<PhysicalExpr, AllocError>
+    ensures { IfOk result (λ p. p ≡ form.FillNull a (physical.physical_of columns.now b.now)) }
+{
+    Ok(PhysicalExpr::FillNull(a, boxed(alloc, b, columns)?))
 }
 
 #[cycle(resolving)]

@@ -171,44 +171,69 @@ fn copy_of_window(
 fn same_plan(a: &Plan, b: &Plan) -> bool
     ensures { IsTrue result ↔ (a.now ≡ b.now) }
 {
-    match a {
-        Plan::Scan(f) => matches!(b, Plan::Scan(g) if *f == *g),
-        Plan::Filter(x, p) => {
-            matches!(b, Plan::Filter(y, q) if same_plan(x.get(), y.get()) && same(p, q))
+    match (a, b) {
+        (Plan::Scan(f), Plan::Scan(g)) => *f == *g,
+        (Plan::Filter(x, p), Plan::Filter(y, q)) => same_plan(x.get(), y.get()) && same(p, q),
+        (Plan::Select(x, items), Plan::Select(y, others))
+        | (Plan::WithColumns(x, items), Plan::WithColumns(y, others)) => {
+            same_plan(x.get(), y.get()) && same(items, others)
         }
-        Plan::Select(x, items) => {
-            matches!(b, Plan::Select(y, others) if same_plan(x.get(), y.get()) && same(items, others))
+        (Plan::GroupBy(x, keys, aggs), Plan::GroupBy(y, others, other_aggs)) => {
+            same_plan(x.get(), y.get()) && same_lists(keys, others, aggs, other_aggs)
         }
-        Plan::WithColumns(x, items) => {
-            matches!(b, Plan::WithColumns(y, others)
-                if same_plan(x.get(), y.get()) && same(items, others))
+        // The second operand stands in parentheses, so that each operand is one branch of the proof.
+        (Plan::Join(x, z, how, on, equal), Plan::Join(y, w, other_how, other_on, other_equal)) => {
+            same_plan(x.get(), y.get())
+                && (same_plan(z.get(), w.get())
+                    && same_match(*how, *other_how, on, other_on, *equal, *other_equal))
         }
-        Plan::GroupBy(x, keys, aggs) => {
-            matches!(b, Plan::GroupBy(y, other_keys, other_aggs)
-                if same_plan(x.get(), y.get()) && same(keys, other_keys) && same(aggs, other_aggs))
+        (Plan::Rolling(x, output, kind, of, w, m), Plan::Rolling(y, name, other, column, v, n)) => {
+            same_plan(x.get(), y.get())
+                && (same_names(output, name, of, column)
+                    && same_window(*kind, *other, *w, *v, *m, *n))
         }
-        Plan::Join(x, z, how, keys, nulls_equal) => {
-            matches!(b, Plan::Join(y, w, other_how, other_keys, other_nulls_equal)
-                if same_plan(x.get(), y.get()) && same_plan(z.get(), w.get())
-                    && *how == *other_how && same(keys, other_keys)
-                    && *nulls_equal == *other_nulls_equal)
+        (Plan::CumSum(x, output, of), Plan::CumSum(y, name, column)) => {
+            same_plan(x.get(), y.get()) && same_names(output, name, of, column)
         }
-        Plan::Rolling(x, output, kind, column, w, m) => {
-            matches!(b, Plan::Rolling(y, other, other_kind, other_column, other_w, other_m)
-                if same_plan(x.get(), y.get()) && *kind == *other_kind
-                    && same_names(output, other, column, other_column)
-                    && *w == *other_w && *m == *other_m)
+        (Plan::Rank(x, output, kind, of), Plan::Rank(y, name, other, column)) => {
+            same_plan(x.get(), y.get()) && (*kind == *other && same_names(output, name, of, column))
         }
-        Plan::CumSum(x, output, column) => {
-            matches!(b, Plan::CumSum(y, other, other_column)
-                if same_plan(x.get(), y.get()) && same_names(output, other, column, other_column))
-        }
-        Plan::Rank(x, output, kind, column) => {
-            matches!(b, Plan::Rank(y, other, other_kind, other_column)
-                if same_plan(x.get(), y.get()) && *kind == *other_kind
-                    && same_names(output, other, column, other_column))
-        }
+        _ => false,
     }
+}
+
+// Whether two groupings have one list of keys, and one of aggregates.
+fn same_lists(
+    keys: &List<Text>,
+    other_keys: &List<Text>,
+    aggs: &List<(Text, Agg)>,
+    other_aggs: &List<(Text, Agg)>,
+) -> bool
+    ensures { IsTrue result ↔ ((keys.now ≡ other_keys.now) × (aggs.now ≡ other_aggs.now)) }
+{
+    same(keys, other_keys) && same(aggs, other_aggs)
+}
+
+// Whether two joins match rows alike.
+fn same_match(
+    how: How,
+    other_how: How,
+    keys: &List<Text>,
+    other_keys: &List<Text>,
+    nulls_equal: bool,
+    other_nulls_equal: bool,
+) -> bool
+    ensures { IsTrue result ↔ ((how ≡ other_how) × (keys.now ≡ other_keys.now)
+        × (nulls_equal ≡ other_nulls_equal)) }
+{
+    how == other_how && same(keys, other_keys) && nulls_equal == other_nulls_equal
+}
+
+// Whether two rolling windows take one thing of rows of one number.
+fn same_window(a: RollKind, b: RollKind, w: i64, v: i64, m: i64, n: i64) -> bool
+    ensures { IsTrue result ↔ ((a ≡ b) × (w ≡ v) × (m ≡ n)) }
+{
+    a == b && w == v && m == n
 }
 
 // Whether two outputs have one name, and so the columns that they are taken of.
