@@ -9,50 +9,20 @@ returns-in-Column t c = grind (arith, common_steps, the_lemmas)
 pub returns-in-Literal : goal.returns-in-Literal
 returns-in-Literal t c = grind (arith, common_steps, the_lemmas)
 
-pub returns-in_err-a-in-And : goal.returns-in_err-a-in-And
-returns-in_err-a-in-And t c = grind (arith, common_steps, the_lemmas)
-
-pub returns-in_err-b-in-And : goal.returns-in_err-b-in-And
-returns-in_err-b-in-And t c = grind (arith, common_steps, the_lemmas)
-
 pub returns-in_ok-b-in-And : goal.returns-in_ok-b-in-And
 returns-in_ok-b-in-And t c = grind (arith, common_steps, the_lemmas)
-
-pub returns-in_err-a-in-Arith : goal.returns-in_err-a-in-Arith
-returns-in_err-a-in-Arith t c = grind (arith, common_steps, the_lemmas)
-
-pub returns-in_err-b-in-Arith : goal.returns-in_err-b-in-Arith
-returns-in_err-b-in-Arith t c = grind (arith, common_steps, the_lemmas)
 
 pub returns-in_ok-b-in-Arith : goal.returns-in_ok-b-in-Arith
 returns-in_ok-b-in-Arith t c = grind (arith, common_steps, the_lemmas)
 
-pub returns-in_err-a-in-Compare : goal.returns-in_err-a-in-Compare
-returns-in_err-a-in-Compare t c = grind (arith, common_steps, the_lemmas)
-
-pub returns-in_err-b-in-Compare : goal.returns-in_err-b-in-Compare
-returns-in_err-b-in-Compare t c = grind (arith, common_steps, the_lemmas)
-
 pub returns-in_ok-b-in-Compare : goal.returns-in_ok-b-in-Compare
 returns-in_ok-b-in-Compare t c = grind (arith, common_steps, the_lemmas)
-
-pub returns-in_err-a-in-FillNull : goal.returns-in_err-a-in-FillNull
-returns-in_err-a-in-FillNull t c = grind (arith, common_steps, the_lemmas)
-
-pub returns-in_err-b-in-FillNull : goal.returns-in_err-b-in-FillNull
-returns-in_err-b-in-FillNull t c = grind (arith, common_steps, the_lemmas)
 
 pub returns-in_ok-b-in-FillNull : goal.returns-in_ok-b-in-FillNull
 returns-in_ok-b-in-FillNull t c = grind (arith, common_steps, the_lemmas)
 
-pub returns-in_err-dtype_of-in-IsNull : goal.returns-in_err-dtype_of-in-IsNull
-returns-in_err-dtype_of-in-IsNull t c = grind (arith, common_steps, the_lemmas)
-
 pub returns-in_ok-dtype_of-in-IsNull : goal.returns-in_ok-dtype_of-in-IsNull
 returns-in_ok-dtype_of-in-IsNull t c = grind (arith, common_steps, the_lemmas)
-
-pub returns-in_err-dtype_of-in-Not : goal.returns-in_err-dtype_of-in-Not
-returns-in_err-dtype_of-in-Not t c = grind (arith, common_steps, the_lemmas)
 
 pub returns-in_ok-dtype_of-in-Not : goal.returns-in_ok-dtype_of-in-Not
 returns-in_ok-dtype_of-in-Not t c = grind (arith, common_steps, the_lemmas)
