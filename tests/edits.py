@@ -230,10 +230,10 @@ def try_edit(crate, edit, kept):
 
 
 def at_once(edits):
-    """Groups of edits that change different functions."""
+    """Groups of edits that change different functions. One that must break the proof of another function is alone."""
     groups = []
     for edit in edits:
-        apart = (it for it in groups if not any({*edit.functions} & {*other.functions} for other in it))
+        apart = (it for it in groups if it[0].is_local and not any({*edit.functions} & {*other.functions} for other in it))
         group = next(apart, None) if edit.is_local else None
         if group is None:
             groups.append([edit])
