@@ -163,7 +163,8 @@ def checked(crate, texts, functions, kept):
     return ran.returncode, ran.stdout
 
 
-GONE = r"is not in scope|has no field|has no `|is no name|was not admitted"
+# Where a record or a module lacks a name, the prover may end its line behind the record or the module.
+GONE = r"is not in scope|has no field|has no `|is no name|was not admitted|(record|module) `[^`]*`( \(nearest: .*\))?$"
 TOLD = r"(\S+:\d+:\d+: error|note: \S+:\d+:\d+: )"
 UNPROVED = r"fn (\S+): (no proof|not proved)"
 
