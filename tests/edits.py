@@ -1,8 +1,8 @@
 #!/usr/bin/env python3
 """Tries edits of the code that the prover must refuse:
 
-    edits.py FOLDER [--proved] [CRATE ..]          those of FOLDER/CRATE/*.edit, of these crates or of all
-    edits.py FOLDER [--proved] --since COMMIT      those of the crates that changed since then, and their edits
+    edits.py FOLDER [--proved | --beside LOG] [CRATE ..]      those of FOLDER/CRATE/*.edit, of these crates or of all
+    edits.py FOLDER [--proved | --beside LOG] --since COMMIT  those of the crates that changed since then, and their edits
 
 FOLDER is tests/must-fail, which ./test tries, or tests/wrong-bodies. An edit has lines `file: src/F.rt`, and pairs of
 lines `old: TEXT`, which stands once in that file, and `new: TEXT`. It is refused where the function that it changes is
@@ -10,7 +10,8 @@ not proved with it; a line `proof: FUNCTION` names another function whose proof 
 tried, with those of what it calls, over what the edits of the crate before it kept. Edits of different functions are
 tried at once, since a function is proved by its own body and the contracts of what it calls; one that is not refused so
 is tried again alone. Last the same proofs are tried without an edit: where one fails there, no edit of its crate counts
-as refused. `--proved` leaves that out: `rt ci` has just proved the crates as they are.
+as refused. `--proved` leaves that out: `rt ci` has just proved the crates as they are. `--beside` does so too, while
+`rt ci` runs and writes LOG: the edits of a crate are tried once LOG says that it is proved.
 
 The libraries below a crate are taken as `rt ci` left them, or built by `rt lib`. Prints each edit with what refuses it,
 and ends with a count of those that are refused. Python 3.11 or later."""
@@ -25,6 +26,7 @@ import shutil
 import subprocess
 import sys
 import tempfile
+import time
 
 HERE = pathlib.Path(__file__).resolve().parent.parent
 PARTS = ("src", "specs", "proofs")
@@ -47,10 +49,12 @@ def used_libraries():
 
 
 USED = used_libraries()
+# Where libraries stand that were linked aside.
+ASIDE = {}
 
 
 def built(crate):
-    return HERE / "crates" / crate / "out/rlib" / f"{crate}.rlib"
+    return ASIDE.get(crate, HERE / "crates" / crate / "out/rlib" / f"{crate}.rlib")
 
 
 def below(crate):
@@ -250,6 +254,38 @@ def build_below(crate):
             subprocess.run(["rt", "lib", "--jobs", "1"], cwd=HERE / "crates" / name, stdout=subprocess.DEVNULL, check=True)
 
 
+def link(file, to):
+    try:
+        os.link(file, to)
+    except OSError:  # on another disk
+        shutil.copy2(file, to)
+
+
+def link_below(crate, folder):
+    """Links the libraries under a crate into a folder: once `rt ci` ends, it puts back what stood there before it."""
+    for name in below(crate):
+        if name not in ASIDE:
+            ASIDE[name] = shutil.copytree(built(name), folder / f"{name}.rlib", copy_function=link)
+
+
+def proved_in(log, crates):
+    """Those of these crates that an `rt ci` proves, each once its log says so. Ends when that run does."""
+    waiting, line = {*crates}, ""
+    with open(log) as lines:
+        while waiting:
+            line += lines.readline()
+            if not line.endswith("\n"):
+                time.sleep(1)
+                continue
+            told, line = line, ""
+            if re.match(r"\d+ passed, \d+ failed", told):
+                return
+            proved = re.match(r"rt: (\w+) (proved$|is kept: )", told)
+            if proved and proved[1] in waiting:
+                waiting.remove(proved[1])
+                yield proved[1]
+
+
 def try_crate(crate, files, is_proved):
     """The answers of a crate's edits."""
     edits, answers = [], []
@@ -285,19 +321,25 @@ def main():
     words.add_argument("crates", nargs="*")
     words.add_argument("--since")
     words.add_argument("--proved", action="store_true")
+    words.add_argument("--beside", metavar="LOG")
     asked = words.parse_intermixed_args()
     wanted = changed_since(asked.since, str(asked.folder)) if asked.since else asked.crates
     is_wanted = lambda crate: crate in wanted or not (asked.since or asked.crates)
     crates = {it.name: sorted(it.glob("*.edit")) for it in sorted((HERE / asked.folder).iterdir())}
     crates = {crate: files for crate, files in crates.items() if files and is_wanted(crate)}
-    for crate in crates:
-        build_below(crate)
     # The crates with the most below them take longest.
     order = sorted(crates, key=lambda crate: -len(below(crate)) * len(crates[crate]))
     lanes = int(os.environ.get("RT_JOBS", "") or os.cpu_count())
-    with concurrent.futures.ThreadPoolExecutor(lanes) as pool:
-        tried = pool.map(lambda crate: try_crate(crate, crates[crate], asked.proved), order)
-        answers = [it for found in tried for it in found]
+    tried = {}
+    with tempfile.TemporaryDirectory(prefix="libraries-") as room, concurrent.futures.ThreadPoolExecutor(lanes) as pool:
+        for crate in proved_in(asked.beside, crates) if asked.beside else order:
+            if asked.beside:
+                link_below(crate, pathlib.Path(room))
+            else:
+                build_below(crate)
+            tried[crate] = pool.submit(try_crate, crate, crates[crate], asked.proved or asked.beside)
+    answers = [it for found in tried.values() for it in found.result()]
+    answers += [(False, f"{crate}: rt ci did not prove it") for crate in crates if crate not in tried]
     for _, text in answers:
         print(text)
     refused, edits = sum(is_refused for is_refused, _ in answers), sum(map(len, crates.values()))
