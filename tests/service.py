@@ -1,0 +1,75 @@
+#!/usr/bin/env python3
+"""Runs `stocklist` with each of its allocations refused in turn, every second time with the one behind it: service.py PROGRAM
+
+Its loader stops at the first call that is refused, and the books are closed. So a run ends with status 2 and prints nothing, where the
+service was not opened or not closed, or with status 0: then its books are what the loader counted, an append has entered
+whole, and the rows are those accepted less those deleted. At least half of the runs have to end otherwise than one in which nothing is
+refused: else nothing is refused here. Prints what went otherwise, and ends with a count."""
+
+import concurrent.futures
+import os
+import pathlib
+import re
+import shutil
+import subprocess
+import sys
+import tempfile
+
+HERE = pathlib.Path(__file__).resolve().parent
+WORDS = ["--loaders", "1", "--seconds", "1", "--seed", "7"]
+# They sleep for most of their time.
+AT_ONCE = 32
+
+
+def preloaded(folder):
+    """tests/failing.c, built."""
+    page = subprocess.run(["rt", "doc"], capture_output=True, text=True, check=True).stdout.strip()
+    compiler = os.environ.get("CC") or shutil.which("cc") or pathlib.Path(page).parent / "toolchain/bin/clang"
+    library = f"{folder}/failing.so"
+    subprocess.run([compiler, "-O1", "-shared", "-fPIC", "-nostdlib", "-o", library, HERE / "failing.c"], check=True)
+    return library
+
+
+def run(program, library, **refused):
+    environment = {**os.environ, "LD_PRELOAD": library, **{name: str(value) for name, value in refused.items()}}
+    return subprocess.run([program, *WORDS], env=environment, stdin=subprocess.DEVNULL, capture_output=True, text=True, timeout=60)
+
+
+def fault_of(ran):
+    """What is wrong with a run, if anything is."""
+    if ran.returncode == 2:
+        return "something is printed beside a refusal" if ran.stdout else None
+    if ran.returncode:
+        return f"status {ran.returncode}: {ran.stderr[:200]}"
+    books = re.match(r"accepted (\d+), deleted (\d+), live (\d+)\n", ran.stdout)
+    if not books:
+        return f"no books: {ran.stdout[:200]}"
+    accepted, deleted, live = map(int, books.groups())
+    if live != accepted - deleted or accepted % 2 or deleted > accepted // 2:
+        return f"these books cannot be: {books[0]}"
+    return None
+
+
+def main():
+    program = os.path.abspath(sys.argv[1])
+    with tempfile.TemporaryDirectory() as folder:
+        library = preloaded(folder)
+        whole = run(program, library, COUNTS=f"{folder}/counts")
+        if whole.returncode or fault_of(whole):
+            sys.exit(f"nothing is refused, and yet: {fault_of(whole)}")
+        allocations = int(pathlib.Path(folder, "counts").read_text().split()[0])
+        tried = range(1, allocations + 1)
+        with concurrent.futures.ThreadPoolExecutor(AT_ONCE) as pool:
+            runs = list(pool.map(lambda at: run(program, library, FAIL_ALLOC=at, FAIL_ALLOCS=1 + at % 2), tried))
+    faults = [f"allocation {at}: {fault}" for at, ran in zip(tried, runs) if (fault := fault_of(ran))]
+    refused = sum(ran.stdout != whole.stdout for ran in runs)
+    if 2 * refused < len(runs):
+        faults.append(f"only {refused} runs end otherwise than without a refusal")
+    for fault in faults:
+        print(fault)
+    print(f"{len(runs)} allocations of a service refused in turn, {refused} of which stop it, {len(faults)} otherwise")
+    return 1 if faults else 0
+
+
+if __name__ == "__main__":
+    sys.exit(main())
