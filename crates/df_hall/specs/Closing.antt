@@ -1,20 +1,12 @@
 -- The close: desks joined to one for each frame, their shares compared with the frames' books, and the totals by frame.
-use Rattle.std.specs.Prelude.{◌≡◌, ◌≢◌, ℕ, ◌+◌, ◌<◌, ◌≤◌, Bool, ◌&&◌, ◌==◌, List, [], ◌∷◌, length, map, sum_by, slice_index_or, Option, Some, None, if◌then◌else◌}
+use Rattle.std.specs.Prelude.{◌≡◌, ◌≢◌, ℕ, ◌+◌, ◌<◌, ◌≤◌, Bool, ◌&&◌, ◌==◌, List, [], ◌∷◌, length, map, slice_index_or, Option, Some, None, if◌then◌else◌}
 use Rattle.df_frame.specs.declared.state.FrameState.{FrameState}
 use Rattle.df_state.specs.declared.state.State.{State}
-use Rattle.df_state.specs.Desks.{AgreeWithBooks, DeskParts, joined_desk}
+use Rattle.df_state.specs.Desks.{AgreeWithBooks, DeskParts, HaveSameSums, accepted_at, deleted_at}
 use Rattle.df_state.specs.States.{IsLegal}
 use Rattle.df_value.specs.declared.cell.CellType.{CellType}
 use Rattle.df_versions.specs.Histories.{IsHistoryOver, IsLastState, last_state}
 use Rattle.df_hall.specs.declared.totals.Totals.{Totals}
-
--- how many rows were accepted through the desks of a frame
-abbrev pub accepted_at : ℕ → List DeskParts → ℕ
-accepted_at frame desks = sum_by (λ d. if d.frame == frame then d.accepted else 0) desks
-
--- how many were deleted
-abbrev pub deleted_at : ℕ → List DeskParts → ℕ
-deleted_at frame desks = sum_by (λ d. if d.frame == frame then d.deleted else 0) desks
 
 -- whether the shares of the desks are the books of a frame
 abbrev pub is_settled : List DeskParts → ℕ → FrameState → Bool
@@ -36,15 +28,6 @@ totals_of s = record {
   deleted = map (λ f. length f.deleted) s.frames;
   live = map (λ f. length f.rows) s.frames;
 }
-
--- a measure of desks that adds up where two desks of one frame are joined, as their rows, their parts, or those of one
--- frame alone
-abbrev pub AddsUp : (DeskParts → ℕ) → Type 0
-AddsUp h = (d e : DeskParts) → d.frame ≡ e.frame → h (joined_desk d e) ≡ h d + h e
-
--- desks of which some were joined to others of their frames: whatever adds up is the same, so nothing of a share is lost
-pub record HaveSameSums (before after : List DeskParts) : Type 0 where
-  pub same : (h : DeskParts → ℕ) → AddsUp h → sum_by h after ≡ sum_by h before
 
 -- no desk before this place is of the frame of the desk there
 abbrev pub IsFirst : List DeskParts → ℕ → Type 0

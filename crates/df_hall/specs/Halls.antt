@@ -1,20 +1,11 @@
--- What a hall answers to a change, and the shares of a desk after one that it accepted.
-use Rattle.std.specs.Prelude.{ℕ, ◌+◌, List, Result}
+-- What a hall answers to a change.
+use Rattle.std.specs.Prelude.{ℕ, List, Result}
 use Rattle.df_value.specs.declared.cell.CellType.{CellType}
-use Rattle.df_state.specs.Desks.{DeskParts}
 use Rattle.df_state.specs.declared.change.Change.{Change}
 use Rattle.df_state.specs.declared.state.State.{State}
 use Rattle.df_versions.specs.Answered.{AnswersChange}
 use Rattle.df_versions.specs.Histories.{IsHistoryOver}
 use Rattle.df_versions.specs.declared.fault.ChangeFault.{ChangeFault}
-
--- so many more rows were accepted through the desk
-abbrev pub having_accepted : ℕ → DeskParts → DeskParts
-having_accepted rows d = record d { accepted = d.accepted + rows }
-
--- so many more were deleted
-abbrev pub having_deleted : ℕ → DeskParts → DeskParts
-having_deleted rows d = record d { deleted = d.deleted + rows }
 
 -- a change is answered so after some lawful history over frames of these schemas, for a caller who was told of so many
 -- states. What a lock holds has no name in a clause, so nothing more ties that history to a hall. What is told does, which

@@ -87,7 +87,7 @@ fn join_at<Acc: Ledger, Del: Ledger>(
     requires within { at < length desks.old.items }
     requires behind { closing.AreFirst desks.old.items (at + 1) }
     ensures same { catalogue.new ≡ catalogue.old }
-    ensures sums { closing.HaveSameSums desks.old.items desks.new.items }
+    ensures sums { desks_spec.HaveSameSums desks.old.items desks.new.items }
     ensures left { at ≤ length desks.new.items }
     ensures first { closing.AreFirst desks.new.items at }
 {
@@ -184,8 +184,8 @@ fn is_settled_at<Acc: Ledger, Del: Ledger>(
 fn sums<Acc: Ledger, Del: Ledger>(desks: &[Desk<Acc, Del>], frame: usize) -> (u64, u64)
     requires accepted { desks_spec.accepted_through desks.now < 2 ^ 64 }
     requires deleted { desks_spec.deleted_through desks.now < 2 ^ 64 }
-    ensures accepted { result.0 ≡ closing.accepted_at frame desks.now }
-    ensures deleted { result.1 ≡ closing.deleted_at frame desks.now }
+    ensures accepted { result.0 ≡ desks_spec.accepted_at frame desks.now }
+    ensures deleted { result.1 ≡ desks_spec.deleted_at frame desks.now }
 {
     let mut accepted: u64 = 0;
     let mut deleted: u64 = 0;

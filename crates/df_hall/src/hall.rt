@@ -1,12 +1,12 @@
 //! The hall: a lock round a catalogue that publishes its versions.
 ghost use Rattle.std.specs.Prelude.{◌≡◌, [], None, IfErr, IfOk, OnErr, OnOk, Some, length, option_map};
 ghost use Rattle.df_state.specs.declared.change.Change.TheVariants.{Append, Delete, DropView, Register, Replace};
-ghost use Rattle.df_state.specs.Desks.{AgreeWithBooks, desk_after};
+ghost use Rattle.df_state.specs.Desks.{AgreeWithBooks, desk_after, having_accepted, having_deleted};
 ghost use Rattle.df_state.specs.FrameChanges.{change_of};
 ghost use Rattle.df_state.specs.States.{IsLegal};
 ghost use Rattle.df_state.specs.ViewChanges.{change_of_views};
 ghost use Rattle.df_hall.specs.Closing as closing;
-ghost use Rattle.df_hall.specs.Halls.{AnswersOverHistory, having_accepted, having_deleted};
+ghost use Rattle.df_hall.specs.Halls.{AnswersOverHistory};
 ghost use Rattle.df_hall.specs.Rooms.{HasRoomFor, Holds};
 ghost use Rattle.df_value.specs.Limits as limits;
 ghost use Rattle.df_versions.specs.Answered.{told_states};

@@ -10,3 +10,7 @@ pub mod StoredFacts
 pub mod LostFacts
 pub mod CrossingPictures
 pub mod CrossingOutcomes
+pub mod ShareFacts
+pub mod WorkerFacts
+pub mod CountFacts
+pub mod JoinedFacts

@@ -5,3 +5,6 @@ pub mod Loaded
 pub mod Expected
 pub mod Refused
 pub mod Lost
+pub mod Workers
+pub mod Counted
+pub mod Stops

@@ -1,6 +1,6 @@
 -- Desks: who changes a frame, and what was accepted and deleted through them. Shares of sums over all threads are
 -- this project's own.
-use Rattle.std.specs.Prelude.{◌≡◌, ◌≤◌, ℕ, ◌+◌, ◌-◌, ◌/◌, ◌*◌, ◌^◌, Bool, ◌&&◌, ◌==◌, nat_lt}
+use Rattle.std.specs.Prelude.{◌≡◌, ◌≤◌, ℕ, ◌+◌, ◌-◌, ◌/◌, ◌*◌, ◌^◌, Bool, ◌&&◌, ◌==◌, if◌then◌else◌, nat_lt}
 use Rattle.std.specs.Prelude.{List, length, map, fold, sum_by}
 use Rattle.std.specs.List.{range_with_len}
 use Rattle.df_state.specs.declared.state.State.{State}
@@ -42,11 +42,29 @@ joined_desk d e = record {
   parts = d.parts + e.parts;
 }
 
+-- a measure of desks that adds up where two desks of one frame are joined, as their rows, their parts, or those of one
+-- frame alone
+abbrev pub AddsUp : (DeskParts → ℕ) → Type 0
+AddsUp h = (d e : DeskParts) → d.frame ≡ e.frame → h (joined_desk d e) ≡ h d + h e
+
+-- desks of which some were split, or joined to others of their frames: whatever adds up is the same, so nothing of a share is
+-- lost
+pub record HaveSameSums (before after : List DeskParts) : Type 0 where
+  pub same : (h : DeskParts → ℕ) → AddsUp h → sum_by h after ≡ sum_by h before
+
 -- whether two desks have one frame, and their amounts together are numbers of 64 bits, which those of one catalogue's
 -- desks are
 abbrev pub may_join : DeskParts → DeskParts → Bool
 may_join d e =
     (d.frame == e.frame) && (nat_lt (d.accepted + e.accepted) (2 ^ 64) && nat_lt (d.deleted + e.deleted) (2 ^ 64))
+
+-- so many more rows were accepted through the desk
+abbrev pub having_accepted : ℕ → DeskParts → DeskParts
+having_accepted rows d = record d { accepted = d.accepted + rows }
+
+-- so many more were deleted
+abbrev pub having_deleted : ℕ → DeskParts → DeskParts
+having_deleted rows d = record d { deleted = d.deleted + rows }
 
 -- the desk through which a change was made: it counts the rows that were added and those that were taken out
 abbrev pub desk_after : DeskParts → Change → DeskParts
@@ -84,6 +102,14 @@ deleted_through desks = sum_by (λ d. d.deleted) desks
 
 abbrev pub parts_of : List DeskParts → ℕ
 parts_of desks = sum_by (λ d. d.parts) desks
+
+-- how many rows were accepted through the desks of a frame
+abbrev pub accepted_at : ℕ → List DeskParts → ℕ
+accepted_at frame desks = sum_by (λ d. if d.frame == frame then d.accepted else 0) desks
+
+-- how many were deleted
+abbrev pub deleted_at : ℕ → List DeskParts → ℕ
+deleted_at frame desks = sum_by (λ d. if d.frame == frame then d.deleted else 0) desks
 
 -- desks have every part of the ledgers that the first desks were given
 abbrev pub HaveAllParts : List DeskParts → State → Type 0

@@ -8,17 +8,17 @@ use Rattle.df_value.specs.declared.chunk.Piece.{Piece}
 use Rattle.df_plan.specs.CheckedParts.{CheckedParts}
 use Rattle.df_frame.specs.declared.state.FrameState.{FrameState}
 use Rattle.df_state.specs.declared.state.State.{State}
-use Rattle.df_state.specs.Desks.{AgreeWithBooks, DeskParts, parts_of}
+use Rattle.df_state.specs.Desks.{AgreeWithBooks, DeskParts, accepted_at, deleted_at, parts_of}
 use Rattle.df_state.specs.States.{IsLegal}
 use Rattle.df_versions.specs.Histories.{IsLastState, last_state}
-use Rattle.df_hall.specs.Closing.{IsSettledState, IsUnsettledState, accepted_at, deleted_at, is_settled, missing_frame, missing_from}
+use Rattle.df_hall.specs.Closing.{IsSettledState, IsUnsettledState, is_settled, missing_frame, missing_from}
 use Rattle.df_store.specs.declared.fault.LoadCause.{LoadCause}
-use Rattle.df_store.specs.declared.fault.Stop.{Stop}
+use Rattle.df_jobs.specs.declared.stop.Stop.{Stop}
 use Rattle.df_jobs.specs.declared.jobs.Outcome.{Outcome}
 use Rattle.df_store.specs.Faults.{IsCauseAtStart}
 use Rattle.df_jobs.specs.Jobs.{AreOutcomes, IsOutcome, jobs_of}
 use Rattle.df_store.specs.Loads.{IsCauseAtEnd, IsCauseLeft, IsCauseNotLeft, IsCauseUnsettled, IsDifference, IsLeft, IsNotLeft, is_accounted, unaccounted_from}
-use Rattle.df_store.specs.Workers.{HaveDone, entered_at}
+use Rattle.df_jobs.specs.Counted.{HaveDone, entered_at}
 
 -- where the desks that come back have the rows of outcomes beside those of the desks that were given, the least frame where
 -- their shares are not the books is the least one that is not accounted for

@@ -7,13 +7,13 @@ use Rattle.std.proofs.lemmas.List.Sorted.{sum_by-IsPermutation}
 use Rattle.std.proofs.lemmas.List.Sums.{sum_by-cons}
 use Rattle.df_frame.specs.declared.state.FrameState.{FrameState}
 use Rattle.df_state.specs.declared.state.State.{State}
-use Rattle.df_state.specs.Desks.{DeskParts}
+use Rattle.df_state.specs.Desks.{DeskParts, accepted_at, deleted_at}
 use Rattle.df_value.specs.declared.chunk.Piece.{Piece}
-use Rattle.df_hall.specs.Closing.{accepted_at, deleted_at, is_settled, missing_frame, missing_from}
+use Rattle.df_hall.specs.Closing.{is_settled, missing_frame, missing_from}
 use Rattle.df_jobs.specs.declared.jobs.Outcome.{Outcome}
 use Rattle.df_jobs.specs.Jobs.{job_of}
 use Rattle.df_store.specs.Loads.{AreShares, rows_of_jobs}
-use Rattle.df_store.specs.Workers.{entered_at, rows_of}
+use Rattle.df_jobs.specs.Counted.{entered_at, rows_of}
 
 sum-of-jobs : (frame : ℕ) (os : List Outcome) → rows_of_jobs frame (map job_of os) ≡ entered_at frame os
 sum-of-jobs frame [] = refl

@@ -1,5 +1,5 @@
 -- Which faults the registration of a view and a load of workers are answered with, and which of several comes first.
-use Rattle.std.specs.Prelude.{◌≡◌, ◌⊎◌, ⊤, ℕ, List, Option, Some, None, fold, slice_get}
+use Rattle.std.specs.Prelude.{◌≡◌, ◌⊎◌, ⊤, ℕ, List, Some, slice_get}
 use Rattle.df_plan.specs.CheckedParts.{CheckedParts}
 use Rattle.df_state.specs.Refusals.{refusal_of}
 use Rattle.df_state.specs.declared.change.Change.TheVariants.{Register}
@@ -8,8 +8,8 @@ use Rattle.df_versions.specs.declared.fault.ChangeFault.{ChangeFault}
 use Rattle.df_versions.specs.declared.fault.ChangeFault.TheVariants as change
 use Rattle.df_store.specs.declared.fault.LoadCause.{LoadCause}
 use Rattle.df_store.specs.declared.fault.LoadCause.TheVariants as load
-use Rattle.df_store.specs.declared.fault.Stop.{Stop}
-use Rattle.df_store.specs.declared.fault.Stop.TheVariants as stop
+use Rattle.df_jobs.specs.declared.stop.Stop.{Stop}
+use Rattle.df_jobs.specs.declared.stop.Stop.TheVariants as stop
 
 -- the cause of a load where the registration of a view is answered so
 abbrev pub cause_of_register : {J : Type 0} → ChangeFault J → LoadCause
@@ -36,24 +36,6 @@ IsCauseOfViews s views cause = (at : ℕ) × (view : List ℕ × CheckedParts) �
 -- what comes before the first job is given up for this: memory, or the registration of one of the views in this state
 abbrev pub IsCauseAtStart : State → List (List ℕ × CheckedParts) → LoadCause → Type 0
 IsCauseAtStart s views cause = (cause ≡ load.Memory) ⊎ IsCauseOfViews s views cause
-
--- of two reasons why workers stopped, the one that a load answers: Memory, then Spent, then Ahead
-abbrev pub earlier_stop : Stop → Stop → Stop
-earlier_stop stop.Memory other = stop.Memory
-earlier_stop stop.Spent stop.Memory = stop.Memory
-earlier_stop stop.Spent stop.Spent = stop.Spent
-earlier_stop stop.Spent stop.Ahead = stop.Spent
-earlier_stop stop.Ahead other = other
-
--- the same where workers may have stopped or not
-abbrev pub earlier_of : Option Stop → Option Stop → Option Stop
-earlier_of None next = next
-earlier_of (Some first) None = Some first
-earlier_of (Some first) (Some next) = Some (earlier_stop first next)
-
--- of the reasons why these workers stopped the one that a load answers; none where none stopped
-abbrev pub first_stop : List (Option Stop) → Option Stop
-first_stop stops = fold earlier_of None stops
 
 -- the cause of a load that a worker's stop is
 abbrev pub cause_of_stop : Stop → LoadCause

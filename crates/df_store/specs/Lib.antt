@@ -1,3 +1,3 @@
-pub mod Workers
+pub mod Incoming
 pub mod Loads
 pub mod Faults

@@ -5,19 +5,19 @@ use Rattle.df_value.specs.declared.chunk.Piece.{Piece}
 use Rattle.df_plan.specs.CheckedParts.{CheckedParts}
 use Rattle.df_frame.specs.declared.state.FrameState.{FrameState}
 use Rattle.df_state.specs.declared.state.State.{State}
-use Rattle.df_state.specs.Desks.{DeskParts, parts_of}
+use Rattle.df_state.specs.Desks.{DeskParts, accepted_at, deleted_at, parts_of}
 use Rattle.df_state.specs.States.{IsLegal}
 use Rattle.df_versions.specs.Histories.{IsLastState}
-use Rattle.df_hall.specs.Closing.{IsUnsettledState, accepted_at, deleted_at}
+use Rattle.df_hall.specs.Closing.{IsUnsettledState}
 use Rattle.df_store.specs.declared.fault.LoadCause.{LoadCause}
 use Rattle.df_store.specs.declared.fault.LoadCause.TheVariants.{Refused, Memory, Spent, Ahead, MissingDesk, Lost, Unlike, ViewsUnlike}
-use Rattle.df_store.specs.declared.fault.Stop.{Stop}
+use Rattle.df_jobs.specs.declared.stop.Stop.{Stop}
 use Rattle.df_jobs.specs.declared.jobs.Outcome.{Outcome}
 use Rattle.df_store.specs.Faults.{IsCauseAtStart, cause_of_stop}
 use Rattle.df_jobs.specs.Jobs.{AreOutcomes, jobs_of}
 use Rattle.df_jobs.specs.Loaded.{AreLoaded, IsUnlike}
 use Rattle.df_jobs.specs.Lost.{HaveOneEach, IsLost}
-use Rattle.df_store.specs.Workers.{entered_at, rows_of}
+use Rattle.df_jobs.specs.Counted.{entered_at, rows_of}
 
 -- the views of a state, each by its name and its plan
 abbrev pub headings_of : State → List (List ℕ × CheckedParts)

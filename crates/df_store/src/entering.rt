@@ -5,13 +5,13 @@ ghost use Rattle.df_state.specs.declared.change.Change.TheVariants.{Append};
 ghost use Rattle.df_value.specs.declared.chunk.Piece.{Piece};
 ghost use Rattle.df_jobs.specs.Jobs.{AreOutcomes};
 ghost use Rattle.df_jobs.specs.Joined.{IsJoined};
-ghost use Rattle.df_store.specs.Workers.{AreCounted, HaveAccepted, all_without_accepted, chunk_of};
+ghost use Rattle.df_jobs.specs.Counted.{AreCounted, HaveAccepted, all_without_accepted};
+ghost use Rattle.df_store.specs.Incoming.{chunk_of};
 
-use crate::fault::Stop;
 use core::mem;
 use df_catalogue::{Desk, FrameChange, PreparedChunk};
 use df_hall::VersionedCatalogue;
-use df_jobs::{Joined, KeptPiece, Outcome};
+use df_jobs::{Joined, KeptPiece, Outcome, Stop};
 use df_value::{Chunk, Piece};
 use df_versions::{ChangeFault, Naming, Told};
 use std::alloc::Global;

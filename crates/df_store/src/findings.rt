@@ -4,15 +4,13 @@ ghost use Rattle.df_jobs.specs.Jobs.{AreBegun, AreOutcomes, chunks_of, job_of, j
 ghost use Rattle.df_jobs.specs.Loaded.{AreLoaded, IsUnlike};
 ghost use Rattle.df_store.specs.Loads as loads;
 ghost use Rattle.df_jobs.specs.Refused.{refusal};
-ghost use Rattle.df_store.specs.Workers.{entered_at};
+ghost use Rattle.df_jobs.specs.Counted.{entered_at};
 
 use crate::fault::LoadCause;
-use crate::gate::Gate;
 use crate::views::are_views;
-use crate::worker::Work;
 use df_catalogue::Catalogue;
 use df_hall::frame_count;
-use df_jobs::{Outcome, Refused, first_lost, first_unlike, in_order, refused_in};
+use df_jobs::{Gate, Outcome, Refused, Work, first_lost, first_unlike, in_order, refused_in};
 use df_plan::CheckedPlan;
 use df_value::{List, Source, Text};
 use std::alloc::{AllocError, Global};

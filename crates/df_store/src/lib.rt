@@ -7,17 +7,14 @@
 mod entering;
 mod fault;
 mod findings;
-mod gate;
 mod load;
 mod pool;
-mod splitting;
 mod views;
-mod worker;
+mod working;
 
 pub use df_claims::{ClaimSeat, Claims};
 pub use df_hall::{Hall, Missing, NamedHall, OpenedHall, Totals, missing_frame};
-pub use df_jobs::Refused;
+pub use df_jobs::{Gate, OpenGate, Refused};
 pub use df_versions::{ChangeFault, Naming, OpenFault, Reader, Told, Version};
 pub use fault::LoadCause;
-pub use gate::{Gate, OpenGate};
 pub use load::{LoadFault, Loaded, load_all};

@@ -12,18 +12,16 @@ ghost use Rattle.df_jobs.specs.Jobs.{AreOutcomes, chunks_of, jobs_of, most_jobs}
 ghost use Rattle.df_jobs.specs.Loaded.{AreLoaded};
 ghost use Rattle.df_store.specs.Loads as loads;
 ghost use Rattle.df_jobs.specs.Refused.{refusal};
-ghost use Rattle.df_store.specs.Workers.{entered_at};
+ghost use Rattle.df_jobs.specs.Counted.{entered_at};
 ghost use Rattle.df_versions.specs.Histories.{IsLastState, last_state};
 
-use crate::fault::{LoadCause, Stop};
+use crate::fault::LoadCause;
 use crate::findings::compare;
-use crate::gate::Gate;
 use crate::pool::do_jobs;
-use crate::worker::{MOST_AT_ONCE, Work};
 use df_catalogue::{Catalogue, Desk, ViewChange};
 use df_claims::{ClaimSeat, Claims};
 use df_hall::{Hall, Totals, TotalsRoom, Unsettled, VersionedCatalogue, settle};
-use df_jobs::{Outcome, Refused, job_count};
+use df_jobs::{Gate, MOST_AT_ONCE, Outcome, Refused, Stop, Work, job_count};
 use df_plan::CheckedPlan;
 use df_value::{Duplicate, List, Source, Text};
 use df_versions::{Naming, Told};

@@ -1,5 +1,6 @@
 use Rattle.std.proofs.Common.{◌≡◌, ◌≤◌, length}
-use Rattle.df_hall.specs.Closing.{AreFirst, HaveSameSums}
+use Rattle.df_hall.specs.Closing.{AreFirst}
+use Rattle.df_state.specs.Desks.{HaveSameSums}
 use Rattle.df_hall.proofs.closing.gather.Given as goal
 
 abbrev pub invariant-loop-at : goal.invariant-loop-at

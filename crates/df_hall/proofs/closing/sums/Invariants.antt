@@ -1,5 +1,5 @@
 use Rattle.std.proofs.Common.{◌≡◌, take}
-use Rattle.df_hall.specs.Closing.{accepted_at, deleted_at}
+use Rattle.df_state.specs.Desks.{accepted_at, deleted_at}
 use Rattle.df_hall.proofs.closing.sums.Given as goal
 
 abbrev pub invariant-loop-desk : goal.invariant-loop-desk

@@ -1,8 +1,8 @@
 use Rattle.std.proofs.Common.{◌≡◌, ◌++◌, ◌∙◌, ap, length, rules, subst}
 use Rattle.std.specs.Prelude.{IfSome, if◌then◌else◌}
 use Rattle.df_jobs.specs.Joined.{IsJoined}
-use Rattle.df_store.specs.Workers.{HaveAccepted}
-use Rattle.df_store.proofs.JoinedFacts.{joined-counted}
+use Rattle.df_jobs.specs.Counted.{HaveAccepted}
+use Rattle.df_jobs.proofs.JoinedFacts.{joined-counted}
 use Rattle.df_store.proofs.entering.enter_all.Goals as goal
 
 pub returns-then-branch-clause-counted : goal.returns-then-branch-clause-counted

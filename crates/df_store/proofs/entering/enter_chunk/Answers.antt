@@ -1,11 +1,11 @@
 use Rattle.std.proofs.Common.{◌≡◌, ◌∙◌, ◌+◌, ℕ, List, ap, get_or, length, sym, arith}
 use Rattle.df_value.specs.Chunks.{ChunkParts}
-use Rattle.df_state.specs.Desks.{DeskParts, desk_after}
+use Rattle.df_state.specs.Desks.{DeskParts, desk_after, having_accepted}
 use Rattle.df_state.specs.declared.change.Change.TheVariants.{Append}
-use Rattle.df_hall.specs.Halls.{having_accepted}
-use Rattle.df_store.specs.Workers.{chunk_of, without_accepted}
-use Rattle.df_store.proofs.CountFacts.{one-committed}
-use Rattle.df_store.proofs.WorkerFacts.{keys-set}
+use Rattle.df_store.specs.Incoming.{chunk_of}
+use Rattle.df_jobs.specs.Counted.{without_accepted}
+use Rattle.df_jobs.proofs.CountFacts.{one-committed}
+use Rattle.df_jobs.proofs.WorkerFacts.{keys-set}
 use Rattle.df_store.proofs.entering.enter_chunk.Goals as goal
 
 -- a chunk brings as many rows into a desk's share of those that were accepted, and none into that of the deleted ones

@@ -2,7 +2,7 @@ use Rattle.std.proofs.Common.{◌≡◌, ◌+◌, ◌≤◌, ℕ, List, length}
 use Rattle.std.specs.Prelude.{vec_capacity}
 use Rattle.df_value.specs.declared.chunk.Piece.{Piece}
 use Rattle.df_jobs.specs.Jobs.{AreOutcomes}
-use Rattle.df_store.specs.Workers.{AreCounted, all_without_accepted}
+use Rattle.df_jobs.specs.Counted.{AreCounted, all_without_accepted}
 use Rattle.df_store.proofs.entering.enter_each.Given as goal
 
 abbrev pub invariant-loop-outcome : goal.invariant-loop-outcome

@@ -1,9 +1,9 @@
 use Rattle.std.proofs.Common.{◌∙◌, ap}
 use Rattle.df_state.specs.Desks.{parts_of}
 use Rattle.df_jobs.specs.Jobs.{chunks_of}
-use Rattle.df_store.specs.Workers.{desks_of, outcomes_in}
-use Rattle.df_store.proofs.CountFacts.{all-done, nothing-done, parts-in-all}
-use Rattle.df_store.proofs.WorkerFacts.{all-outcomes}
+use Rattle.df_jobs.specs.Workers.{desks_of, outcomes_in}
+use Rattle.df_jobs.proofs.CountFacts.{all-done, nothing-done, parts-in-all}
+use Rattle.df_jobs.proofs.WorkerFacts.{all-outcomes}
 use Rattle.df_store.proofs.pool.do_jobs.Goals as goal
 
 pub returns-in-Err-clause-done : goal.returns-in-Err-clause-done

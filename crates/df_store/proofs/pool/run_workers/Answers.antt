@@ -5,10 +5,10 @@ use Rattle.df_state.proofs.desk.Desk.TheSendSync as desk
 use Rattle.df_claims.proofs.claims.ClaimSeat.TheSendSync as seat
 use Rattle.df_hall.proofs.Crosses.{hall_sync}
 use Rattle.df_jobs.proofs.CrossingOutcomes.{outcome_send}
-use Rattle.df_store.proofs.worker.Work.TheSendSync as shared
+use Rattle.df_jobs.proofs.worker.Work.TheSendSync as shared
 use Rattle.std.proofs.Common.{rules}
-use Rattle.df_store.proofs.CountFacts.{all-counted}
-use Rattle.df_store.proofs.WorkerFacts.{same-desks}
+use Rattle.df_jobs.proofs.CountFacts.{all-counted}
+use Rattle.df_jobs.proofs.WorkerFacts.{same-desks}
 use Rattle.df_store.proofs.pool.run_workers.Goals as goal
 
 pub for_each_mut-requires-send-T : goal.for_each_mut-requires-send-T
