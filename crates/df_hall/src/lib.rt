@@ -8,7 +8,6 @@
 mod closing;
 mod entering;
 mod hall;
-mod opened_catalogue;
 mod opened_hall;
 mod totals;
 mod versioned;
@@ -16,7 +15,6 @@ mod versioned;
 pub use closing::{Unsettled, missing_frame, settle};
 pub use entering::StagedState;
 pub use hall::{Hall, Missing};
-pub use opened_catalogue::{MOST_READERS, OpenedCatalogue};
-pub use opened_hall::{NamedHall, OpenedHall};
+pub use opened_hall::{MOST_READERS, NamedHall, OpenedHall};
 pub use totals::{Totals, TotalsRoom, frame_count};
 pub use versioned::VersionedCatalogue;

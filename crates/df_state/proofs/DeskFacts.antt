@@ -14,7 +14,8 @@ use Rattle.df_state.specs.Desks.{DeskParts, desk_after, desks_after, first_desk,
 use Rattle.df_frame.specs.Frames.{IsFrame}
 use Rattle.df_state.specs.States.{IsLegal}
 
-frame-from :
+-- of frames that count up from a number, the one at an index is so far on
+pub frame-from :
     (from n i : ℕ) (desks : List DeskParts) (d : DeskParts) →
     map (λ d. d.frame) desks ≡ range_with_len from n → slice_get desks i ≡ Some d → d.frame ≡ from + i
 frame-from from n i [] d h at = cc
