@@ -1,6 +1,6 @@
 -- The desks of a service, of which a change counts in one.
-use Rattle.std.proofs.Common.{◌≡◌, ◌∙◌, ◌+◌, ◌<◌, ◌≤◌, ℕ, zero, suc, List, [], ◌∷◌, ap, arith, length, map, refl, subst, sym}
-use Rattle.std.specs.Prelude.{Result, Ok, Err, IfOk, OnErr, OnOk, Some, slice_get, slice_index_or, slice_set}
+use Rattle.std.proofs.Common.{◌≡◌, ◌∙◌, ◌<◌, ◌≤◌, ℕ, List, ap, arith, length, map, refl, subst, sym}
+use Rattle.std.specs.Prelude.{Result, Ok, Err, IfOk, OnErr, OnOk, slice_index_or, slice_set}
 use Rattle.std.specs.List.{range_with_len}
 use Rattle.std.proofs.lemmas.List.{length-map, set-get_or}
 use Rattle.std.proofs.lemmas.List.FromFn.{length-range_with_len}
@@ -14,24 +14,9 @@ use Rattle.df_state.specs.declared.view_change.ViewChange.{ViewChange}
 use Rattle.df_state.specs.declared.view_change.ViewChange.TheVariants as Views
 use Rattle.df_state.specs.FrameChanges.{change_of}
 use Rattle.df_state.specs.ViewChanges.{change_of_views}
-use Rattle.df_state.proofs.DeskFacts.{first-in-order, frames-after}
+use Rattle.df_state.proofs.DeskFacts.{first-in-order, frame-from, frames-after}
 use Rattle.df_state.proofs.StateFacts.{change-set}
 use Rattle.dataframes.specs.Books.{HasNoFrame, InOrder}
-
-frame-from :
-    (from n i : ℕ) (desks : List DeskParts) (d : DeskParts) → map (λ d. d.frame) desks ≡ range_with_len from n → slice_get desks i ≡ Some d →
-    d.frame ≡ from + i
-frame-from from n i [] d h at = cc
-frame-from from zero i (e ∷ desks) d h at = cc
-frame-from from (suc n) zero (e ∷ desks) d h at =
-    let same : e ≡ d = cc in
-    let first : e.frame ≡ from = cc in
-    let sum : from ≡ from + 0 = omega arith in
-    ap (λ x. x.frame) (sym same) ∙ (first ∙ sum)
-frame-from from (suc n) (suc i) (e ∷ desks) d h at =
-    let rest : map (λ d. d.frame) desks ≡ range_with_len (from + 1) n = cc in
-    let k = frame-from (from + 1) n i desks d rest at in
-    omega (arith, k)
 
 pub frame-there : (desks : List DeskParts) (i : ℕ) (d : DeskParts) → InOrder desks → i < length desks → (slice_index_or desks i d).frame ≡ i
 frame-there desks i d h lt =
