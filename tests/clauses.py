@@ -44,7 +44,7 @@ def calls(path, public):
             within, is_trait = (None if " for " in line else m.group(1)), False
         elif line.startswith("}"):
             within = None
-        if m := re.match(r"( *)(pub )?(?:unsafe )?fn (\w+)", line):
+        if m := re.match(r"( *)(pub )?(?:pub\(crate\) )?(?:unsafe )?fn (\w+)", line):
             owner = within if m.group(1) else None
             shown = owner in public if m.group(1) else m.group(3) in public
             is_public = m.group(2) or (owner and is_trait)

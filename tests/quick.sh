@@ -17,14 +17,14 @@ try() {
 # The long sessions stay out.
 sessions=()
 for session in examples/shell/*.session tests/sessions/*.session; do
-  case "$session" in */full.session | */records.session | */blocks.session | */leaves.session) ;; *) sessions+=("$session") ;; esac
+  case "$session" in */full.session | */load_full.session | */records.session | */blocks.session | */leaves.session) ;; *) sessions+=("$session") ;; esac
 done
 documents=()
 for session in "${sessions[@]}"; do
   document=${session%.session}.toml
   documents+=(--data "${document##*/}=$PWD/$document")
 done
-for file in tests/sessions/*.commands; do
+for file in tests/sessions/*.commands tests/sessions/*.csv; do
   documents+=(--data "${file##*/}=$PWD/$file")
 done
 tests/sessions.py --export "$work/sessions" "${sessions[@]}"

@@ -20,4 +20,5 @@ pub use opening::{
     MOST_BYTES_OF_DOCUMENT, OpenedDocument, SourcedDocument, copy_schemas, open_document,
     open_sources,
 };
+pub use pieces::read_file;
 pub use refused::{refused_line, refused_lines};

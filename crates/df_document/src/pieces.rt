@@ -103,7 +103,9 @@ fn read_frame<F: Files, R: Threads + Sync>(
     }
 }
 
-fn read_file<F: Files, R: Threads + Sync>(
+/// The records of the file under a path, as of a frame with this schema. At most so many threads read them. A file that cannot be opened, or
+/// of which a read fails, is a `ReadFault`.
+pub fn read_file<F: Files, R: Threads + Sync>(
     rt: &R,
     alloc: Global,
     files: &mut F,

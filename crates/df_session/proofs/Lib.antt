@@ -4,3 +4,4 @@ mod CommandFacts
 mod WordList
 mod DescribedFacts
 mod NumberFacts
+mod LoadFacts

@@ -20,6 +20,7 @@ use Rattle.df_session.specs.declared.refusal.Refusal.TheVariants as refusal
 abbrev pub answer_text : Answer → List ℕ
 answer_text answer.Accepted = codes "ok\n"
 answer_text (answer.Told text) = text.items
+answer_text (answer.Load frame path) = []
 answer_text (answer.Source path) = []
 answer_text answer.Ended = []
 
@@ -53,6 +54,8 @@ module _
         IsRefusalOfAppendNext Refuses d (frame_index_of d frame.now) lines r × Keeps
     IsAnswer d (command.Question q) lines (Ok (answer.Told text)) = Answers q (Ok text)
     IsAnswer d (command.Question q) lines (Err r) = Answers q (Err r)
+    IsAnswer d (command.Load frame path) lines (Ok (answer.Load f p)) = (f ≡ frame.now) × (p ≡ path.now) × Keeps
+    IsAnswer d (command.Load frame path) lines (Err r) = (r ≡ refusal.Memory) × Keeps
     IsAnswer d (command.Source path) lines (Ok (answer.Source file)) = (file ≡ path.now) × Keeps
     IsAnswer d (command.Source path) lines (Err r) = (r ≡ refusal.Memory) × Keeps
     IsAnswer d command.Help lines (Ok (answer.Told text)) = (text.items ≡ help_list commands) × Keeps

@@ -64,6 +64,7 @@ IsAsked d change lines _ = ⊥
 abbrev pub IsLineFault : Refusal → Type 0
 IsLineFault (refusal.Mistake m) = ⊥
 IsLineFault (refusal.Store f) = ⊥
+IsLineFault (refusal.File f) = ⊥
 IsLineFault (refusal.Version f) = ⊥
 IsLineFault r = ⊤
 

@@ -10,3 +10,4 @@ pub mod Parts
 pub mod Described
 pub mod Numbers
 pub mod Filling
+pub mod Loading

@@ -70,6 +70,28 @@ lines_text csv.NotText = codes "F3: the lines are not UTF-8"
 lines_text (csv.BadRecord n) = bad_record_text n
 lines_text f = csv_text f
 
+abbrev pub bad_file_record_text : ℕ → List ℕ
+bad_file_record_text n =
+    codes "F4 " ++ (decimal n ++ (codes ": record " ++ (decimal n ++ codes " has another number of fields than the header")))
+
+abbrev pub missing_column_text : List ℕ → List ℕ
+missing_column_text name = codes "F5 " ++ (escaped_text name ++ (codes ": the header has no column " ++ escaped_text name))
+
+abbrev pub doubled_header_text : List ℕ → List ℕ
+doubled_header_text name =
+    codes "F6 " ++ (escaped_text name ++ (codes ": the header has the column " ++ (escaped_text name ++ codes " twice")))
+
+-- the fault of a file, and in words
+abbrev pub file_text : CsvFault → List ℕ
+file_text csv.ReadFault = codes "F1: the file cannot be opened, or cannot be read"
+file_text csv.TooLarge = codes "F2: the file has more than 67108864 bytes"
+file_text csv.NotText = codes "F3: the file is not UTF-8"
+file_text (csv.BadRecord n) = bad_file_record_text n
+file_text (csv.MissingColumn name) = missing_column_text name
+file_text (csv.DoubledHeader name) = doubled_header_text name
+file_text csv.TooManyRecords = codes "F7: the file has more than 1048576 records"
+file_text csv.Memory = codes "memory"
+
 -- what a hall's versions refuse
 abbrev pub version_text : VersionFault → List ℕ
 version_text version.Spent = codes "H1: 2^64 - 1 versions were published; there is no change behind them"
@@ -87,6 +109,7 @@ text_of (refusal.Mistake m) = codes "? " ++ mistake_text m
 text_of (refusal.Store f) = catalogue_text f
 text_of (refusal.Version f) = version_text f
 text_of (refusal.Csv f) = lines_text f
+text_of (refusal.File f) = file_text f
 text_of (refusal.Cell number column) = text_of_cell number column
 text_of (refusal.Chunk f) = chunk_text f
 text_of refusal.Memory = codes "memory"

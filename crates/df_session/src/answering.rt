@@ -22,6 +22,8 @@ pub enum Answer {
     Accepted,
     /// What was asked for.
     Told(Vec<u8>),
+    /// Nothing: the rows of a file enter a frame, named first, whose path this is.
+    Load(Text, Text),
     /// Nothing: the commands in the file under this path come next.
     Source(Text),
     /// Nothing: the session ends.
@@ -36,7 +38,7 @@ impl Answer {
         match self {
             Answer::Accepted => b"ok\n",
             Answer::Told(text) => text.as_slice(),
-            Answer::Source(_) | Answer::Ended => b"",
+            Answer::Load(..) | Answer::Source(_) | Answer::Ended => b"",
         }
     }
 }
@@ -92,6 +94,10 @@ fn answer_command<S: ViewStore>(
             drop(lines);
             Ok(Answer::Told(store.answer(alloc, definitions, question)?))
         }
+        Command::Load(frame, path) => {
+            drop(lines);
+            Ok(load_of(alloc, frame, path)?)
+        }
         Command::Source(path) => {
             drop(lines);
             Ok(Answer::Source(Text::from_str(alloc, path)?))
@@ -109,6 +115,14 @@ fn answer_command<S: ViewStore>(
             Ok(Answer::Ended)
         }
     }
+}
+
+fn load_of(alloc: Global, frame: &str, path: &str) -> Result<Answer, AllocError>
+    ensures { IfOk result (λ answer. answer ≡ Answer.Load frame.now path.now) }
+{
+    let frame = Text::from_str(alloc, frame)?;
+    let path = Text::from_str(alloc, path)?;
+    Ok(Answer::Load(frame, path))
 }
 
 fn explain(alloc: Global, commands: &[CommandHelp], name: &str) -> Result<Vec<u8>, Refusal>

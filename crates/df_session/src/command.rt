@@ -15,6 +15,8 @@ pub enum Command<'a> {
     /// Adds rows to a frame, behind all numbers that it ever accepted.
     AppendNext(&'a str),
     Question(Question<'a>),
+    /// Adds the rows of a file to a frame, behind all numbers that it ever accepted: the frame, and the path.
+    Load(&'a str, &'a str),
     /// The commands in the file under a path.
     Source(&'a str),
     /// The commands.
@@ -94,6 +96,7 @@ fn command_of<'a>(alloc: Global, name: &str, arguments: &[&'a str]) -> Result<Co
         "replace" => Ok(Command::Change(read_replace(alloc, arguments)?)),
         "register" => Ok(Command::Change(AskedChange::Register(only(arguments)?))),
         "drop" => Ok(Command::Change(AskedChange::DropView(only(arguments)?))),
+        "load" => Ok(read_load(arguments)?),
         "source" => Ok(Command::Source(only(arguments)?)),
         "help" => Ok(read_help(arguments)?),
         "quit" => bare(Command::Quit, arguments),
@@ -130,6 +133,16 @@ fn read_append<'a>(arguments: &[&'a str]) -> Result<Command<'a>, Mistake>
             Ok(Command::Change(AskedChange::Append(frame, first)))
         }
         [_, _, _, ..] => Err(Mistake::ExtraWord),
+        _ => Err(Mistake::MissingWord),
+    }
+}
+
+fn read_load<'a>(arguments: &[&'a str]) -> Result<Command<'a>, Mistake>
+    ensures { IfOk result (IsCommandOf (codes "load" ∷ map (λ w. w.now) arguments.now)) }
+{
+    match arguments {
+        [frame, path] => Ok(Command::Load(frame, path)),
+        [_, _, ..] => Err(Mistake::ExtraWord),
         _ => Err(Mistake::MissingWord),
     }
 }

@@ -8,7 +8,7 @@ use std::alloc::{AllocError, Global};
 pub type CommandHelp = (&'static str, &'static str, &'static str);
 
 /// The commands, in the order in which `help` lists them. A command of several forms has an entry for each.
-pub const COMMANDS: [CommandHelp; 20] = [
+pub const COMMANDS: [CommandHelp; 21] = [
     (
         "append",
         "append FRAME                 and lines of CSV up to a line with a dot alone: adds rows behind all others\n",
@@ -18,6 +18,11 @@ pub const COMMANDS: [CommandHelp; 20] = [
         "append",
         "append FRAME FIRST COUNT     and COUNT lines of CSV: adds rows, numbered from FIRST\n",
         "    > append sales 3 2\n    | east,5\n    | south,4\n    ok\n",
+    ),
+    (
+        "load",
+        "load FRAME PATH              adds the rows of a CSV file behind all others; a chunk of 1000 that is refused is left out\n",
+        "    > load sales more.csv\n    ok 2 rows, 3..4\n",
     ),
     (
         "delete",

@@ -20,6 +20,9 @@ pub enum Refusal {
     /// The lines of a command are no records.
     #[error("{0}")]
     Csv(CsvFault),
+    /// The file of a load has no records of the frame.
+    #[error("{0}")]
+    File(CsvFault),
     /// The first bad cell of these: the number of its record, from 1, and the name of its
     /// column.
     #[error("record {0}, column {1:?}")]

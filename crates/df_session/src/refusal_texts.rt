@@ -22,6 +22,7 @@ pub fn refusal_text(alloc: Global, refusal: &Refusal) -> Result<String, AllocErr
         }
         Refusal::Store(fault) => catalogue_text(alloc, *fault),
         Refusal::Csv(fault) => lines_text(alloc, fault),
+        Refusal::File(fault) => file_text(alloc, fault),
         Refusal::Cell(number, column) => cell_text(alloc, *number, column),
         Refusal::Chunk(fault) => String::from_str(alloc, chunk_text(fault)),
         Refusal::Version(fault) => String::from_str(alloc, version_text(*fault)),
@@ -119,6 +120,49 @@ fn bad_record_text(alloc: Global, number: u64) -> Result<String, AllocError>
     format!(in alloc;
         "F4 {number}: record {number} has another number of fields than the frame has columns"
     )
+}
+
+fn file_text(alloc: Global, fault: &CsvFault) -> Result<String, AllocError>
+    ensures { IfOk result (λ text. string_bytes text ≡ texts.file_text fault.now) }
+{
+    match fault {
+        CsvFault::ReadFault => String::from_str(
+            alloc,
+            "F1: the file cannot be opened, or cannot be read",
+        ),
+        CsvFault::TooLarge => String::from_str(alloc, "F2: the file has more than 67108864 bytes"),
+        CsvFault::NotText => String::from_str(alloc, "F3: the file is not UTF-8"),
+        CsvFault::BadRecord(number) => bad_file_record_text(alloc, *number),
+        CsvFault::MissingColumn(name) => missing_column_text(alloc, name),
+        CsvFault::DoubledHeader(name) => doubled_header_text(alloc, name),
+        CsvFault::TooManyRecords => String::from_str(
+            alloc,
+            "F7: the file has more than 1048576 records",
+        ),
+        CsvFault::Memory => String::from_str(alloc, "memory"),
+    }
+}
+
+fn bad_file_record_text(alloc: Global, number: u64) -> Result<String, AllocError>
+    ensures { IfOk result (λ text. string_bytes text ≡ texts.bad_file_record_text number) }
+{
+    format!(in alloc; "F4 {number}: record {number} has another number of fields than the header")
+}
+
+fn missing_column_text(alloc: Global, column: &Text) -> Result<String, AllocError>
+    ensures { IfOk result (λ text. string_bytes text ≡ texts.missing_column_text column.now) }
+{
+    let name = escape(alloc, column.as_str())?;
+    let name = name.as_str();
+    format!(in alloc; "F5 {name}: the header has no column {name}")
+}
+
+fn doubled_header_text(alloc: Global, column: &Text) -> Result<String, AllocError>
+    ensures { IfOk result (λ text. string_bytes text ≡ texts.doubled_header_text column.now) }
+{
+    let name = escape(alloc, column.as_str())?;
+    let name = name.as_str();
+    format!(in alloc; "F6 {name}: the header has the column {name} twice")
 }
 
 fn cell_text(alloc: Global, number: u64, column: &Text) -> Result<String, AllocError>

@@ -4,6 +4,7 @@ use crate::definitions::Definitions;
 use crate::fault::ShellFault;
 use crate::help::COMMANDS;
 use crate::lines::{Line, line_buffer, read_line, with_line, with_long_line, without_end};
+use crate::loading::{Loaded, load};
 use crate::prompts::{COMMAND_PROMPT, Prompts, RECORD_PROMPT, greeting};
 use crate::refusal::{Mistake, Refusal};
 use crate::refusal_texts::refusal_text;
@@ -14,6 +15,7 @@ use df_text::write_text;
 use df_value::{List, Text};
 use std::alloc::{AllocError, Global};
 use std::io::{BufRead, BufReader, Read, Write};
+use std::thread::Threads;
 
 /// What a shell has while it answers.
 pub struct Session<S> {
@@ -51,6 +53,8 @@ impl Buffers {
 enum Turn {
     /// The next one.
     Next,
+    /// The rows of a file, which enter a frame, named first, whose path this is.
+    Load(Text, Text),
     /// The commands in the file under this path.
     Source(Text),
     /// Nothing: the input has ended.
@@ -60,7 +64,8 @@ enum Turn {
 }
 
 /// Writes the first lines, those of the refused chunks among them, and answers the commands.
-pub fn answer_from<S: ViewStore, F: Files, I: BufRead, W: Write>(
+pub fn answer_from<R: Threads + Sync, S: ViewStore, F: Files, I: BufRead, W: Write>(
+    rt: &R,
     alloc: Global,
     session: &mut Session<S>,
     refused: List<u8>,
@@ -71,7 +76,7 @@ pub fn answer_from<S: ViewStore, F: Files, I: BufRead, W: Write>(
     greet(alloc, session, output)?;
     write_answer(output, refused.as_slice())?;
     drop(refused);
-    answer_all(alloc, session, files, input, output)
+    answer_all(rt, alloc, session, files, input, output)
 }
 
 fn greet<S, W: Write>(
@@ -85,7 +90,8 @@ fn greet<S, W: Write>(
     }
 }
 
-fn answer_all<S: ViewStore, F: Files, I: BufRead, W: Write>(
+fn answer_all<R: Threads + Sync, S: ViewStore, F: Files, I: BufRead, W: Write>(
+    rt: &R,
     alloc: Global,
     session: &mut Session<S>,
     files: &mut F,
@@ -95,8 +101,9 @@ fn answer_all<S: ViewStore, F: Files, I: BufRead, W: Write>(
     for _ in 0..u64::MAX {
         match answer_next(alloc, session, input, output)? {
             Turn::Next => {}
+            Turn::Load(frame, path) => load_file(rt, alloc, session, files, frame, path, output)?,
             Turn::Source(path) => {
-                if source(alloc, session, files, &path, output)? {
+                if source(rt, alloc, session, files, &path, output)? {
                     return Ok(());
                 }
             }
@@ -107,7 +114,8 @@ fn answer_all<S: ViewStore, F: Files, I: BufRead, W: Write>(
 }
 
 // Answers the commands in a file, without prompts; whether one of them ends the session.
-fn source<S: ViewStore, F: Files, W: Write>(
+fn source<R: Threads + Sync, S: ViewStore, F: Files, W: Write>(
+    rt: &R,
     alloc: Global,
     session: &mut Session<S>,
     files: &mut F,
@@ -120,19 +128,21 @@ fn source<S: ViewStore, F: Files, W: Write>(
     };
     let prompts = session.prompts;
     session.prompts = Prompts::Hidden;
-    let ended = answer_file(alloc, session, file, output);
+    let ended = answer_file(rt, alloc, session, files, file, output);
     session.prompts = prompts;
     ended
 }
 
-fn answer_file<S: ViewStore, R: Read + Drop, W: Write>(
+fn answer_file<R: Threads + Sync, S: ViewStore, F: Files, W: Write>(
+    rt: &R,
     alloc: Global,
     session: &mut Session<S>,
-    file: R,
+    files: &mut F,
+    file: F::Reader,
     output: &mut W,
 ) -> Result<bool, ShellFault> {
     match BufReader::new(alloc, file) {
-        Ok(mut input) => answer_sourced(alloc, session, &mut input, output),
+        Ok(mut input) => answer_sourced(rt, alloc, session, files, &mut input, output),
         Err(_) => {
             write_refusal(alloc, output, &Refusal::Memory)?;
             Ok(false)
@@ -141,20 +151,21 @@ fn answer_file<S: ViewStore, R: Read + Drop, W: Write>(
 }
 
 // The commands of a file name no further file.
-fn answer_sourced<S: ViewStore, I: BufRead, W: Write>(
+fn answer_sourced<R: Threads + Sync, S: ViewStore, F: Files, I: BufRead, W: Write>(
+    rt: &R,
     alloc: Global,
     session: &mut Session<S>,
+    files: &mut F,
     input: &mut I,
     output: &mut W,
 ) -> Result<bool, ShellFault> {
     for _ in 0..u64::MAX {
         match answer_next(alloc, session, input, output) {
-            Ok(Turn::Next) => {}
-            Ok(Turn::Source(_)) => {
-                write_refusal(alloc, output, &Refusal::Mistake(Mistake::NestedSource))?;
+            Ok(turn) => {
+                if let Some(ended) = take_sourced(rt, alloc, session, files, turn, output)? {
+                    return Ok(ended);
+                }
             }
-            Ok(Turn::End) => return Ok(false),
-            Ok(Turn::Quit) => return Ok(true),
             Err(ShellFault::Read) => {
                 write_refusal(alloc, output, &Refusal::Mistake(Mistake::NoFile))?;
                 return Ok(false);
@@ -163,6 +174,76 @@ fn answer_sourced<S: ViewStore, I: BufRead, W: Write>(
         }
     }
     Ok(false)
+}
+
+// Does what comes behind a command of a file. Some: the file has ended, and whether the session has.
+fn take_sourced<R: Threads + Sync, S: ViewStore, F: Files, W: Write>(
+    rt: &R,
+    alloc: Global,
+    session: &mut Session<S>,
+    files: &mut F,
+    turn: Turn,
+    output: &mut W,
+) -> Result<Option<bool>, ShellFault> {
+    match turn {
+        Turn::Next => Ok(None),
+        Turn::Load(frame, path) => {
+            load_file(rt, alloc, session, files, frame, path, output)?;
+            Ok(None)
+        }
+        Turn::Source(_) => {
+            write_refusal(alloc, output, &Refusal::Mistake(Mistake::NestedSource))?;
+            Ok(None)
+        }
+        Turn::End => Ok(Some(false)),
+        Turn::Quit => Ok(Some(true)),
+    }
+}
+
+// Loads a file, and writes what came of it.
+fn load_file<R: Threads + Sync, S: ViewStore, F: Files, W: Write>(
+    rt: &R,
+    alloc: Global,
+    session: &mut Session<S>,
+    files: &mut F,
+    frame: Text,
+    path: Text,
+    output: &mut W,
+) -> Result<(), ShellFault> {
+    let definitions = &session.definitions;
+    let store = &mut session.store;
+    let loaded = load(
+        rt,
+        alloc,
+        definitions,
+        store,
+        files,
+        frame.as_str(),
+        path.as_str(),
+    );
+    drop(frame);
+    drop(path);
+    match loaded {
+        Ok(loaded) => {
+            let written = write_loaded(output, &loaded);
+            drop(loaded);
+            written
+        }
+        Err(refusal) => {
+            let written = write_refusal(alloc, output, &refusal);
+            drop(refusal);
+            written
+        }
+    }
+}
+
+// It takes no memory, since rows have entered.
+fn write_loaded<W: Write>(output: &mut W, loaded: &Loaded) -> Result<(), ShellFault> {
+    write_all(output, loaded.refused())?;
+    if loaded.is_cut() {
+        write_all(output, b"memory\n")?;
+    }
+    write_answer(output, loaded.entered())
 }
 
 // Reads a line, and answers the command that it is.
@@ -223,6 +304,7 @@ fn tell<W: Write>(
 ) -> Result<Turn, ShellFault> {
     match answer {
         Ok(Answer::Ended) => Ok(Turn::Quit),
+        Ok(Answer::Load(frame, path)) => Ok(Turn::Load(frame, path)),
         Ok(Answer::Source(path)) => Ok(Turn::Source(path)),
         Ok(answer) => {
             let written = write_answer(output, answer.bytes());

@@ -48,7 +48,7 @@ pub fn run_hall_shell<R: Threads + Wait + Sync, V: Read, F: Files, I: BufRead, W
 }
 
 // Opens the hall, and answers the commands.
-fn open<Acc: Ledger, Del: Ledger, R: Wait, F: Files, I: BufRead, W: Write>(
+fn open<Acc: Ledger, Del: Ledger, R: Threads + Wait + Sync, F: Files, I: BufRead, W: Write>(
     rt: &R,
     alloc: Global,
     accepted: Blank,
@@ -93,7 +93,15 @@ fn frames_fault(fault: OpenFault) -> NewFault
 }
 
 // Answers the commands in a hall, of a history with this name.
-fn serve<Acc: Ledger, Del: Ledger, J: Naming, R: Wait, F: Files, I: BufRead, W: Write>(
+fn serve<
+    Acc: Ledger,
+    Del: Ledger,
+    J: Naming,
+    R: Threads + Wait + Sync,
+    F: Files,
+    I: BufRead,
+    W: Write,
+>(
     rt: &R,
     alloc: Global,
     opened: OpenedHall<Acc, Del>,
@@ -115,7 +123,7 @@ fn serve<Acc: Ledger, Del: Ledger, J: Naming, R: Wait, F: Files, I: BufRead, W: 
     match reader {
         Some(reader) => {
             let store = HallStore::new(rt, hall, desks, reader, numbers);
-            answer_and_close(alloc, store, prepared, prompts, files, input, output)
+            answer_and_close(rt, alloc, store, prepared, prompts, files, input, output)
         }
         None => {
             drop(prepared);
@@ -130,7 +138,7 @@ fn serve<Acc: Ledger, Del: Ledger, J: Naming, R: Wait, F: Files, I: BufRead, W: 
 // Answers the commands, and closes the hall.
 fn answer_and_close<
     'r,
-    R: Wait,
+    R: Threads + Wait + Sync,
     Acc: Ledger,
     Del: Ledger,
     J: Naming,
@@ -138,6 +146,7 @@ fn answer_and_close<
     I: BufRead,
     W: Write,
 >(
+    rt: &R,
     alloc: Global,
     store: HallStore<'r, R, Acc, Del, J>,
     prepared: Prepared,
@@ -158,7 +167,16 @@ fn answer_and_close<
         buffers,
         prompts,
     };
-    let answered = fill_and_answer(alloc, &mut session, pieces, refused, files, input, output);
+    let answered = fill_and_answer(
+        rt,
+        alloc,
+        &mut session,
+        pieces,
+        refused,
+        files,
+        input,
+        output,
+    );
     let Session {
         definitions,
         store,
@@ -175,7 +193,7 @@ fn answer_and_close<
 // The first rows and the views, and then the commands.
 fn fill_and_answer<
     'r,
-    R: Wait,
+    R: Threads + Wait + Sync,
     Acc: Ledger,
     Del: Ledger,
     J: Naming,
@@ -183,6 +201,7 @@ fn fill_and_answer<
     I: BufRead,
     W: Write,
 >(
+    rt: &R,
     alloc: Global,
     session: &mut Session<HallStore<'r, R, Acc, Del, J>>,
     pieces: List<List<Piece>>,
@@ -192,5 +211,5 @@ fn fill_and_answer<
     output: &mut W,
 ) -> Result<(), ShellFault> {
     fill(alloc, &mut session.store, &session.definitions, pieces)?;
-    answer_from(alloc, session, refused, files, input, output)
+    answer_from(rt, alloc, session, refused, files, input, output)
 }

@@ -30,7 +30,8 @@ pub fn run_shell<R: Threads + Sync, V: Read, F: Files, I: BufRead, W: Write>(
     output: &mut W,
 ) -> Result<(), ShellFault> {
     let prepared = prepare(rt, alloc, document, files)?;
-    serve::<Brand, Brand, F, I, W>(
+    serve::<Brand, Brand, R, F, I, W>(
+        rt,
         alloc,
         Blank::new(PARTS_OF_LEDGER),
         Blank::new(PARTS_OF_LEDGER),
@@ -43,7 +44,8 @@ pub fn run_shell<R: Threads + Sync, V: Read, F: Files, I: BufRead, W: Write>(
 }
 
 // Opens the store, and answers the commands.
-fn serve<Acc: Ledger, Del: Ledger, F: Files, I: BufRead, W: Write>(
+fn serve<Acc: Ledger, Del: Ledger, R: Threads + Sync, F: Files, I: BufRead, W: Write>(
+    rt: &R,
     alloc: Global,
     accepted: Blank,
     deleted: Blank,
@@ -74,7 +76,7 @@ fn serve<Acc: Ledger, Del: Ledger, F: Files, I: BufRead, W: Write>(
                 buffers,
                 prompts,
             };
-            answer_session(alloc, session, refused, files, input, output)
+            answer_session(rt, alloc, session, refused, files, input, output)
         }
         Err(fault) => {
             drop(definitions);
@@ -87,7 +89,8 @@ fn serve<Acc: Ledger, Del: Ledger, F: Files, I: BufRead, W: Write>(
 
 // Answers the commands, and ends the session: in calls and at one place, since each drop of a store, and one at the end
 // of a block above all, costs the proof anew.
-fn answer_session<Acc: Ledger, Del: Ledger, F: Files, I: BufRead, W: Write>(
+fn answer_session<Acc: Ledger, Del: Ledger, R: Threads + Sync, F: Files, I: BufRead, W: Write>(
+    rt: &R,
     alloc: Global,
     session: Session<Store<Acc, Del>>,
     refused: List<u8>,
@@ -96,7 +99,7 @@ fn answer_session<Acc: Ledger, Del: Ledger, F: Files, I: BufRead, W: Write>(
     output: &mut W,
 ) -> Result<(), ShellFault> {
     let mut session = session;
-    let answered = answer_from(alloc, &mut session, refused, files, input, output);
+    let answered = answer_from(rt, alloc, &mut session, refused, files, input, output);
     let Session {
         definitions,
         store,
