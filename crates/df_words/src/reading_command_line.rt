@@ -15,6 +15,7 @@ const VERSION: &str = "1.0.0";
 const AFTER_HELP: &str = r#"Commands, one a line of standard input:
   append FRAME                 and lines of CSV up to a line with a dot alone: adds rows behind all others
   append FRAME FIRST COUNT     and COUNT lines of CSV: adds rows, numbered from FIRST
+  load FRAME PATH              adds the rows of a CSV file behind all others; a chunk of 1000 that is refused is left out
   delete FRAME NUMBER ..       takes the rows of these numbers out
   replace FRAME NUMBER ..      and as many lines of CSV: puts each row in the place of that of its number
   register VIEW                adds the document's view of this name
