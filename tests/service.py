@@ -1,10 +1,11 @@
 #!/usr/bin/env python3
-"""Runs `stocklist` with each of its allocations refused in turn, every second time with the one behind it: service.py PROGRAM
+"""Runs `stocklist` with its allocations refused in turn, every second time with the one behind it: service.py PROGRAM
 
-Its loader stops at the first call that is refused, and the books are closed. So a run ends with status 2 and prints nothing, where the
+Of the allocations, most of which repeat in each of its rounds, the first 400 are tried, and every fifth behind them. Its loader stops at the first call that is refused, and the books are closed. So a run ends with status 2 and prints nothing, where the
 service was not opened or not closed, or with status 0: then its books are what the loader counted, an append has entered
 whole, and the rows are those accepted less those deleted. At least half of the runs have to end otherwise than one in which nothing is
-refused: else nothing is refused here. Prints what went otherwise, and ends with a count."""
+refused: else nothing is refused here. Where no thread can be started all is as where one can. Prints what went otherwise, and ends with
+a count."""
 
 import concurrent.futures
 import os
@@ -19,6 +20,7 @@ HERE = pathlib.Path(__file__).resolve().parent
 WORDS = ["--loaders", "1", "--seconds", "1", "--seed", "7"]
 # They sleep for most of their time.
 AT_ONCE = 32
+SECONDS = 60
 
 
 def preloaded(folder):
@@ -31,12 +33,20 @@ def preloaded(folder):
 
 
 def run(program, library, **refused):
+    """A run, or None where it does not end."""
     environment = {**os.environ, "LD_PRELOAD": library, **{name: str(value) for name, value in refused.items()}}
-    return subprocess.run([program, *WORDS], env=environment, stdin=subprocess.DEVNULL, capture_output=True, text=True, timeout=60)
+    try:
+        return subprocess.run(
+            [program, *WORDS], env=environment, stdin=subprocess.DEVNULL, capture_output=True, text=True, timeout=SECONDS
+        )
+    except subprocess.TimeoutExpired:
+        return None
 
 
 def fault_of(ran):
     """What is wrong with a run, if anything is."""
+    if ran is None:
+        return f"no end in {SECONDS} seconds"
     if ran.returncode == 2:
         return "something is printed beside a refusal" if ran.stdout else None
     if ran.returncode:
@@ -55,14 +65,17 @@ def main():
     with tempfile.TemporaryDirectory() as folder:
         library = preloaded(folder)
         whole = run(program, library, COUNTS=f"{folder}/counts")
-        if whole.returncode or fault_of(whole):
+        if whole is None or whole.returncode or fault_of(whole):
             sys.exit(f"nothing is refused, and yet: {fault_of(whole)}")
         allocations = int(pathlib.Path(folder, "counts").read_text().split()[0])
-        tried = range(1, allocations + 1)
+        tried = [at for at in range(1, allocations + 1) if at <= 400 or at % 5 == 0]
+        alone = run(program, library, FAIL_EVERY_THREAD=1)
         with concurrent.futures.ThreadPoolExecutor(AT_ONCE) as pool:
             runs = list(pool.map(lambda at: run(program, library, FAIL_ALLOC=at, FAIL_ALLOCS=1 + at % 2), tried))
     faults = [f"allocation {at}: {fault}" for at, ran in zip(tried, runs) if (fault := fault_of(ran))]
-    refused = sum(ran.stdout != whole.stdout for ran in runs)
+    if alone is None or (alone.returncode, alone.stdout) != (0, whole.stdout):
+        faults.append(f"no thread can be started: {fault_of(alone) or alone.stdout}")
+    refused = sum(ran is not None and ran.stdout != whole.stdout for ran in runs)
     if 2 * refused < len(runs):
         faults.append(f"only {refused} runs end otherwise than without a refusal")
     for fault in faults:

@@ -87,11 +87,13 @@ pub(crate) fn run_threads<
 ) -> (Vec<L>, Watching<W, J>) {
     let loading = AtomicU64::new(1);
     let left = &loading;
-    thread::join(
+    // Where no thread can be started for the watcher it comes last, and no loader waits for it.
+    let (watching, loaders) = thread::join(
         rt,
-        move || load_all(rt, service, loaders, left),
         move || watching.look_on(rt, left),
-    )
+        move || load_all(rt, service, loaders, left),
+    );
+    (loaders, watching)
 }
 
 fn load_all<
