@@ -4,7 +4,7 @@
 The file has 2,500 rows, so three chunks. Where memory is refused to a chunk that chunk is left out, or those from there on are; each of
 the others enters whole. So the rows that the answer tells are those of whole chunks, and as many as the books count; they have the numbers
 behind those before; the file loads whole when it is loaded again, and every view has the rows of its plan. Of some 2,500 rows that are made
-alike every seventh allocation is tried, and each of the first 400. At least 50 of the loads have to be refused in part: else nothing
+alike every thirty-first allocation is tried, and each of the first 400. At least 50 of the loads have to be refused in part: else nothing
 is refused here. Runs without and with --hall, prints what went otherwise, and ends with a count."""
 
 import concurrent.futures
@@ -44,21 +44,19 @@ def run(shell, words, folder, library, **refused):
 
 
 def answers_of(text):
-    """What the loads and the books answer, in turn: the lines of a load up to its last one, and each other line."""
-    answers, lines = [], []
-    for line in text.split("\n")[:-1]:
-        lines.append(line)
-        if not re.match(r"refused t \d+: ", line):
-            answers.append(lines)
-            lines = []
-    # A line `memory` above one that begins with `ok` belongs to the same load.
-    joined = []
-    for lines in answers:
-        if joined and joined[-1][-1] == "memory" and lines[0].startswith("ok "):
-            joined[-1] += lines
-        else:
-            joined.append(lines)
-    return joined
+    """The lines that answer each command. A load has a line for each chunk that is left out, then `memory` where it ended early, then
+    what entered; or `memory` alone."""
+    lines, at, answers = text.split("\n")[:-1], 0, []
+    for command in COMMANDS.split("\n")[:-1]:
+        begin = at
+        if command.startswith("load "):
+            while at < len(lines) and lines[at].startswith("refused t "):
+                at += 1
+            if lines[at : at + 1] == ["memory"] and "".join(lines[at + 1 : at + 2]).startswith("ok "):
+                at += 1
+        at += 1
+        answers.append(lines[begin:at])
+    return answers if at == len(lines) else []
 
 
 def fault_of(ran):
@@ -68,8 +66,8 @@ def fault_of(ran):
     if ran.returncode:
         return f"status {ran.returncode}: {ran.stderr[:200]}", False
     answers = answers_of(ran.stdout)
-    if len(answers) != 5:
-        return f"five commands have {len(answers)} answers: {ran.stdout[:300]}", False
+    if not answers:
+        return f"not an answer for each command: {ran.stdout[:300]}", False
     accepted, counts = 2, []
     for load, books in (answers[0:2], answers[2:4]):
         told = re.fullmatch(r"ok (\d+) rows?(?:, (\d+)\.\.(\d+))?", load[-1])
@@ -95,7 +93,7 @@ def try_all(shell, words, folder, library):
     if fault_of(whole) != (None, False) or f"ok {ROWS} rows" not in whole.stdout:
         sys.exit(f"nothing is refused, and yet: {whole.stdout}{whole.stderr}")
     allocations = int(pathlib.Path(folder, "counts").read_text().split()[0])
-    tried = [at for at in range(1, allocations + 1) if at <= 400 or at % 7 == 0]
+    tried = [at for at in range(1, allocations + 1) if at <= 400 or at % 31 == 0]
     with concurrent.futures.ThreadPoolExecutor(os.cpu_count()) as pool:
         runs = pool.map(lambda at: run(shell, words, folder, library, FAIL_ALLOC=at, FAIL_ALLOCS=1 + at % 2), tried)
         found = [(at, *fault_of(ran)) for at, ran in zip(tried, runs)]
