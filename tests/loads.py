@@ -15,7 +15,7 @@ import subprocess
 import sys
 import tempfile
 
-from service import preloaded
+from sessions import failing_library
 
 DOCUMENT = """
 [[frame]]
@@ -105,7 +105,7 @@ def main():
     shell = os.path.abspath(sys.argv[1])
     faults, refused, tried = [], 0, 0
     with tempfile.TemporaryDirectory() as folder:
-        library = preloaded(folder)
+        library = failing_library(folder)
         pathlib.Path(folder, "view.toml").write_text(DOCUMENT)
         rows = "".join(f"{at % 7},{at}\n" for at in range(ROWS))
         pathlib.Path(folder, "rows.csv").write_text(f"k,v\n{rows}")

@@ -1,35 +1,26 @@
 #!/usr/bin/env python3
 """Runs `stocklist` with its allocations refused in turn, every second time with the one behind it: service.py PROGRAM
 
-Of the allocations, most of which repeat in each of its rounds, the first 400 are tried, and every fifth behind them. Its loader stops at the first call that is refused, and the books are closed. So a run ends with status 2 and prints nothing, where the
-service was not opened or not closed, or with status 0: then its books are what the loader counted, an append has entered
-whole, and the rows are those accepted less those deleted. At least half of the runs have to end otherwise than one in which nothing is
-refused: else nothing is refused here. Where no thread can be started all is as where one can. Prints what went otherwise, and ends with
-a count."""
+Of the allocations, most of which repeat in each of its rounds, the first 400 are tried, and every fifth behind them. Its loader stops
+at the first call that is refused, and the books are closed. So a run ends with status 2 and prints nothing, where the service was not
+opened or not closed, or with status 0: then its books are what the loader counted, an append has entered whole, and the rows are those
+accepted less those deleted. At least half of the runs have to end otherwise than one in which nothing is refused: else nothing is
+refused here. Where no thread can be started all is as where one can. Prints what went otherwise, and ends with a count."""
 
 import concurrent.futures
 import os
 import pathlib
 import re
-import shutil
 import subprocess
 import sys
 import tempfile
 
-HERE = pathlib.Path(__file__).resolve().parent
+from sessions import failing_library
+
 WORDS = ["--loaders", "1", "--seconds", "1", "--seed", "7"]
 # They sleep for most of their time.
 AT_ONCE = 32
 SECONDS = 60
-
-
-def preloaded(folder):
-    """tests/failing.c, built."""
-    page = subprocess.run(["rt", "doc"], capture_output=True, text=True, check=True).stdout.strip()
-    compiler = os.environ.get("CC") or shutil.which("cc") or pathlib.Path(page).parent / "toolchain/bin/clang"
-    library = f"{folder}/failing.so"
-    subprocess.run([compiler, "-O1", "-shared", "-fPIC", "-nostdlib", "-o", library, HERE / "failing.c"], check=True)
-    return library
 
 
 def run(program, library, **refused):
@@ -63,7 +54,7 @@ def fault_of(ran):
 def main():
     program = os.path.abspath(sys.argv[1])
     with tempfile.TemporaryDirectory() as folder:
-        library = preloaded(folder)
+        library = failing_library(folder)
         whole = run(program, library, COUNTS=f"{folder}/counts")
         if whole is None or whole.returncode or fault_of(whole):
             sys.exit(f"nothing is refused, and yet: {fault_of(whole)}")
