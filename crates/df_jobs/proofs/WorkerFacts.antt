@@ -1,15 +1,17 @@
 -- Lists of workers, and the desks of all of them.
-use Rattle.std.proofs.Common.{◌≡◌, ℕ, zero, suc, ◌+◌, ◌*◌, ◌<◌, ◌≤◌, ◌∙◌, List, [], ◌∷◌, ◌++◌, length, map, take, drop, get_or, set, refl, ap, sym, subst, arith}
-use Rattle.std.specs.Prelude.{All, None, flat_map}
+use Rattle.std.proofs.Common.{◌≡◌, ℕ, zero, suc, ◌+◌, ◌*◌, ◌<◌, ◌≤◌, ◌∙◌, List, [], ◌∷◌, ◌++◌, length, length-append, length-set, map, take, drop, get_or, set, refl, ap, sym, subst, arith}
+use Rattle.std.specs.Prelude.{All, None, flat_map, vec_capacity}
 use Rattle.std.proofs.lemmas.List.{append-nil, drop-set-lt, flat_map_more, map-append}
+use Rattle.std.proofs.Math.Seq.{drop-append-add, drop-append_seam, take-append_seam}
 use Rattle.std.proofs.lemmas.List.Concat.{length-flat_map}
-use Rattle.std.proofs.lemmas.List.Elements.{All-append, All-cons, All-drop, All-nil}
+use Rattle.std.proofs.lemmas.List.Elements.{All-append, All-cons, All-drop, All-nil, All-push, All-set, All-take}
 use Rattle.std.proofs.lemmas.List.Folds.{length-flat_map-take}
 use Rattle.std.proofs.lemmas.List.Sums.{sum_by-le}
 use Rattle.df_state.specs.Desks.{DeskParts, HaveSameSums}
 use Rattle.df_state.proofs.ListFacts.{take-more}
+use Rattle.df_jobs.specs.declared.jobs.Outcome.{Outcome}
 use Rattle.df_jobs.specs.declared.worker.Worker.{Worker}
-use Rattle.df_claims.specs.Seats.{ClaimsView}
+use Rattle.df_claims.specs.Seats.{ClaimsView, IsSeatOf}
 use Rattle.df_value.specs.declared.chunk.Piece.{Piece}
 use Rattle.df_jobs.specs.Jobs.{AreOutcomes, IsOutcome}
 use Rattle.df_jobs.specs.Workers.{HasNotBegun, IsIdle, IsWorker, desks_of, outcomes_in}
@@ -171,3 +173,102 @@ nothing-done claims most [] begun = refl
 nothing-done claims most (w ∷ ws) begun =
     ap (λ os. os ++ outcomes_in ws) (begun zero w (omega arith)).done
     ∙ nothing-done claims most ws (λ k d h. begun (suc k) d (omega (arith, h)))
+
+-- workers that are parted at a place, of which one before it and the one at it change
+module _ {A D : Type 0} (claims : ClaimsView) (most : ℕ) (ws givers takers : List (Worker A D)) (to : ℕ) (parted : ws ≡ givers ++ takers) (len : length givers ≡ to) where
+  pub giver-there : (from : ℕ) → from < to → from < length givers
+  giver-there from low = omega (arith, low, len)
+
+  pub taker-there : to < length ws → 0 < length takers
+  taker-there low =
+      let all = ap length parted in
+      let both = length-append givers takers in
+      omega (arith, low, all, both, len)
+
+  parted-idle : All (IsIdle claims most) (drop to ws) → All (IsIdle claims most) takers
+  parted-idle idle =
+      subst (λ vs. All (IsIdle claims most) vs)
+      (ap (drop to) parted ∙ (ap (λ n. drop n (givers ++ takers)) (sym len) ∙ drop-append_seam givers takers)) idle
+
+  taker-idle : All (IsIdle claims most) (drop to ws) → to < length ws → (e : Worker A D) → IsIdle claims most (get_or takers 0 e)
+  taker-idle idle low e = parted-idle idle 0 e (taker-there low)
+
+  givers-begun : All (HasNotBegun claims most) ws → All (HasNotBegun claims most) givers
+  givers-begun begun =
+      subst (λ vs. All (HasNotBegun claims most) vs) (take-append_seam givers takers)
+      (All-take (HasNotBegun claims most) (length givers) (givers ++ takers) (subst (λ vs. All (HasNotBegun claims most) vs) parted begun))
+
+  takers-begun : All (HasNotBegun claims most) ws → All (HasNotBegun claims most) takers
+  takers-begun begun =
+      subst (λ vs. All (HasNotBegun claims most) vs) (drop-append_seam givers takers)
+      (All-drop (HasNotBegun claims most) (length givers) (givers ++ takers) (subst (λ vs. All (HasNotBegun claims most) vs) parted begun))
+
+  -- the one at the place has room for the desks of the other
+  pub room-there :
+      All (HasNotBegun claims most) ws → All (IsIdle claims most) (drop to ws) → to < length ws → (from : ℕ) → from < to → (d e : Worker A D) →
+      length (get_or takers 0 e).desks.items + length (get_or givers from d).desks.items ≤ vec_capacity (get_or takers 0 e).desks
+  room-there begun idle within from low d e =
+      let few = (givers-begun begun from d (giver-there from low)).desks in
+      let taker = taker-idle idle within e in
+      let none = ap length taker.desks in
+      let room = taker.room in
+      omega (arith, few, none, room)
+
+  pub exchanged-begun :
+      All (HasNotBegun claims most) ws → All (IsIdle claims most) (drop to ws) → to < length ws → (from : ℕ) → from < to → (d e giver taker : Worker A D) →
+      giver.seat ≡ (get_or givers from d).seat → giver.done ≡ (get_or givers from d).done → taker.seat ≡ (get_or takers 0 e).seat → taker.done ≡ (get_or takers 0 e).done →
+      length giver.desks.items ≡ length (get_or givers from d).desks.items →
+      length taker.desks.items ≤ length (get_or takers 0 e).desks.items + length (get_or givers from d).desks.items →
+      All (HasNotBegun claims most) (set givers from giver ++ set takers 0 taker)
+  exchanged-begun begun idle within from low d e giver taker giver_seat giver_done taker_seat taker_done same more =
+      let was = givers-begun begun from d (giver-there from low) in
+      let free = taker-idle idle within e in
+      let few = was.desks in
+      let none = ap length free.desks in
+      let given : HasNotBegun claims most giver = record {
+        seat = subst (IsSeatOf claims) (sym giver_seat) was.seat;
+        desks = omega (arith, same, few);
+        done = ap (λ v. v.items) giver_done ∙ was.done;
+      } in
+      let taken : HasNotBegun claims most taker = record {
+        seat = subst (IsSeatOf claims) (sym taker_seat) free.seat;
+        desks = omega (arith, more, none, few);
+        done = ap (λ v. v.items) taker_done ∙ free.done;
+      } in
+      All-append (HasNotBegun claims most) (set givers from giver) (set takers 0 taker) (All-set (HasNotBegun claims most) givers from giver given (givers-begun begun))
+      (All-set (HasNotBegun claims most) takers 0 taker taken (takers-begun begun))
+
+  pub exchanged-idle :
+      All (IsIdle claims most) (drop to ws) → (from : ℕ) (giver taker : Worker A D) → All (IsIdle claims most) (drop (to + 1) (set givers from giver ++ set takers 0 taker))
+  exchanged-idle idle from giver taker =
+      subst (λ vs. All (IsIdle claims most) vs)
+      (sym (ap (λ n. drop (n + 1) (set givers from giver ++ set takers 0 taker)) (sym len ∙ sym (length-set givers from giver))
+      ∙ drop-append-add (set givers from giver) (set takers 0 taker) 1))
+      (rest-idle claims most takers taker (parted-idle idle))
+
+  pub exchanged-count : (from : ℕ) (giver taker : Worker A D) → length (set givers from giver ++ set takers 0 taker) ≡ length ws
+  exchanged-count from giver taker =
+      let all = ap length parted in
+      let both = length-append givers takers in
+      let now = length-append (set givers from giver) (set takers 0 taker) in
+      let a = length-set givers from giver in
+      let b = length-set takers 0 taker in
+      omega (arith, all, both, now, a, b)
+
+-- what one more worker has done is behind what was gathered, and it was not stopped either
+pub one-more-done :
+    {A D : Type 0} (ws : List (Worker A D)) (w : Worker A D) (before after : List Outcome) → (before ≡ outcomes_in ws) × All (λ v. v.stopped ≡ None) ws →
+    after ≡ before ++ w.done.items → w.stopped ≡ None → (after ≡ outcomes_in (ws ++ w ∷ [])) × All (λ v. v.stopped ≡ None) (ws ++ w ∷ [])
+one-more-done {A = A} {D = D} ws w before after so_far given here = (
+  given ∙ (ap (λ os. os ++ w.done.items) so_far.0 ∙ flat_map_more (λ (v : Worker A D). v.done.items) [] ws w),
+  All-push (λ (v : Worker A D). v.stopped ≡ None) ws w so_far.1 here,
+)
+
+pub none-running : {A D : Type 0} → All {X = Worker A D} (λ v. v.stopped ≡ None) []
+none-running {A = A} {D = D} = All-nil (λ (v : Worker A D). v.stopped ≡ None)
+
+-- the workers that were gone through are all of them
+pub all-done :
+    {A D : Type 0} (ws all : List (Worker A D)) (os : List Outcome) → ws ≡ all → (os ≡ outcomes_in ws) × All (λ v. v.stopped ≡ None) ws →
+    (os ≡ outcomes_in all) × All (λ v. v.stopped ≡ None) all
+all-done {A = A} {D = D} ws all os same done = (done.0 ∙ ap outcomes_in same, subst (λ vs. All (λ (v : Worker A D). v.stopped ≡ None) vs) same done.1)
