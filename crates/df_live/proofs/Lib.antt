@@ -1,5 +1,4 @@
 pub mod Scans
-pub mod StagedTrees
 pub mod KeptTags
 pub mod FitRows
 pub mod JoinSteps
@@ -20,3 +19,4 @@ pub mod ViewLaws
 pub mod JoinTrees
 pub mod InputChecks
 pub mod MadeTrees
+pub mod Preparing

@@ -3,6 +3,7 @@ pub mod JoinOperators
 pub mod Frames
 pub mod Trees
 pub mod Staged
+pub mod Prepared
 pub mod Meaning
 pub mod Lawful
 pub mod Fresh

@@ -4,8 +4,12 @@ ghost use Rattle.df_column.specs.Tables.{TaggedRows};
 ghost use Rattle.df_delta.specs.Differences.{IsDiff};
 ghost use Rattle.df_delta.specs.Work.{IsBelow, IsWithin, plus};
 ghost use Rattle.df_live.specs.Frames.{changed};
+ghost use Rattle.df_live.specs.JoinOperators.{join_budget};
+ghost use Rattle.df_live.specs.Operators.{operator_budget};
+ghost use Rattle.df_live.specs.Prepared.{IsPrepared};
 ghost use Rattle.df_live.specs.Staged.{HasRoomFor, LeadsTo};
 ghost use Rattle.df_live.specs.Trees.{IsOver, MayFollow, Takes, allowed, budget, output};
+ghost use Rattle.df_live.specs.declared.tree.LiveTree.TheVariants as trees;
 
 use crate::joined::JoinOperator;
 use crate::operator::{LiveOperator, StagedOperator};
@@ -90,27 +94,79 @@ impl LiveTree {
             → LeadsTo self.new r.0 (changed frames frame delta.now)) }
         ensures room { IfOk result (λ r. HasRoomFor self.new r.0) }
     {
+        self.prepared(alloc, frame, delta, meter)
+    }
+
+    // The same, said by one clause, so that each exit on the way down has one to show.
+    #[cycle(prepared)]
+    fn prepared(
+        &mut self,
+        alloc: Global,
+        frame: usize,
+        delta: &Delta,
+        meter: &mut Meter,
+    ) -> Result<(StagedTree, Delta), AllocError>
+        requires counts { IsBelow (plus meter.old (budget self.old)) (2 ^ 128) }
+        ensures { IsPrepared self.old self.new frame delta.now meter.old meter.new result }
+    {
         match self {
             LiveTree::Scan(scan) => {
                 let changes = scanned(alloc, *scan, frame, delta)?;
                 Ok((StagedTree::Scan, changes))
             }
             LiveTree::Operator(input, node) => {
-                let below = input.prepare(alloc, frame, delta, meter);
-                let (below, between) = boxed(alloc, below)?;
-                let made = over_one(below, node.prepare(&between, meter));
-                then_drop(made, between)
+                LiveTree::prepared_over(alloc, input, node, frame, delta, meter)
             }
             LiveTree::Join(left, right, node) => {
-                let on_left = left.prepare(alloc, frame, delta, meter);
-                let (on_left, from_left) = boxed(alloc, on_left)?;
-                let on_right = right.prepare(alloc, frame, delta, meter);
-                let (on_right, from_right) = boxed(alloc, on_right)?;
-                let made = node.prepare(&from_left, &from_right, meter);
-                let made = over_two(on_left, on_right, made);
-                then_drop(then_drop(made, from_left), from_right)
+                LiveTree::prepared_join(alloc, left, right, node, frame, delta, meter)
             }
         }
+    }
+
+    // Of an operator over its input.
+    #[cycle(prepared)]
+    fn prepared_over(
+        alloc: Global,
+        input: &mut LiveTree,
+        node: &mut LiveOperator,
+        frame: usize,
+        delta: &Delta,
+        meter: &mut Meter,
+    ) -> Result<(StagedTree, Delta), AllocError>
+        requires counts { IsBelow
+            (plus meter.old (plus (budget input.old) (operator_budget node.old))) (2 ^ 128) }
+        ensures { (p : _) → IsPrepared (trees.Operator' p input.old node.old)
+            (trees.Operator' p input.new node.new) frame delta.now meter.old meter.new result }
+    {
+        let below = input.prepared(alloc, frame, delta, meter);
+        let (below, between) = boxed(alloc, below)?;
+        let made = over_one(below, node.prepare(&between, meter));
+        then_drop(made, between)
+    }
+
+    // Of a join of two inputs.
+    #[cycle(prepared)]
+    fn prepared_join(
+        alloc: Global,
+        left: &mut LiveTree,
+        right: &mut LiveTree,
+        node: &mut JoinOperator,
+        frame: usize,
+        delta: &Delta,
+        meter: &mut Meter,
+    ) -> Result<(StagedTree, Delta), AllocError>
+        requires counts { IsBelow (plus meter.old
+            (plus (budget left.old) (plus (budget right.old) (join_budget node.old)))) (2 ^ 128) }
+        ensures { (p q : _) → IsPrepared (trees.Join' p left.old q right.old node.old)
+            (trees.Join' p left.new q right.new node.new) frame delta.now meter.old meter.new result }
+    {
+        let on_left = left.prepared(alloc, frame, delta, meter);
+        let (on_left, from_left) = boxed(alloc, on_left)?;
+        let on_right = right.prepared(alloc, frame, delta, meter);
+        let (on_right, from_right) = boxed(alloc, on_right)?;
+        let made = node.prepare(&from_left, &from_right, meter);
+        let made = over_two(on_left, on_right, made);
+        then_drop(then_drop(made, from_left), from_right)
     }
 
     /// Puts the staged tree in place.
