@@ -1,4 +1,3 @@
-use Rattle.std.specs.Prelude.{true}
 use Rattle.df_csv.proofs.CutFacts.{quoted_drop}
 use Rattle.df_csv.proofs.PlainFacts.{blank_lines, then_begins}
 use Rattle.df_csv.proofs.plain.skip_blank_lines.Goals as goal
