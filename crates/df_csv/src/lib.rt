@@ -13,6 +13,7 @@ mod layout;
 mod limited;
 mod part;
 mod pieces;
+mod plain;
 mod reading;
 mod records;
 mod rows;
