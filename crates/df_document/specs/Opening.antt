@@ -10,7 +10,7 @@ use Rattle.df_csv.specs.Records.{FieldRows as Records, file_records, records_of}
 use Rattle.df_csv.specs.Typed.{pieces_of}
 use Rattle.df_csv.specs.declared.fault.CsvFault.{CsvFault}
 use Rattle.df_csv.specs.declared.fault.CsvFault.TheVariants as csv
-use Rattle.df_text.specs.Document.{document_of}
+use Rattle.df_text.specs.Document.{document_of, next_view_of}
 use Rattle.df_text.specs.declared.document.FrameSource.{FrameSource}
 use Rattle.df_text.specs.declared.document.FrameSource.TheVariants as source
 use Rattle.df_text.specs.declared.document.FrameSpec.{FrameSpec}
@@ -29,7 +29,7 @@ abbrev pub results_after : {A B : Type 0} → (A → Result B DocumentFault) →
 results_after answer out [] = Ok out
 results_after answer out (x ∷ xs) = then_next (answer x) (λ y. results_after answer (out ++ y ∷ []) xs)
 
-abbrev pub of_document : Result Views ViewsFault → Result Views DocumentFault
+abbrev pub of_document : {A : Type 0} → Result A ViewsFault → Result A DocumentFault
 of_document (Ok document) = Ok document
 of_document (Err f) = Err (fault.Views f)
 
@@ -66,6 +66,16 @@ pieces_in contents chunk frame = of_records chunk frame (records_in contents fra
 -- the plans of a document's views, in their order, or the first fault
 abbrev pub plans_of : Views → Result (List CheckedParts) DocumentFault
 plans_of document = results_after (plan_of (schemas_of document.frames)) [] document.views
+
+-- one more view of a document, read as it would stand behind the others
+abbrev pub next_view_read : Views → List ℕ → List ℕ → List ℕ → Result ViewSpec DocumentFault
+next_view_read document name source steps = of_document (next_view_of document.frames document.views name source steps)
+
+-- one more view of a document, with its plan, or the first fault
+abbrev pub next_view_in : Views → List ℕ → List ℕ → List ℕ → Result (ViewSpec × CheckedParts) DocumentFault
+next_view_in document name source steps =
+    then_next (next_view_read document name source steps) (λ view.
+    then_next (plan_of (schemas_of document.frames) view) (λ plan. Ok (view, plan)))
 
 -- a document that was read, opened: its plans are checked in the order of the views, then its frames are read in their
 -- order and typed in chunks of so many records

@@ -87,7 +87,8 @@ fn schema_text(fault: &SchemaFault) -> &'static str
     }
 }
 
-fn views_text(alloc: Global, fault: &ViewsFault) -> Result<String, AllocError>
+/// The text of a fault of a document's shape.
+pub fn views_text(alloc: Global, fault: &ViewsFault) -> Result<String, AllocError>
     ensures { IfOk result (λ text. string_bytes text ≡ texts.views_text fault.now) }
 {
     match fault {
@@ -117,7 +118,8 @@ fn expr_text(alloc: Global, fault: &ExprFault) -> Result<String, AllocError>
     }
 }
 
-fn plan_text(alloc: Global, fault: &PlanFault) -> Result<String, AllocError>
+/// The text of a fault of a view's plan, as it stands behind the view's name.
+pub fn plan_text(alloc: Global, fault: &PlanFault) -> Result<String, AllocError>
     ensures { IfOk result (λ text. string_bytes text ≡ texts.plan_text fault.now) }
 {
     match fault {

@@ -224,7 +224,8 @@ fn check_views(
     Ok(List::from_vec(plans))
 }
 
-fn check_view(
+/// The plan of a view, checked over the schemas of the frames.
+pub fn check_view(
     alloc: Global,
     schemas: &[Schema],
     view: &ViewSpec,

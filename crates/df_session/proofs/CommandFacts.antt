@@ -20,6 +20,21 @@ pub three-words :
     name ∷ map (λ w. w.now) xs ≡ name ∷ (slice_index_or xs 0 d).now ∷ (slice_index_or xs 1 d).now ∷ (slice_index_or xs 2 d).now ∷ []
 three-words {name} d xs h = ap (λ ws. name ∷ ws) (three d xs h)
 
+three-up :
+    (d : Bor (List ℕ)) (xs : List (Bor (List ℕ))) → 3 ≤ length xs →
+    map (λ w. w.now) xs ≡ (slice_index_or xs 0 d).now ∷ (slice_index_or xs 1 d).now ∷ (slice_index_or xs 2 d).now ∷ map (λ w. w.now) (drop 3 xs)
+three-up d [] h = absurd (omega arith)
+three-up d (a ∷ []) h = absurd (omega arith)
+three-up d (a ∷ b ∷ []) h = absurd (omega arith)
+three-up d (a ∷ b ∷ e ∷ xs) h = refl
+
+-- three words behind a name, and others
+pub three-words-up :
+    {name : List ℕ} (d : Bor (List ℕ)) (xs : List (Bor (List ℕ))) → 3 ≤ length xs →
+    name ∷ map (λ w. w.now) xs
+    ≡ name ∷ (slice_index_or xs 0 d).now ∷ (slice_index_or xs 1 d).now ∷ (slice_index_or xs 2 d).now ∷ map (λ w. w.now) (drop 3 xs)
+three-words-up {name} d xs h = ap (λ ws. name ∷ ws) (three-up d xs h)
+
 -- one word more of a list, and what it stands for
 pub numbers-more :
     (R : List ℕ → ℕ → Type 0) (d : Bor (List ℕ)) (xs : List (Bor (List ℕ))) (i : ℕ) (ys : List ℕ) (y : ℕ) → i < length xs →

@@ -2,6 +2,7 @@
 use Rattle.std.specs.Prelude.{◌≡◌, ◌⊎◌, ⊤, ℕ, List, [], Option, Some, None, Result, Ok, Err, codes}
 use Rattle.csv.specs.Records.{Row, fields_of}
 use Rattle.std.specs.Global.{Vec}
+use Rattle.df_session.specs.Defined.{IsDefined, IsRefusalOfDefine}
 use Rattle.df_state.specs.declared.change.Change.{Change}
 use Rattle.df_session.specs.Commands.{IsCommandOf}
 use Rattle.df_session.specs.Asked.{IsAppended, IsMadeAsAsked, IsRefusalOfAppendNext, IsRefusalOfAsked, frame_index_of}
@@ -34,6 +35,11 @@ IsWordFault r = ⊥
 abbrev pub IsRefusalOfHelp : Option (List ℕ) → Refusal → Type 0
 IsRefusalOfHelp want r = (r ≡ refusal.Memory) ⊎ ((r ≡ refusal.Mistake mistake.NoCommand) × (want ≡ None))
 
+-- only a view that was defined alters the definitions
+abbrev pub LeavesDefinitions : Definitions → Definitions → Command → Result Answer Refusal → Type 0
+LeavesDefinitions d after (command.Define view source) (Ok a) = ⊤
+LeavesDefinitions d after c result = after ≡ d
+
 -- by what a store makes, refuses, keeps where it makes no change, and answers, the numbers that it has for further rows, and the
 -- commands that are told
 module _
@@ -44,34 +50,39 @@ module _
     (Next : ℕ → ℕ → Type 0)
     (commands : List (List ℕ × List ℕ × List ℕ))
   where
-    -- The answer to a command, with the lines that were read for it: the change that it asks for was made, or the question is
-    -- answered; else it is refused. Only a change that was made alters the store.
-    abbrev pub IsAnswer : {T : Type 0} → Definitions → Command → Result T Refusal → Result Answer Refusal → Type 0
-    IsAnswer d (command.Change change) lines (Ok answer.Accepted) = IsMadeAsAsked Makes d change lines
-    IsAnswer d (command.Change change) lines (Err r) = IsRefusalOfAsked Refuses d change lines r × Keeps
-    IsAnswer d (command.AppendNext frame) lines (Ok (answer.Told text)) = IsAppended Makes Next d (frame_index_of d frame.now) lines text
-    IsAnswer d (command.AppendNext frame) lines (Err r) =
+    -- The answer to a command, with the lines that were read for it, or its steps: the change that it asks for was made, or the
+    -- question is answered; else it is refused. Only a change that was made alters the store. The definitions before and after the
+    -- answer come first.
+    abbrev pub IsAnswer : Definitions → Definitions → Command → Result (Vec ℕ) Refusal → Result Answer Refusal → Type 0
+    IsAnswer d after (command.Change change) lines (Ok answer.Accepted) = IsMadeAsAsked Makes d change lines
+    IsAnswer d after (command.Change change) lines (Err r) = IsRefusalOfAsked Refuses d change lines r × Keeps
+    IsAnswer d after (command.AppendNext frame) lines (Ok (answer.Told text)) = IsAppended Makes Next d (frame_index_of d frame.now) lines text
+    IsAnswer d after (command.AppendNext frame) lines (Err r) =
         IsRefusalOfAppendNext Refuses d (frame_index_of d frame.now) lines r × Keeps
-    IsAnswer d (command.Question q) lines (Ok (answer.Told text)) = Answers q (Ok text)
-    IsAnswer d (command.Question q) lines (Err r) = Answers q (Err r)
-    IsAnswer d (command.Load frame path) lines (Ok (answer.Load f p)) = (f ≡ frame.now) × (p ≡ path.now) × Keeps
-    IsAnswer d (command.Load frame path) lines (Err r) = (r ≡ refusal.Memory) × Keeps
-    IsAnswer d (command.Source path) lines (Ok (answer.Source file)) = (file ≡ path.now) × Keeps
-    IsAnswer d (command.Source path) lines (Err r) = (r ≡ refusal.Memory) × Keeps
-    IsAnswer d command.Help lines (Ok (answer.Told text)) = (text.items ≡ help_list commands) × Keeps
-    IsAnswer d command.Help lines (Err r) = (r ≡ refusal.Memory) × Keeps
-    IsAnswer d (command.HelpOn name) lines (Ok (answer.Told text)) = (help_on name.now commands ≡ Some text.items) × Keeps
-    IsAnswer d (command.HelpOn name) lines (Err r) = IsRefusalOfHelp (help_on name.now commands) r × Keeps
-    IsAnswer d command.Quit lines (Ok answer.Ended) = Keeps
-    IsAnswer d c lines result = ⊥
+    IsAnswer d after (command.Question q) lines (Ok (answer.Told text)) = Answers q (Ok text)
+    IsAnswer d after (command.Question q) lines (Err r) = Answers q (Err r)
+    IsAnswer d after (command.Define view source) steps (Ok answer.Accepted) = IsDefined Makes d after view.now source.now steps
+    IsAnswer d after (command.Define view source) steps (Err r) = IsRefusalOfDefine Refuses d view.now source.now steps r × Keeps
+    IsAnswer d after (command.Load frame path) lines (Ok (answer.Load f p)) = (f ≡ frame.now) × (p ≡ path.now) × Keeps
+    IsAnswer d after (command.Load frame path) lines (Err r) = (r ≡ refusal.Memory) × Keeps
+    IsAnswer d after (command.Source path) lines (Ok (answer.Source file)) = (file ≡ path.now) × Keeps
+    IsAnswer d after (command.Source path) lines (Err r) = (r ≡ refusal.Memory) × Keeps
+    IsAnswer d after command.Help lines (Ok (answer.Told text)) = (text.items ≡ help_list commands) × Keeps
+    IsAnswer d after command.Help lines (Err r) = (r ≡ refusal.Memory) × Keeps
+    IsAnswer d after (command.HelpOn name) lines (Ok (answer.Told text)) = (help_on name.now commands ≡ Some text.items) × Keeps
+    IsAnswer d after (command.HelpOn name) lines (Err r) = IsRefusalOfHelp (help_on name.now commands) r × Keeps
+    IsAnswer d after command.Quit lines (Ok answer.Ended) = Keeps
+    IsAnswer d after c lines result = ⊥
 
     -- what is answered to the command that words say
-    abbrev pub IsAnswerToWords : {T : Type 0} → Definitions → Row → Result T Refusal → Result Answer Refusal → Type 0
-    IsAnswerToWords d words lines result = (c : Command) × IsCommandOf (fields_of words) c × IsAnswer d c lines result
+    abbrev pub IsAnswerToWords : Definitions → Definitions → Row → Result (Vec ℕ) Refusal → Result Answer Refusal → Type 0
+    IsAnswerToWords d after words lines result =
+        (c : Command) × IsCommandOf (fields_of words) c × IsAnswer d after c lines result × LeavesDefinitions d after c result
 
     -- The answer to the words of a line: that to the command that they say, or what is wrong with the words. Words that were not
     -- read are refused for that.
-    abbrev pub IsAnswerToLine : {T : Type 0} → Definitions → Result Row Refusal → Result T Refusal → Result Answer Refusal → Type 0
-    IsAnswerToLine d (Ok words) lines (Ok answer) = IsAnswerToWords d words lines (Ok answer)
-    IsAnswerToLine d (Ok words) lines (Err r) = (IsWordFault r × Keeps) ⊎ IsAnswerToWords d words lines (Err r)
-    IsAnswerToLine d (Err f) lines result = (result ≡ Err f) × Keeps
+    abbrev pub IsAnswerToLine : Definitions → Definitions → Result Row Refusal → Result (Vec ℕ) Refusal → Result Answer Refusal → Type 0
+    IsAnswerToLine d after (Ok words) lines (Ok answer) = IsAnswerToWords d after words lines (Ok answer)
+    IsAnswerToLine d after (Ok words) lines (Err r) =
+        (IsWordFault r × Keeps × (after ≡ d)) ⊎ IsAnswerToWords d after words lines (Err r)
+    IsAnswerToLine d after (Err f) lines result = (result ≡ Err f) × Keeps × (after ≡ d)

@@ -65,6 +65,7 @@ abbrev pub IsLineFault : Refusal → Type 0
 IsLineFault (refusal.Mistake m) = ⊥
 IsLineFault (refusal.Store f) = ⊥
 IsLineFault (refusal.File f) = ⊥
+IsLineFault (refusal.Definition f) = ⊥
 IsLineFault (refusal.Version f) = ⊥
 IsLineFault r = ⊤
 

@@ -1,6 +1,8 @@
 pub mod Texts
 pub mod Told
 pub mod Commands
+pub mod Defined
+pub mod DefinitionTexts
 pub mod Asked
 pub mod Answers
 pub mod Greetings

@@ -10,6 +10,7 @@ use Rattle.df_csv.specs.declared.fault.CsvFault.TheVariants as csv
 use Rattle.df_print.specs.Printed.{escaped_text}
 use Rattle.df_value.specs.declared.chunk.ChunkFault.{ChunkFault}
 use Rattle.df_value.specs.declared.chunk.ChunkFault.TheVariants as chunk
+use Rattle.df_session.specs.DefinitionTexts.{definition_text}
 use Rattle.df_session.specs.declared.refusal.Refusal.{Refusal}
 use Rattle.df_session.specs.declared.refusal.Refusal.TheVariants as refusal
 use Rattle.df_session.specs.declared.refusal.Mistake.{Mistake}
@@ -107,6 +108,7 @@ text_of_cell number column =
 abbrev pub text_of : Refusal → List ℕ
 text_of (refusal.Mistake m) = codes "? " ++ mistake_text m
 text_of (refusal.Store f) = catalogue_text f
+text_of (refusal.Definition f) = definition_text f
 text_of (refusal.Version f) = version_text f
 text_of (refusal.Csv f) = lines_text f
 text_of (refusal.File f) = file_text f

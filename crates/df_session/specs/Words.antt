@@ -1,6 +1,6 @@
 -- The words of a line: the fields of the record that `csv` (RFC 4180) reads in it with blanks in the place of commas,
 -- several of which count as one.
-use Rattle.std.specs.Prelude.{◌++◌, ◌==◌, List, ℕ, [], ◌∷◌, true, Option, Some, None, fold, if◌then◌else◌}
+use Rattle.std.specs.Prelude.{◌++◌, ◌==◌, ◌-◌, List, ℕ, [], ◌∷◌, Bool, true, false, Option, Some, None, fold, if◌then◌else◌}
 use Rattle.csv.specs.Machine.{Read, next_record}
 use Rattle.csv.specs.Reading.{strip_bom}
 use Rattle.csv.specs.declared.parser.Config.{Config}
@@ -48,3 +48,23 @@ single_blanked line = (fold byte_read ([], place.Between) line).0
 
 abbrev pub words_in : List ℕ → List (List ℕ)
 words_in line = words_of_record (single_blanked line)
+
+-- whether a byte that stands so ends a word: a blank outside quotes behind a byte of the word
+abbrev pub ends_word : Place → ℕ → Bool
+ends_word place.Plain b = b == 32
+ends_word place.Closed b = b == 32
+ends_word at b = false
+
+-- how many words are left behind a byte that stands so
+abbrev pub left_behind : ℕ → Place → ℕ → ℕ
+left_behind left at b = if ends_word at b then left - 1 else left
+
+-- The bytes behind so many words of what is left of a line, and behind the blank that ends the last of them. Its first byte
+-- stands so.
+abbrev pub behind_words : ℕ → Place → List ℕ → List ℕ
+behind_words left at [] = []
+behind_words left at (b ∷ bs) = if left == 0 then b ∷ bs else behind_words (left_behind left at b) (place_behind at b) bs
+
+-- the steps of a line that defines a view: all behind its first three words
+abbrev pub steps_in : List ℕ → List ℕ
+steps_in line = behind_words 3 place.Between line

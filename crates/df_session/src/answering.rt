@@ -1,12 +1,13 @@
 //! The answers to commands.
 ghost use Rattle.std.specs.Prelude.{◌≡◌, IfErr, IfOk, OnErr, OnOk, Some, map};
 ghost use Rattle.csv.specs.Records.{fields_of};
-ghost use Rattle.df_session.specs.Answers.{IsAnswer, IsAnswerToLine, IsRefusalOfHelp, answer_text};
+ghost use Rattle.df_session.specs.Answers.{IsAnswer, IsAnswerToLine, IsRefusalOfHelp, LeavesDefinitions, answer_text};
 ghost use Rattle.df_session.specs.Asked.{IsMadeAsAsked, IsRefusalOfAsked};
 ghost use Rattle.df_session.specs.Help.{help_on};
 
 use crate::changing::{append, append_next, delete, drop_view, register, replace};
 use crate::command::{AskedChange, Command, read_command};
+use crate::defining::define;
 use crate::definitions::Definitions;
 use crate::help::{CommandHelp, explain_command, list_commands};
 use crate::refusal::{Mistake, Refusal};
@@ -43,19 +44,20 @@ impl Answer {
     }
 }
 
-/// Does what the words of a line say. `words` and `lines` are what was read, or why it was not; `commands` is the table that
+/// Does what the words of a line say. `words` and `lines`, or the steps of a `define`, are what was read, or why it was not; `commands` is the table that
 /// `help` answers from, as [`COMMANDS`](crate::COMMANDS).
 pub fn answer_line<S: ViewStore>(
     alloc: Global,
     commands: &[CommandHelp],
-    definitions: &Definitions,
+    definitions: &mut Definitions,
     store: &mut S,
     words: Result<StringRecord, Refusal>,
     lines: Result<Vec<u8>, Refusal>,
 ) -> Result<Answer, Refusal>
     ensures { IsAnswerToLine (S.Makes store.old store.new) (S.Refuses store.old store.new)
-        (S.Keeps store.old store.new) (S.Answers store.old store.new definitions.now)
-        (S.Next store.old) (map (λ c. (c.0.now, c.1.now, c.2.now)) commands.now) definitions.now words lines result }
+        (S.Keeps store.old store.new) (S.Answers store.old store.new definitions.old)
+        (S.Next store.old) (map (λ c. (c.0.now, c.1.now, c.2.now)) commands.now)
+        definitions.old definitions.new words lines result }
 {
     let record = words?;
     let words = words_of(alloc, &record)?;
@@ -72,14 +74,16 @@ fn words_of(alloc: Global, fields: &StringRecord) -> Result<Vec<&str>, AllocErro
 fn answer_command<S: ViewStore>(
     alloc: Global,
     commands: &[CommandHelp],
-    definitions: &Definitions,
+    definitions: &mut Definitions,
     store: &mut S,
     command: Command<'_>,
     lines: Result<Vec<u8>, Refusal>,
 ) -> Result<Answer, Refusal>
-    ensures { IsAnswer (S.Makes store.old store.new) (S.Refuses store.old store.new)
-        (S.Keeps store.old store.new) (S.Answers store.old store.new definitions.now)
-        (S.Next store.old) (map (λ c. (c.0.now, c.1.now, c.2.now)) commands.now) definitions.now command.entry lines result }
+    ensures answered { IsAnswer (S.Makes store.old store.new) (S.Refuses store.old store.new)
+        (S.Keeps store.old store.new) (S.Answers store.old store.new definitions.old)
+        (S.Next store.old) (map (λ c. (c.0.now, c.1.now, c.2.now)) commands.now)
+        definitions.old definitions.new command.entry lines result }
+    ensures definitions { LeavesDefinitions definitions.old definitions.new command.entry result }
 {
     match command {
         Command::Change(change) => {
@@ -93,6 +97,10 @@ fn answer_command<S: ViewStore>(
         Command::Question(question) => {
             drop(lines);
             Ok(Answer::Told(store.answer(alloc, definitions, question)?))
+        }
+        Command::Define(view, source) => {
+            define(alloc, definitions, store, view, source, lines)?;
+            Ok(Answer::Accepted)
         }
         Command::Load(frame, path) => {
             drop(lines);

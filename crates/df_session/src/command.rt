@@ -17,6 +17,9 @@ pub enum Command<'a> {
     Question(Question<'a>),
     /// Adds the rows of a file to a frame, behind all numbers that it ever accepted: the frame, and the path.
     Load(&'a str, &'a str),
+    /// Adds a view behind all views so far: its name, and that of the frame that it begins with. Its steps stand behind
+    /// these.
+    Define(&'a str, &'a str),
     /// The commands in the file under a path.
     Source(&'a str),
     /// The commands.
@@ -97,6 +100,7 @@ fn command_of<'a>(alloc: Global, name: &str, arguments: &[&'a str]) -> Result<Co
         "register" => Ok(Command::Change(AskedChange::Register(only(arguments)?))),
         "drop" => Ok(Command::Change(AskedChange::DropView(only(arguments)?))),
         "load" => Ok(read_load(arguments)?),
+        "define" => Ok(read_define(arguments)?),
         "source" => Ok(Command::Source(only(arguments)?)),
         "help" => Ok(read_help(arguments)?),
         "quit" => bare(Command::Quit, arguments),
@@ -143,6 +147,15 @@ fn read_load<'a>(arguments: &[&'a str]) -> Result<Command<'a>, Mistake>
     match arguments {
         [frame, path] => Ok(Command::Load(frame, path)),
         [_, _, ..] => Err(Mistake::ExtraWord),
+        _ => Err(Mistake::MissingWord),
+    }
+}
+
+fn read_define<'a>(arguments: &[&'a str]) -> Result<Command<'a>, Mistake>
+    ensures { IfOk result (IsCommandOf (codes "define" ∷ map (λ w. w.now) arguments.now)) }
+{
+    match arguments {
+        [view, source, _, ..] => Ok(Command::Define(view, source)),
         _ => Err(Mistake::MissingWord),
     }
 }

@@ -2,7 +2,7 @@
 use crate::fault::ShellFault;
 use crate::prepared::{Prepared, prepare};
 use crate::prompts::counts;
-use crate::session::write_answer;
+use crate::writing::write_answer;
 use df_document::Files;
 use std::alloc::Global;
 use std::io::{Read, Write};

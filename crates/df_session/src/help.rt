@@ -8,7 +8,7 @@ use std::alloc::{AllocError, Global};
 pub type CommandHelp = (&'static str, &'static str, &'static str);
 
 /// The commands, in the order in which `help` lists them. A command of several forms has an entry for each.
-pub const COMMANDS: [CommandHelp; 21] = [
+pub const COMMANDS: [CommandHelp; 22] = [
     (
         "append",
         "append FRAME                 and lines of CSV up to a line with a dot alone: adds rows behind all others\n",
@@ -36,8 +36,13 @@ pub const COMMANDS: [CommandHelp; 21] = [
     ),
     (
         "register",
-        "register VIEW                adds the document's view of this name\n",
+        "register VIEW                adds the document's view of this name, or one that was defined\n",
         "    > register by_region\n    ok\n",
+    ),
+    (
+        "define",
+        "define VIEW FRAME STEPS      adds a view of a frame, with steps written as a document's: an array of them\n",
+        "    > define large sales [[\"filter\", [\">\", [\"col\", \"qty\"], 100]]]\n    ok\n",
     ),
     (
         "drop",

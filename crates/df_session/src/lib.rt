@@ -6,8 +6,11 @@
 #![tactic(auto)]
 
 mod answering;
+mod behind;
 mod changing;
 mod command;
+mod defining;
+mod definition_texts;
 mod definitions;
 mod describing;
 mod document_check;
@@ -27,6 +30,7 @@ mod session;
 mod telling;
 mod view_store;
 mod words;
+mod writing;
 
 pub use answering::{Answer, answer_line};
 pub use command::{AskedChange, Command, Part, Question, read_command};

@@ -2,6 +2,7 @@
 ghost use Rattle.std.specs.Prelude.{◌≡◌};
 ghost use Rattle.df_session.specs.declared.refusal.Refusal.TheVariants as refusal;
 
+use df_document::DocumentFault;
 use df_state::CatalogueFault;
 use df_text::CsvFault;
 use df_value::{ChunkFault, Text};
@@ -27,6 +28,9 @@ pub enum Refusal {
     /// column.
     #[error("record {0}, column {1:?}")]
     Cell(u64, Text),
+    /// The view of a definition is none that a document may have.
+    #[error("{0}")]
+    Definition(DocumentFault),
     /// The rows of a command are no chunk.
     #[error("{0}")]
     Chunk(ChunkFault),

@@ -3,6 +3,7 @@ ghost use Rattle.std.specs.Prelude.{◌≡◌, IfOk, string_bytes};
 ghost use Rattle.df_session.specs.Texts as texts;
 ghost use Rattle.df_session.specs.Texts.{text_of, text_of_cell};
 
+use crate::definition_texts::definition_text;
 use crate::refusal::{Mistake, Refusal, VersionFault};
 use df_document::csv_text;
 use df_state::{CatalogueFault, NewFault};
@@ -25,6 +26,7 @@ pub fn refusal_text(alloc: Global, refusal: &Refusal) -> Result<String, AllocErr
         Refusal::File(fault) => file_text(alloc, fault),
         Refusal::Cell(number, column) => cell_text(alloc, *number, column),
         Refusal::Chunk(fault) => String::from_str(alloc, chunk_text(fault)),
+        Refusal::Definition(fault) => definition_text(alloc, fault),
         Refusal::Version(fault) => String::from_str(alloc, version_text(*fault)),
         Refusal::Memory => String::from_str(alloc, "memory"),
     }

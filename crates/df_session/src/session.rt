@@ -1,17 +1,17 @@
 //! A session: the commands of an input and their answers, one after another.
 use crate::answering::{Answer, answer_line};
+use crate::behind::read_behind;
 use crate::definitions::Definitions;
 use crate::fault::ShellFault;
 use crate::help::COMMANDS;
-use crate::lines::{Line, line_buffer, read_line, with_line, with_long_line, without_end};
+use crate::lines::{Line, line_buffer, read_line, without_end};
 use crate::loading::{Loaded, load};
-use crate::prompts::{COMMAND_PROMPT, Prompts, RECORD_PROMPT, greeting};
+use crate::prompts::{COMMAND_PROMPT, Prompts, greeting};
 use crate::refusal::{Mistake, Refusal};
-use crate::refusal_texts::refusal_text;
 use crate::view_store::ViewStore;
-use crate::words::{Following, lines_behind, read_words};
+use crate::words::{lines_behind, read_words};
+use crate::writing::{write_all, write_answer, write_prompt, write_refusal};
 use df_document::Files;
-use df_text::write_text;
 use df_value::{List, Text};
 use std::alloc::{AllocError, Global};
 use std::io::{BufRead, BufReader, Read, Write};
@@ -282,9 +282,17 @@ fn take_turn<S: ViewStore, I: BufRead, W: Write>(
     let words = read_words(alloc, line);
     let following = lines_behind(alloc, &words, line);
     let record = &mut session.buffers.record;
-    match read_lines(alloc, session.prompts, input, output, record, following) {
+    match read_behind(
+        alloc,
+        session.prompts,
+        input,
+        output,
+        line,
+        record,
+        following,
+    ) {
         Ok(lines) => {
-            let definitions = &session.definitions;
+            let definitions = &mut session.definitions;
             let store = &mut session.store;
             let answer = answer_line(alloc, &COMMANDS, definitions, store, words, lines);
             tell(alloc, output, answer)
@@ -329,85 +337,4 @@ fn is_passed_over(line: &[u8]) -> bool {
         }
     }
     true
-}
-
-// Reads the lines behind a command, also where they cannot be had: then the answer says why.
-fn read_lines<I: BufRead, W: Write>(
-    alloc: Global,
-    prompts: Prompts,
-    input: &mut I,
-    output: &mut W,
-    line: &mut Vec<u8>,
-    following: Following,
-) -> Result<Result<Vec<u8>, Refusal>, ShellFault> {
-    let mut lines = Ok(Vec::new(alloc));
-    for _ in 0..most_lines(following) {
-        write_prompt(output, prompts, RECORD_PROMPT)?;
-        match read_line(input, line) {
-            Ok(Line::Whole) if is_end(following, line.as_slice()) => return Ok(lines),
-            Ok(Line::Whole) => lines = with_line(lines, content(following, line.as_slice())),
-            Ok(Line::TooLong) => lines = with_long_line(lines),
-            Ok(Line::End) => return Ok(Err(Refusal::Mistake(Mistake::MissingLines))),
-            Err(_) => return Err(ShellFault::Read),
-        }
-    }
-    Ok(lines)
-}
-
-fn most_lines(following: Following) -> u64 {
-    match following {
-        Following::Lines(count) => count,
-        Following::UntilDot => u64::MAX,
-    }
-}
-
-// Whether the line ends those that are read.
-fn is_end(following: Following, line: &[u8]) -> bool {
-    following == Following::UntilDot && without_end(line) == b".".as_slice()
-}
-
-// The line without the dot that stands before another.
-fn content(following: Following, line: &[u8]) -> &[u8] {
-    match following {
-        Following::Lines(_) => line,
-        Following::UntilDot => line.strip_prefix(b".").unwrap_or(line),
-    }
-}
-
-// Writes what only a terminal shows.
-fn write_prompt<W: Write>(output: &mut W, prompts: Prompts, text: &[u8]) -> Result<(), ShellFault> {
-    match prompts {
-        Prompts::Shown => write_answer(output, text),
-        Prompts::Hidden => Ok(()),
-    }
-}
-
-fn write_refusal<W: Write>(
-    alloc: Global,
-    output: &mut W,
-    refusal: &Refusal,
-) -> Result<(), ShellFault> {
-    match refusal_text(alloc, refusal) {
-        Ok(text) => {
-            write_all(output, text.as_bytes())?;
-            write_answer(output, b"\n")
-        }
-        Err(_) => write_answer(output, b"memory\n"),
-    }
-}
-
-/// Writes the last part of an answer, so that whoever waits for it has it.
-pub fn write_answer<W: Write>(output: &mut W, text: &[u8]) -> Result<(), ShellFault> {
-    write_all(output, text)?;
-    match output.flush() {
-        Ok(()) => Ok(()),
-        Err(_) => Err(ShellFault::Write),
-    }
-}
-
-fn write_all<W: Write>(output: &mut W, text: &[u8]) -> Result<(), ShellFault> {
-    match write_text(output, text) {
-        Ok(()) => Ok(()),
-        Err(_) => Err(ShellFault::Write),
-    }
 }

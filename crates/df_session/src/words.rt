@@ -1,6 +1,7 @@
 //! The words of a line.
 ghost use Rattle.std.specs.Prelude.{◌≡◌, IfOk, OnOk};
 ghost use Rattle.csv.specs.Records.{fields_of};
+ghost use Rattle.df_session.specs.Words as words_spec;
 ghost use Rattle.df_session.specs.Words.{kept_behind, place_behind, single_blanked, words_in, words_of_record};
 
 use crate::command::{line_count, row_number};
@@ -91,17 +92,55 @@ fn read_record(alloc: Global, line: &[u8]) -> Result<StringRecord, Refusal>
     }
 }
 
-/// The lines of CSV that stand behind a line.
+/// The steps of a line that defines a view: what stands behind its first three words.
+pub fn steps_in(line: &[u8]) -> &[u8]
+    ensures { result.now ≡ words_spec.steps_in line.now }
+{
+    let mut left = 3;
+    let mut place = Place::Between;
+    for at in 0..line.len() {
+        if left == 0 {
+            return &line[at..];
+        }
+        left = left_behind(left, place, line[at]);
+        place = behind(place, line[at]);
+    }
+    &[]
+}
+
+// How many words are left behind a byte that stands so.
+fn left_behind(left: usize, place: Place, byte: u8) -> usize
+    ensures { result ≡ words_spec.left_behind left place byte }
+{
+    if ends_word(place, byte) {
+        left.saturating_sub(1)
+    } else {
+        left
+    }
+}
+
+fn ends_word(place: Place, byte: u8) -> bool
+    ensures { result ≡ words_spec.ends_word place byte }
+{
+    match place {
+        Place::Plain | Place::Closed => byte == b' ',
+        Place::Between | Place::Quoted => false,
+    }
+}
+
+/// What belongs to a line besides its words.
 #[derive(Clone, Copy, PartialEq, Eq)]
 pub enum Following {
-    /// So many.
+    /// So many lines of CSV.
     Lines(u64),
-    /// All up to a line with a dot alone. Before a line that begins with a dot stands one more (RFC 5321, 4.5.2).
+    /// Lines of CSV, all up to a line with a dot alone. Before a line that begins with a dot stands one more (RFC 5321, 4.5.2).
     UntilDot,
+    /// The rest of the line itself, as it stands.
+    Steps,
 }
 
 /// Which lines of CSV stand behind a line, where its words are the header of an `append` or a `replace`: COUNT, those up to a
-/// dot, or as many as there are numbers. Behind other words there are none. Words that memory was refused to are read once more
+/// dot, or as many as there are numbers. Behind other words there are none. To a `define` belong its steps. Words that memory was refused to are read once more
 /// for this alone, so that the lines can be passed over. Where it is refused again, the bytes behind the last blank of an
 /// `append` are taken for COUNT, if it has several blanks, and the blanks of a `replace` outside quotes, less one, are counted.
 pub fn lines_behind(
@@ -122,6 +161,7 @@ pub fn lines_behind(
 fn lines_of(words: &StringRecord) -> Following {
     match words.get(0) {
         Some("append") if words.len() == 2 => Following::UntilDot,
+        Some("define") => Following::Steps,
         Some("append") if words.len() == 4 && are_row_numbers(words, 2, 3) => {
             Following::Lines(count_of(words.get(3)))
         }

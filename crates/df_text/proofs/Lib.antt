@@ -3,6 +3,7 @@ pub mod FormFacts
 pub mod ReadFacts
 pub mod ReadSteps
 pub mod NewNames
+pub mod NextView
 pub mod Sound
 pub mod StepFacts
 pub mod TreeFacts

@@ -1,7 +1,7 @@
 -- A view document: TOML (1.1) that names frames and views, or the first fault in the order that is stated here.
-use Rattle.std.specs.Prelude.{◌≡◌, ◌≤◌, ℕ, Bool, true, false, List, [], ◌∷◌, length, nat_lt, codes, Result, Ok, Err, if◌then◌else◌}
+use Rattle.std.specs.Prelude.{◌≡◌, ◌≤◌, ℕ, Bool, true, false, List, [], ◌∷◌, ◌++◌, length, nat_lt, codes, Result, Ok, Err, if◌then◌else◌}
 use Rattle.std.specs.List.{All, list_all}
-use Rattle.toml.specs.Data.{Data, table, Members, get_member}
+use Rattle.toml.specs.Data.{Data, string, table, Members, member, get_member}
 use Rattle.df_value.specs.Limits.{most_frames, most_views}
 use Rattle.df_value.specs.Names.{AreDistinct, has_name}
 use Rattle.df_value.specs.Schemas.{is_base}
@@ -47,6 +47,21 @@ view_of frames before d =
     then_next (frame_named at entries.source frames) (λ index.
     then_next (steps_at at frames (plan.Scan index) ms) (λ p.
     Ok (record { name = name; plan = p }))))))
+
+-- The table of the steps that a text says, as a document has them behind `steps = `. The text says nothing else.
+abbrev pub steps_alone : List ℕ → Result Members ViewsFault
+steps_alone text =
+    then_next (tree_of (codes "steps = " ++ text)) (λ ms. if has_only_keys (codes "steps" ∷ []) ms then Ok ms else Err fault.NotToml)
+
+-- the table of a view, of its name, of the name at `from` and of the table of its steps
+abbrev pub view_table : List ℕ → List ℕ → Members → Data
+view_table name source steps = table (member (codes "name") (string name) (member (codes "from") (string source) steps))
+
+-- one more view over these frames, as a document has it behind these views
+abbrev pub next_view_of : List FrameSpec → List ViewSpec → List ℕ → List ℕ → List ℕ → Result ViewSpec ViewsFault
+next_view_of frames before name source text =
+    then_next (steps_alone text) (λ steps.
+    if nat_lt (length before) most_views then view_of frames before (view_table name source steps) else Err fault.TooManyViews)
 
 abbrev pub view_specs_of : List FrameSpec → List Data → Result (List ViewSpec) ViewsFault
 view_specs_of frames ds = read_after (view_of frames) [] ds

@@ -23,11 +23,15 @@ most_steps = 64
 abbrev pub steps_within : Location → List Data → Result (List Data) ViewsFault
 steps_within at steps = if nat_lt most_steps (length steps) then Err (fault.Shape at) else Ok steps
 
+-- the steps of a table: an array that is not too long, or missing
+abbrev pub steps_of_table : Location → Members → Result (List Data) ViewsFault
+steps_of_table at ms = then_next (array_or_none at (get_member (codes "steps") ms)) (steps_within at)
+
 -- the name at `from`, where `steps` is an array that is not too long, or missing (a fault in any of these is the same one)
 abbrev pub source_at : Location → Members → Result (List ℕ) ViewsFault
 source_at at ms =
     then_next (value_at at (codes "from") ms) (λ s. then_next (text_in at s) (λ source.
-    then_next (array_or_none at (get_member (codes "steps") ms)) (λ ds. then_next (steps_within at ds) (λ _. Ok source))))
+    then_next (steps_of_table at ms) (λ _. Ok source)))
 
 -- the same of a table that has no other key
 abbrev pub only_source_at : Location → Members → Result (List ℕ) ViewsFault

@@ -3,7 +3,7 @@ ghost use Rattle.std.specs.Prelude.{◌≡◌, [], MatchResult, Ok, Err, map, le
 ghost use Rattle.toml.specs.Data.{get_member};
 ghost use Rattle.toml.specs.View.{table_view, view};
 ghost use Rattle.df_text.specs.Sources as sources;
-ghost use Rattle.df_text.specs.Sources.{source_at, only_source_at, frame_named};
+ghost use Rattle.df_text.specs.Sources.{source_at, only_source_at, steps_of_table, frame_named};
 
 use crate::document::{FrameSpec, Location};
 use crate::fault::ViewsFault;
@@ -21,11 +21,21 @@ pub fn source_in(location: Location, table: &Table) -> Result<&str, ViewsFault>
         (λ f. source_at location (table_view table.now) ≡ Err f) }
 {
     let source = text_in(location, value_at(location, table, "from")?)?;
+    few_steps(location, table)?;
+    Ok(source)
+}
+
+/// The steps of a table, if they are such an array as it may have.
+pub fn few_steps(location: Location, table: &Table) -> Result<&[Value], ViewsFault>
+    ensures { MatchResult result
+        (λ vs. steps_of_table location (table_view table.now) ≡ Ok (map view vs.now))
+        (λ f. steps_of_table location (table_view table.now) ≡ Err f) }
+{
     let steps = array_or_none(location, table, "steps")?;
     if steps.len() > MOST_STEPS {
         return Err(ViewsFault::Shape(location));
     }
-    Ok(source)
+    Ok(steps)
 }
 
 /// The name at `from` of a table that has no key but `from` and `steps`.

@@ -1,8 +1,8 @@
 //! Text in and text out: the view document here, CSV files and printed tables in crates of their own.
 //!
-//! [`read_views`] reads the TOML document that names frames and views. This crate also offers what `df_csv` and
-//! `df_print` offer, so that the code above uses it alone. docs/ARCHITECTURE.md says where to add a step, an
-//! aggregate or a form of expression.
+//! [`read_views`] reads the TOML document that names frames and views, and [`read_next_view`] one more view. This crate
+//! also offers what `df_csv` and `df_print` offer, so that the code above uses it alone. docs/ARCHITECTURE.md says where
+//! to add a step, an aggregate or a form of expression.
 #![tactic(auto)]
 
 mod aggregates;
@@ -25,4 +25,4 @@ pub use df_csv::{
 pub use df_print::{WriteFault, column_width, escape, print_table, write_text};
 pub use document::{FrameSource, FrameSpec, Location, ViewSpec, Views};
 pub use fault::ViewsFault;
-pub use views::read_views;
+pub use views::{read_next_view, read_views};

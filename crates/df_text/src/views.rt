@@ -1,17 +1,21 @@
 //! View documents.
-ghost use Rattle.std.specs.Prelude.{◌≡◌, [], MatchResult, Ok, Err, IfOk, map, length, string_bytes, codes, nat_lt};
+ghost use Rattle.std.specs.Prelude.{◌≡◌, ◌++◌, [], MatchResult, Ok, Err, IfOk, map, length, string_bytes, codes, nat_lt};
 ghost use Rattle.std.specs.List.{list_all};
 ghost use Rattle.std.specs.Option.{option_copied};
 ghost use Rattle.toml.specs.Data.{get_member};
 ghost use Rattle.toml.specs.View.{table_view, view};
-ghost use Rattle.df_value.specs.Outcomes.{Answers};
+ghost use Rattle.df_value.specs.Outcomes.{Answers, then_next};
+ghost use Rattle.df_plan.specs.declared.plan.Plan.TheVariants.{Scan};
 ghost use Rattle.df_text.specs.Document as document_spec;
-ghost use Rattle.df_text.specs.Document.{IsDocument, entries_of_view, view_of, view_specs_of, top_tables_of, document_of};
+ghost use Rattle.df_text.specs.Document.{IsDocument, entries_of_view, new_view_name, next_view_of, steps_alone, view_of, view_specs_of, top_tables_of, document_of};
+ghost use Rattle.df_text.specs.Sources.{frame_named};
+ghost use Rattle.df_text.specs.Steps.{steps_at};
+ghost use Rattle.df_text.specs.Tree.{GivesTable, tree_of};
 
 use crate::document::{FrameSpec, Location, ViewSpec, Views};
 use crate::fault::ViewsFault;
 use crate::frames::read_frames;
-use crate::from_tables::{array_or_none, frame_of_name, source_in};
+use crate::from_tables::{array_or_none, few_steps, frame_of_name, source_in};
 use crate::tree::{has_only_keys, parse, table_value, text_in, value_at};
 use crate::view_steps::apply_table;
 use df_plan::Plan;
@@ -156,11 +160,37 @@ fn read_view(
     let location = Location::View(before.len());
     let table = table_value(location, value)?;
     let entries = view_entries(location, table)?;
-    if has_name(before, entries.name) {
+    named_view(
+        alloc,
+        location,
+        frames,
+        before,
+        entries.name,
+        entries.source,
+        table,
+    )
+}
+
+/// The view of a name, over a source and with the steps of a table, after those that stand before it.
+fn named_view(
+    alloc: Global,
+    location: Location,
+    frames: &[FrameSpec],
+    before: &[ViewSpec],
+    name: &str,
+    source: &str,
+    table: &Table,
+) -> Result<ViewSpec, ViewsFault>
+    ensures { Answers ViewsFault.Memory (then_next (new_view_name location name.now before.now) (λ name.
+        then_next (frame_named location source.now frames.now) (λ index.
+        then_next (steps_at location frames.now (Scan index) (table_view table.now)) (λ p.
+        Ok (record { name = name; plan = p }))))) result }
+{
+    if has_name(before, name) {
         return Err(ViewsFault::Doubled(location));
     }
-    let index = frame_of_name(location, entries.source, frames)?;
-    let name = Text::from_str(alloc, entries.name)?;
+    let index = frame_of_name(location, source, frames)?;
+    let name = Text::from_str(alloc, name)?;
     match apply_table(alloc, location, frames, Plan::Scan(index), table) {
         Ok(plan) => Ok(ViewSpec { name, plan }),
         Err(fault) => Err(fault),
@@ -180,4 +210,50 @@ fn view_entries(location: Location, table: &Table) -> Result<ViewEntries<'_>, Vi
     let name = text_in(location, value_at(location, table, "name")?)?;
     let source = source_in(location, table)?;
     Ok(ViewEntries { name, source })
+}
+
+/// Reads one more view over a document's frames, behind the views that stand before it: its name, the name of the frame
+/// that it begins with, and its steps, the array that a document has behind `steps = `.
+///
+/// Answered is the first fault in this order: `NotToml`; `TooManyViews`, where 32 stand before it; then as of a view in
+/// [`read_views`].
+pub fn read_next_view(
+    alloc: Global,
+    frames: &[FrameSpec],
+    before: &[ViewSpec],
+    name: &str,
+    source: &str,
+    steps: &[u8],
+) -> Result<ViewSpec, ViewsFault>
+    ensures { Answers ViewsFault.Memory
+        (next_view_of frames.now before.now name.now source.now steps.now) result }
+{
+    let table = read_steps(alloc, steps)?;
+    if before.len() >= MOST_VIEWS {
+        return Err(ViewsFault::TooManyViews);
+    }
+    let at = Location::View(before.len());
+    few_steps(at, &table)?;
+    named_view(alloc, at, frames, before, name, source, &table)
+}
+
+/// The table of the steps that a text says.
+fn read_steps(alloc: Global, text: &[u8]) -> Result<Table, ViewsFault>
+    ensures { GivesTable (steps_alone text.now) result }
+{
+    let table = parse_steps(alloc, text)?;
+    if has_only_keys(&table, &["steps"]) {
+        Ok(table)
+    } else {
+        Err(ViewsFault::NotToml)
+    }
+}
+
+fn parse_steps(alloc: Global, text: &[u8]) -> Result<Table, ViewsFault>
+    ensures { GivesTable (tree_of (codes "steps = " ++ text.now)) result }
+{
+    let mut bytes = Vec::new(alloc);
+    bytes.extend_from_slice(b"steps = ")?;
+    bytes.extend_from_slice(text)?;
+    parse(alloc, bytes.as_slice())
 }

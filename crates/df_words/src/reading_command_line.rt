@@ -18,7 +18,8 @@ const AFTER_HELP: &str = r#"Commands, one a line of standard input:
   load FRAME PATH              adds the rows of a CSV file behind all others; a chunk of 1000 that is refused is left out
   delete FRAME NUMBER ..       takes the rows of these numbers out
   replace FRAME NUMBER ..      and as many lines of CSV: puts each row in the place of that of its number
-  register VIEW                adds the document's view of this name
+  register VIEW                adds the document's view of this name, or one that was defined
+  define VIEW FRAME STEPS      adds a view of a frame, with steps written as a document's: an array of them
   drop VIEW                    takes a view out
   frames                       the frames: how many rows each has, and its columns with their types
   views                        the names of the views
