@@ -62,6 +62,20 @@ pub fn settle<Acc: Ledger, Del: Ledger>(
     }
 }
 
+/// Joins the desks to one for each frame, and audits them: over all frames they count no more than the catalogue's books, and
+/// exactly these where they have every part.
+pub(crate) fn gather_audited<Acc: Ledger, Del: Ledger>(
+    catalogue: &mut Catalogue<Acc, Del>,
+    desks: &mut Vec<Desk<Acc, Del>>,
+)
+    ensures same { catalogue.new ≡ catalogue.old }
+    ensures joined { closing.AreJoined desks.old.items desks.new.items }
+    ensures books { desks_spec.AgreeWithBooks desks.new.items catalogue.old.state }
+{
+    gather(catalogue, desks);
+    catalogue.audit_all(desks.as_mut_slice());
+}
+
 // Joins the desks to one for each frame.
 fn gather<Acc: Ledger, Del: Ledger>(
     catalogue: &mut Catalogue<Acc, Del>,

@@ -54,22 +54,6 @@ pub struct Missing<Acc: Ledger, Del: Ledger, J: Naming> {
 /// to their own change, which is longer than that, or up to the state that refused it, which is no shorter; where the
 /// hall's history is shorter, [`ChangeFault::Ahead`].
 impl<Acc: Ledger, Del: Ledger, J: Naming> Hall<Acc, Del, J> {
-    /// A hall over this catalogue, with room for the totals of its close.
-    pub fn over(catalogue: VersionedCatalogue<Acc, Del, J>, room: TotalsRoom) -> Hall<Acc, Del, J>
-        requires room { HasRoomFor limits.most_frames room }
-        requires empty { Holds room [] }
-    {
-        Hall {
-            catalogue: Mutex::new(catalogue),
-            room,
-        }
-    }
-
-    /// Takes the lock, for several calls in a row.
-    pub fn lock<R: Wait>(&self, rt: &R) -> MutexGuard<'_, VersionedCatalogue<Acc, Del, J>> {
-        self.catalogue.lock(rt)
-    }
-
     /// Appends the chunk to the desk's frame, and every view follows. The desk's share grows by the
     /// chunk's rows, and at a refusal stays as it was.
     pub fn commit_chunk<R: Wait>(
@@ -225,22 +209,26 @@ impl<Acc: Ledger, Del: Ledger, J: Naming> Hall<Acc, Del, J> {
 
     /// Gives the hall up. Readers get no version from then on.
     pub fn end<R: Wait>(self, rt: &R) {
-        let (catalogue, room) = self.into_catalogue(rt);
-        drop(catalogue);
+        let (versioned, room) = self.into_parts();
+        drop(versioned.end(rt));
         drop(room);
     }
 
-    /// The catalogue, and the room for its totals. Readers get no version from then on.
-    pub fn into_catalogue<R: Wait>(self, rt: &R) -> (Catalogue<Acc, Del>, TotalsRoom)
-        ensures state { IsLastState J.schemas result.0.state }
-        ensures room { HasRoomFor limits.most_frames result.1 }
-        ensures empty { Holds result.1 [] }
+    /// A hall over this catalogue, with room for the totals of its close.
+    pub(crate) fn over(
+        catalogue: VersionedCatalogue<Acc, Del, J>,
+        room: TotalsRoom,
+    ) -> Hall<Acc, Del, J>
+        requires room { HasRoomFor limits.most_frames room }
+        requires empty { Holds room [] }
     {
-        let (versioned, room) = self.into_parts();
-        (versioned.end(rt), room)
+        Hall {
+            catalogue: Mutex::new(catalogue),
+            room,
+        }
     }
 
-    /// What [`Hall::over`] was given.
+    /// What stands behind its lock, and the room for its totals.
     pub fn into_parts(self) -> (VersionedCatalogue<Acc, Del, J>, TotalsRoom)
         ensures room { HasRoomFor limits.most_frames result.1 }
         ensures empty { Holds result.1 [] }

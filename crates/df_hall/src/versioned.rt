@@ -1,10 +1,13 @@
 //! A catalogue of which each change is published: what stands behind the lock of a hall.
 ghost use Rattle.std.specs.Prelude.{◌≡◌, Some, OnErr, OnOk, length, option_map};
-ghost use Rattle.df_state.specs.Desks.{desk_after};
+ghost use Rattle.df_state.specs.Desks.{AgreeWithBooks, desk_after};
 ghost use Rattle.df_state.specs.FrameChanges.{change_of};
 ghost use Rattle.df_state.specs.ViewChanges.{change_of_views};
+ghost use Rattle.df_state.specs.declared.state.State.{State};
+ghost use Rattle.df_hall.specs.Closing as closing;
 ghost use Rattle.df_versions.specs.Histories.{IsHistoryOver, last_state};
 
+use crate::closing::gather_audited;
 use crate::entering::{check_ready, enter_rows, enter_views, report};
 use df_catalogue::{Catalogue, Desk, FrameChange, ViewChange};
 use df_versions::{ChangeFault, Naming, Publisher, Told};
@@ -90,6 +93,17 @@ impl<Acc: Ledger, Del: Ledger, J: Naming> VersionedCatalogue<Acc, Del, J> {
         } = self;
         publisher.end(rt);
         catalogue
+    }
+
+    /// Joins the desks to one for each frame, and audits them: over all frames they count no more than the books, and exactly
+    /// these where they have every part. It takes no memory.
+    pub fn gather(&mut self, desks: &mut Vec<Desk<Acc, Del>>)
+        ensures same { self.new ≡ self.old }
+        ensures joined { closing.AreJoined desks.old.items desks.new.items }
+        ensures books { (s : State) → last_state self.old ≡ Some s → AgreeWithBooks desks.new.items s }
+        ensures over { IsHistoryOver J.schemas self.old }
+    {
+        gather_audited(&mut self.catalogue, desks);
     }
 
     /// Changes the rows of the desk's frame, as [`Catalogue::append`], [`Catalogue::delete`] and

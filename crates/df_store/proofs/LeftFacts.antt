@@ -1,5 +1,5 @@
 -- What a load that was refused leaves.
-use Rattle.std.proofs.Common.{◌≡◌, ℕ, ◌+◌, ◌==◌, ◌&&◌, ◌∙◌, List, [], ◌∷◌, length, refl, ap, sym, subst, arith, inl, inr}
+use Rattle.std.proofs.Common.{◌≡◌, ℕ, ◌+◌, ◌<◌, ◌==◌, ◌&&◌, ◌∙◌, List, [], ◌∷◌, length, refl, ap, sym, subst, arith, inl, inr}
 use Rattle.std.proofs.lemmas.List.Elements.{All-nil}
 use Rattle.std.specs.Prelude.{IfErr, IfNone, IfOk, IfSome, IsErrAnd, MatchOption, Option, Result, Err, None, Ok, Some, if◌then◌else◌}
 use Rattle.core.specs.Result.{result_ok}
@@ -10,12 +10,14 @@ use Rattle.df_frame.specs.declared.state.FrameState.{FrameState}
 use Rattle.df_state.specs.declared.state.State.{State}
 use Rattle.df_state.specs.Desks.{AgreeWithBooks, DeskParts, accepted_at, deleted_at, parts_of}
 use Rattle.df_state.specs.States.{IsLegal}
-use Rattle.df_versions.specs.Histories.{IsLastState, last_state}
+use Rattle.df_versions.specs.Histories.{IsLastState, last_of, last_state}
 use Rattle.df_hall.specs.Closing.{IsSettledState, IsUnsettledState, is_settled, missing_frame, missing_from}
 use Rattle.df_store.specs.declared.fault.LoadCause.{LoadCause}
 use Rattle.df_jobs.specs.declared.stop.Stop.{Stop}
 use Rattle.df_jobs.specs.declared.jobs.Outcome.{Outcome}
 use Rattle.df_store.specs.Faults.{IsCauseAtStart}
+use Rattle.df_store.specs.Grown.{HasGrown, HaveGrown}
+use Rattle.df_store.proofs.GrownFacts.{grown-none}
 use Rattle.df_jobs.specs.Jobs.{AreOutcomes, IsOutcome, jobs_of}
 use Rattle.df_store.specs.Loads.{IsCauseAtEnd, IsCauseLeft, IsCauseNotLeft, IsCauseUnsettled, IsDifference, IsLeft, IsNotLeft, is_accounted, unaccounted_from}
 use Rattle.df_jobs.specs.Counted.{HaveDone, entered_at}
@@ -34,17 +36,35 @@ accounted-same desks back os accepted deleted n (f ∷ fs) =
     ap (λ b. if b then missing_from back (n + 1) fs else Some n) here
     ∙ ap (λ m. if is_accounted desks os n f then m else Some n) (accounted-same desks back os accepted deleted (n + 1) fs)
 
+-- a history that has begun ends with a state
+last-of-begun : (history : List State) → 0 < length history → (s : State) × (last_state history ≡ Some s)
+last-of-begun [] begun = absurd (omega (arith, begun))
+last-of-begun (o ∷ later) begun = (last_of o later, refl)
+
+-- the last state of a history has grown from that of another where the history has
+grown-left :
+    {L : Type 0} (state_of : L → State) (schemas : List (List (List ℕ × CellType))) (chunks : List (List (ℕ × Piece))) (back : List DeskParts) (history last : List State)
+    (before : State) (left : Option L) → last_state history ≡ Some before → HaveGrown chunks history last →
+    IfSome left (λ l. (last_state last ≡ Some (state_of l)) × IsSettledState schemas back (state_of l)) →
+    IfSome left (λ l. HasGrown chunks before (state_of l) × IsSettledState schemas back (state_of l))
+grown-left state_of schemas chunks back history last before (Some l) first grown settled = (grown before (state_of l) first settled.0, settled.1)
+grown-left state_of schemas chunks back history last before None first grown settled = tt
+
 module _ (schemas : List (List (List ℕ × CellType))) (chunks : List (List (ℕ × Piece))) (views : List (List ℕ × CheckedParts)) (desks : List DeskParts) where
   left-of :
-      (back : List DeskParts) (os : List Outcome) (cause : LoadCause) (s : State) → AreOutcomes chunks os →
+      (back : List DeskParts) (os : List Outcome) (cause : LoadCause) (before s : State) → AreOutcomes chunks os →
       ((frame : ℕ) → accepted_at frame back ≡ accepted_at frame desks + entered_at frame os) → ((frame : ℕ) → deleted_at frame back ≡ deleted_at frame desks) →
-      IsSettledState schemas back s → IsCauseLeft (jobs_of chunks) views os s cause → IsLeft schemas chunks views desks cause s
-  left-of back os cause s made accepted deleted settled is = record {
+      IsSettledState schemas back s → AgreeWithBooks desks before → HasGrown chunks before s → IsCauseLeft (jobs_of chunks) views os s cause →
+      IsLeft schemas chunks views desks cause s
+  left-of back os cause before s made accepted deleted settled agreed grown is = record {
     last = settled.last;
     legal = settled.legal;
     outcomes = os;
     made = made;
     accounted = sym (accounted-same desks back os accepted deleted 0 s.frames) ∙ settled.settled;
+    before = before;
+    agreed = agreed;
+    grown = grown;
     why = is;
   }
 
@@ -75,11 +95,12 @@ module _ (schemas : List (List (List ℕ × CellType))) (chunks : List (List (�
   pub given-up :
       {L : Type 0} (state_of : L → State) (history : List State) (cause : LoadCause) (left : Option L) →
       ((s : State) → last_state history ≡ Some s → IsCauseAtStart s views cause) →
-      IfSome left (λ l. (last_state history ≡ Some (state_of l)) × IsSettledState schemas desks (state_of l)) →
+      IfSome left (λ l. (last_state history ≡ Some (state_of l)) × AgreeWithBooks desks (state_of l) × IsSettledState schemas desks (state_of l)) →
       IfNone left ((s : State) × (frame : ℕ) × (last_state history ≡ Some s) × IsUnsettledState schemas desks s frame) →
       MatchOption left (IsNotLeft schemas chunks views desks cause) (λ l. IsLeft schemas chunks views desks cause (state_of l))
   given-up state_of history cause (Some l) is settled unsettled =
-      left-of desks [] cause (state_of l) no-outcomes nothing-entered (λ frame. refl) settled.1 (inl (refl, is (state_of l) settled.0))
+      left-of desks [] cause (state_of l) (state_of l) no-outcomes nothing-entered (λ frame. refl) settled.2 settled.1 (grown-none chunks (state_of l))
+      (inl (refl, is (state_of l) settled.0))
   given-up state_of history cause None is settled unsettled =
       not-left-of desks [] cause unsettled.0 unsettled.1 no-outcomes refl nothing-entered (λ frame. refl) unsettled.3 (inl (refl, is unsettled.0 unsettled.2))
 
@@ -92,27 +113,30 @@ module _ (schemas : List (List (List ℕ × CellType))) (chunks : List (List (�
   -- what a load that came to its end left
   ended :
       {L V : Type 0} (state_of : L → State) (items : V → List Outcome) (back : List DeskParts) (entered : Result V Stop) (cause : LoadCause)
-      (left : Option L) → parts_of back ≡ parts_of desks → HaveDone items chunks desks back entered →
-      IfSome left (λ l. IsSettledState schemas back (state_of l)) → IfSome left (λ l. IsCauseAtEnd items (jobs_of chunks) views (state_of l) entered cause) →
+      (before : State) (left : Option L) → parts_of back ≡ parts_of desks → HaveDone items chunks desks back entered → AgreeWithBooks desks before →
+      IfSome left (λ l. HasGrown chunks before (state_of l) × IsSettledState schemas back (state_of l)) → IfSome left (λ l. IsCauseAtEnd items (jobs_of chunks) views (state_of l) entered cause) →
       IfNone left ((s : State) × (frame : ℕ) × IsUnsettledState schemas back s frame × IsCauseUnsettled frame cause) →
       MatchOption left (IsNotLeft schemas chunks views desks cause) (λ l. IsLeft schemas chunks views desks cause (state_of l))
-  ended state_of items back entered cause (Some l) parts done settled is unsettled =
-      left-of back done.outcomes cause (state_of l) done.made done.accepted done.deleted settled
+  ended state_of items back entered cause before (Some l) parts done agreed settled is unsettled =
+      left-of back done.outcomes cause before (state_of l) done.made done.accepted done.deleted settled.1 agreed settled.0
       (cause-left items (state_of l) entered cause done.outcomes done.all is)
-  ended state_of items back entered cause None parts done settled is unsettled =
+  ended state_of items back entered cause before None parts done agreed settled is unsettled =
       not-left-of back done.outcomes cause unsettled.0 unsettled.1 done.made parts done.accepted done.deleted unsettled.2 (inr unsettled.3)
 
   -- the same of its answer
   pub ended-so :
       {A F L V : Type 0} (state_of : L → State) (items : V → List Outcome) (cause_of : F → LoadCause) (left_of : F → Option L) (back : List DeskParts)
-      (entered : Result V Stop) (result : Result A F) → parts_of back ≡ parts_of desks → HaveDone items chunks desks back entered →
-      IfErr result (λ f. IfSome (left_of f) (λ l. IsSettledState schemas back (state_of l))) →
+      (entered : Result V Stop) (result : Result A F) (history last : List State) → parts_of back ≡ parts_of desks → HaveDone items chunks desks back entered →
+      ((s : State) → last_state history ≡ Some s → AgreeWithBooks desks s) → 0 < length history → HaveGrown chunks history last →
+      IfErr result (λ f. IfSome (left_of f) (λ l. (last_state last ≡ Some (state_of l)) × IsSettledState schemas back (state_of l))) →
       IfErr result (λ f. IfSome (left_of f) (λ l. IsCauseAtEnd items (jobs_of chunks) views (state_of l) entered (cause_of f))) →
       IfErr result (λ f. IfNone (left_of f) ((s : State) × (frame : ℕ) × IsUnsettledState schemas back s frame × IsCauseUnsettled frame (cause_of f))) →
       IfErr result (λ f. MatchOption (left_of f) (IsNotLeft schemas chunks views desks (cause_of f)) (λ l. IsLeft schemas chunks views desks (cause_of f) (state_of l)))
-  ended-so state_of items cause_of left_of back entered (Ok a) parts done settled is unsettled = tt
-  ended-so state_of items cause_of left_of back entered (Err f) parts done settled is unsettled =
-      ended state_of items back entered (cause_of f) (left_of f) parts done settled is unsettled
+  ended-so state_of items cause_of left_of back entered (Ok a) history last parts done agreed begun grown settled is unsettled = tt
+  ended-so state_of items cause_of left_of back entered (Err f) history last parts done agreed begun grown settled is unsettled =
+      let before = last-of-begun history begun in
+      ended state_of items back entered (cause_of f) before.0 (left_of f) parts done (agreed before.0 before.1)
+      (grown-left state_of schemas chunks back history last before.0 (left_of f) before.1 grown settled) is unsettled
 
 settled-one :
     {C : Type 0} (state_of : C → State) (schemas : List (List (List ℕ × CellType))) (desks : List DeskParts) (catalogue c : C) → c ≡ catalogue →
@@ -125,12 +149,16 @@ pub given-left :
     {C T U : Type 0} (state_of : C → State) (schemas : List (List (List ℕ × CellType))) (desks : List DeskParts) (history : List State) (catalogue : C)
     (r : Result (C × T) U) (left : Option (C × T)) → left ≡ result_ok r → last_state history ≡ Some (state_of catalogue) →
     IfOk r (λ _. missing_frame desks (state_of catalogue) ≡ None) → IfOk r (λ x. x.0 ≡ catalogue) → IsLegal (state_of catalogue) →
-    IsLastState schemas (state_of catalogue) → IfSome left (λ l. (last_state history ≡ Some (state_of l.0)) × IsSettledState schemas desks (state_of l.0))
-given-left state_of schemas desks history catalogue (Ok l) left is ends none same legal last =
-    subst (λ o. IfSome o (λ l. (last_state history ≡ Some (state_of l.0)) × IsSettledState schemas desks (state_of l.0))) (sym is)
-    (ends ∙ ap (λ c. Some (state_of c)) (sym same), settled-one state_of schemas desks catalogue l.0 same none legal last)
-given-left state_of schemas desks history catalogue (Err u) left is ends none same legal last =
-    subst (λ o. IfSome o (λ l. (last_state history ≡ Some (state_of l.0)) × IsSettledState schemas desks (state_of l.0))) (sym is) tt
+    IsLastState schemas (state_of catalogue) → AgreeWithBooks desks (state_of catalogue) →
+    IfSome left (λ l. (last_state history ≡ Some (state_of l.0)) × AgreeWithBooks desks (state_of l.0) × IsSettledState schemas desks (state_of l.0))
+given-left state_of schemas desks history catalogue (Ok l) left is ends none same legal last books =
+    subst (λ o. IfSome o (λ l. (last_state history ≡ Some (state_of l.0)) × AgreeWithBooks desks (state_of l.0) × IsSettledState schemas desks (state_of l.0))) (sym is) (
+      ends ∙ ap (λ c. Some (state_of c)) (sym same),
+      subst (λ c. AgreeWithBooks desks (state_of c)) (sym same) books,
+      settled-one state_of schemas desks catalogue l.0 same none legal last,
+    )
+given-left state_of schemas desks history catalogue (Err u) left is ends none same legal last books =
+    subst (λ o. IfSome o (λ l. (last_state history ≡ Some (state_of l.0)) × AgreeWithBooks desks (state_of l.0) × IsSettledState schemas desks (state_of l.0))) (sym is) tt
 
 -- and where they were not
 pub given-not-left :

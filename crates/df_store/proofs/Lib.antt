@@ -1,3 +1,6 @@
+pub mod Crosses
+pub mod GatheredFacts
+pub mod GrownFacts
 pub mod LoadFacts
 pub mod LeftFacts
 pub mod RegisterFacts

@@ -1,3 +1,4 @@
 pub mod Incoming
+pub mod Grown
 pub mod Loads
 pub mod Faults

@@ -5,7 +5,7 @@ use Rattle.df_value.specs.declared.chunk.Piece.{Piece}
 use Rattle.df_plan.specs.CheckedParts.{CheckedParts}
 use Rattle.df_frame.specs.declared.state.FrameState.{FrameState}
 use Rattle.df_state.specs.declared.state.State.{State}
-use Rattle.df_state.specs.Desks.{DeskParts, accepted_at, deleted_at, parts_of}
+use Rattle.df_state.specs.Desks.{AgreeWithBooks, DeskParts, accepted_at, deleted_at, parts_of}
 use Rattle.df_state.specs.States.{IsLegal}
 use Rattle.df_versions.specs.Histories.{IsLastState}
 use Rattle.df_hall.specs.Closing.{IsUnsettledState}
@@ -14,6 +14,7 @@ use Rattle.df_store.specs.declared.fault.LoadCause.TheVariants.{Refused, Memory,
 use Rattle.df_jobs.specs.declared.stop.Stop.{Stop}
 use Rattle.df_jobs.specs.declared.jobs.Outcome.{Outcome}
 use Rattle.df_store.specs.Faults.{IsCauseAtStart, cause_of_stop}
+use Rattle.df_store.specs.Grown.{HasGrown}
 use Rattle.df_jobs.specs.Jobs.{AreOutcomes, jobs_of}
 use Rattle.df_jobs.specs.Loaded.{AreLoaded, IsUnlike}
 use Rattle.df_jobs.specs.Lost.{HaveOneEach, IsLost}
@@ -88,8 +89,8 @@ abbrev pub unaccounted_frame : List DeskParts → List Outcome → State → Opt
 unaccounted_frame desks outcomes s = unaccounted_from desks outcomes 0 s.frames
 
 -- a load that was refused for this left this state, which a hall over frames of these schemas may come to: of each frame the
--- books are as large as the shares of the desks that were given and the rows of some outcomes of jobs together. Which rows these
--- are it does not say
+-- books are as large as the shares of the desks that were given and the rows of some outcomes of jobs together. Its workers began
+-- with a state with whose books the desks agreed, and what came to the frames since are whole chunks
 pub record IsLeft (schemas : List (List (List ℕ × CellType))) (chunks : List (List (ℕ × Piece))) (views : List (List ℕ × CheckedParts)) (desks : List DeskParts)
     (cause : LoadCause) (s : State) : Type 0 where
   pub last : IsLastState schemas s
@@ -97,6 +98,9 @@ pub record IsLeft (schemas : List (List (List ℕ × CellType))) (chunks : List 
   pub outcomes : List Outcome
   pub made : AreOutcomes chunks outcomes
   pub accounted : unaccounted_frame desks outcomes s ≡ None
+  pub before : State
+  pub agreed : AgreeWithBooks desks before
+  pub grown : HasGrown chunks before s
   pub why : IsCauseLeft (jobs_of chunks) views outcomes s cause
 
 -- one that was refused for this left nothing: its desks came back with all their parts and with the rows of some outcomes of jobs,

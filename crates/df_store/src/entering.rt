@@ -1,18 +1,18 @@
 //! The commits of a worker: chunks enter their frames through its desks, and the outcomes that stand are kept.
-ghost use Rattle.std.specs.Prelude.{◌≡◌, ◌<◌, ◌≤◌, ◌+◌, ◌++◌, ◌∷◌, [], ℕ, List, IfOk, IfSome, OnErr, OnOk, if◌then◌else◌, length, slice_index_or, vec_capacity};
-ghost use Rattle.df_state.specs.Desks.{DeskParts, desk_after};
-ghost use Rattle.df_state.specs.declared.change.Change.TheVariants.{Append};
+ghost use Rattle.std.specs.Prelude.{◌≡◌, ◌<◌, ◌≤◌, ◌+◌, ◌++◌, ◌∷◌, [], ℕ, List, IfOk, IfSome, OnErr, if◌then◌else◌, length, slice_index_or, vec_capacity};
+ghost use Rattle.df_state.specs.Desks.{DeskParts};
 ghost use Rattle.df_value.specs.declared.chunk.Piece.{Piece};
-ghost use Rattle.df_jobs.specs.Jobs.{AreOutcomes};
+ghost use Rattle.df_jobs.specs.Jobs.{AreOutcomes, IsOutcome};
 ghost use Rattle.df_jobs.specs.Joined.{IsJoined};
 ghost use Rattle.df_jobs.specs.Counted.{AreCounted, HaveAccepted, all_without_accepted};
+ghost use Rattle.df_store.specs.Grown.{IsWhole};
 ghost use Rattle.df_store.specs.Incoming.{chunk_of};
 
+use crate::loading::{Beginning, LoadingCatalogue};
 use core::mem;
-use df_catalogue::{Desk, FrameChange, PreparedChunk};
-use df_hall::VersionedCatalogue;
-use df_jobs::{Joined, KeptPiece, Outcome, Stop};
-use df_value::{Chunk, Piece};
+use df_catalogue::{Desk, PreparedChunk};
+use df_jobs::{Joined, Outcome, Stop};
+use df_value::Chunk;
 use df_versions::{ChangeFault, Naming, Told};
 use std::alloc::Global;
 use std::sync::Wait;
@@ -27,10 +27,10 @@ pub(crate) enum Incoming<'a> {
 
 /// Commits the good chunks of these outcomes, and keeps the outcomes that stand. The chunk that has the rows of all of
 /// them, if there is one, enters in one change; where it is refused, each chunk enters by itself, as far as it can.
-pub(crate) fn enter_all<Acc: Ledger, Del: Ledger, J: Naming, R: Wait>(
+pub(crate) fn enter_all<Acc: Ledger, Del: Ledger, J: Naming, B: Beginning, R: Wait>(
     rt: &R,
     alloc: Global,
-    catalogue: &mut VersionedCatalogue<Acc, Del, J>,
+    catalogue: &mut LoadingCatalogue<Acc, Del, J, B>,
     desks: &mut Vec<Desk<Acc, Del>>,
     made: &mut Vec<Outcome>,
     joined: &mut Option<Joined>,
@@ -39,6 +39,7 @@ pub(crate) fn enter_all<Acc: Ledger, Del: Ledger, J: Naming, R: Wait>(
 ) -> Result<(), Stop>
     requires room { length done.old.items + length made.old.items ≤ vec_capacity done.old }
     requires joined { IfSome joined.old (IsJoined made.old.items) }
+    requires made { AreOutcomes B.chunks made.old.items }
     ensures desks { all_without_accepted desks.new.items ≡ all_without_accepted desks.old.items }
     ensures counted { AreCounted desks.old.items done.old.items desks.new.items done.new.items }
     ensures done { (chunks : List (List (ℕ × Piece))) → AreOutcomes chunks made.old.items →
@@ -73,16 +74,17 @@ fn keep_all(outcomes: Vec<Outcome>, done: &mut Vec<Outcome>)
 }
 
 // Commits the good chunks of these outcomes in their order, and keeps the outcomes that stand.
-fn enter_each<Acc: Ledger, Del: Ledger, J: Naming, R: Wait>(
+fn enter_each<Acc: Ledger, Del: Ledger, J: Naming, B: Beginning, R: Wait>(
     rt: &R,
     alloc: Global,
-    catalogue: &mut VersionedCatalogue<Acc, Del, J>,
+    catalogue: &mut LoadingCatalogue<Acc, Del, J, B>,
     desks: &mut Vec<Desk<Acc, Del>>,
     made: Vec<Outcome>,
     done: &mut Vec<Outcome>,
     told: &mut Option<Told<J>>,
 ) -> Result<(), Stop>
-    requires { length done.old.items + length made.items ≤ vec_capacity done.old }
+    requires room { length done.old.items + length made.items ≤ vec_capacity done.old }
+    requires made { AreOutcomes B.chunks made.items }
     ensures desks { all_without_accepted desks.new.items ≡ all_without_accepted desks.old.items }
     ensures counted { AreCounted desks.old.items done.old.items desks.new.items done.new.items }
     ensures done { (chunks : List (List (ℕ × Piece))) → AreOutcomes chunks made.items →
@@ -98,41 +100,40 @@ fn enter_each<Acc: Ledger, Del: Ledger, J: Naming, R: Wait>(
 
 // Commits the chunk of an outcome, if it is good, and tells whether the outcome stands: that of a bad chunk does, which
 // changes nothing, and that of a good one where it enters.
-fn enter<Acc: Ledger, Del: Ledger, J: Naming, R: Wait>(
+fn enter<Acc: Ledger, Del: Ledger, J: Naming, B: Beginning, R: Wait>(
     rt: &R,
     alloc: Global,
-    catalogue: &mut VersionedCatalogue<Acc, Del, J>,
+    catalogue: &mut LoadingCatalogue<Acc, Del, J, B>,
     desks: &mut Vec<Desk<Acc, Del>>,
     outcome: &Outcome,
     told: &mut Option<Told<J>>,
 ) -> Result<bool, Stop>
+    requires { IsOutcome B.chunks outcome.now }
     ensures desks { all_without_accepted desks.new.items ≡ all_without_accepted desks.old.items }
     ensures counted { IfOk result (λ stands. AreCounted desks.old.items [] desks.new.items
         (if stands then outcome.now ∷ [] else [])) }
     ensures refused { OnErr result (desks.new.items ≡ desks.old.items) }
 {
-    match outcome.made.kept() {
-        KeptPiece::Typed(Piece::Good(chunk)) => {
-            let incoming = Incoming::Chunk(chunk);
-            enter_chunk(rt, alloc, catalogue, desks, outcome.frame, incoming, told)
-        }
-        KeptPiece::Typed(Piece::Bad(_)) => Ok(true),
-        // None comes here: jobs make typed pieces.
-        KeptPiece::Stored(_) => Ok(false),
+    if let Some(chunk) = outcome.made.typed_chunk() {
+        let incoming = Incoming::Chunk(chunk);
+        return enter_chunk(rt, alloc, catalogue, desks, outcome.frame, incoming, told);
     }
+    // No stored chunk comes here: jobs make typed pieces.
+    Ok(outcome.made.bad_cell().is_some())
 }
 
 // Commits a chunk through a desk of a frame, and tells whether it entered. It does not where the catalogue refuses it, or
 // no desk here is of the frame.
-fn enter_chunk<Acc: Ledger, Del: Ledger, J: Naming, R: Wait>(
+fn enter_chunk<Acc: Ledger, Del: Ledger, J: Naming, B: Beginning, R: Wait>(
     rt: &R,
     alloc: Global,
-    catalogue: &mut VersionedCatalogue<Acc, Del, J>,
+    catalogue: &mut LoadingCatalogue<Acc, Del, J, B>,
     desks: &mut Vec<Desk<Acc, Del>>,
     frame: usize,
     chunk: Incoming<'_>,
     told: &mut Option<Told<J>>,
 ) -> Result<bool, Stop>
+    requires { IsWhole B.chunks frame (chunk_of chunk) }
     ensures desks { all_without_accepted desks.new.items ≡ all_without_accepted desks.old.items }
     ensures accepted { IfOk result (λ entered. HaveAccepted frame
         (if entered then length (chunk_of chunk.entry).rows else 0) desks.old.items desks.new.items) }
@@ -141,7 +142,7 @@ fn enter_chunk<Acc: Ledger, Del: Ledger, J: Naming, R: Wait>(
     let Some(at) = desk_of(desks.as_slice(), frame) else {
         return Ok(false);
     };
-    match append(rt, alloc, catalogue, &mut desks[at], chunk, told.as_ref()) {
+    match catalogue.append(rt, alloc, &mut desks[at], chunk, told.as_ref()) {
         Ok(next) => {
             *told = Some(next);
             Ok(true)
@@ -150,29 +151,6 @@ fn enter_chunk<Acc: Ledger, Del: Ledger, J: Naming, R: Wait>(
         Err(ChangeFault::Memory) => Err(Stop::Memory),
         Err(ChangeFault::Spent) => Err(Stop::Spent),
         Err(ChangeFault::Ahead) => Err(Stop::Ahead),
-    }
-}
-
-// Appends what comes to the desk's frame.
-fn append<Acc: Ledger, Del: Ledger, J: Naming, R: Wait>(
-    rt: &R,
-    alloc: Global,
-    catalogue: &mut VersionedCatalogue<Acc, Del, J>,
-    desk: &mut Desk<Acc, Del>,
-    chunk: Incoming<'_>,
-    told: Option<&Told<J>>,
-) -> Result<Told<J>, ChangeFault<J>>
-    ensures desk { OnOk result (desk.new ≡
-        desk_after desk.old (Append desk.old.frame (chunk_of chunk.entry))) }
-    ensures same_desk { OnErr result (desk.new ≡ desk.old) }
-{
-    match chunk {
-        Incoming::Chunk(chunk) => {
-            catalogue.change_rows(rt, alloc, desk, FrameChange::Append(chunk), told)
-        }
-        Incoming::Prepared(chunk) => {
-            catalogue.change_rows(rt, alloc, desk, FrameChange::Prepared(chunk), told)
-        }
     }
 }
 

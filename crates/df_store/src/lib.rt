@@ -8,6 +8,7 @@ mod entering;
 mod fault;
 mod findings;
 mod load;
+mod loading;
 mod pool;
 mod views;
 mod working;

@@ -1,10 +1,11 @@
 //! Loading: workers bring the chunks of sources into a hall, and what they left is compared with the
 //! sources once.
-ghost use Rattle.std.specs.Prelude.{◌≡◌, ◌<◌, ◌≤◌, [], ℕ, Err, IfErr, IfNone, IfOk, IfSome, IsErrAnd, IsOkAnd, MatchOption, None, Ok, Some, filter_map, length};
+ghost use Rattle.std.specs.Prelude.{◌≡◌, ◌<◌, ◌≤◌, [], ℕ, All, Err, IfErr, IfNone, IfOk, IfSome, IsErrAnd, IsOkAnd, MatchOption, None, Ok, Some, filter_map, length};
 ghost use Rattle.df_value.specs.Limits as limits;
+ghost use Rattle.df_state.specs.Desks.{AgreeWithBooks};
 ghost use Rattle.df_state.specs.States.{IsLegal};
 ghost use Rattle.df_state.specs.declared.state.State.{State};
-ghost use Rattle.df_claims.specs.Seats.{AreAllSeats};
+ghost use Rattle.df_claims.specs.Seats.{AreAllSeats, IsSeatOf};
 ghost use Rattle.df_hall.specs.Closing as closing;
 ghost use Rattle.df_hall.specs.Rooms.{HasRoomFor, Holds};
 ghost use Rattle.df_store.specs.Faults.{IsCauseAtStart, IsCauseOfView, IsCauseOfViews};
@@ -13,10 +14,11 @@ ghost use Rattle.df_jobs.specs.Loaded.{AreLoaded};
 ghost use Rattle.df_store.specs.Loads as loads;
 ghost use Rattle.df_jobs.specs.Refused.{refusal};
 ghost use Rattle.df_jobs.specs.Counted.{entered_at};
-ghost use Rattle.df_versions.specs.Histories.{IsLastState, last_state};
+ghost use Rattle.df_versions.specs.Histories.{IsHistoryOver, IsLastState, last_state};
 
 use crate::fault::LoadCause;
 use crate::findings::compare;
+use crate::loading::{Beginning, LoadingHall};
 use crate::pool::do_jobs;
 use df_catalogue::{Catalogue, Desk, ViewChange};
 use df_claims::{ClaimSeat, Claims};
@@ -26,6 +28,7 @@ use df_plan::CheckedPlan;
 use df_value::{Duplicate, List, Source, Text};
 use df_versions::{Naming, Told};
 use std::alloc::Global;
+use std::marker::Brand;
 use std::sync::Wait;
 use std::sync::ledger::Ledger;
 use std::thread::Threads;
@@ -131,7 +134,8 @@ pub fn load_all<
         Ok(begun) => begun,
         Err(cause) => return Err(given_up(rt, catalogue, room, desks, cause)),
     };
-    let hall = Hall::over(catalogue, room);
+    let mut desks = desks;
+    catalogue.gather(&mut desks);
     let work = Work {
         alloc,
         sources,
@@ -142,8 +146,70 @@ pub fn load_all<
         desks: desks.len(),
         at_once: jobs_at_once(jobs, workers),
     };
-    let (desks, outcomes) = do_jobs(rt, &hall, &work, seats, desks);
-    finish(rt, hall, desks, &work, views, outcomes)
+    run_load::<Acc, Del, J, Brand, S, G, R>(rt, catalogue, room, &work, seats, desks, views)
+}
+
+// Runs the workers over a catalogue in which the views are registered, and compares what they left.
+fn run_load<
+    Acc: Ledger + Send + Sync,
+    Del: Ledger + Send + Sync,
+    J: Naming + Send + Sync,
+    B: Beginning + Send + Sync,
+    S: Source + Sync,
+    G: Gate + Sync,
+    R: Threads + Wait + Sync,
+>(
+    rt: &R,
+    catalogue: VersionedCatalogue<Acc, Del, J>,
+    room: TotalsRoom,
+    work: &Work<S, G>,
+    seats: Vec<ClaimSeat>,
+    desks: Vec<Desk<Acc, Del>>,
+    views: &[(Text, CheckedPlan)],
+) -> Result<Loaded<Acc, Del>, LoadFault<Acc, Del>>
+    requires history { catalogue ≡ B.history }
+    requires chunks { B.chunks ≡ chunks_of S.made S.start_of work.now.sources.now }
+    requires over { IsHistoryOver J.schemas catalogue }
+    requires agreed { (s : State) → last_state catalogue ≡ Some s → AgreeWithBooks desks.items s }
+    requires room { HasRoomFor limits.most_frames room }
+    requires empty { Holds room [] }
+    requires workers { 0 < work.now.workers }
+    requires jobs { work.now.jobs
+        ≡ length (jobs_of (chunks_of S.made S.start_of work.now.sources.now)) }
+    requires some { 0 < length seats.items }
+    requires seats { All (IsSeatOf work.now.claims.now) seats.items }
+    requires desks { length desks.items ≤ work.now.desks }
+    ensures loaded { IfOk result (λ load.
+        AreLoaded (jobs_of (chunks_of S.made S.start_of work.now.sources.now))
+        load.catalogue.state) }
+    ensures refused { IfOk result (λ load. load.refused
+        ≡ filter_map refusal (jobs_of (chunks_of S.made S.start_of work.now.sources.now))) }
+    ensures shares { IfOk result (λ load. loads.AreShares desks.items
+        (jobs_of (chunks_of S.made S.start_of work.now.sources.now)) load.catalogue.state) }
+    ensures views { IfOk result (λ load. loads.headings_of load.catalogue.state ≡ views.now) }
+    ensures totals { IfOk result (λ load.
+        load.totals ≡ closing.totals_of load.catalogue.state) }
+    ensures legal { IfOk result (λ load. IsLegal load.catalogue.state) }
+    ensures state { IfOk result (λ load. IsLastState J.schemas load.catalogue.state) }
+    ensures left { IfErr result (λ fault. MatchOption fault.left
+        (loads.IsNotLeft J.schemas (chunks_of S.made S.start_of work.now.sources.now) views.now
+        desks.items fault.cause)
+        (λ left. loads.IsLeft J.schemas (chunks_of S.made S.start_of work.now.sources.now)
+        views.now desks.items fault.cause left.0.state)) }
+    ensures left_totals { IfErr result (λ fault. IfSome fault.left (λ left.
+        left.1 ≡ closing.totals_of left.0.state)) }
+{
+    let hall: LoadingHall<Acc, Del, J, B> = LoadingHall::over(catalogue);
+    let (desks, outcomes) = do_jobs(rt, &hall, work, seats, desks);
+    finish(
+        rt,
+        hall.into_catalogue(),
+        room,
+        desks,
+        work,
+        views,
+        outcomes,
+    )
 }
 
 // How many jobs each of so many workers draws at once, at the least: so many that a lock is taken seldom, and so few that
@@ -227,6 +293,7 @@ fn given_up<Acc: Ledger, Del: Ledger, J: Naming, R: Wait>(
     requires empty { Holds room [] }
     ensures cause { result.cause ≡ cause }
     ensures left { IfSome result.left (λ left. (last_state catalogue ≡ Some left.0.state)
+        × AgreeWithBooks desks.items left.0.state
         × closing.IsSettledState J.schemas desks.items left.0.state) }
     ensures not_left { IfNone result.left ((s : State) × (frame : ℕ)
         × (last_state catalogue ≡ Some s)
@@ -239,15 +306,18 @@ fn given_up<Acc: Ledger, Del: Ledger, J: Naming, R: Wait>(
     }
 }
 
-// Compares what the load left, and closes the hall.
+// Compares what the workers left, and closes the catalogue.
 fn finish<Acc: Ledger, Del: Ledger, J: Naming, S: Source, G: Gate, R: Threads + Wait + Sync>(
     rt: &R,
-    hall: Hall<Acc, Del, J>,
+    catalogue: VersionedCatalogue<Acc, Del, J>,
+    room: TotalsRoom,
     desks: Vec<Desk<Acc, Del>>,
     work: &Work<S, G>,
     views: &[(Text, CheckedPlan)],
     entered: Result<Vec<Outcome>, Stop>,
 ) -> Result<Loaded<Acc, Del>, LoadFault<Acc, Del>>
+    requires room { HasRoomFor limits.most_frames room }
+    requires empty { Holds room [] }
     requires workers { 0 < work.now.workers }
     requires jobs { work.now.jobs
         ≡ length (jobs_of (chunks_of S.made S.start_of work.now.sources.now)) }
@@ -269,7 +339,8 @@ fn finish<Acc: Ledger, Del: Ledger, J: Naming, S: Source, G: Gate, R: Threads + 
     ensures legal { IfOk result (λ load. IsLegal load.catalogue.state) }
     ensures state { IfOk result (λ load. IsLastState J.schemas load.catalogue.state) }
     ensures left { IfErr result (λ fault. IfSome fault.left (λ left.
-        closing.IsSettledState J.schemas desks.items left.0.state)) }
+        (last_state catalogue ≡ Some left.0.state)
+        × closing.IsSettledState J.schemas desks.items left.0.state)) }
     ensures cause { IfErr result (λ fault. IfSome fault.left (λ left.
         loads.IsCauseAtEnd (λ os. os.items)
         (jobs_of (chunks_of S.made S.start_of work.now.sources.now)) views.now left.0.state
@@ -280,7 +351,7 @@ fn finish<Acc: Ledger, Del: Ledger, J: Naming, S: Source, G: Gate, R: Threads + 
     ensures left_totals { IfErr result (λ fault. IfSome fault.left (λ left.
         left.1 ≡ closing.totals_of left.0.state)) }
 {
-    let (catalogue, room) = hall.into_catalogue(rt);
+    let catalogue = catalogue.end(rt);
     let findings = match entered {
         Ok(outcomes) => compare(rt, &catalogue, work, views, outcomes),
         Err(stop) => Err(LoadCause::from(stop)),

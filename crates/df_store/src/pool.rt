@@ -6,10 +6,10 @@ ghost use Rattle.df_jobs.specs.Counted.{AreCounted, HaveDone, all_without_accept
 ghost use Rattle.df_jobs.specs.Jobs.{chunks_of};
 ghost use Rattle.df_jobs.specs.Workers.{IsPool, IsWorker, desks_of, outcomes_in};
 
+use crate::loading::{Beginning, LoadingHall};
 use crate::working::run;
 use df_catalogue::Desk;
 use df_claims::ClaimSeat;
-use df_hall::Hall;
 use df_jobs::{Gate, Outcome, Stop, Work, Worker, WorkerPool};
 use df_value::Source;
 use df_versions::Naming;
@@ -25,16 +25,18 @@ pub(crate) fn do_jobs<
     Acc: Ledger + Send + Sync,
     Del: Ledger + Send + Sync,
     J: Naming + Send + Sync,
+    B: Beginning + Send + Sync,
     S: Source + Sync,
     G: Gate + Sync,
     R: Threads + Wait + Sync,
 >(
     rt: &R,
-    hall: &Hall<Acc, Del, J>,
+    hall: &LoadingHall<Acc, Del, J, B>,
     work: &Work<S, G>,
     seats: Vec<ClaimSeat>,
     desks: Vec<Desk<Acc, Del>>,
 ) -> (Vec<Desk<Acc, Del>>, Result<Vec<Outcome>, Stop>)
+    requires chunks { B.chunks ≡ chunks_of S.made S.start_of work.now.sources.now }
     requires some { 0 < length seats.items }
     requires seats { All (IsSeatOf work.now.claims.now) seats.items }
     requires desks { length desks.items ≤ work.now.desks }
@@ -55,11 +57,13 @@ fn run_pool<
     Acc: Ledger + Send + Sync,
     Del: Ledger + Send + Sync,
     J: Naming + Send + Sync,
+    B: Beginning + Send + Sync,
     S: Source + Sync,
     G: Gate + Sync,
     R: Threads + Wait + Sync,
->(rt: &R, hall: &Hall<Acc, Del, J>, work: &Work<S, G>, pool: &mut WorkerPool<Acc, Del>)
-    requires { IsPool work.now.claims.now work.now.desks
+>(rt: &R, hall: &LoadingHall<Acc, Del, J, B>, work: &Work<S, G>, pool: &mut WorkerPool<Acc, Del>)
+    requires chunks { B.chunks ≡ chunks_of S.made S.start_of work.now.sources.now }
+    requires pool { IsPool work.now.claims.now work.now.desks
         (chunks_of S.made S.start_of work.now.sources.now) pool.old }
     ensures pool { IsPool work.now.claims.now work.now.desks
         (chunks_of S.made S.start_of work.now.sources.now) pool.new }
@@ -77,11 +81,13 @@ fn run_workers<
     Acc: Ledger + Send + Sync,
     Del: Ledger + Send + Sync,
     J: Naming + Send + Sync,
+    B: Beginning + Send + Sync,
     S: Source + Sync,
     G: Gate + Sync,
     R: Threads + Wait + Sync,
->(rt: &R, hall: &Hall<Acc, Del, J>, work: &Work<S, G>, workers: &mut [Worker<Acc, Del>])
-    requires { All (λ w.
+>(rt: &R, hall: &LoadingHall<Acc, Del, J, B>, work: &Work<S, G>, workers: &mut [Worker<Acc, Del>])
+    requires chunks { B.chunks ≡ chunks_of S.made S.start_of work.now.sources.now }
+    requires workers { All (λ w.
         IsWorker work.now.claims.now work.now.desks
         (chunks_of S.made S.start_of work.now.sources.now) w) workers.old }
     ensures all { All (λ w.

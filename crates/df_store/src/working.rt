@@ -5,7 +5,7 @@ ghost use Rattle.df_jobs.specs.Jobs.{AreOutcomes, chunks_of};
 ghost use Rattle.df_jobs.specs.Workers.{IsWorker};
 
 use crate::entering::enter_all;
-use df_hall::Hall;
+use crate::loading::{Beginning, LoadingHall};
 use df_jobs::{Gate, Outcome, Stop, Work, Worker, count_of_first_chunk, join};
 use df_value::Source;
 use df_versions::{Naming, Told};
@@ -13,13 +13,14 @@ use std::sync::ledger::Ledger;
 use std::sync::{MutexGuard, Wait};
 
 /// Does the jobs that it draws, until none is left or it has to stop. Each commit is told of the one before.
-pub(crate) fn run<Acc: Ledger, Del: Ledger, J: Naming, S: Source, G: Gate, R: Wait>(
+pub(crate) fn run<Acc: Ledger, Del: Ledger, J: Naming, B: Beginning, S: Source, G: Gate, R: Wait>(
     rt: &R,
-    hall: &Hall<Acc, Del, J>,
+    hall: &LoadingHall<Acc, Del, J, B>,
     work: &Work<S, G>,
     worker: &mut Worker<Acc, Del>,
 )
-    requires { IsWorker work.now.claims.now work.now.desks
+    requires chunks { B.chunks ≡ chunks_of S.made S.start_of work.now.sources.now }
+    requires worker { IsWorker work.now.claims.now work.now.desks
         (chunks_of S.made S.start_of work.now.sources.now)
         worker.old }
     ensures worker { IsWorker work.now.claims.now work.now.desks
@@ -45,14 +46,15 @@ pub(crate) fn run<Acc: Ledger, Del: Ledger, J: Naming, S: Source, G: Gate, R: Wa
 
 // Does the next jobs that it draws, and tells whether there were any. Those of one frame are committed together, as far
 // as one chunk has room for them.
-fn do_next<Acc: Ledger, Del: Ledger, J: Naming, S: Source, G: Gate, R: Wait>(
+fn do_next<Acc: Ledger, Del: Ledger, J: Naming, B: Beginning, S: Source, G: Gate, R: Wait>(
     rt: &R,
-    hall: &Hall<Acc, Del, J>,
+    hall: &LoadingHall<Acc, Del, J, B>,
     work: &Work<S, G>,
     worker: &mut Worker<Acc, Del>,
     told: &mut Option<Told<J>>,
 ) -> Result<bool, Stop>
-    requires { IsWorker work.now.claims.now work.now.desks
+    requires chunks { B.chunks ≡ chunks_of S.made S.start_of work.now.sources.now }
+    requires worker { IsWorker work.now.claims.now work.now.desks
         (chunks_of S.made S.start_of work.now.sources.now)
         worker.old }
     ensures worker { IsWorker work.now.claims.now work.now.desks
@@ -77,9 +79,9 @@ fn do_next<Acc: Ledger, Del: Ledger, J: Naming, S: Source, G: Gate, R: Wait>(
 
 // Commits what came of some jobs. Before the lock is taken their chunks are joined, and the blocks of the joined chunk
 // made. All enter under one lock: what the commits work on goes from one processor's cache to another's with it.
-fn commit<Acc: Ledger, Del: Ledger, J: Naming, S: Source, G: Gate, R: Wait>(
+fn commit<Acc: Ledger, Del: Ledger, J: Naming, B: Beginning, S: Source, G: Gate, R: Wait>(
     rt: &R,
-    hall: &Hall<Acc, Del, J>,
+    hall: &LoadingHall<Acc, Del, J, B>,
     work: &Work<S, G>,
     worker: &mut Worker<Acc, Del>,
     made: Vec<Outcome>,
@@ -88,6 +90,7 @@ fn commit<Acc: Ledger, Del: Ledger, J: Naming, S: Source, G: Gate, R: Wait>(
     requires worker { IsWorker work.now.claims.now work.now.desks
         (chunks_of S.made S.start_of work.now.sources.now)
         worker.old }
+    requires chunks { B.chunks ≡ chunks_of S.made S.start_of work.now.sources.now }
     requires made { AreOutcomes (chunks_of S.made S.start_of work.now.sources.now) made.items }
     ensures worker { IsWorker work.now.claims.now work.now.desks
         (chunks_of S.made S.start_of work.now.sources.now)

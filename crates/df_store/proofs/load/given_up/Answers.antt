@@ -5,7 +5,7 @@ pub returns-clause-left : goal.returns-clause-left
 returns-clause-left g c =
     let s = c.settle.ensures in
     given-left (λ k. k.state) g.J.Naming.schemas c.args.desks.items c.args.catalogue c.end.result c.settle.result c.ok.result c.ok.ensures.value c.end.ensures.state
-    s.settled s.catalogue s.legal (record { history = c.args.catalogue; over = c.end.ensures.over; last = c.end.ensures.state })
+    s.settled s.catalogue s.legal (record { history = c.args.catalogue; over = c.end.ensures.over; last = c.end.ensures.state }) s.books
 
 pub returns-clause-not_left : goal.returns-clause-not_left
 returns-clause-not_left g c =

@@ -1,26 +1,17 @@
 use Rattle.df_jobs.specs.Jobs.{chunks_of, jobs_of}
-use Rattle.df_store.proofs.LeftFacts.{ended-so, given-up, handed-outcomes, handed-rows}
-use Rattle.df_store.proofs.LoadFacts.{shares-of-load}
+use Rattle.df_store.proofs.GatheredFacts.{gathered-left, gathered-shares}
+use Rattle.df_store.proofs.LeftFacts.{given-up}
 use Rattle.df_store.proofs.load.load_all.Goals as goal
-
-pub finish-requires-clause-entered : goal.finish-requires-clause-entered
-finish-requires-clause-entered g c κs within =
-    handed-outcomes (λ os. os.items) (chunks_of g.S.Source.made g.S.Source.start_of c.args.sources.now) c.args.desks.items c.do_jobs-desks.result.0.items c.do_jobs-desks.result.1
-    c.do_jobs-desks.ensures.done
 
 pub returns-clause-shares : goal.returns-clause-shares
 returns-clause-shares g c =
-    let chunks = chunks_of g.S.Source.made g.S.Source.start_of c.args.sources.now in
-    let done = c.do_jobs-desks.ensures.done in
-    shares-of-load (λ l. l.catalogue.state) (λ os. os.items) c.args.desks.items c.do_jobs-desks.result.0.items (jobs_of chunks) c.finish.result c.do_jobs-desks.result.1
-    c.finish.ensures.settled (handed-rows (λ os. os.items) chunks c.args.desks.items c.do_jobs-desks.result.0.items c.do_jobs-desks.result.1 done) done.deleted c.finish.ensures.entered
+    gathered-shares c.args.desks.items c.gather.new.desks.items c.gather.ensures.joined.sums (λ l. l.catalogue.state)
+    (jobs_of (chunks_of g.S.Source.made g.S.Source.start_of c.args.sources.now)) c.run_load.result c.run_load.ensures.shares
 
 pub returns-clause-left : goal.returns-clause-left
 returns-clause-left g c =
-    let chunks = chunks_of g.S.Source.made g.S.Source.start_of c.args.sources.now in
-    let end = c.finish.ensures in
-    ended-so g.J.Naming.schemas chunks c.args.views.now c.args.desks.items (λ l. l.0.state) (λ os. os.items) (λ f. f.cause) (λ f. f.left)
-    c.do_jobs-desks.result.0.items c.do_jobs-desks.result.1 c.finish.result c.do_jobs-desks.ensures.parts c.do_jobs-desks.ensures.done end.left end.cause end.not_left
+    gathered-left c.args.desks.items c.gather.new.desks.items c.gather.ensures.joined.sums g.J.Naming.schemas
+    (chunks_of g.S.Source.made g.S.Source.start_of c.args.sources.now) c.args.views.now (λ l. l.0.state) (λ f. f.cause) (λ f. f.left) c.run_load.result c.run_load.ensures.left
 
 pub returns-in-Err-clause-left : goal.returns-in-Err-clause-left
 returns-in-Err-clause-left g c =

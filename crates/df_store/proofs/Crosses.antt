@@ -1,0 +1,22 @@
+-- Threads may share the lock over a catalogue that they load.
+use denote.RattleType.{RattleType}
+use denote.Param.Send.{IsSend, IsSync, sendable}
+use Rattle.std.specs.declared.sync.ledger.Ledger.{Ghosts}
+use Rattle.std.proofs.Crossing.{crosses}
+use Rattle.df_versions.specs.declared.history.Naming.{Ghosts as Names}
+use Rattle.df_hall.proofs.Crosses.{catalogue_send, versioned_send}
+use Rattle.df_store.specs.declared.loading.Beginning.{Ghosts as Beginnings}
+use Rattle.df_store.specs.contracts.loading.LoadingCatalogue as Loading
+use Rattle.df_store.specs.contracts.loading.LoadingHall as LoadingHall
+use Rattle.df_store.specs.contracts.loading.LoadingCatalogue.TheInside as LoadingInside
+
+module _ (A D J B : RattleType) (a : Ghosts A.Denot) (d : Ghosts D.Denot) (j : Names J.Denot) (b : Beginnings B.Denot) where
+  inside_send : IsSend (LoadingInside.the_row A D J B a d j b)
+  inside_send = let v = versioned_send A D J a d j (catalogue_send A D a d) in search (sendable, crosses) depth 20
+
+  -- what stands behind the lock may go to another thread
+  loading_send : IsSend (Loading.the_row A D J B a d j b)
+  loading_send = let i = inside_send in search sendable depth 20
+
+  pub hall_sync : IsSync (LoadingHall.the_row A D J B a d j b)
+  hall_sync = let l = loading_send in search (sendable, crosses) depth 20

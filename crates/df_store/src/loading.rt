@@ -1,0 +1,129 @@
+//! What stands behind the lock while workers load: a catalogue whose frames grow by whole chunks alone.
+ghost use Rattle.std.specs.Prelude.{◌≡◌, OnErr, OnOk};
+ghost use Rattle.df_state.specs.Desks.{desk_after};
+ghost use Rattle.df_state.specs.declared.change.Change.TheVariants.{Append};
+ghost use Rattle.df_store.specs.Grown.{HaveGrown, IsWhole};
+ghost use Rattle.df_store.specs.Incoming.{chunk_of};
+
+use crate::entering::Incoming;
+use df_catalogue::{Desk, FrameChange};
+use df_hall::VersionedCatalogue;
+use df_versions::{ChangeFault, Naming, Told};
+use std::alloc::Global;
+use std::marker::{Brand, Model, PhantomData};
+use std::sync::ledger::Ledger;
+use std::sync::{Mutex, MutexGuard, Wait};
+
+/// What the workers of a load begin with: contracts see the history until then, and the chunks of the sources. Each load
+/// picks its own, at `Brand`, since a clause cannot name what a lock holds.
+pub(crate) trait Beginning {
+    ghost use Rattle.std.specs.Prelude.{ℕ, List};
+    ghost use Rattle.df_state.specs.declared.state.State.{State};
+    ghost use Rattle.df_value.specs.declared.chunk.Piece.{Piece};
+
+    ghost history: { List State };
+
+    ghost chunks: { List (List (ℕ × Piece)) };
+}
+
+impl Beginning for Brand {
+    ghost use Rattle.std.specs.Prelude.{[]};
+
+    ghost history = { [] };
+
+    ghost chunks = { [] };
+}
+
+/// A lock round a catalogue that workers load. Threads share it by reference.
+pub(crate) struct LoadingHall<Acc: Ledger, Del: Ledger, J: Naming, B: Beginning> {
+    catalogue: Mutex<LoadingCatalogue<Acc, Del, J, B>>,
+}
+
+impl<Acc: Ledger, Del: Ledger, J: Naming, B: Beginning> LoadingHall<Acc, Del, J, B> {
+    /// A lock round the catalogue that the load begins with.
+    pub(crate) fn over(catalogue: VersionedCatalogue<Acc, Del, J>) -> LoadingHall<Acc, Del, J, B>
+        requires { catalogue ≡ B.history }
+    {
+        LoadingHall {
+            catalogue: Mutex::new(LoadingCatalogue::over(catalogue)),
+        }
+    }
+
+    /// Takes the lock, for several calls in a row.
+    pub(crate) fn lock<R: Wait>(&self, rt: &R) -> MutexGuard<'_, LoadingCatalogue<Acc, Del, J, B>> {
+        self.catalogue.lock(rt)
+    }
+
+    /// The catalogue that the load leaves.
+    pub(crate) fn into_catalogue(self) -> VersionedCatalogue<Acc, Del, J>
+        ensures { HaveGrown B.chunks B.history result }
+    {
+        let LoadingHall { catalogue } = self;
+        catalogue.into_inner().into_catalogue()
+    }
+}
+
+/// A catalogue that workers load. Contracts see its history.
+pub(crate) struct LoadingCatalogue<Acc: Ledger, Del: Ledger, J: Naming, B: Beginning> {
+    catalogue: VersionedCatalogue<Acc, Del, J>,
+    of: PhantomData<B>,
+}
+
+impl<Acc: Ledger, Del: Ledger, J: Naming, B: Beginning> Model for LoadingCatalogue<Acc, Del, J, B> {
+    ghost use Rattle.std.specs.Prelude.{List};
+    ghost use Rattle.std.specs.Coded.{coded_list};
+    ghost use Rattle.df_state.specs.declared.state.State.{State};
+    ghost use Rattle.df_state.specs.contracts.state.State as state_type;
+    ghost use Rattle.df_store.specs.Grown.{HaveGrown};
+
+    ghost Value = { List State };
+
+    ghost coded = { coded_list state_type.the_row.coded };
+
+    ghost view = { λ v. v.catalogue };
+
+    // What came to its frames since the load began are whole chunks.
+    ghost invariant = { λ v. HaveGrown B.chunks B.history v.catalogue };
+}
+
+impl<Acc: Ledger, Del: Ledger, J: Naming, B: Beginning> LoadingCatalogue<Acc, Del, J, B> {
+    // The catalogue that the load begins with.
+    fn over(catalogue: VersionedCatalogue<Acc, Del, J>) -> LoadingCatalogue<Acc, Del, J, B>
+        requires { catalogue ≡ B.history }
+    {
+        LoadingCatalogue {
+            catalogue,
+            of: PhantomData,
+        }
+    }
+
+    // The catalogue that the load leaves.
+    fn into_catalogue(self) -> VersionedCatalogue<Acc, Del, J>
+        ensures { HaveGrown B.chunks B.history result }
+    {
+        let LoadingCatalogue { catalogue, of } = self;
+        drop(of);
+        catalogue
+    }
+
+    /// Appends a whole chunk to the desk's frame.
+    pub(crate) fn append<R: Wait>(
+        &mut self,
+        rt: &R,
+        alloc: Global,
+        desk: &mut Desk<Acc, Del>,
+        chunk: Incoming<'_>,
+        told: Option<&Told<J>>,
+    ) -> Result<Told<J>, ChangeFault<J>>
+        requires { IsWhole B.chunks desk.old.frame (chunk_of chunk) }
+        ensures desk { OnOk result (desk.new ≡
+            desk_after desk.old (Append desk.old.frame (chunk_of chunk.entry))) }
+        ensures same_desk { OnErr result (desk.new ≡ desk.old) }
+    {
+        let change = match chunk {
+            Incoming::Chunk(chunk) => FrameChange::Append(chunk),
+            Incoming::Prepared(chunk) => FrameChange::Prepared(chunk),
+        };
+        self.catalogue.change_rows(rt, alloc, desk, change, told)
+    }
+}
