@@ -69,6 +69,7 @@ module _ (desks joined : List DeskParts) (same : HaveSameSums desks joined) wher
       made = h.made;
       accounted = sym (accounted-so h.outcomes 0 s.frames) ∙ h.accounted;
       before = h.before;
+      began = h.began;
       agreed = agree-same h.before h.agreed;
       grown = h.grown;
       why = h.why;

@@ -10,7 +10,7 @@ use Rattle.df_frame.specs.declared.state.FrameState.{FrameState}
 use Rattle.df_state.specs.declared.state.State.{State}
 use Rattle.df_state.specs.Desks.{AgreeWithBooks, DeskParts, accepted_at, deleted_at, parts_of}
 use Rattle.df_state.specs.States.{IsLegal}
-use Rattle.df_versions.specs.Histories.{IsLastState, last_of, last_state}
+use Rattle.df_versions.specs.Histories.{IsHistoryOver, IsLastState, last_of, last_state}
 use Rattle.df_hall.specs.Closing.{IsSettledState, IsUnsettledState, is_settled, missing_frame, missing_from}
 use Rattle.df_store.specs.declared.fault.LoadCause.{LoadCause}
 use Rattle.df_jobs.specs.declared.stop.Stop.{Stop}
@@ -54,15 +54,16 @@ module _ (schemas : List (List (List ℕ × CellType))) (chunks : List (List (�
   left-of :
       (back : List DeskParts) (os : List Outcome) (cause : LoadCause) (before s : State) → AreOutcomes chunks os →
       ((frame : ℕ) → accepted_at frame back ≡ accepted_at frame desks + entered_at frame os) → ((frame : ℕ) → deleted_at frame back ≡ deleted_at frame desks) →
-      IsSettledState schemas back s → AgreeWithBooks desks before → HasGrown chunks before s → IsCauseLeft (jobs_of chunks) views os s cause →
+      IsSettledState schemas back s → IsLastState schemas before → AgreeWithBooks desks before → HasGrown chunks before s → IsCauseLeft (jobs_of chunks) views os s cause →
       IsLeft schemas chunks views desks cause s
-  left-of back os cause before s made accepted deleted settled agreed grown is = record {
+  left-of back os cause before s made accepted deleted settled began agreed grown is = record {
     last = settled.last;
     legal = settled.legal;
     outcomes = os;
     made = made;
     accounted = sym (accounted-same desks back os accepted deleted 0 s.frames) ∙ settled.settled;
     before = before;
+    began = began;
     agreed = agreed;
     grown = grown;
     why = is;
@@ -99,7 +100,7 @@ module _ (schemas : List (List (List ℕ × CellType))) (chunks : List (List (�
       IfNone left ((s : State) × (frame : ℕ) × (last_state history ≡ Some s) × IsUnsettledState schemas desks s frame) →
       MatchOption left (IsNotLeft schemas chunks views desks cause) (λ l. IsLeft schemas chunks views desks cause (state_of l))
   given-up state_of history cause (Some l) is settled unsettled =
-      left-of desks [] cause (state_of l) (state_of l) no-outcomes nothing-entered (λ frame. refl) settled.2 settled.1 (grown-none chunks (state_of l))
+      left-of desks [] cause (state_of l) (state_of l) no-outcomes nothing-entered (λ frame. refl) settled.2 settled.2.last settled.1 (grown-none chunks (state_of l))
       (inl (refl, is (state_of l) settled.0))
   given-up state_of history cause None is settled unsettled =
       not-left-of desks [] cause unsettled.0 unsettled.1 no-outcomes refl nothing-entered (λ frame. refl) unsettled.3 (inl (refl, is unsettled.0 unsettled.2))
@@ -113,29 +114,29 @@ module _ (schemas : List (List (List ℕ × CellType))) (chunks : List (List (�
   -- what a load that came to its end left
   ended :
       {L V : Type 0} (state_of : L → State) (items : V → List Outcome) (back : List DeskParts) (entered : Result V Stop) (cause : LoadCause)
-      (before : State) (left : Option L) → parts_of back ≡ parts_of desks → HaveDone items chunks desks back entered → AgreeWithBooks desks before →
+      (before : State) (left : Option L) → parts_of back ≡ parts_of desks → HaveDone items chunks desks back entered → IsLastState schemas before → AgreeWithBooks desks before →
       IfSome left (λ l. HasGrown chunks before (state_of l) × IsSettledState schemas back (state_of l)) → IfSome left (λ l. IsCauseAtEnd items (jobs_of chunks) views (state_of l) entered cause) →
       IfNone left ((s : State) × (frame : ℕ) × IsUnsettledState schemas back s frame × IsCauseUnsettled frame cause) →
       MatchOption left (IsNotLeft schemas chunks views desks cause) (λ l. IsLeft schemas chunks views desks cause (state_of l))
-  ended state_of items back entered cause before (Some l) parts done agreed settled is unsettled =
-      left-of back done.outcomes cause before (state_of l) done.made done.accepted done.deleted settled.1 agreed settled.0
+  ended state_of items back entered cause before (Some l) parts done began agreed settled is unsettled =
+      left-of back done.outcomes cause before (state_of l) done.made done.accepted done.deleted settled.1 began agreed settled.0
       (cause-left items (state_of l) entered cause done.outcomes done.all is)
-  ended state_of items back entered cause before None parts done agreed settled is unsettled =
+  ended state_of items back entered cause before None parts done began agreed settled is unsettled =
       not-left-of back done.outcomes cause unsettled.0 unsettled.1 done.made parts done.accepted done.deleted unsettled.2 (inr unsettled.3)
 
   -- the same of its answer
   pub ended-so :
       {A F L V : Type 0} (state_of : L → State) (items : V → List Outcome) (cause_of : F → LoadCause) (left_of : F → Option L) (back : List DeskParts)
       (entered : Result V Stop) (result : Result A F) (history last : List State) → parts_of back ≡ parts_of desks → HaveDone items chunks desks back entered →
-      ((s : State) → last_state history ≡ Some s → AgreeWithBooks desks s) → 0 < length history → HaveGrown chunks history last →
+      ((s : State) → last_state history ≡ Some s → AgreeWithBooks desks s) → IsHistoryOver schemas history → HaveGrown chunks history last →
       IfErr result (λ f. IfSome (left_of f) (λ l. (last_state last ≡ Some (state_of l)) × IsSettledState schemas back (state_of l))) →
       IfErr result (λ f. IfSome (left_of f) (λ l. IsCauseAtEnd items (jobs_of chunks) views (state_of l) entered (cause_of f))) →
       IfErr result (λ f. IfNone (left_of f) ((s : State) × (frame : ℕ) × IsUnsettledState schemas back s frame × IsCauseUnsettled frame (cause_of f))) →
       IfErr result (λ f. MatchOption (left_of f) (IsNotLeft schemas chunks views desks (cause_of f)) (λ l. IsLeft schemas chunks views desks (cause_of f) (state_of l)))
-  ended-so state_of items cause_of left_of back entered (Ok a) history last parts done agreed begun grown settled is unsettled = tt
-  ended-so state_of items cause_of left_of back entered (Err f) history last parts done agreed begun grown settled is unsettled =
-      let before = last-of-begun history begun in
-      ended state_of items back entered (cause_of f) before.0 (left_of f) parts done (agreed before.0 before.1)
+  ended-so state_of items cause_of left_of back entered (Ok a) history last parts done agreed over grown settled is unsettled = tt
+  ended-so state_of items cause_of left_of back entered (Err f) history last parts done agreed over grown settled is unsettled =
+      let before = last-of-begun history over.begun in
+      ended state_of items back entered (cause_of f) before.0 (left_of f) parts done (record { history = history; over = over; last = before.1 }) (agreed before.0 before.1)
       (grown-left state_of schemas chunks back history last before.0 (left_of f) before.1 grown settled) is unsettled
 
 settled-one :

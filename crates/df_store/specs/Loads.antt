@@ -90,7 +90,8 @@ unaccounted_frame desks outcomes s = unaccounted_from desks outcomes 0 s.frames
 
 -- a load that was refused for this left this state, which a hall over frames of these schemas may come to: of each frame the
 -- books are as large as the shares of the desks that were given and the rows of some outcomes of jobs together. Its workers began
--- with a state with whose books the desks agreed, and what came to the frames since are whole chunks
+-- with a state that the hall may have come to, with whose books the desks agreed, and what came to the frames since are whole
+-- chunks
 pub record IsLeft (schemas : List (List (List ℕ × CellType))) (chunks : List (List (ℕ × Piece))) (views : List (List ℕ × CheckedParts)) (desks : List DeskParts)
     (cause : LoadCause) (s : State) : Type 0 where
   pub last : IsLastState schemas s
@@ -99,6 +100,7 @@ pub record IsLeft (schemas : List (List (List ℕ × CellType))) (chunks : List 
   pub made : AreOutcomes chunks outcomes
   pub accounted : unaccounted_frame desks outcomes s ≡ None
   pub before : State
+  pub began : IsLastState schemas before
   pub agreed : AgreeWithBooks desks before
   pub grown : HasGrown chunks before s
   pub why : IsCauseLeft (jobs_of chunks) views outcomes s cause
