@@ -7,24 +7,23 @@ use Rattle.std.proofs.lemmas.List.{drop_more, get_or-drop, take_more, take-appen
 use Rattle.csv.specs.Reading.{default_config, is_bom, records, strip_bom}
 use Rattle.memchr.specs.Find.{IsFirstByte, is_byte}
 use Rattle.df_csv.specs.Segments.{IsCut}
-use Rattle.df_csv.specs.Plain.{has_quote}
-use Rattle.df_csv.proofs.OnePass.{records_cut}
+use Rattle.df_csv.proofs.OnePass.{quoted, records_cut}
 
 neither : (a b : Bool) → (a || b) ≡ false → (a ≡ false) × (b ≡ false)
 neither true b e = absurd (false≢true (sym e))
 neither false b e = (refl, e)
 
-pub quoted_take : (n : ℕ) (text : List ℕ) → has_quote text ≡ false → has_quote (take n text) ≡ false
+pub quoted_take : (n : ℕ) (text : List ℕ) → quoted text ≡ false → quoted (take n text) ≡ false
 quoted_take zero text q = refl
 quoted_take (suc n) [] q = refl
-quoted_take (suc n) (c ∷ text) q = let (here, later) = neither (eqb c 34) (has_quote text) q in or_from _ _ here (quoted_take n text later)
+quoted_take (suc n) (c ∷ text) q = let (here, later) = neither (eqb c 34) (quoted text) q in or_from _ _ here (quoted_take n text later)
 
-pub quoted_drop : (n : ℕ) (text : List ℕ) → has_quote text ≡ false → has_quote (drop n text) ≡ false
+pub quoted_drop : (n : ℕ) (text : List ℕ) → quoted text ≡ false → quoted (drop n text) ≡ false
 quoted_drop zero text q = q
 quoted_drop (suc n) [] q = refl
-quoted_drop (suc n) (c ∷ text) q = quoted_drop n text (neither (eqb c 34) (has_quote text) q).1
+quoted_drop (suc n) (c ∷ text) q = quoted_drop n text (neither (eqb c 34) (quoted text) q).1
 
-unquoted : (text : List ℕ) → ((k : ℕ) → k < length text → ¬ (eqb (slice_index text k) 34 ≡ true)) → has_quote text ≡ false
+unquoted : (text : List ℕ) → ((k : ℕ) → k < length text → ¬ (eqb (slice_index text k) 34 ≡ true)) → quoted text ≡ false
 unquoted [] h = refl
 unquoted (c ∷ text) h = elim (cases_Bool (eqb c 34)) [
   | inl is ↦ absurd (h 0 (omega arith) is)
@@ -32,7 +31,7 @@ unquoted (c ∷ text) h = elim (cases_Bool (eqb c 34)) [
 ]
 
 -- a search that finds no double quote
-pub none_found : (text : List ℕ) (found : Option ℕ) → is_some found ≡ false → IsFirstByte (is_byte 34) text found → has_quote text ≡ false
+pub none_found : (text : List ℕ) (found : Option ℕ) → is_some found ≡ false → IsFirstByte (is_byte 34) text found → quoted text ≡ false
 none_found text (Some at) e h = absurd (false≢true (sym e))
 none_found text None e h = unquoted text (λ k lt. h k (omega arith) lt)
 
@@ -44,7 +43,7 @@ parts_of_cut text k h feed = (
   take_more text k 0 h ∙ ap (λ c. take k text ++ c ∷ []) feed,
 )
 
-cut_at : (text : List ℕ) (k : ℕ) → k < length text → slice_index text k ≡ 10 → has_quote text ≡ false
+cut_at : (text : List ℕ) (k : ℕ) → k < length text → slice_index text k ≡ 10 → quoted text ≡ false
     → records default_config text ≡ records default_config (take (k + 1) text) ++ records default_config (drop (k + 1) text)
 cut_at text k h feed q =
     let (whole, front) = parts_of_cut text k h feed in
@@ -53,7 +52,7 @@ cut_at text k h feed q =
     ∙ ap (λ (r : List ℕ). records default_config r ++ records default_config (drop (k + 1) text)) (sym front)
 
 -- a cut leaves the records as they are
-pub cut_records : (text : List ℕ) (at : ℕ) → IsCut text at → has_quote text ≡ false
+pub cut_records : (text : List ℕ) (at : ℕ) → IsCut text at → quoted text ≡ false
     → records default_config text ≡ records default_config (take at text) ++ records default_config (drop at text)
 cut_records text at cut q =
     let e : at - 1 + 1 ≡ at = omega (arith, cut.behind) in

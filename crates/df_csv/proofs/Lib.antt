@@ -9,7 +9,6 @@ pub mod OnePass
 pub mod PartFacts
 pub mod PickedFacts
 pub mod PieceFacts
-pub mod PlainFacts
 pub mod RecordFacts
 pub mod RowFacts
 pub mod SegmentFacts

@@ -8,7 +8,6 @@ use Rattle.csv.specs.declared.parser.Action.{Action}
 use Rattle.csv.specs.declared.parser.Action.TheVariants as act
 use Rattle.csv.specs.declared.parser.State.{State}
 use Rattle.csv.specs.declared.parser.State.TheVariants as st
-use Rattle.df_csv.specs.Plain.{has_quote}
 use Rattle.df_csv.specs.Records.{FieldRows}
 use Rattle.df_csv.proofs.Fuel.{none_left}
 
@@ -34,9 +33,14 @@ one_pass (c ∷ rest) (suc n) s f x h = elim (cases_Bool (is_end (step default_c
   | inr goes ↦ rw goes (one_pass rest (suc n) (step default_config s c).0 (fields_after (step default_config s c).1 f x) (field_after (step default_config s c).1 c x) (omega arith))
 ]
 
-pub records_pass : (xs : List ℕ) → records default_config xs ≡ all_of st.StartRecord [] [] xs
+records_pass : (xs : List ℕ) → records default_config xs ≡ all_of st.StartRecord [] [] xs
 unfolding records_from
 records_pass xs = rw (add-one (length xs)) (one_pass xs (length xs) st.StartRecord [] [] (omega arith))
+
+-- whether there is a double quote in a text
+abbrev pub quoted : List ℕ → Bool
+quoted [] = false
+quoted (c ∷ rest) = eqb c 34 || quoted rest
 
 -- the states that are reached without a double quote
 abbrev plain : State → Bool
@@ -127,12 +131,12 @@ at_feed st.InEscape f x b p fresh = absurd (false≢true p)
 at_feed st.AfterQuote f x b p fresh = absurd (false≢true p)
 at_feed st.InComment f x b p fresh = absurd (false≢true p)
 
-pass_cut : (a b : List ℕ) (s : State) (f : List (List ℕ)) (x : List ℕ) → plain s ≡ true → Fresh s f x → has_quote a ≡ false
+pass_cut : (a b : List ℕ) (s : State) (f : List (List ℕ)) (x : List ℕ) → plain s ≡ true → Fresh s f x → quoted a ≡ false
     → all_of s f x (a ++ 10 ∷ b) ≡ all_of s f x (a ++ 10 ∷ []) ++ all_of st.StartRecord [] [] b
 unfolding all_of
 pass_cut [] b s f x p fresh q = at_feed s f x b p fresh
 pass_cut (c ∷ a) b s f x p fresh q =
-    let (here, later) = neither (eqb c 34) (has_quote a) q in
+    let (here, later) = neither (eqb c 34) (quoted a) q in
     let g = goes s c p here in
     elim (cases_Bool (is_end (step default_config s c).1)) [
       | inl ends ↦ rw ends (ap (λ (r : FieldRows). fields_after (step default_config s c).1 f x ∷ r) (pass_cut a b (step default_config s c).0 [] [] g.0 (λ h. (refl, refl)) later))
@@ -140,7 +144,7 @@ pass_cut (c ∷ a) b s f x p fresh q =
     ]
 
 -- a text without a double quote may be cut behind any line feed
-pub records_cut : (a b : List ℕ) → has_quote a ≡ false → records default_config (a ++ 10 ∷ b) ≡ records default_config (a ++ 10 ∷ []) ++ records default_config b
+pub records_cut : (a b : List ℕ) → quoted a ≡ false → records default_config (a ++ 10 ∷ b) ≡ records default_config (a ++ 10 ∷ []) ++ records default_config b
 records_cut a b q =
     rw (records_pass (a ++ 10 ∷ b), records_pass (a ++ 10 ∷ []), records_pass b)
     (pass_cut a b st.StartRecord [] [] refl (λ h. (refl, refl)) q)

@@ -5,10 +5,10 @@ use Rattle.std.proofs.lemmas.List.{append-nil, take-append-drop}
 use Rattle.std.proofs.lemmas.List.Elements.{All-cons, All-nil, All-push}
 use Rattle.std.proofs.lemmas.Grind.{flat_map-append}
 use Rattle.csv.specs.Reading.{default_config, records, strip_bom}
-use Rattle.df_csv.specs.Plain.{has_quote}
 use Rattle.df_csv.specs.Records.{EveryText, FieldRows}
 use Rattle.df_csv.specs.Segments.{IsCut, IsReadable, rows_of_segment}
 use Rattle.df_csv.proofs.CutFacts.{cut_records, strip_drop, strip_take}
+use Rattle.df_csv.proofs.OnePass.{quoted}
 use Rattle.df_csv.proofs.TextFields.{later_texts}
 
 -- segments, and the rest of the text behind them
@@ -27,7 +27,7 @@ one_more f segments s rest =
     ap (λ ys. ys ++ rest) (flat_map-append (λ (t : Bor (List ℕ)). f t.now) segments (s ∷ []) ∙ ap (λ ys. flat_map (λ (t : Bor (List ℕ)). f t.now) segments ++ ys) (append-nil (f s.now)))
     ∙ append_assoc (flat_map (λ (t : Bor (List ℕ)). f t.now) segments) (f s.now) rest
 
-pub cut_more : (text : List ℕ) (segments : List (Bor (List ℕ))) (rest behind : List ℕ) (s : Bor (List ℕ)) (at : ℕ) → Cuts text segments rest → has_quote rest ≡ false → IsCut rest at
+pub cut_more : (text : List ℕ) (segments : List (Bor (List ℕ))) (rest behind : List ℕ) (s : Bor (List ℕ)) (at : ℕ) → Cuts text segments rest → quoted rest ≡ false → IsCut rest at
     → s.now ≡ take at rest → behind ≡ drop at rest → Cuts text (segments ++ s ∷ []) behind
 cut_more text segments rest behind s at c q cut front back = record {
   whole = one_more (λ t. t) segments s behind ∙ ap (λ (r : List ℕ). flat_map (λ t. t.now) segments ++ r) (rw (front, back) (take-append-drop at rest)) ∙ c.whole;

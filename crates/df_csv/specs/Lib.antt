@@ -1,7 +1,6 @@
 pub mod Fields
 pub mod Header
 pub mod PieceStarts
-pub mod Plain
 pub mod Records
 pub mod Rows
 pub mod Sources

@@ -13,7 +13,6 @@ mod layout;
 mod limited;
 mod part;
 mod pieces;
-mod plain;
 mod reading;
 mod records;
 mod rows;

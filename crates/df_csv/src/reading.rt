@@ -87,10 +87,9 @@ pub fn parse_records(alloc: Global, bytes: &[u8], schema: &Schema) -> Result<Rec
 
 /// The same as [`parse_records`], by at most so many threads, and no more than 16.
 ///
-/// Each thread reads a segment of the text, of at least 65,536 bytes but for the last one. The text is one segment where it
-/// is short or has no line feed to cut behind. One thread reads the whole text, by `csv` alone, where it has a double quote
-/// or begins with so many blank lines, and where a thread finds something wrong with its segment, from its head up to the
-/// first fault.
+/// Each thread reads a segment of the text, of at least 65,536 bytes but for the last one. One thread reads the whole text
+/// where it has a double quote, is short, has no line feed to cut behind, or begins with so many blank lines. Where a
+/// thread finds something wrong with its segment, one thread reads the text again from its head, up to the first fault.
 pub fn parse_records_by<R: Threads + Sync>(
     rt: &R,
     alloc: Global,

@@ -1,25 +1,25 @@
 //! The records of a CSV text, read by several threads.
-ghost use Rattle.std.specs.Prelude.{◌≡◌, ◌<◌, false, All, IfOk, IfSome, Ok, Some, length, map, slice_index_or};
+ghost use Rattle.std.specs.Prelude.{◌≡◌, ◌<◌, All, IfOk, IfSome, Ok, Some, length, map, slice_index_or};
 ghost use Rattle.csv.specs.Reading.{default_config, records, strip_bom};
-ghost use Rattle.df_csv.specs.Plain.{has_quote};
 ghost use Rattle.df_csv.specs.Records.{EveryText, records_under_header};
+ghost use Rattle.df_csv.specs.Rows.{IsPlain, rows_left};
 ghost use Rattle.df_csv.specs.Segments.{ArePicked, AreRead, IsLayoutOf, IsReadable, rows_of_segment};
 
 use crate::fault::CsvFault;
 use crate::layout::{Layout, read_layout};
 use crate::part::RecordPart;
-use crate::plain::{read_plain, skip_blank_lines, take_record};
 use crate::records::Records;
-use crate::rows::reader_of;
+use crate::rows::{NextRow, next_row, read_rows, reader_of};
 use crate::segments::segments;
+use csv::{ByteRecord, Reader};
 use df_value::{CellType, Text};
-use memchr::memchr;
 use std::alloc::{AllocError, Global};
 use std::thread;
 use std::thread::Threads;
 
 /// The records of a text, read by at most so many threads. `None` where one thread has to read them:
-/// there is something wrong with them, or a double quote, or the first segment has no header.
+/// there is something wrong with them, or the text is one segment, or its first segment has no
+/// header.
 ///
 /// Only one thread, which counts from the head of the text, says what is wrong.
 pub(crate) fn read_segments<R: Threads + Sync>(
@@ -35,7 +35,7 @@ pub(crate) fn read_segments<R: Threads + Sync>(
         records_under_header columns.now (records default_config text.now) ≡ Ok made)) }
 {
     let segments = segments(alloc, text, threads)?;
-    if segments.is_empty() {
+    if segments.len() < 2 {
         return Ok(None);
     }
     let Some(layout) = layout_of(alloc, segments[0], columns)? else {
@@ -136,8 +136,7 @@ fn layout_of(
     }
 }
 
-// The rows of the segment that stands at this place, where nothing is wrong with them. Only a text of one segment may have a
-// double quote.
+// The rows of the segment that stands at this place, where nothing is wrong with them.
 fn read_segment(
     alloc: Global,
     segment: &[u8],
@@ -148,29 +147,31 @@ fn read_segment(
     ensures { IfOk result (λ o. IfSome o
         (ArePicked layout.now.width layout.now.indices.items (rows_of_segment at segment.now))) }
 {
-    if memchr(b'"', segment).is_some() {
+    let Some(reader) = reader_at(alloc, segment, at)? else {
         return Ok(None);
-    }
-    match rows_at(alloc, segment, at)? {
-        Some(rows) => read_plain(alloc, rows, layout.indices.as_slice(), layout.width),
-        None => Ok(None),
+    };
+    let mut reader = reader;
+    match read_rows(alloc, &mut reader, layout.indices.as_slice(), layout.width) {
+        Ok(part) => Ok(Some(part)),
+        Err(CsvFault::Memory) => Err(AllocError),
+        Err(_) => Ok(None),
     }
 }
 
-// The text of the rows of the segment at this place. The first one has the header.
-fn rows_at(alloc: Global, segment: &[u8], at: usize) -> Result<Option<&[u8]>, AllocError>
-    requires { has_quote segment.now ≡ false }
-    ensures rows { IfOk result (λ o. IfSome o (λ rows.
-        records default_config rows.now ≡ rows_of_segment at segment.now)) }
-    ensures unquoted { IfOk result (λ o. IfSome o (λ rows. has_quote rows.now ≡ false)) }
+// A reader of the rows of the segment at this place. The first one has the header.
+fn reader_at(alloc: Global, segment: &[u8], at: usize) -> Result<Option<Reader<&[u8]>>, AllocError>
+    requires { IsReadable segment.now }
+    ensures { IfOk result (λ o. IfSome o (λ reader. IsPlain (λ bytes. Some bytes.now) reader
+        × (rows_left (λ bytes. Some bytes.now) reader ≡ rows_of_segment at segment.now))) }
 {
+    let mut reader = reader_of(alloc, segment);
     if at > 0 {
-        return Ok(Some(segment));
+        return Ok(Some(reader));
     }
-    let text = skip_blank_lines(segment);
-    if text.is_empty() {
-        return Ok(None);
+    let mut row = ByteRecord::new(alloc);
+    match next_row(&mut reader, &mut row) {
+        NextRow::Row => Ok(Some(reader)),
+        NextRow::End => Ok(None),
+        NextRow::Memory => Err(AllocError),
     }
-    let mut row = Vec::new(alloc);
-    Ok(Some(take_record(text, &mut row)?))
 }

@@ -1,8 +1,7 @@
-use Rattle.std.proofs.Common.{◌<◌, ◌∙◌, Bor, List, ℕ, arith, length, subst, sym}
+use Rattle.std.proofs.Common.{◌<◌, Bor, List, ℕ, arith, length, subst, sym}
 use Rattle.csv.specs.Reading.{default_config, records}
 use Rattle.df_csv.specs.Segments.{IsReadable}
 use Rattle.df_csv.proofs.PickedFacts.{made_together, together}
-use Rattle.df_csv.proofs.PlainFacts.{some_of}
 use Rattle.df_csv.proofs.SegmentFacts.{readable}
 use Rattle.df_csv.proofs.threaded.read_segments.Goals as goal
 
@@ -10,7 +9,7 @@ pub layout_of-requires : goal.layout_of-requires
 layout_of-requires g c =
     let segments = c.in_ok-segments.segments in
     let given = c.in_ok-segments.ensures in
-    let some : 0 < length segments.items = omega (arith, some_of _ (sym c.is_empty.ensures ∙ c.if-is_empty.false), segments.ok.0) in
+    let some : 0 < length segments.items = omega (arith, c.if-len-lt2.false, c.len.ensures, segments.ok.0) in
     let each = readable c.args.text.now segments.items given.records c.requires.texts given.marks in
     subst (λ (s : Bor (List ℕ)). IsReadable s.now) (sym c.index.ensures) (each 0 c.index.result.now some)
 
@@ -21,7 +20,7 @@ read_parts-requires-after_bounds g c κs within =
 pub returns : goal.returns
 returns g c =
     let segments = c.in_ok-segments.segments in
-    let some : 0 < length segments.items = omega (arith, some_of _ (sym c.is_empty.ensures ∙ c.if-is_empty.false), segments.ok.0) in
+    let some : 0 < length segments.items = omega (arith, c.if-len-lt2.false, c.len.ensures, segments.ok.0) in
     made_together c.args.columns.now (records default_config c.args.text.now) c.in-Some-2.parts.items c.from_parts.result
     (together c.args.columns.now c.in-Some.layout c.args.text.now c.index.result.now segments.items c.in-Some-2.parts.items some c.index.ensures
     c.in_ok-segments.ensures.records (rw c.in-Some.is at c.in_ok-layout.ensures) (rw c.in-Some-2.is at c.in_ok-parts.ensures))
