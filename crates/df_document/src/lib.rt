@@ -2,8 +2,8 @@
 //! frames out.
 //!
 //! [`open_document`] opens a document with its frames in typed pieces, [`open_sources`] with a source of each frame's
-//! records, and [`open_next_view`] one more view. [`refused_lines`] tells the pieces that have a bad cell, and [`document_fault_text`] gives the text of a
-//! fault. docs/ARCHITECTURE.md says where to add a fault.
+//! records, and [`open_next_view`] one more view. [`refused_lines`] tells the pieces that have a bad cell, and
+//! [`document_fault_text`] gives the text of a fault. docs/ARCHITECTURE.md says where to add a fault.
 #![tactic(auto)]
 
 mod fault;

@@ -182,7 +182,7 @@ fn rows_at(
     read_rows(alloc, schema, numbers, lines)
 }
 
-/// Adds the document's view of this name last. A name of no such view is a mistake.
+/// Adds last the view of this name, of the document or one that was defined. A name of no such view is a mistake.
 pub fn register<S: ViewStore>(
     alloc: Global,
     definitions: &Definitions,

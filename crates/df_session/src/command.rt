@@ -39,7 +39,7 @@ pub enum AskedChange<'a> {
     Delete(&'a str, List<u32>),
     /// Puts rows in the place of those of these numbers.
     Replace(&'a str, List<u32>),
-    /// Adds the document's view of this name last.
+    /// Adds last the view of this name, of the document or one that was defined.
     Register(&'a str),
     /// Takes the view of this name out.
     DropView(&'a str),

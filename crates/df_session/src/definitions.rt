@@ -1,4 +1,4 @@
-//! What a document names.
+//! What a document and a session name.
 ghost use Rattle.std.specs.Prelude.{◌≡◌, ◌<◌, IfSome, length};
 ghost use Rattle.std.specs.Option.{option_copied};
 ghost use Rattle.df_session.specs.Asked.{frame_index_of, plan_named};
@@ -8,7 +8,8 @@ use df_plan::CheckedPlan;
 use df_text::Views;
 use df_value::{List, Schema, index_of_name};
 
-/// The frames and views that a document names, and the checked plans of the views, in their order.
+/// The frames and views that a document names, behind these the views that the session defined, and the checked plans of all
+/// views, in their order.
 pub struct Definitions {
     pub document: Views,
     pub plans: List<CheckedPlan>,
