@@ -2,8 +2,9 @@
 """definitions.py [--write]: what docs/DEFINITIONS.md prints of the specs folders stands there. Run it at the top of the repository.
 
 A line `<!-- CRATE/FILE: NAME, NAME -->` is followed by a block with these definitions, each with the comment above it. Behind the
-line `<!-- index -->` each file of each crate stands with its opening sentence and the names that it defines for others. With
---write both are made anew; else they are compared, and the status is 1 where they differ."""
+line `<!-- index -->` stands by crate each file on which the printed definitions rest, with its opening sentence, and then the names
+of the other files that define something for others. With --write both are made anew; else they are compared, and the status is 1
+where they differ."""
 
 import pathlib
 import re
@@ -11,6 +12,7 @@ import sys
 
 PAGE = pathlib.Path("docs/DEFINITIONS.md")
 INDEX = "<!-- index -->\n"
+MARK = re.compile(r"<!-- (\w+)/(\w+): ")
 
 
 def blocks(path):
@@ -53,24 +55,40 @@ def opening(path):
     return sentence.group(0) if sentence else " ".join(lines)
 
 
-def index():
-    lines = []
+def defines_for_others(path):
+    return any(name and name != "mod" for name in map(name_of, blocks(path)))
+
+
+def used_by(path):
+    """The files of definitions that a file names."""
+    named = re.findall(r"^use Rattle\.(\w+)\.specs\.(\w+)\b", path.read_text(), re.M)
+    return {used for used in (pathlib.Path("crates", crate, "specs", f"{file}.antt") for crate, file in named) if used.exists()}
+
+
+def rested_on(page):
+    """The files with the printed definitions, those that they use, those that these use, and so on."""
+    found, next_ones = set(), {pathlib.Path("crates", crate, "specs", f"{file}.antt") for crate, file in MARK.findall(page)}
+    while next_ones:
+        found |= next_ones
+        next_ones = set().union(*map(used_by, next_ones)) - found
+    return found
+
+
+def index(page):
+    lines, first = [], rested_on(page)
     for line in pathlib.Path("crates.txt").read_text().split("\n"):
         crate = line.split(":")[0]
-        files = sorted(pathlib.Path("crates", crate, "specs").glob("*.antt"))
-        rows = []
-        for path in files:
-            names = [name for name in map(name_of, blocks(path)) if name and name != "mod"]
-            if names:
-                rows.append(f"- **{path.stem}**: {opening(path)} " + ", ".join(f"`{name}`" for name in names))
-        if rows and "#" not in crate:
-            lines += [f"### {crate}", "", *rows, ""]
+        files = [path for path in sorted(pathlib.Path("crates", crate, "specs").glob("*.antt")) if defines_for_others(path)]
+        if files and "#" not in crate:
+            rows = [f"- **{path.stem}**: {opening(path)}" for path in files if path in first]
+            others = ", ".join(path.stem for path in files if path not in first)
+            lines += [f"### {crate}", "", *rows, *([""] if rows and others else []), *([f"Others: {others}."] if others else []), ""]
     return "\n".join(lines)
 
 
 def made(page):
     by_hand = printed(page.split(INDEX)[0])
-    return f"{by_hand}{INDEX}\n{index()}"
+    return f"{by_hand}{INDEX}\n{index(by_hand)}"
 
 
 def main():
