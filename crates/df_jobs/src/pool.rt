@@ -1,5 +1,5 @@
 //! The workers of a load: desks are shared out among them, and come back once they have ended.
-ghost use Rattle.std.specs.Prelude.{◌≡◌, ◌+◌, ◌<◌, ◌≤◌, ◌*◌, ◌++◌, [], All, IfErr, IfOk, None, length, map, vec_capacity};
+ghost use Rattle.std.specs.Prelude.{◌≡◌, ◌+◌, ◌<◌, ◌≤◌, ◌*◌, ◌++◌, [], All, IfErr, IfOk, None, OnOk, length, map, vec_capacity};
 ghost use Rattle.df_state.specs.Desks.{HaveSameSums};
 ghost use Rattle.df_claims.specs.Seats.{IsSeatOf};
 ghost use Rattle.df_jobs.specs.Jobs.{chunks_of};
@@ -77,14 +77,12 @@ impl<Acc: Ledger, Del: Ledger> WorkerPool<Acc, Del> {
             length seats.items * work.now.desks ≤ vec_capacity pool.gathered) }
     {
         let room = seats.len().saturating_mul(work.desks);
-        let mut workers = Vec::with_capacity(work.alloc, seats.len())?;
-        for seat in seats {
-            workers.push(Worker::idle(work, seat)?)?;
-        }
-        Ok(WorkerPool {
-            workers,
+        let mut pool = WorkerPool {
+            workers: Vec::with_capacity(work.alloc, seats.len())?,
             gathered: Vec::with_capacity(work.alloc, room)?,
-        })
+        };
+        push_idle(work, seats, &mut pool.workers)?;
+        Ok(pool)
     }
 
     /// Ends the workers, and gives back their desks. Beside them is all that the workers have done, or
@@ -105,6 +103,25 @@ impl<Acc: Ledger, Del: Ledger> WorkerPool<Acc, Del> {
         take_desks(workers.as_mut_slice(), &mut gathered);
         (gathered, outcomes_of(work.alloc, workers))
     }
+}
+
+// Adds a worker for each seat, without desks, with room for as many as it may have.
+fn push_idle<Acc: Ledger, Del: Ledger, S, G>(
+    work: &Work<S, G>,
+    seats: Vec<ClaimSeat>,
+    workers: &mut Vec<Worker<Acc, Del>>,
+) -> Result<(), AllocError>
+    requires seats { All (IsSeatOf work.now.claims.now) seats.items }
+    requires idle { All (IsIdle work.now.claims.now work.now.desks) workers.old.items }
+    ensures idle { OnOk result
+        (All (IsIdle work.now.claims.now work.now.desks) workers.new.items) }
+    ensures count { OnOk result
+        (length workers.new.items ≡ length workers.old.items + length seats.items) }
+{
+    for seat in seats {
+        workers.push(Worker::idle(work, seat)?)?;
+    }
+    Ok(())
 }
 
 // Moves desks behind others, where there is room for them.

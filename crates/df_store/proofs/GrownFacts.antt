@@ -15,6 +15,7 @@ use Rattle.df_value.specs.declared.chunk.Piece.TheVariants.{Good}
 use Rattle.df_frame.specs.declared.state.FrameState.{FrameState}
 use Rattle.df_frame.specs.Frames.{with_chunk}
 use Rattle.df_frame.specs.Numbers.{put_from}
+use Rattle.df_state.specs.declared.change.Change.{Change}
 use Rattle.df_state.specs.declared.change.Change.TheVariants.{Append}
 use Rattle.df_state.specs.declared.state.State.{State}
 use Rattle.df_state.specs.Changes.{after, change_at}
@@ -166,7 +167,7 @@ module _ (chunks : List (List (ℕ × Piece))) where
 
   module _ {J : Type 0} where
     -- whatever a whole chunk is answered with, the history has grown
-    pub grown-by :
+    grown-by :
         (before old new : List State) (floor frame : ℕ) (c : ChunkParts) (r : Result (List State) (ChangeFault J)) → HaveGrown chunks before old → IsWhole chunks frame c →
         AnswersChange old floor (Append frame c) r → ChangesHistory old r new → HaveGrown chunks before new
     grown-by before old new floor frame c (Ok told) h whole answer changes =
@@ -180,6 +181,13 @@ module _ (chunks : List (List (ℕ × Piece))) where
         let same : after at.1 (Append frame c) ≡ t = ap (λ o. unwrap_or o t) (sym ends ∙ last) in
         subst (HasGrown chunks s) same (grown-one s at.1 frame c (h s at.1 first was) whole)
     grown-by before old new floor frame c (Err f) h whole answer changes = subst (HaveGrown chunks before) (sym changes.same) h
+
+    -- the same of a change that appends the chunk
+    pub grown-through :
+        (before old new : List State) (floor frame : ℕ) (c : ChunkParts) (x : Change) (r : Result (List State) (ChangeFault J)) → HaveGrown chunks before old →
+        IsWhole chunks frame c → x ≡ Append frame c → AnswersChange old floor x r → ChangesHistory old r new → HaveGrown chunks before new
+    grown-through before old new floor frame c x r h whole is answer changes =
+        grown-by before old new floor frame c r h whole (subst (λ (y : Change). AnswersChange old floor y r) is answer) changes
 
   -- the chunk of an outcome is whole
   pub whole-one : (o : Outcome) (c : ChunkParts) → IsOutcome chunks o → o.made ≡ Good c → IsWhole chunks o.frame c

@@ -1,6 +1,8 @@
 //! The commits of a worker: chunks enter their frames through its desks, and the outcomes that stand are kept.
 ghost use Rattle.std.specs.Prelude.{◌≡◌, ◌<◌, ◌≤◌, ◌+◌, ◌++◌, ◌∷◌, [], ℕ, List, IfOk, IfSome, OnErr, if◌then◌else◌, length, slice_index_or, vec_capacity};
+ghost use Rattle.df_state.specs.declared.change.Change.TheVariants.{Append};
 ghost use Rattle.df_state.specs.Desks.{DeskParts};
+ghost use Rattle.df_state.specs.FrameChanges.{change_of};
 ghost use Rattle.df_value.specs.declared.chunk.Piece.{Piece};
 ghost use Rattle.df_jobs.specs.Jobs.{AreOutcomes, IsOutcome};
 ghost use Rattle.df_jobs.specs.Joined.{IsJoined};
@@ -10,7 +12,7 @@ ghost use Rattle.df_store.specs.Incoming.{chunk_of};
 
 use crate::loading::{Beginning, LoadingCatalogue};
 use core::mem;
-use df_catalogue::{Desk, PreparedChunk};
+use df_catalogue::{Desk, FrameChange, PreparedChunk};
 use df_jobs::{Joined, Outcome, Stop};
 use df_value::Chunk;
 use df_versions::{ChangeFault, Naming, Told};
@@ -23,6 +25,18 @@ use std::sync::ledger::Ledger;
 pub(crate) enum Incoming<'a> {
     Chunk(&'a Chunk),
     Prepared(&'a PreparedChunk),
+}
+
+impl<'a> Incoming<'a> {
+    /// The change that appends it.
+    pub(crate) fn change(self) -> FrameChange<'a>
+        ensures { (frame : ℕ) → change_of frame result ≡ Append frame (chunk_of self.entry) }
+    {
+        match self {
+            Incoming::Chunk(chunk) => FrameChange::Append(chunk),
+            Incoming::Prepared(chunk) => FrameChange::Prepared(chunk),
+        }
+    }
 }
 
 /// Commits the good chunks of these outcomes, and keeps the outcomes that stand. The chunk that has the rows of all of

@@ -215,7 +215,7 @@ fn run_load<
 // How many jobs each of so many workers draws at once, at the least: so many that a lock is taken seldom, and so few that
 // each worker draws several times.
 fn jobs_at_once(jobs: u64, workers: usize) -> usize {
-    let share = jobs / (workers.clamp(1, MOST_WORKERS) as u64 * 4);
+    let share = jobs.div_ceil(workers.clamp(4, MOST_WORKERS) as u64);
     share.clamp(1, MOST_AT_ONCE) as usize
 }
 

@@ -6,7 +6,7 @@ ghost use Rattle.df_store.specs.Grown.{HaveGrown, IsWhole};
 ghost use Rattle.df_store.specs.Incoming.{chunk_of};
 
 use crate::entering::Incoming;
-use df_catalogue::{Desk, FrameChange};
+use df_catalogue::Desk;
 use df_hall::VersionedCatalogue;
 use df_versions::{ChangeFault, Naming, Told};
 use std::alloc::Global;
@@ -120,10 +120,6 @@ impl<Acc: Ledger, Del: Ledger, J: Naming, B: Beginning> LoadingCatalogue<Acc, De
             desk_after desk.old (Append desk.old.frame (chunk_of chunk.entry))) }
         ensures same_desk { OnErr result (desk.new ≡ desk.old) }
     {
-        let change = match chunk {
-            Incoming::Chunk(chunk) => FrameChange::Append(chunk),
-            Incoming::Prepared(chunk) => FrameChange::Prepared(chunk),
-        };
-        self.catalogue.change_rows(rt, alloc, desk, change, told)
+        self.catalogue.change_rows(rt, alloc, desk, chunk.change(), told)
     }
 }

@@ -3,7 +3,7 @@ use Rattle.std.specs.Prelude.{All}
 use Rattle.std.proofs.lemmas.List.{length_push}
 use Rattle.std.proofs.lemmas.List.Elements.{All-push}
 use Rattle.df_jobs.specs.Workers.{IsIdle}
-use Rattle.df_jobs.proofs.pool.WorkerPool.with_room.Goals as goal
+use Rattle.df_jobs.proofs.pool.push_idle.Goals as goal
 
 pub loop-seat-preserved : goal.loop-seat-preserved
 loop-seat-preserved g c =
