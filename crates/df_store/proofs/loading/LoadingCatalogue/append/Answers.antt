@@ -17,6 +17,18 @@ invariant_of-self g c =
     let is : change_of frame c.match-chunk.change ≡ Append frame chunk = elim c.match-chunk.branch [
       | in-Chunk w ↦ ap (change_of frame) w.change-is ∙ ap (λ x. Append frame (chunk_of x)) (sym w.in-Chunk.is)
       | in-Prepared w ↦ ap (change_of frame) w.change-is ∙ ap (λ x. Append frame (chunk_of x)) (sym w.in-Prepared.is)
+    ] in (
+      grown-by g.B.Beginning.chunks g.B.Beginning.history c.self.inside.catalogue c.change_rows.new.self floor frame chunk c.change_rows.result c.self.invariant.0 c.requires
+          (subst (λ (x : Change). AnswersChange c.self.inside.catalogue floor x c.change_rows.result) is c.change_rows.ensures.answer) c.change_rows.ensures.history,
+      c.self.invariant.1,
+    )
+
+pub change_rows-requires : goal.change_rows-requires
+change_rows-requires g c =
+    let frame = c.args.desk.now.frame in
+    let chunk = chunk_of c.args.chunk in
+    let is : change_of frame c.match-chunk.change ≡ Append frame chunk = elim c.match-chunk.branch [
+      | in-Chunk w ↦ ap (change_of frame) w.change-is ∙ ap (λ x. Append frame (chunk_of x)) (sym w.in-Chunk.is)
+      | in-Prepared w ↦ ap (change_of frame) w.change-is ∙ ap (λ x. Append frame (chunk_of x)) (sym w.in-Prepared.is)
     ] in
-    grown-by g.B.Beginning.chunks g.B.Beginning.history c.self.inside.catalogue c.change_rows.new.self floor frame chunk c.change_rows.result c.self.invariant c.requires
-    (subst (λ (x : Change). AnswersChange c.self.inside.catalogue floor x c.change_rows.result) is c.change_rows.ensures.answer) c.change_rows.ensures.history
+    record { allowed = subst g.J.Naming.allows (sym is) (c.self.invariant.1 frame chunk) }
