@@ -15,6 +15,7 @@ use Rattle.dataframes.specs.contracts.books.Books.TheInside as BooksInside
 use Rattle.dataframes.specs.contracts.dashboard.Dashboard as Dashboard
 use Rattle.dataframes.specs.contracts.dashboard.Dashboard.TheInside as DashboardInside
 use Rattle.dataframes.specs.contracts.service.OpenService as Service
+use Rattle.dataframes.specs.contracts.service.OpenService.TheInside as ServiceInside
 use Rattle.dataframes.specs.contracts.threads.Watching as Watching
 
 module _ (J : RattleType) (j : Names J.Denot) where
@@ -40,5 +41,8 @@ module _ (A D J : RattleType) (a : Ghosts A.Denot) (d : Ghosts D.Denot) (j : Nam
   hall_field_sync = let v = versioned_send A D J a d j (catalogue_send A D a d) in search (sendable, crosses) depth 20
 
 module _ (l : NamedLft) (R A D J : RattleType) (a : Ghosts A.Denot) (d : Ghosts D.Denot) (j : Names J.Denot) where
+  service_inside_sync : IsSync R → IsSync (ServiceInside.the_row l R A D J j a d)
+  service_inside_sync r = let h = hall_field_sync A D J a d j in let b = books_send A D J a d j in search (sendable, crosses) depth 40 fits 4000
+
   pub service_sync : IsSync R → IsSync (Service.the_row l R A D J j a d)
-  service_sync r = let h = hall_field_sync A D J a d j in let b = books_send A D J a d j in search (sendable, crosses) depth 40 fits 4000
+  service_sync r = let i = service_inside_sync r in search sendable depth 20

@@ -1,8 +1,10 @@
 //! The books of a service: a desk for each frame, which counts the rows that the frame accepted, so that the next row's
 //! number is that count.
 ghost use Rattle.std.specs.Prelude.{◌≡◌, Some, length};
+ghost use Rattle.df_value.specs.Chunks.{ChunkParts};
 ghost use Rattle.df_state.specs.FrameChanges.{change_of};
 ghost use Rattle.df_state.specs.ViewChanges.{change_of_views};
+ghost use Rattle.df_state.specs.declared.change.Change.TheVariants.{Append};
 ghost use Rattle.dataframes.specs.Appends.{Appends, IsAppendedChunk};
 ghost use Rattle.dataframes.specs.Books.{InOrder, IsAnswered, IsKept, IsNextOr, IsNumbered, IsThrough, states_told};
 
@@ -98,6 +100,7 @@ impl<Acc: Ledger, Del: Ledger, J: Naming> Books<Acc, Del, J> {
         frame: usize,
         rows: List<Row>,
     ) -> Result<Appended<J>, ServiceFault<J>>
+        requires allowed { (chunk : ChunkParts) → J.allows (Append frame chunk) }
         ensures { Appends J.schemas self.old frame rows result self.new }
     {
         match self.next_chunk(alloc, frame, rows) {
@@ -134,6 +137,7 @@ impl<Acc: Ledger, Del: Ledger, J: Naming> Books<Acc, Del, J> {
         frame: usize,
         chunk: &Chunk,
     ) -> Result<Appended<J>, ServiceFault<J>>
+        requires { J.allows (Append frame chunk.now) }
         ensures { IsAppendedChunk J.schemas self.old frame chunk.now result self.new }
     {
         match self.change_rows(rt, alloc, hall, frame, FrameChange::Append(chunk)) {
@@ -155,6 +159,7 @@ impl<Acc: Ledger, Del: Ledger, J: Naming> Books<Acc, Del, J> {
         frame: usize,
         change: FrameChange,
     ) -> Result<Told<J>, ServiceFault<J>>
+        requires allowed { J.allows (change_of frame change) }
         ensures { IsAnswered J.schemas self.old (change_of frame change.entry) result self.new }
     {
         match self.through_desk(rt, alloc, hall, frame, change) {
@@ -171,6 +176,7 @@ impl<Acc: Ledger, Del: Ledger, J: Naming> Books<Acc, Del, J> {
         hall: &Hall<Acc, Del, J>,
         change: ViewChange,
     ) -> Result<Told<J>, ServiceFault<J>>
+        requires allowed { J.allows (change_of_views change) }
         ensures { IsAnswered J.schemas self.old (change_of_views change.entry) result self.new }
     {
         let answer = self.ask_for_views(rt, alloc, hall, change);
@@ -186,6 +192,7 @@ impl<Acc: Ledger, Del: Ledger, J: Naming> Books<Acc, Del, J> {
         frame: usize,
         change: FrameChange,
     ) -> Option<Answer<J>>
+        requires { J.allows (change_of frame change) }
         ensures { IsThrough J.schemas self.old (change_of frame change.entry) result self.new }
     {
         if frame >= self.desks.len() {
@@ -204,6 +211,7 @@ impl<Acc: Ledger, Del: Ledger, J: Naming> Books<Acc, Del, J> {
         hall: &Hall<Acc, Del, J>,
         change: ViewChange,
     ) -> Answer<J>
+        requires { J.allows (change_of_views change) }
         ensures { IsThrough J.schemas self.now (change_of_views change.entry) (Some result) self.now }
     {
         hall.change_views(rt, alloc, change, self.told.as_ref())

@@ -1,7 +1,7 @@
 //! The running of a service: its opening, its threads and its closing.
 ghost use Rattle.std.specs.Prelude.{◌≡◌, IfErr, IfOk, Ok, length};
 ghost use Rattle.df_state.specs.Ledgers as ledgers;
-ghost use Rattle.df_versions.specs.Histories.{schemas_of};
+ghost use Rattle.df_versions.specs.Histories.{AllowsAll, schemas_of};
 ghost use Rattle.dataframes.specs.Books.{InOrder};
 ghost use Rattle.dataframes.specs.Closing.{IsClosed, IsUnfinished};
 
@@ -162,6 +162,7 @@ fn serve<
 ) -> Result<Finished<L, W>, FinishFault>
     requires book { opened.0 ≡ J.book }
     requires history { schemas_of opened.1.0 ≡ J.schemas }
+    requires allowed { AllowsAll J.allows }
     requires schemas { schemas ≡ J.schemas }
     requires desks { InOrder opened.1.1 }
     requires count { length opened.1.1 ≡ length J.schemas }
@@ -202,7 +203,8 @@ fn run_all<
     watcher: W,
     pause: Duration,
 ) -> Result<Finished<L, W>, FinishFault>
-    requires { reader.0 ≡ J.book }
+    requires book { reader.0 ≡ J.book }
+    requires allowed { AllowsAll J.allows }
     ensures totals { IfOk result (λ finished. IsClosed J.schemas finished.totals) }
     ensures refused { IfErr result (IsUnfinished J.schemas) }
 {

@@ -4,6 +4,7 @@ ghost use Rattle.df_state.specs.FrameChanges.{change_of};
 ghost use Rattle.df_state.specs.ViewChanges.{change_of_views};
 ghost use Rattle.df_state.specs.declared.change.Change.TheVariants.{Delete, DropView, Register, Replace};
 ghost use Rattle.dataframes.specs.Appends.{AnswersOfBooks, AppendsToBooks};
+ghost use Rattle.df_versions.specs.Histories.{AllowsAll};
 
 use crate::books::{Appended, Books};
 use crate::fault::ServiceFault;
@@ -13,6 +14,7 @@ use df_plan::CheckedPlan;
 use df_value::{List, Row, Text};
 use df_versions::{Naming, Told};
 use std::alloc::Global;
+use std::marker::Model;
 use std::sync::ledger::Ledger;
 use std::sync::{Mutex, Wait};
 
@@ -73,12 +75,23 @@ pub trait Service {
         ensures { AnswersOfBooks Self.History.schemas (DropView name.now) result };
 }
 
-/// A hall with its books. [`with_service`](crate::with_service) makes it.
+/// A hall with its books. [`run_service`](crate::run_service) makes it.
 pub struct OpenService<'r, R: Wait, Acc: Ledger, Del: Ledger, J: Naming> {
     rt: &'r R,
     alloc: Global,
     hall: Hall<Acc, Del, J>,
     books: Mutex<Books<Acc, Del, J>>,
+}
+
+impl<'r, R: Wait, Acc: Ledger, Del: Ledger, J: Naming> Model for OpenService<'r, R, Acc, Del, J> {
+    ghost use Rattle.df_versions.specs.Histories.{AllowsAll};
+
+    ghost Value = { Unit {0} };
+
+    ghost view = { λ s. tt };
+
+    // Its history may have whatever a loader asks for.
+    ghost invariant = { λ s. AllowsAll J.allows };
 }
 
 impl<'r, R: Wait, Acc: Ledger, Del: Ledger, J: Naming> OpenService<'r, R, Acc, Del, J> {
@@ -88,7 +101,9 @@ impl<'r, R: Wait, Acc: Ledger, Del: Ledger, J: Naming> OpenService<'r, R, Acc, D
         alloc: Global,
         hall: Hall<Acc, Del, J>,
         books: Books<Acc, Del, J>,
-    ) -> OpenService<'r, R, Acc, Del, J> {
+    ) -> OpenService<'r, R, Acc, Del, J>
+        requires { AllowsAll J.allows }
+    {
         OpenService {
             rt,
             alloc,

@@ -4,7 +4,7 @@ ghost use Rattle.std.specs.Prelude.{◌≡◌, Some, IfErr, IsSomeAnd, OnErr, On
 ghost use Rattle.df_catalogue.specs.StagedChanges.{counted_desk, counts_staged};
 ghost use Rattle.df_state.specs.Pictures.{next_state};
 ghost use Rattle.df_versions.specs.Answered.{AnswersNext, ChangesHistory, IsReady, IsUnready, Reports, told_states};
-ghost use Rattle.df_versions.specs.Histories.{IsHistoryOver, MayFollow};
+ghost use Rattle.df_versions.specs.Histories.{IsHistoryOver, MayFollowBy};
 
 use df_catalogue::{Catalogue, CatalogueFault, Desk, StagedRows, StagedViews, State};
 use df_versions::{ChangeFault, Naming, PublishFault, Publisher, Told};
@@ -66,14 +66,14 @@ pub(crate) fn report<J: Naming>(publisher: &Publisher<J>, fault: CatalogueFault)
     }
 }
 
-// Publishes the state that is staged.
+// Publishes the state that is staged, which an allowed change makes.
 fn publish_staged<Acc: Ledger, Del: Ledger, J: Naming, R: Wait>(
     catalogue: &Catalogue<Acc, Del>,
     publisher: &mut Publisher<J>,
     rt: &R,
     alloc: Global,
 ) -> Result<Told<J>, ChangeFault<J>>
-    requires { MayFollow publisher.old (next_state catalogue.now) }
+    requires { MayFollowBy J.allows publisher.old (next_state catalogue.now) }
     ensures answer { AnswersNext publisher.old (next_state catalogue.now) result }
     ensures history { ChangesHistory publisher.old result publisher.new }
 {
@@ -97,7 +97,7 @@ pub(crate) fn enter_rows<Acc: Ledger, Del: Ledger, J: Naming, R: Wait>(
     staged: StagedRows<Acc, Del>,
 ) -> Result<Told<J>, ChangeFault<J>>
     requires last { staged.catalogue.value ≡ catalogue.old }
-    requires next { MayFollow publisher.old (next_state catalogue.old) }
+    requires next { MayFollowBy J.allows publisher.old (next_state catalogue.old) }
     requires frame { option_map (λ r. r.frame) (counts_staged catalogue.old) ≡ Some desk.old.frame }
     ensures answer { AnswersNext publisher.old (next_state catalogue.old) result }
     ensures history { ChangesHistory publisher.old result publisher.new }
@@ -125,7 +125,7 @@ pub(crate) fn enter_views<Acc: Ledger, Del: Ledger, J: Naming, R: Wait>(
     staged: StagedViews<Acc, Del>,
 ) -> Result<Told<J>, ChangeFault<J>>
     requires last { staged.catalogue.value ≡ catalogue.old }
-    requires next { MayFollow publisher.old (next_state catalogue.old) }
+    requires next { MayFollowBy J.allows publisher.old (next_state catalogue.old) }
     ensures answer { AnswersNext publisher.old (next_state catalogue.old) result }
     ensures history { ChangesHistory publisher.old result publisher.new }
     ensures committed { OnOk result (catalogue.new.state ≡ next_state catalogue.old) }

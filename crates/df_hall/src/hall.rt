@@ -52,7 +52,8 @@ pub struct Missing<Acc: Ledger, Del: Ledger, J: Naming> {
 
 /// The calls that change the catalogue take last what the caller was told before, if anything, and answer the history up
 /// to their own change, which is longer than that, or up to the state that refused it, which is no shorter; where the
-/// hall's history is shorter, [`ChangeFault::Ahead`].
+/// hall's history is shorter, [`ChangeFault::Ahead`]. The history's name allows the change, and a body finds no other one
+/// allowed: so no call makes another change than its caller's, whatever it does under the lock.
 impl<Acc: Ledger, Del: Ledger, J: Naming> Hall<Acc, Del, J> {
     /// Appends the chunk to the desk's frame, and every view follows. The desk's share grows by the
     /// chunk's rows, and at a refusal stays as it was.
@@ -64,6 +65,7 @@ impl<Acc: Ledger, Del: Ledger, J: Naming> Hall<Acc, Del, J> {
         chunk: &Chunk,
         told: Option<&Told<J>>,
     ) -> Result<Told<J>, ChangeFault<J>>
+        requires allowed { J.allows (Append desk.old.frame chunk.now) }
         ensures answer { AnswersOverHistory J.schemas (told_states (option_map (λ t. t.now) told.entry))
             (Append desk.old.frame chunk.now) result }
         ensures share { OnOk result
@@ -83,6 +85,7 @@ impl<Acc: Ledger, Del: Ledger, J: Naming> Hall<Acc, Del, J> {
         numbers: &[u32],
         told: Option<&Told<J>>,
     ) -> Result<Told<J>, ChangeFault<J>>
+        requires allowed { J.allows (Delete desk.old.frame numbers.now) }
         ensures answer { AnswersOverHistory J.schemas (told_states (option_map (λ t. t.now) told.entry))
             (Delete desk.old.frame numbers.now) result }
         ensures share { OnOk result
@@ -102,6 +105,7 @@ impl<Acc: Ledger, Del: Ledger, J: Naming> Hall<Acc, Del, J> {
         rows: &[(u32, Row)],
         told: Option<&Told<J>>,
     ) -> Result<Told<J>, ChangeFault<J>>
+        requires allowed { J.allows (Replace desk.old.frame rows.now) }
         ensures answer { AnswersOverHistory J.schemas (told_states (option_map (λ t. t.now) told.entry))
             (Replace desk.old.frame rows.now) result }
         ensures same_share { desk.new ≡ desk.old }
@@ -118,6 +122,7 @@ impl<Acc: Ledger, Del: Ledger, J: Naming> Hall<Acc, Del, J> {
         plan: CheckedPlan,
         told: Option<&Told<J>>,
     ) -> Result<Told<J>, ChangeFault<J>>
+        requires allowed { J.allows (Register name plan) }
         ensures { AnswersOverHistory J.schemas (told_states (option_map (λ t. t.now) told.entry))
             (Register name plan) result }
     {
@@ -132,6 +137,7 @@ impl<Acc: Ledger, Del: Ledger, J: Naming> Hall<Acc, Del, J> {
         name: &str,
         told: Option<&Told<J>>,
     ) -> Result<Told<J>, ChangeFault<J>>
+        requires allowed { J.allows (DropView name.now) }
         ensures { AnswersOverHistory J.schemas (told_states (option_map (λ t. t.now) told.entry))
             (DropView name.now) result }
     {
@@ -148,6 +154,7 @@ impl<Acc: Ledger, Del: Ledger, J: Naming> Hall<Acc, Del, J> {
         change: FrameChange,
         told: Option<&Told<J>>,
     ) -> Result<Told<J>, ChangeFault<J>>
+        requires allowed { J.allows (change_of desk.old.frame change) }
         ensures answer { AnswersOverHistory J.schemas (told_states (option_map (λ t. t.now) told.entry))
             (change_of desk.old.frame change.entry) result }
         ensures desk { OnOk result (desk.new ≡
@@ -168,6 +175,7 @@ impl<Acc: Ledger, Del: Ledger, J: Naming> Hall<Acc, Del, J> {
         change: ViewChange,
         told: Option<&Told<J>>,
     ) -> Result<Told<J>, ChangeFault<J>>
+        requires allowed { J.allows (change_of_views change) }
         ensures { AnswersOverHistory J.schemas (told_states (option_map (λ t. t.now) told.entry))
             (change_of_views change.entry) result }
     {

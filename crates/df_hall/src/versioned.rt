@@ -5,7 +5,7 @@ ghost use Rattle.df_state.specs.FrameChanges.{change_of};
 ghost use Rattle.df_state.specs.ViewChanges.{change_of_views};
 ghost use Rattle.df_state.specs.declared.state.State.{State};
 ghost use Rattle.df_hall.specs.Closing as closing;
-ghost use Rattle.df_versions.specs.Histories.{IsHistoryOver, last_state};
+ghost use Rattle.df_versions.specs.Histories.{AreAllowed, IsHistoryOver, last_state};
 
 use crate::closing::gather_audited;
 use crate::entering::{check_ready, enter_rows, enter_views, report};
@@ -78,6 +78,7 @@ impl<Acc: Ledger, Del: Ledger, J: Naming> VersionedCatalogue<Acc, Del, J> {
     pub fn len(&self) -> u64
         ensures length { result ≡ length self.now }
         ensures over { IsHistoryOver J.schemas self.now }
+        ensures allowed { AreAllowed J.allows self.now }
     {
         self.publisher.len()
     }
@@ -116,6 +117,7 @@ impl<Acc: Ledger, Del: Ledger, J: Naming> VersionedCatalogue<Acc, Del, J> {
         change: FrameChange,
         told: Option<&Told<J>>,
     ) -> Result<Told<J>, ChangeFault<J>>
+        requires allowed { J.allows (change_of desk.old.frame change) }
         ensures answer { AnswersChange self.old (told_states (option_map (λ t. t.now) told.entry))
             (change_of desk.old.frame change.entry) result }
         ensures history { ChangesHistory self.old result self.new }
@@ -147,6 +149,7 @@ impl<Acc: Ledger, Del: Ledger, J: Naming> VersionedCatalogue<Acc, Del, J> {
         change: ViewChange,
         told: Option<&Told<J>>,
     ) -> Result<Told<J>, ChangeFault<J>>
+        requires allowed { J.allows (change_of_views change) }
         ensures answer { AnswersChange self.old (told_states (option_map (λ t. t.now) told.entry))
             (change_of_views change.entry) result }
         ensures history { ChangesHistory self.old result self.new }

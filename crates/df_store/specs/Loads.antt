@@ -1,9 +1,12 @@
 -- What a load answers.
 use Rattle.std.specs.Prelude.{◌≡◌, ◌≢◌, ◌⊎◌, ◌+◌, ◌==◌, ◌&&◌, ⊤, ℕ, Bool, List, [], ◌∷◌, length, map, sum_by, Option, Some, None, Result, Ok, Err, if◌then◌else◌, slice_get}
 use Rattle.df_value.specs.declared.cell.CellType.{CellType}
+use Rattle.df_value.specs.Chunks.{ChunkParts}
 use Rattle.df_value.specs.declared.chunk.Piece.{Piece}
 use Rattle.df_plan.specs.CheckedParts.{CheckedParts}
 use Rattle.df_frame.specs.declared.state.FrameState.{FrameState}
+use Rattle.df_state.specs.declared.change.Change.{Change}
+use Rattle.df_state.specs.declared.change.Change.TheVariants.{Append, Register}
 use Rattle.df_state.specs.declared.state.State.{State}
 use Rattle.df_state.specs.Desks.{AgreeWithBooks, DeskParts, accepted_at, deleted_at, parts_of}
 use Rattle.df_state.specs.States.{IsLegal}
@@ -19,6 +22,15 @@ use Rattle.df_jobs.specs.Jobs.{AreOutcomes, jobs_of}
 use Rattle.df_jobs.specs.Loaded.{AreLoaded, IsUnlike}
 use Rattle.df_jobs.specs.Lost.{HaveOneEach, IsLost}
 use Rattle.df_jobs.specs.Counted.{entered_at, rows_of}
+
+-- a chunk may be appended to any frame
+abbrev pub AllowsAppends : (Change → Type 0) → Type 0
+AllowsAppends allows = (frame : ℕ) (chunk : ChunkParts) → allows (Append frame chunk)
+
+-- the changes that a load makes are allowed: the registration of a view, and the append of a chunk
+pub record AllowsLoad (allows : Change → Type 0) : Type 0 where
+  pub registers : (name : List ℕ) (plan : CheckedParts) → allows (Register name plan)
+  pub appends : AllowsAppends allows
 
 -- the views of a state, each by its name and its plan
 abbrev pub headings_of : State → List (List ℕ × CheckedParts)

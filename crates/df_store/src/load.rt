@@ -105,6 +105,7 @@ pub fn load_all<
     workers: usize,
     gate: &G,
 ) -> Result<Loaded<Acc, Del>, LoadFault<Acc, Del>>
+    requires allowed { loads.AllowsLoad J.allows }
     requires sources { length sources.now ≡ length J.schemas }
     requires jobs { length (jobs_of (chunks_of S.made S.start_of sources.now))
         ≤ most_jobs }
@@ -167,6 +168,7 @@ fn run_load<
     desks: Vec<Desk<Acc, Del>>,
     views: &[(Text, CheckedPlan)],
 ) -> Result<Loaded<Acc, Del>, LoadFault<Acc, Del>>
+    requires allowed { loads.AllowsAppends J.allows }
     requires history { catalogue ≡ B.history }
     requires chunks { B.chunks ≡ chunks_of S.made S.start_of work.now.sources.now }
     requires over { IsHistoryOver J.schemas catalogue }
@@ -228,6 +230,7 @@ fn begin<Acc: Ledger, Del: Ledger, J: Naming, R: Wait>(
     jobs: u64,
     workers: usize,
 ) -> Result<(Claims, Vec<ClaimSeat>), LoadCause>
+    requires allowed { loads.AllowsLoad J.allows }
     requires jobs { jobs ≤ most_jobs }
     requires workers { (1 ≤ workers) × (workers ≤ 16) }
     ensures count { IfOk result (λ begun. length begun.1.items ≡ workers) }
@@ -249,6 +252,7 @@ fn register_all<Acc: Ledger, Del: Ledger, J: Naming, R: Wait>(
     catalogue: &mut VersionedCatalogue<Acc, Del, J>,
     views: &[(Text, CheckedPlan)],
 ) -> Result<(), LoadCause>
+    requires { loads.AllowsLoad J.allows }
     ensures { IfErr result (λ cause. (s : State) → last_state catalogue.new ≡ Some s
         → IsCauseOfViews s views.now cause) }
 {
@@ -265,6 +269,7 @@ fn register_one<Acc: Ledger, Del: Ledger, J: Naming, R: Wait>(
     catalogue: &mut VersionedCatalogue<Acc, Del, J>,
     view: &(Text, CheckedPlan),
 ) -> Result<(), LoadCause>
+    requires { loads.AllowsLoad J.allows }
     ensures { IfErr result (λ cause. (s : State) → last_state catalogue.new ≡ Some s
         → IsCauseOfView s view.now cause) }
 {

@@ -4,6 +4,7 @@ ghost use Rattle.df_state.specs.Desks.{desk_after};
 ghost use Rattle.df_state.specs.declared.change.Change.TheVariants.{Append};
 ghost use Rattle.df_store.specs.Grown.{HaveGrown, IsWhole};
 ghost use Rattle.df_store.specs.Incoming.{chunk_of};
+ghost use Rattle.df_store.specs.Loads.{AllowsAppends};
 
 use crate::entering::Incoming;
 use df_catalogue::Desk;
@@ -42,7 +43,8 @@ pub(crate) struct LoadingHall<Acc: Ledger, Del: Ledger, J: Naming, B: Beginning>
 impl<Acc: Ledger, Del: Ledger, J: Naming, B: Beginning> LoadingHall<Acc, Del, J, B> {
     /// A lock round the catalogue that the load begins with.
     pub(crate) fn over(catalogue: VersionedCatalogue<Acc, Del, J>) -> LoadingHall<Acc, Del, J, B>
-        requires { catalogue ≡ B.history }
+        requires history { catalogue ≡ B.history }
+        requires allowed { AllowsAppends J.allows }
     {
         LoadingHall {
             catalogue: Mutex::new(LoadingCatalogue::over(catalogue)),
@@ -75,6 +77,7 @@ impl<Acc: Ledger, Del: Ledger, J: Naming, B: Beginning> Model for LoadingCatalog
     ghost use Rattle.df_state.specs.declared.state.State.{State};
     ghost use Rattle.df_state.specs.contracts.state.State as state_type;
     ghost use Rattle.df_store.specs.Grown.{HaveGrown};
+    ghost use Rattle.df_store.specs.Loads.{AllowsAppends};
 
     ghost Value = { List State };
 
@@ -82,14 +85,15 @@ impl<Acc: Ledger, Del: Ledger, J: Naming, B: Beginning> Model for LoadingCatalog
 
     ghost view = { λ v. v.catalogue };
 
-    // What came to its frames since the load began are whole chunks.
-    ghost invariant = { λ v. HaveGrown B.chunks B.history v.catalogue };
+    // What came to its frames since the load began are whole chunks, and more may come.
+    ghost invariant = { λ v. HaveGrown B.chunks B.history v.catalogue × AllowsAppends J.allows };
 }
 
 impl<Acc: Ledger, Del: Ledger, J: Naming, B: Beginning> LoadingCatalogue<Acc, Del, J, B> {
     // The catalogue that the load begins with.
     fn over(catalogue: VersionedCatalogue<Acc, Del, J>) -> LoadingCatalogue<Acc, Del, J, B>
-        requires { catalogue ≡ B.history }
+        requires history { catalogue ≡ B.history }
+        requires allowed { AllowsAppends J.allows }
     {
         LoadingCatalogue {
             catalogue,

@@ -2,10 +2,11 @@
 use Rattle.std.proofs.Common.{◌≡◌, ℕ, List, [], ◌∷◌, ◌++◌, Some, arith, refl, ap, sym, subst}
 use Rattle.df_value.specs.declared.cell.CellType.{CellType}
 use Rattle.std.specs.List.{AllByRecursion}
+use Rattle.df_state.specs.declared.change.Change.{Change}
 use Rattle.df_state.specs.declared.state.State.{State}
 use Rattle.df_state.specs.States.{IsLegal}
 use Rattle.df_state.proofs.Legal.{legal-after}
-use Rattle.df_versions.specs.Histories.{Step, Steps, IsHistory, IsHistoryOver, MayFollow, last_of, last_state}
+use Rattle.df_versions.specs.Histories.{Step, Steps, StepBy, StepsBy, AreAllowed, IsHistory, IsHistoryOver, MayFollow, MayFollowBy, IsOpening, last_of, last_state}
 
 steps-snoc : (o : State) (later : List State) (t : State) → Steps o later → Step (last_of o later) t → Steps o (later ++ t ∷ [])
 steps-snoc o [] t h step = (step, tt)
@@ -37,10 +38,6 @@ pub ends_split : (log : List State) (s : State) → last_state log ≡ Some s �
 ends_split [] s e = absurd cc
 ends_split (o ∷ later) s e = let r = split_last o later in let same : last_of o later ≡ s = cc in (r.0, subst (λ z. o ∷ later ≡ r.0 ++ z ∷ []) same r.1)
 
-pub step-follows : (log : List State) (s t : State) → last_state log ≡ Some s → Step s t → MayFollow log t
-step-follows [] s t e step = absurd cc
-step-follows (o ∷ later) s t e step = let same : s ≡ last_of o later = cc in subst (λ z. Step z t) same step
-
 pub step-legal : (s t : State) → IsLegal s → Step s t → IsLegal t
 step-legal s t h step = subst IsLegal (sym step.3) (legal-after s step.0 h step.1 step.2)
 
@@ -64,3 +61,33 @@ ends-legal (o ∷ later) s h e = let same : last_of o later ≡ s = cc in subst 
 -- a state that may stand next is legal
 pub follower-legal : (log : List State) (t : State) → IsHistory log → MayFollow log t → IsLegal t
 follower-legal log t h may = ends-legal (log ++ t ∷ []) t (history-more log t h may) (last_state-more log t)
+
+module _ (allows : Change → Type 0) where
+  -- an allowed step is a step
+  step-any : (s t : State) → StepBy allows s t → Step s t
+  step-any s t step = (step.0, step.2, step.3, step.4)
+
+  steps-any : (s : State) (later : List State) → StepsBy allows s later → Steps s later
+  steps-any s [] h = tt
+  steps-any s (t ∷ ts) h = (step-any s t h.0, steps-any t ts h.1)
+
+  -- an opening and allowed steps are a history
+  pub allowed-history : (o : State) (later : List State) → IsOpening o → AreAllowed allows (o ∷ later) → IsHistory (o ∷ later)
+  allowed-history o later opening h = (opening, steps-any o later h)
+
+  pub follows-any : (log : List State) (t : State) → MayFollowBy allows log t → MayFollow log t
+  follows-any [] t may = may
+  follows-any (o ∷ later) t may = step-any (last_of o later) t may
+
+  pub step-follows-by : (log : List State) (s t : State) → last_state log ≡ Some s → StepBy allows s t → MayFollowBy allows log t
+  step-follows-by [] s t e step = absurd cc
+  step-follows-by (o ∷ later) s t e step = let same : s ≡ last_of o later = cc in subst (λ z. StepBy allows z t) same step
+
+  allowed-snoc : (o : State) (later : List State) (t : State) → StepsBy allows o later → StepBy allows (last_of o later) t → StepsBy allows o (later ++ t ∷ [])
+  allowed-snoc o [] t h step = (step, tt)
+  allowed-snoc o (x ∷ xs) t h step = (h.0, allowed-snoc x xs t h.1 step)
+
+  -- with one more allowed step all are allowed
+  pub allowed-more : (log : List State) (t : State) → AreAllowed allows log → MayFollowBy allows log t → AreAllowed allows (log ++ t ∷ [])
+  allowed-more [] t h may = tt
+  allowed-more (o ∷ later) t h may = allowed-snoc o later t h may

@@ -49,16 +49,19 @@ impl Play<State, u64> for AddState {
     ghost then = { Adds };
 }
 
-/// Which history it is: contracts see its name, and the schemas of the frames of its states. Each call of a program picks
-/// one, at `Brand`.
+/// Which history it is: contracts see its name, the schemas of the frames of its states, and which changes may be steps of
+/// it. Each call of a program picks one, at `Brand`.
 pub trait Naming {
     ghost use Rattle.std.specs.Prelude.{ℕ, List};
     ghost use Rattle.df_value.specs.declared.cell.CellType.{CellType};
+    ghost use Rattle.df_state.specs.declared.change.Change.{Change};
     ghost use Rattle.logbook.specs.Pages.{Book};
 
     ghost book: { Book };
 
     ghost schemas: { List (List (List ℕ × CellType)) };
+
+    ghost allows: { Change → Type 0 };
 }
 
 impl Naming for Brand {
@@ -67,6 +70,8 @@ impl Naming for Brand {
     ghost book = { record { number = 0; log_name = 0; cells_name = 0 } };
 
     ghost schemas = { [] };
+
+    ghost allows = { λ c. Unit {0} };
 }
 
 /// The word of a history, its length.

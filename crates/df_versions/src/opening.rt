@@ -42,6 +42,7 @@ impl Model for OpenedVersions {
 
     ghost invariant = { λ o. (o.head ≡ head_of o.history.0)
         × IsHistoryOver (schemas_of o.history.1) o.history.1
+        × (length o.history.1 ≡ 1)
         × (o.writer.desk.shown.value.history ≡ o.history)
         × ((view_of o.writer.desk.place).known ≡ o.history ∷ [])
         × All (λ r. r ≡ (o.history.0, (o.history.1, o.history.1))) o.readers.items };

@@ -2,7 +2,7 @@
 ghost use Rattle.std.specs.Prelude.{◌≡◌, ◌++◌, ◌∷◌, ◌-◌, ◌^◌, [], None, drop, IfErr, IfOk, IsErr, ◌<◌, length};
 ghost use Rattle.df_state.specs.Pictures.{picture_of};
 ghost use Rattle.left_right.specs.Sides.{view};
-ghost use Rattle.df_versions.specs.Histories.{IsHistory, IsHistoryOver, MayFollow};
+ghost use Rattle.df_versions.specs.Histories.{AreAllowed, IsHistory, IsHistoryOver, MayFollow, MayFollowBy};
 ghost use Rattle.df_versions.specs.HistoryRule.{head_of};
 ghost use Rattle.df_versions.specs.Newest.{newest};
 ghost use Rattle.df_versions.specs.declared.fault.PublishFault.TheVariants as publish_fault;
@@ -68,7 +68,7 @@ impl<J: Naming> Model for Publisher<J> {
     ghost use Rattle.std.specs.Coded.{coded_list};
     ghost use Rattle.df_state.specs.declared.state.State.{State};
     ghost use Rattle.df_state.specs.contracts.state.State as state_type;
-    ghost use Rattle.df_versions.specs.Histories.{IsHistoryOver};
+    ghost use Rattle.df_versions.specs.Histories.{AreAllowed, IsHistoryOver};
     ghost use Rattle.df_versions.specs.HistoryRule.{head_of};
 
     ghost Value = { List State };
@@ -77,9 +77,10 @@ impl<J: Naming> Model for Publisher<J> {
 
     ghost view = { λ p. p.history.1 };
 
-    // The history is that of this name, and the newest version that is published ends it.
+    // The history is that of this name, the newest version that is published ends it, and its name allows each change in it.
     ghost invariant = { λ p. (p.history.0 ≡ J.book) × (p.head ≡ head_of J.book)
-        × (p.writer.desk.shown.value.history ≡ p.history) × IsHistoryOver J.schemas p.history.1 };
+        × (p.writer.desk.shown.value.history ≡ p.history) × IsHistoryOver J.schemas p.history.1
+        × AreAllowed J.allows p.history.1 };
 }
 
 impl<J: Naming> Publisher<J> {
@@ -87,6 +88,7 @@ impl<J: Naming> Publisher<J> {
         requires book { history.0 ≡ J.book }
         requires head { head ≡ head_of history.0 }
         requires over { IsHistoryOver J.schemas history.1 }
+        requires allowed { AreAllowed J.allows history.1 }
         requires shown { writer.desk.shown.value.history ≡ history }
         ensures { result ≡ history.1 }
     {
@@ -113,6 +115,7 @@ impl<J: Naming> Publisher<J> {
     pub fn len(&self) -> u64
         ensures length { result ≡ length self.now }
         ensures over { IsHistoryOver J.schemas self.now }
+        ensures allowed { AreAllowed J.allows self.now }
     {
         self.history.len()
     }
@@ -125,7 +128,7 @@ impl<J: Naming> Publisher<J> {
         Told::of(self.history.again())
     }
 
-    /// Adds the state that M asks for, and publishes the version with its picture.
+    /// Adds the state that M asks for, which an allowed change makes, and publishes the version with its picture.
     pub fn publish<X, M: Plain<X, State, u64>, R: Wait>(
         &mut self,
         rt: &R,
@@ -134,7 +137,7 @@ impl<J: Naming> Publisher<J> {
         picture: Picture,
     ) -> Result<Told<J>, PublishFault>
         requires plain { M.state about.now ≡ None }
-        requires next { MayFollow self.old (M.ask about.now) }
+        requires next { MayFollowBy J.allows self.old (M.ask about.now) }
         requires picture { picture ≡ picture_of (M.ask about.now) }
         ensures added { IfOk result (λ t. t ≡ self.old ++ M.ask about.now ∷ []) }
         ensures published { IfOk result (λ t. self.new ≡ t) }

@@ -2,7 +2,7 @@
 ghost use Rattle.std.specs.Prelude.{◌≡◌, ◌+◌, length};
 ghost use Rattle.std.specs.List.{AllByRecursion};
 ghost use Rattle.df_state.specs.States.{IsLegal};
-ghost use Rattle.df_versions.specs.Histories.{IsHistoryOver};
+ghost use Rattle.df_versions.specs.Histories.{AreAllowed, IsHistoryOver};
 
 use crate::history::{History, Naming};
 use std::marker::{Model, PhantomData};
@@ -28,7 +28,7 @@ impl<J: Naming> Model for Told<J> {
     ghost use Rattle.std.specs.Coded.{coded_list};
     ghost use Rattle.df_state.specs.declared.state.State.{State};
     ghost use Rattle.df_state.specs.contracts.state.State as state_type;
-    ghost use Rattle.df_versions.specs.Histories.{IsHistoryOver};
+    ghost use Rattle.df_versions.specs.Histories.{AreAllowed, IsHistoryOver};
 
     ghost Value = { List State };
 
@@ -36,13 +36,16 @@ impl<J: Naming> Model for Told<J> {
 
     ghost view = { λ t. t.history.1 };
 
-    ghost invariant = { λ t. (t.history.0 ≡ J.book) × IsHistoryOver J.schemas t.history.1 };
+    // Every change behind its opening is one that its name allows.
+    ghost invariant = { λ t. (t.history.0 ≡ J.book) × IsHistoryOver J.schemas t.history.1
+        × AreAllowed J.allows t.history.1 };
 }
 
 impl<J: Naming> Told<J> {
     pub(crate) fn of(history: History) -> Told<J>
         requires book { history.0 ≡ J.book }
         requires over { IsHistoryOver J.schemas history.1 }
+        requires allowed { AreAllowed J.allows history.1 }
         ensures { result ≡ history.1 }
     {
         Told {
@@ -80,6 +83,7 @@ impl<J: Naming> Told<J> {
         ensures number { result + 1 ≡ length self.now }
         ensures over { IsHistoryOver J.schemas self.now }
         ensures legal { AllByRecursion IsLegal self.now }
+        ensures allowed { AreAllowed J.allows self.now }
     {
         self.history.len() - 1
     }

@@ -6,7 +6,7 @@ use Rattle.df_state.specs.Desks.{DeskParts}
 use Rattle.df_state.specs.FrameChanges.{change_of}
 use Rattle.df_versions.specs.Answered.{told_states}
 use Rattle.dataframes.proofs.BooksFacts.{desk-answered, told-length}
-use Rattle.dataframes.proofs.DesksFacts.{no-frame}
+use Rattle.dataframes.proofs.DesksFacts.{frame-there, no-frame}
 use Rattle.dataframes.specs.Books.{BooksParts, InOrder, IsThrough, states_told}
 use Rattle.dataframes.proofs.books.Books.through_desk.Goals as goal
 use Rattle.dataframes.proofs.books.Books.through_desk.Given.{Over}
@@ -27,6 +27,15 @@ through g c =
     desk-answered g.J.Naming.schemas _ (before g c) c.as_mut_slice.result.now (held g c) c.args.frame c.index-as_mut_slice-frame.result c.change_rows.new.desk
     c.args.change c.change_rows.result (ap told_states c.as_ref-told.ensures.value ∙ told-length s.told) c.as_mut_slice.ensures.value
     c.self.invariant.0 within refl c.change_rows.ensures.answer c.change_rows.ensures.desk c.change_rows.ensures.same_desk
+
+-- the desk is of the frame that is asked for
+pub change_rows-requires : goal.change_rows-requires
+change_rows-requires g c =
+    let lent : List DeskParts = c.as_mut_slice.result.now in
+    let order : InOrder lent = subst InOrder (sym c.as_mut_slice.ensures.value) c.self.invariant.0 in
+    let within : c.args.frame < length lent = omega (arith, c.if-frame-len.false, c.len.ensures, c.self.inside.desks.ok.0, ap length c.as_mut_slice.ensures.value) in
+    let there = frame-there lent c.args.frame c.index-as_mut_slice-frame.result order within in
+    record { allowed = subst (λ f. g.J.Naming.allows (change_of f c.args.change)) (sym there) c.requires }
 
 pub returns-then-frame-len : goal.returns-then-frame-len
 returns-then-frame-len g c =

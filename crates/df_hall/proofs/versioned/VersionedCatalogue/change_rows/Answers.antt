@@ -11,7 +11,7 @@ use Rattle.df_hall.proofs.versioned.VersionedCatalogue.change_rows.Goals as goal
 pub enter_rows-requires-clause-next : goal.enter_rows-requires-clause-next
 enter_rows-requires-clause-next g c =
     let s = c.in-Ok.ensures.staged in
-    staged-follows c.self.inside.publisher c.self.inside.catalogue c.stage_frame_change.new.self (change_of c.args.desk.now.frame c.args.change) c.self.invariant.0 s.sound s.accepted s.staged
+    staged-follows g.J.Naming.allows c.self.inside.publisher c.self.inside.catalogue c.stage_frame_change.new.self (change_of c.args.desk.now.frame c.args.change) c.requires.allowed c.self.invariant.0 s.sound s.accepted s.staged
 
 pub enter_rows-requires-clause-frame : goal.enter_rows-requires-clause-frame
 enter_rows-requires-clause-frame g c =

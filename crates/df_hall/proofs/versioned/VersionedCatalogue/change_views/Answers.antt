@@ -9,7 +9,7 @@ use Rattle.df_hall.proofs.versioned.VersionedCatalogue.change_views.Goals as goa
 pub enter_views-requires-clause-next : goal.enter_views-requires-clause-next
 enter_views-requires-clause-next g c =
     let s = c.in-Ok.ensures.staged in
-    staged-follows c.self.inside.publisher c.self.inside.catalogue c.stage_view_change.new.self (change_of_views c.args.change) c.self.invariant.0 s.sound s.accepted s.staged
+    staged-follows g.J.Naming.allows c.self.inside.publisher c.self.inside.catalogue c.stage_view_change.new.self (change_of_views c.args.change) c.requires.allowed c.self.invariant.0 s.sound s.accepted s.staged
 
 pub invariant_of-self : goal.invariant_of-self
 invariant_of-self g c =

@@ -7,4 +7,4 @@ pub invariant_of-result : goal.invariant_of-result
 invariant_of-result g c =
     let chunks = g.B.Beginning.chunks in
     let history = g.B.Beginning.history in
-    subst (HaveGrown chunks history) (sym c.requires) (grown-itself chunks history)
+    (subst (HaveGrown chunks history) (sym c.requires.history) (grown-itself chunks history), c.requires.allowed)
