@@ -8,6 +8,7 @@ ghost use Rattle.df_text.specs.Document.{IsDocument};
 ghost use Rattle.df_document.specs.Sources.{IsSourceOf};
 ghost use Rattle.df_app.specs.Loading.{IsOutputOfLoad, headings_in};
 ghost use Rattle.df_app.specs.Ran.{IsFaultOfLoad};
+ghost use Rattle.df_store.specs.Loads.{AllowsLoad};
 ghost use Rattle.df_versions.specs.Histories.{schemas_of};
 
 use crate::fault::RunFault;
@@ -86,6 +87,7 @@ fn load_opened<
 ) -> Result<Output, RunFault>
     requires book { opened.0 ≡ J.book }
     requires schemas { schemas_of opened.1.0 ≡ J.schemas }
+    requires allowed { AllowsLoad J.allows }
     requires frames { length J.schemas ≡ length sourced.now.document.frames }
     requires sound { IsDocument sourced.now.document }
     requires sources { length sourced.now.sources ≡ length sourced.now.document.frames }

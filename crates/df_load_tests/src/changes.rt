@@ -1,5 +1,6 @@
 //! Changes of one hall: what a reader sees that is told of them, many of them at once, and the close.
 ghost use Rattle.std.specs.Prelude.{◌≡◌, All};
+ghost use Rattle.df_versions.specs.Histories.{AllowsAll};
 
 use crate::clients::{ROUNDS, VERSIONS, change_at_once};
 use crate::given::{accepted, chunk, groups};
@@ -38,7 +39,8 @@ fn learn_last_first<Acc: Ledger, Del: Ledger, J: Naming, R: Wait + Abort>(
     desk: &mut Desk<Acc, Del>,
     reader: &mut Reader,
 ) -> Result<(), Fail>
-    requires { reader.old.0 ≡ J.book }
+    requires book { reader.old.0 ≡ J.book }
+    requires allowed { AllowsAll J.allows }
     ensures { reader.new.0 ≡ reader.old.0 }
 {
     assert!(rt; seen(alloc, reader) == Some((0, Some(0), 0)));
@@ -63,7 +65,8 @@ fn delete_behind<Acc: Ledger, Del: Ledger, J: Naming, R: Wait + Abort>(
     desk: &mut Desk<Acc, Del>,
     reader: &mut Reader,
 ) -> Result<(), Fail>
-    requires { reader.old.0 ≡ J.book }
+    requires book { reader.old.0 ≡ J.book }
+    requires allowed { AllowsAll J.allows }
 {
     let before = reader.snapshot().ok_or("a version")?;
     let nothing: Option<Told<J>> = None;
@@ -82,7 +85,8 @@ fn change_and_tell<Acc: Ledger, Del: Ledger, J: Naming, R: Wait + Abort>(
     desks: &mut [Desk<Acc, Del>],
     readers: &mut [Reader],
 ) -> Result<(), Fail>
-    requires { All (λ r. r.0 ≡ J.book) readers.old }
+    requires books { All (λ r. r.0 ≡ J.book) readers.old }
+    requires allowed { AllowsAll J.allows }
 {
     let desk = desks.get_mut(0).ok_or("a desk")?;
     let reader = readers.get_mut(0).ok_or("a reader")?;
@@ -109,7 +113,8 @@ fn changed<
     desks: Vec<Desk<Acc, Del>>,
     readers: Vec<Reader>,
 ) -> Result<Left<Acc, Del>, Fail>
-    requires { All (λ r. r.0 ≡ J.book) readers.items }
+    requires books { All (λ r. r.0 ≡ J.book) readers.items }
+    requires allowed { AllowsAll J.allows }
 {
     let mut desks = desks;
     let mut readers = readers;
@@ -144,7 +149,8 @@ pub fn change_and_close<
     desks: Vec<Desk<Acc, Del>>,
     readers: Vec<Reader>,
 ) -> Result<(), Fail>
-    requires { All (λ r. r.0 ≡ J.book) readers.items }
+    requires books { All (λ r. r.0 ≡ J.book) readers.items }
+    requires allowed { AllowsAll J.allows }
 {
     match changed(rt, alloc, &hall, desks, readers) {
         Ok(left) => close_without(rt, hall, left),

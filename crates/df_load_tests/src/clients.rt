@@ -1,4 +1,6 @@
 //! Many changes of one hall by several threads at once, beside others that read its versions.
+ghost use Rattle.df_versions.specs.Histories.{AllowsAll};
+
 use crate::given::{accepted, chunk, groups, row};
 use crate::watching::Watcher;
 use df_catalogue::{CatalogueFault, Desk};
@@ -34,7 +36,9 @@ struct Client<Acc: Ledger, Del: Ledger> {
 
 impl<Acc: Ledger, Del: Ledger> Client<Acc, Del> {
     // Makes all rounds.
-    fn run<J: Naming, R: Wait>(&mut self, rt: &R, hall: &Hall<Acc, Del, J>) {
+    fn run<J: Naming, R: Wait>(&mut self, rt: &R, hall: &Hall<Acc, Del, J>)
+        requires { AllowsAll J.allows }
+    {
         for round in 0..ROUNDS {
             // Three numbers for each client and round.
             let turn = round.wrapping_mul(CLIENTS).wrapping_add(self.number);
@@ -51,7 +55,9 @@ impl<Acc: Ledger, Del: Ledger> Client<Acc, Del> {
         hall: &Hall<Acc, Del, J>,
         first: u32,
         frame: usize,
-    ) -> Option<bool> {
+    ) -> Option<bool>
+        requires { AllowsAll J.allows }
+    {
         let alloc = self.alloc;
         let desk = self.desks.get_mut(frame)?;
         let rows = chunk(alloc, first, 3).ok()?;
@@ -83,7 +89,9 @@ enum Actor<Acc: Ledger, Del: Ledger> {
 }
 
 impl<Acc: Ledger, Del: Ledger> Actor<Acc, Del> {
-    fn run<J: Naming, R: Wait>(&mut self, rt: &R, hall: &Hall<Acc, Del, J>, last: u64) {
+    fn run<J: Naming, R: Wait>(&mut self, rt: &R, hall: &Hall<Acc, Del, J>, last: u64)
+        requires { AllowsAll J.allows }
+    {
         match self {
             Actor::Changes(client) => client.run(rt, hall),
             Actor::Watches(watcher) => watcher.run(last),
@@ -137,7 +145,9 @@ fn run_actors<
     Del: Ledger + Send + Sync,
     J: Naming + Send + Sync,
     R: Threads + Wait + Sync,
->(rt: &R, hall: &Hall<Acc, Del, J>, actors: &mut [Actor<Acc, Del>], last: u64) {
+>(rt: &R, hall: &Hall<Acc, Del, J>, actors: &mut [Actor<Acc, Del>], last: u64)
+    requires { AllowsAll J.allows }
+{
     if actors.is_empty() {
         return;
     }
@@ -190,7 +200,9 @@ pub fn change_at_once<
     desks: &mut [Desk<Acc, Del>],
     readers: Vec<Reader>,
     last: u64,
-) -> Result<Vec<Desk<Acc, Del>>, Fail> {
+) -> Result<Vec<Desk<Acc, Del>>, Fail>
+    requires { AllowsAll J.allows }
+{
     let name = Text::from_str(alloc, "g")?;
     let nothing: Option<Told<J>> = None;
     accepted(hall.register(rt, alloc, name, groups(alloc)?, nothing.as_ref()))?;

@@ -1,7 +1,7 @@
 //! The tests of a hall, and how one is run: in a hall over two empty frames.
 ghost use Rattle.std.specs.Prelude.{◌≡◌, length};
 ghost use Rattle.df_state.specs.Ledgers as ledgers;
-ghost use Rattle.df_versions.specs.Histories.{schemas_of};
+ghost use Rattle.df_versions.specs.Histories.{AllowsAll, schemas_of};
 
 use crate::changes::change_and_close;
 use crate::given::schemas;
@@ -83,6 +83,7 @@ fn run_named<
 >(rt: &R, alloc: Global, opened: OpenedHall<Acc, Del>, test: &HallTest<'_>) -> Result<(), Fail>
     requires book { opened.0 ≡ J.book }
     requires schemas { schemas_of opened.1.0 ≡ J.schemas }
+    requires allowed { AllowsAll J.allows }
     requires two { length J.schemas ≡ 2 }
 {
     let (hall, desks, readers) = opened.named::<J>();

@@ -1,5 +1,6 @@
 //! Loads: that workers run at once and draw what is left, why a load is refused, and what it leaves.
 ghost use Rattle.std.specs.Prelude.{◌≡◌, length};
+ghost use Rattle.df_versions.specs.Histories.{AllowsAll};
 
 use crate::gates::{Held, HoldingGate};
 use crate::given::{accepted, chunk, groups};
@@ -60,7 +61,9 @@ fn commit_row<Acc: Ledger, Del: Ledger, J: Naming, R: Wait>(
     hall: &Hall<Acc, Del, J>,
     desk: &mut Desk<Acc, Del>,
     number: u32,
-) -> Result<(), Fail> {
+) -> Result<(), Fail>
+    requires { AllowsAll J.allows }
+{
     let row = chunk(alloc, number, 1)?;
     let nothing: Option<Told<J>> = None;
     accepted(hall.commit_chunk(rt, alloc, desk, &row, nothing.as_ref()))?;
@@ -73,7 +76,9 @@ fn prepare<Acc: Ledger, Del: Ledger, J: Naming, R: Wait>(
     hall: &Hall<Acc, Del, J>,
     desks: &mut [Desk<Acc, Del>],
     before: Before,
-) -> Result<(), Fail> {
+) -> Result<(), Fail>
+    requires { AllowsAll J.allows }
+{
     match before {
         Before::Nothing => Ok(()),
         Before::Row(frame, number) => {
@@ -137,7 +142,8 @@ pub fn load<
     case: &LoadCase,
     pairs: &PairsLoad,
 ) -> Result<(), Fail>
-    requires { length J.schemas ≡ 2 }
+    requires allowed { AllowsAll J.allows }
+    requires two { length J.schemas ≡ 2 }
 {
     let mut desks = desks;
     let prepared = prepare(rt, alloc, &hall, desks.as_mut_slice(), case.before);

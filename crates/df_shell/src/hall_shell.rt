@@ -2,7 +2,7 @@
 ghost use Rattle.std.specs.Prelude.{◌≡◌, ◌≢◌, ◌≤◌, length, map};
 ghost use Rattle.std.specs.List.{range_with_len};
 ghost use Rattle.df_state.specs.Ledgers as ledgers;
-ghost use Rattle.df_versions.specs.Histories.{schemas_of};
+ghost use Rattle.df_versions.specs.Histories.{AllowsAll, schemas_of};
 
 use crate::hall_store::HallStore;
 use df_catalogue::{Desk, NewFault, PARTS_OF_LEDGER};
@@ -114,6 +114,7 @@ fn serve<
 ) -> Result<(), ShellFault>
     requires book { opened.0 ≡ J.book }
     requires schemas { schemas_of opened.1.0 ≡ J.schemas }
+    requires allowed { AllowsAll J.allows }
     requires opening { length opened.1.0 ≤ 1 }
     requires desks { map (λ d. d.frame) opened.1.1 ≡ range_with_len 0 (length opened.1.1) }
 {

@@ -5,6 +5,7 @@ ghost use Rattle.df_state.specs.FrameChanges.{change_of};
 ghost use Rattle.df_state.specs.ViewChanges.{change_of_views};
 ghost use Rattle.df_shell.specs.Changing.{IsAnswered, IsLearnt, IsLongEnough};
 ghost use Rattle.df_shell.specs.Halls.{Closes, Follows, IsLeftOpen};
+ghost use Rattle.df_versions.specs.Histories.{AllowsAll};
 
 use crate::version_reading::answer_from_version;
 use df_catalogue::{CatalogueFault, Change, Desk, FrameChange, ViewChange};
@@ -38,6 +39,7 @@ impl<'r, R: Wait, Acc: Ledger, Del: Ledger, J: Naming> Model for HallStore<'r, R
     ghost use Rattle.df_state.specs.contracts.state.State as state_type;
     ghost use Rattle.df_shell.specs.Changing.{IsKnown};
     ghost use Rattle.df_shell.specs.Halls.{HallParts};
+    ghost use Rattle.df_versions.specs.Histories.{AllowsAll};
 
     ghost Value = { HallParts };
 
@@ -45,9 +47,11 @@ impl<'r, R: Wait, Acc: Ledger, Del: Ledger, J: Naming> Model for HallStore<'r, R
 
     ghost view = { λ s. record { told = s.reader.1.1; seen = s.reader.1.0; desks = s.desks.items } };
 
+    // Its history may have whatever a line asks for.
     ghost invariant = { λ s.
         (s.reader.0 ≡ J.book) × IsKnown s.told s.reader.1.1
-        × (map (λ d. d.frame) s.desks.items ≡ range_with_len 0 (length s.desks.items)) };
+        × (map (λ d. d.frame) s.desks.items ≡ range_with_len 0 (length s.desks.items))
+        × AllowsAll J.allows };
 }
 
 /// What a hall answers to a change.
@@ -63,6 +67,7 @@ impl<'r, R: Wait, Acc: Ledger, Del: Ledger, J: Naming> HallStore<'r, R, Acc, Del
         numbers: Numbers,
     ) -> HallStore<'r, R, Acc, Del, J>
         requires book { reader.0 ≡ J.book }
+        requires allowed { AllowsAll J.allows }
         requires opening { length reader.1.1 ≤ 1 }
         requires desks { map (λ d. d.frame) desks.items ≡ range_with_len 0 (length desks.items) }
         ensures told { result.told ≡ reader.1.1 }

@@ -41,7 +41,7 @@ returns-then-frame-len g c =
 pub invariant_of-self : goal.invariant_of-self
 invariant_of-self g c =
     let long = length-set c.as_mut_slice.result.now c.args.frame c.change_rows.new.desk ∙ c.as_mut_slice.ensures.len in
-    (c.self.invariant.0, c.self.invariant.1, subst InOrder (sym (with_items_is c.self.inside.desks (held g c) long)) (through g c).1)
+    (c.self.invariant.0, c.self.invariant.1, subst InOrder (sym (with_items_is c.self.inside.desks (held g c) long)) (through g c).1, c.self.invariant.3)
 
 pub returns : goal.returns
 returns g c =

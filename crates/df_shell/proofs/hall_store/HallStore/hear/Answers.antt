@@ -13,7 +13,7 @@ known g c =
     heard old c.learn.new.self.1.1 c.again.result c.learn.ensures.told.1 c.learn.ensures.longest long ∙ c.again.ensures
 
 pub invariant_of-self : goal.invariant_of-self
-invariant_of-self g c = (c.learn.ensures.same.0 ∙ c.self.invariant.0, known g c, c.self.invariant.2)
+invariant_of-self g c = (c.learn.ensures.same.0 ∙ c.self.invariant.0, known g c, c.self.invariant.2, c.self.invariant.3)
 
 pub returns-clause-told : goal.returns-clause-told
 returns-clause-told g c = known g c
