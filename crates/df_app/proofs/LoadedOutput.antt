@@ -1,6 +1,6 @@
 -- What a run writes of a loaded document is the document's output.
 use Rattle.std.proofs.Common.{◌≡◌, ℕ, zero, suc, ◌+◌, ◌*◌, ◌<◌, ◌≤◌, Bool, true, false, cond, ◌∙◌, List, [], ◌∷◌, ◌++◌, length, map, refl, ap, sym, subst, arith, length-append}
-use Rattle.std.specs.Prelude.{◌≢◌, All, IfErr, IfOk, IsOk, Option, Some, None, IfSome, Result, Ok, Err, codes, filter_map, flat_map, nat_lt, not, option_map, position}
+use Rattle.std.specs.Prelude.{◌≢◌, All, IfErr, IfOk, Option, Some, None, IfSome, Result, Ok, Err, codes, filter_map, flat_map, nat_lt, not, option_map, position}
 use Rattle.std.specs.List.{AllByRecursion, join_by, position_from}
 use Rattle.std.specs.Int.{div_ceil}
 use Rattle.std.proofs.Math.Nat.{suc-mul}
@@ -36,13 +36,13 @@ use Rattle.df_text.specs.Document.{document_of}
 use Rattle.df_text.specs.declared.document.ViewSpec.{ViewSpec}
 use Rattle.df_text.specs.declared.document.Views.{Views}
 use Rattle.df_document.specs.Sources.{IsSourceOf, opened_with, pieces_of_sources}
-use Rattle.df_app.specs.Loading.{IsOutputOfLoad, headings_in, jobs_of_sources, line_of, outcome_of_load, text_of_load}
+use Rattle.df_app.specs.Loading.{IsFaultOfLoad, IsOutputOfLoad, headings_in, jobs_of_sources, line_of, outcome_of_load, text_of_load}
 use Rattle.df_document.specs.Answers.{IsOpening, KnowsFiles}
 use Rattle.df_document.specs.Files.{Contents}
 use Rattle.df_document.specs.Opening.{of_document, of_plan, opened_from, opened_in, opened_of, pieces_in, plan_of, plans_of, results_after, schemas_of}
 use Rattle.df_document.specs.Refused.{paired}
-use Rattle.df_app.specs.Output.{output_by, output_of, printed_view, refused_block, text_from}
-use Rattle.df_app.specs.Ran.{IsFaultBefore, IsFaultOfLoad, IsOutput, LeavesFiles}
+use Rattle.df_app.specs.Output.{output_of, printed_view, refused_block, text_from}
+use Rattle.df_app.specs.Ran.{IsFaultBefore, IsOutput, LeavesFiles}
 use Rattle.df_document.specs.declared.fault.DocumentFault.{DocumentFault}
 use Rattle.df_document.specs.declared.fault.DocumentFault.TheVariants as document
 use Rattle.df_app.specs.declared.fault.RunFault.{RunFault}
@@ -134,29 +134,25 @@ gave_loaded :
 gave_loaded None contents chunk d o gave many each written = gave
 gave_loaded (Some b) contents chunk d o gave many each written = λ knows. loaded-output b contents chunk d o (gave knows) many each written
 
-before-load : (b : List ℕ) (contents : Contents) (chunk : ℕ) (f : RunFault) → IsOk (output_of b contents chunk) → IsFaultOfLoad f → IsFaultBefore b contents chunk f
-before-load b contents chunk (fault.Document f) opens is = absurd is
-before-load b contents chunk (fault.Load cause) opens is = opens
-before-load b contents chunk fault.Write opens is = absurd is
-before-load b contents chunk fault.Memory opens is = tt
-
--- a document that opens has an output
-has-output : (b : List ℕ) (contents : Contents) (chunk : ℕ) (o : OpenedDocument) → opened_of b contents chunk ≡ Ok o → IsOk (output_of b contents chunk)
-has-output b contents chunk o e =
-    subst (λ (r : Result OpenedDocument DocumentFault). IsOk (output_by chunk r)) (sym e) refl
+before-load : (b : List ℕ) (contents : Contents) (chunk : ℕ) (d : SourcedDocument) (f : RunFault) → opened_of b contents chunk ≡ Ok (opened_with d) →
+    IsFaultOfLoad d f → IsFaultBefore b contents chunk f
+before-load b contents chunk d (fault.Document f) opens is = absurd is
+before-load b contents chunk d (fault.Load named) opens is = (d, opens, is)
+before-load b contents chunk d fault.Write opens is = absurd is
+before-load b contents chunk d fault.Memory opens is = tt
 
 -- or whose sources could not be loaded
-gave_no_load : (bytes : Option (List ℕ)) (contents : Contents) (chunk : ℕ) (d : SourcedDocument) (f : RunFault) → IsFaultOfLoad f →
+gave_no_load : (bytes : Option (List ℕ)) (contents : Contents) (chunk : ℕ) (d : SourcedDocument) (f : RunFault) → IsFaultOfLoad d f →
     IfSome bytes (λ b. KnowsFiles contents b → IsOpening b contents chunk (Ok (opened_with d))) →
     IfSome bytes (λ b. KnowsFiles contents b → IsOutput b contents chunk (Err f))
 gave_no_load None contents chunk d f is gave = gave
-gave_no_load (Some b) contents chunk d f is gave = λ knows. before-load b contents chunk f (has-output b contents chunk (opened_with d) (gave knows)) is
+gave_no_load (Some b) contents chunk d f is gave = λ knows. before-load b contents chunk d f (gave knows) is
 
-left_by_load : {F : Type 0} (old new : F) (f : RunFault) → IsFaultOfLoad f → LeavesFiles old new f
-left_by_load old new (fault.Document f) is = absurd is
-left_by_load old new (fault.Load cause) is = tt
-left_by_load old new fault.Write is = absurd is
-left_by_load old new fault.Memory is = tt
+left_by_load : {F : Type 0} (d : SourcedDocument) (old new : F) (f : RunFault) → IsFaultOfLoad d f → LeavesFiles old new f
+left_by_load d old new (fault.Document f) is = absurd is
+left_by_load d old new (fault.Load named) is = tt
+left_by_load d old new fault.Write is = absurd is
+left_by_load d old new fault.Memory is = tt
 
 times-least : (q k : ℕ) → 1 ≤ k → q ≤ q * k
 times-least zero k h = omega arith
@@ -204,14 +200,14 @@ jobs_few chunk ss some each few = let all = jobs-from-few 0 chunk ss some each i
 pub gave_run :
     (bytes : Option (List ℕ)) (contents : Contents) (chunk : ℕ) (d : SourcedDocument) (r : Result Output RunFault) →
     IfSome bytes (λ b. KnowsFiles contents b → IsOpening b contents chunk (Ok (opened_with d))) →
-    length d.sources ≡ length d.document.frames → All (IsSourceOf chunk) d.sources → IfOk r (IsOutputOfLoad d) → IfErr r IsFaultOfLoad →
+    length d.sources ≡ length d.document.frames → All (IsSourceOf chunk) d.sources → IfOk r (IsOutputOfLoad d) → IfErr r (IsFaultOfLoad d) →
     IfSome bytes (λ b. KnowsFiles contents b → IsOutput b contents chunk r)
 gave_run bytes contents chunk d (Ok o) gave many each written none = gave_loaded bytes contents chunk d o gave many each written
 gave_run bytes contents chunk d (Err f) gave many each none is = gave_no_load bytes contents chunk d f is gave
 
-pub left_by_run : {F : Type 0} (old new : F) (r : Result Output RunFault) → IfErr r IsFaultOfLoad → IfErr r (LeavesFiles old new)
-left_by_run old new (Ok o) is = tt
-left_by_run old new (Err f) is = left_by_load old new f is
+pub left_by_run : {F : Type 0} (d : SourcedDocument) (old new : F) (r : Result Output RunFault) → IfErr r (IsFaultOfLoad d) → IfErr r (LeavesFiles old new)
+left_by_run d old new (Ok o) is = tt
+left_by_run d old new (Err f) is = left_by_load d old new f is
 
 -- a schema for each frame
 pub schemas_long : (schemas : List Columns) (frames : List FrameSpec) → schemas ≡ schemas_of frames → length schemas ≡ length frames

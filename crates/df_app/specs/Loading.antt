@@ -1,5 +1,5 @@
--- What a run writes of the catalogue into which the sources of a document were loaded.
-use Rattle.std.specs.Prelude.{◌≡◌, ℕ, List, [], ◌∷◌, ◌++◌, map, codes, filter_map, flat_map, slice_get, Option, Some, None, Result, Ok, Err}
+-- What a run writes of the catalogue into which the sources of a document were loaded, and why such a load is refused.
+use Rattle.std.specs.Prelude.{◌≡◌, ⊤, ℕ, List, [], ◌∷◌, ◌++◌, length, map, codes, filter_map, flat_map, slice_get, MatchOption, Option, Some, None, Result, Ok, Err}
 use Rattle.std.specs.List.{join_by}
 use Rattle.df_value.specs.declared.cell.Cell.{Cell}
 use Rattle.df_value.specs.declared.chunk.Piece.{Piece}
@@ -9,18 +9,25 @@ use Rattle.df_plan.specs.CheckedParts.{CheckedParts}
 use Rattle.df_print.specs.Printed.{printed}
 use Rattle.df_state.specs.declared.fault.CatalogueFault.{CatalogueFault}
 use Rattle.df_state.specs.declared.state.State.{State}
+use Rattle.df_state.specs.Desks.{first_desks}
 use Rattle.df_state.specs.Reads.{view_rows_of}
 use Rattle.df_state.specs.States.{IsLegal}
 use Rattle.df_jobs.specs.declared.refused.Refused.{Refused}
 use Rattle.df_jobs.specs.Jobs as jobs
 use Rattle.df_jobs.specs.Loaded.{AreLoaded}
-use Rattle.df_store.specs.Loads.{headings_of}
+use Rattle.df_store.specs.Loads.{IsLeft, IsNotLeft, headings_of}
+use Rattle.df_store.specs.declared.fault.LoadCause.{LoadCause}
 use Rattle.df_jobs.specs.Refused.{refusal}
 use Rattle.df_text.specs.declared.document.FrameSpec.{FrameSpec}
 use Rattle.df_text.specs.declared.document.ViewSpec.{ViewSpec}
+use Rattle.df_document.specs.Opening.{schemas_of}
 use Rattle.df_document.specs.Refused.{paired, refused_line}
-use Rattle.df_app.specs.Output.{refused_block}
 use Rattle.df_document.specs.declared.opening.SourcedDocument.{SourcedDocument}
+use Rattle.df_app.specs.Faults.{named_cause_of}
+use Rattle.df_app.specs.Output.{refused_block}
+use Rattle.df_app.specs.declared.fault.NamedLoadCause.{NamedLoadCause}
+use Rattle.df_app.specs.declared.fault.RunFault.{RunFault}
+use Rattle.df_app.specs.declared.fault.RunFault.TheVariants as fault
 use Rattle.df_app.specs.declared.outcome.Outcome.{Outcome}
 use Rattle.df_app.specs.declared.outcome.Outcome.TheVariants as outcome
 use Rattle.df_app.specs.declared.outcome.Output.{Output}
@@ -29,9 +36,12 @@ use Rattle.df_app.specs.declared.outcome.Output.{Output}
 abbrev pub headings_in : List ViewSpec → List CheckedParts → List (List ℕ × CheckedParts)
 headings_in views plans = map (λ v. (v.0.name, v.1)) (paired views plans)
 
--- the jobs of sources
+-- the chunks of sources, each behind the number of its first row, and their jobs
+abbrev pub numbered_chunks : List CsvParts → List (List (ℕ × Piece))
+numbered_chunks sources = jobs.chunks_of csv_sources.chunks_of csv_sources.start_of sources
+
 abbrev pub jobs_of_sources : List CsvParts → List (ℕ × (ℕ × Piece))
-jobs_of_sources sources = jobs.jobs_of (jobs.chunks_of csv_sources.chunks_of csv_sources.start_of sources)
+jobs_of_sources sources = jobs.jobs_of (numbered_chunks sources)
 
 abbrev pub rows_or_none : Result (List (List Cell)) CatalogueFault → List (List Cell)
 rows_or_none (Ok rows) = rows
@@ -72,3 +82,25 @@ pub record IsOutputOfLoad (d : SourcedDocument) (o : Output) : Type 0 where
   pub load : IsLoadOf d state refused
   pub text : o.text ≡ text_of_load state d.document.frames (headings_in d.document.views d.plans) refused
   pub ends : o.outcome ≡ outcome_of_load refused
+
+-- a load of the sources of a document with its views, into fresh frames, that left this state, or nothing, is refused for this
+abbrev pub IsCauseOfLoad : SourcedDocument → Option State → LoadCause → Type 0
+IsCauseOfLoad d left cause =
+    let desks = first_desks (length d.document.frames) in
+    let views = headings_in d.document.views d.plans in
+    MatchOption left (IsNotLeft (schemas_of d.document.frames) (numbered_chunks d.sources) views desks cause)
+    (λ s. IsLeft (schemas_of d.document.frames) (numbered_chunks d.sources) views desks cause s)
+
+-- such a load is refused for the cause of which this is the one with the name of its frame
+pub record IsLoadRefused (d : SourcedDocument) (named : NamedLoadCause) : Type 0 where
+  pub cause : LoadCause
+  pub name : named_cause_of d.document.frames cause ≡ Some named
+  pub left : Option State
+  pub is : IsCauseOfLoad d left cause
+
+-- the fault of such a load: memory was refused, or it was
+abbrev pub IsFaultOfLoad : SourcedDocument → RunFault → Type 0
+IsFaultOfLoad d (fault.Document f) = ⊥
+IsFaultOfLoad d (fault.Load named) = IsLoadRefused d named
+IsFaultOfLoad d fault.Write = ⊥
+IsFaultOfLoad d fault.Memory = ⊤

@@ -1,31 +1,29 @@
 -- What a run did, of a document and of files that are known, to a writer.
-use Rattle.std.specs.Prelude.{◌≡◌, ◌≢◌, ◌<◌, ℕ, List, ⊤, length, take, Option, IsOk, Result, Ok, Err}
+use Rattle.std.specs.Prelude.{◌≡◌, ◌≢◌, ◌<◌, ℕ, List, ⊤, length, take, Option, Result, Ok, Err}
 use Rattle.std.specs.Io.KnownBytes.{Appends, Keeps}
 use Rattle.df_document.specs.Answers as opening
 use Rattle.df_document.specs.Answers.{IsFaultOfOpening}
 use Rattle.df_document.specs.Files.{Contents}
+use Rattle.df_document.specs.Opening.{opened_of}
+use Rattle.df_document.specs.Sources.{opened_with}
 use Rattle.df_document.specs.declared.fault.DocumentFault.TheVariants as document_fault
+use Rattle.df_document.specs.declared.opening.SourcedDocument.{SourcedDocument}
 use Rattle.df_app.specs.declared.fault.RunFault.{RunFault}
 use Rattle.df_app.specs.declared.fault.RunFault.TheVariants as fault
 use Rattle.df_app.specs.declared.outcome.Outcome.{Outcome}
 use Rattle.df_app.specs.declared.outcome.Output.{Output}
+use Rattle.df_app.specs.Loading.{IsLoadRefused}
 use Rattle.df_app.specs.Output.{output_of}
 
 -- What a fault says that comes before anything is written. One of the document says what a fault of its opening says; that
 -- memory was refused is one of the run alone. That frames which were read cannot be loaded, no clause rules out; then the
--- document has an output.
+-- document opens, and so has an output.
 abbrev pub IsFaultBefore : List ℕ → Contents → ℕ → RunFault → Type 0
 IsFaultBefore bytes contents chunk (fault.Document f) = (f ≢ document_fault.Memory) × IsFaultOfOpening bytes contents chunk f
-IsFaultBefore bytes contents chunk (fault.Load cause) = IsOk (output_of bytes contents chunk)
+IsFaultBefore bytes contents chunk (fault.Load cause) =
+    (d : SourcedDocument) × (opened_of bytes contents chunk ≡ Ok (opened_with d)) × IsLoadRefused d cause
 IsFaultBefore bytes contents chunk fault.Write = ⊥
 IsFaultBefore bytes contents chunk fault.Memory = ⊤
-
--- memory was refused to a load, or what was read cannot be loaded
-abbrev pub IsFaultOfLoad : RunFault → Type 0
-IsFaultOfLoad (fault.Document f) = ⊥
-IsFaultOfLoad (fault.Load cause) = ⊤
-IsFaultOfLoad fault.Write = ⊥
-IsFaultOfLoad fault.Memory = ⊤
 
 -- what the bytes of a document and of its files gave: its output, or a fault
 abbrev pub IsOutput : List ℕ → Contents → ℕ → Result Output RunFault → Type 0

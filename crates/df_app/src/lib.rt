@@ -15,7 +15,7 @@ mod running;
 
 pub use df_document::{DocumentFault, FileState, Files};
 pub use df_store::{Gate, OpenGate};
-pub use fault::RunFault;
+pub use fault::{NamedLoadCause, RunFault};
 pub use fault_texts::fault_text;
 pub use outcome::Outcome;
 pub use running::run;

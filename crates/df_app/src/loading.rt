@@ -5,18 +5,18 @@ ghost use Rattle.df_value.specs.Schemas.{is_base};
 ghost use Rattle.df_state.specs.Desks as desks_spec;
 ghost use Rattle.df_state.specs.Ledgers as ledgers;
 ghost use Rattle.df_text.specs.Document.{IsDocument};
+ghost use Rattle.df_document.specs.Opening as opening;
 ghost use Rattle.df_document.specs.Sources.{IsSourceOf};
-ghost use Rattle.df_app.specs.Loading.{IsOutputOfLoad, headings_in};
-ghost use Rattle.df_app.specs.Ran.{IsFaultOfLoad};
+ghost use Rattle.df_app.specs.Loading.{IsFaultOfLoad, IsOutputOfLoad, headings_in};
 ghost use Rattle.df_store.specs.Loads.{AllowsLoad};
 ghost use Rattle.df_versions.specs.Histories.{schemas_of};
 
-use crate::fault::RunFault;
+use crate::fault::{NamedLoadCause, RunFault};
 use crate::outcome::Output;
 use crate::output::output;
 use df_document::{SourcedDocument, copy_schemas};
 use df_plan::CheckedPlan;
-use df_store::{Gate, LoadCause, OpenedHall, load_all};
+use df_store::{Gate, OpenedHall, load_all};
 use df_text::{FrameSpec, ViewSpec};
 use df_value::{Duplicate, Text};
 use df_versions::{Naming, OpenFault};
@@ -55,7 +55,7 @@ pub(crate) fn load_output<
     requires some { 1 ≤ chunk }
     requires each { All (IsSourceOf chunk) sourced.now.sources }
     ensures output { IfOk result (IsOutputOfLoad sourced.now) }
-    ensures fault { IfErr result IsFaultOfLoad }
+    ensures fault { IfErr result (IsFaultOfLoad sourced.now) }
 {
     // The headings come first: a hall that is there cannot just be dropped.
     let views = headings(
@@ -88,14 +88,15 @@ fn load_opened<
     requires book { opened.0 ≡ J.book }
     requires schemas { schemas_of opened.1.0 ≡ J.schemas }
     requires allowed { AllowsLoad J.allows }
-    requires frames { length J.schemas ≡ length sourced.now.document.frames }
+    requires frames { J.schemas ≡ opening.schemas_of sourced.now.document.frames }
+    requires desks { opened.1.1 ≡ desks_spec.first_desks (length sourced.now.document.frames) }
     requires sound { IsDocument sourced.now.document }
     requires sources { length sourced.now.sources ≡ length sourced.now.document.frames }
     requires some { 1 ≤ chunk }
     requires each { All (IsSourceOf chunk) sourced.now.sources }
     requires views { views.now.items ≡ headings_in sourced.now.document.views sourced.now.plans }
     ensures output { IfOk result (IsOutputOfLoad sourced.now) }
-    ensures fault { IfErr result IsFaultOfLoad }
+    ensures fault { IfErr result (IsFaultOfLoad sourced.now) }
 {
     let _ = chunk;
     let (hall, desks, _readers) = opened.named::<J>();
@@ -112,7 +113,7 @@ fn load_opened<
         gate,
     ) {
         Ok(loaded) => Ok(output(alloc, frames, views.as_slice(), &loaded)?),
-        Err(fault) => Err(fault_of_load(fault.cause)),
+        Err(fault) => Err(RunFault::Load(NamedLoadCause::of(alloc, frames, fault.cause)?)),
     }
 }
 
@@ -134,7 +135,7 @@ fn open_hall<Acc: Ledger, Del: Ledger, R: Wait>(
     requires few { length frames.now ≤ limits.most_frames }
     requires base { All (λ f. is_base f.schema ≡ true) frames.now }
     ensures desks { IfOk result (λ o. o.1.1 ≡ desks_spec.first_desks (length frames.now)) }
-    ensures schemas { IfOk result (λ o. length (schemas_of o.1.0) ≡ length frames.now) }
+    ensures schemas { IfOk result (λ o. schemas_of o.1.0 ≡ opening.schemas_of frames.now) }
 {
     let schemas = copy_schemas(alloc, frames)?;
     match OpenedHall::open(rt, alloc, accepted, deleted, schemas, 0) {
@@ -162,13 +163,4 @@ fn headings(
         out.push((name, plan))?;
     }
     Ok(out)
-}
-
-fn fault_of_load(cause: LoadCause) -> RunFault
-    ensures { IsFaultOfLoad result }
-{
-    match cause {
-        LoadCause::Memory => RunFault::Memory,
-        cause => RunFault::Load(cause),
-    }
 }

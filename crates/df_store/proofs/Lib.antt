@@ -3,5 +3,7 @@ pub mod GatheredFacts
 pub mod GrownFacts
 pub mod LoadFacts
 pub mod LeftFacts
+pub mod FreshFacts
+pub mod CauseFacts
 pub mod RegisterFacts
 pub mod ViewFacts

@@ -1,5 +1,5 @@
 -- Which faults the registration of a view and a load of workers are answered with, and which of several comes first.
-use Rattle.std.specs.Prelude.{◌≡◌, ◌⊎◌, ⊤, ℕ, List, Some, slice_get}
+use Rattle.std.specs.Prelude.{◌≡◌, ◌<◌, ◌⊎◌, ⊤, ℕ, List, Some, slice_get}
 use Rattle.df_plan.specs.CheckedParts.{CheckedParts}
 use Rattle.df_state.specs.Refusals.{refusal_of}
 use Rattle.df_state.specs.declared.change.Change.TheVariants.{Register}
@@ -42,3 +42,14 @@ abbrev pub cause_of_stop : Stop → LoadCause
 cause_of_stop stop.Memory = load.Memory
 cause_of_stop stop.Spent = load.Spent
 cause_of_stop stop.Ahead = load.Ahead
+
+-- the frame that a cause is about, if it is about one, is one of so many
+abbrev pub IsOfFrames : ℕ → LoadCause → Type 0
+IsOfFrames count (load.Refused f) = ⊤
+IsOfFrames count load.Memory = ⊤
+IsOfFrames count load.Spent = ⊤
+IsOfFrames count load.Ahead = ⊤
+IsOfFrames count (load.MissingDesk at) = at < count
+IsOfFrames count (load.Lost job) = ⊤
+IsOfFrames count (load.Unlike at) = at < count
+IsOfFrames count load.ViewsUnlike = ⊤

@@ -2,6 +2,9 @@ use Rattle.std.proofs.Common.{◌∙◌, ap, arith, length, sym, subst}
 use Rattle.std.specs.Prelude.{All}
 use Rattle.df_document.specs.Sources.{IsSourceOf}
 use Rattle.df_app.proofs.LoadedOutput.{jobs_few, output_of_load}
+use Rattle.df_document.specs.Opening.{schemas_of}
+use Rattle.df_app.specs.Loading.{numbered_chunks}
+use Rattle.df_app.proofs.LoadCauses.{cause-of-document, load-refused}
 use Rattle.df_app.proofs.LoadedViews.{views-there}
 use Rattle.df_app.proofs.loading.load_opened.Goals as goal
 
@@ -29,3 +32,16 @@ returns-in-Ok-clause-output g c =
     c.in_ok-output-in-Ok.field-0 c.as_slice-sources.ensures c.as_slice-frames.ensures (c.as_slice.ensures.value ∙ c.requires.views)
     (c.as_slice-in-Ok.ensures.value ∙ c.requires.views) load.legal load.loaded load.views load.refused
     c.in_ok-output-in-Ok.ensures.text c.in_ok-output-in-Ok.ensures.ends
+
+pub of-requires : goal.of-requires
+of-requires g c =
+    let frames = c.as_slice-frames.result.now in
+    cause-of-document (λ l. l.0.state) frames g.J.Naming.schemas _ _ _ c.in-Err.fault.cause c.in-Err.fault.left
+    (c.requires.frames ∙ ap schemas_of (sym c.as_slice-frames.ensures)) c.in-Err.ensures.left
+
+pub returns-clause-fault : goal.returns-clause-fault
+returns-clause-fault g c =
+    load-refused (λ l. l.0.state) c.args.sourced.now c.as_slice-frames.result.now g.J.Naming.schemas _ c.as_slice.result.now c.named-hall.result.1.items
+    c.in-Err.fault.cause c.in-Err.fault.left c.in_ok-of-in-Err.field-0 c.as_slice-frames.ensures c.requires.frames
+    (ap numbered_chunks c.as_slice-sources.ensures) (c.as_slice.ensures.value ∙ c.requires.views)
+    (c.named-hall.ensures.desks ∙ c.requires.desks) c.in-Err.ensures.left c.in_ok-of-in-Err.ensures

@@ -8,7 +8,7 @@ returns-in-Ok-clause-value g c =
     c.in-Ok.ensures.value c.in-Ok.ensures.sources c.in-Ok.ensures.each c.load_output.ensures.output c.load_output.ensures.fault
 
 pub returns-in-Ok-clause-untouched : goal.returns-in-Ok-clause-untouched
-returns-in-Ok-clause-untouched g c = left_by_run _ _ c.load_output.result c.load_output.ensures.fault
+returns-in-Ok-clause-untouched g c = left_by_run c.in-Ok.sourced _ _ c.load_output.result c.load_output.ensures.fault
 
 pub returns-in-Err-clause-value : goal.returns-in-Err-clause-value
 returns-in-Err-clause-value g c =
