@@ -19,6 +19,16 @@ REFUSED = b"C2 3: number 3 was accepted before\n"
 TYPED = b"show v\n\n# a comment\nappend t 2 2\n3\n4\nappend t 3 1\n9\nbooks t\n"
 SAID = FIRST + b"> " + TABLE + b"> > > | | ok\n> | " + REFUSED + b"> " + BOOKS + b"> "
 BARE = TABLE + b"ok\n" + REFUSED + BOOKS
+# Without a document.
+DECLARED = b"frames\nframe t x Int\n\nframe t\nframes\nappend t\n7\n.\nframe u x Int\nshow v\n"
+MISSING = b"V7 frame 1 S3: no column\n"
+LATE = b"? a frame is declared before all changes: begin a session with it, or put it into the document\n"
+UNKNOWN = b"C8: no view of this name is registered; views lists them\n"
+FRAMES = b"t: 0 rows, x Int\n"
+SAID_OF_DECLARED = (
+    b"0 frames, 0 views; help lists the commands, quit ends\n> > ok\n> > " + MISSING + b"> " + FRAMES + b"> | | ok 0..0\n> " + LATE + b"> " + UNKNOWN + b"> "
+)
+BARE_OF_DECLARED = b"ok\n" + MISSING + FRAMES + b"ok 0..0\n" + LATE + UNKNOWN
 END_OF_INPUT = b"\x04"
 
 
@@ -69,12 +79,18 @@ def main():
         document = os.path.join(folder, "views.toml")
         with open(document, "w") as file:
             file.write(DOCUMENT)
-        for words in [[program, document], [program, "--hall", document]]:
+        for words, asked, said_of, bare_of in [
+            ([program, document], TYPED, SAID, BARE),
+            ([program, "--hall", document], TYPED, SAID, BARE),
+            ([program], DECLARED, SAID_OF_DECLARED, BARE_OF_DECLARED),
+            ([program, "--hall"], DECLARED, SAID_OF_DECLARED, BARE_OF_DECLARED),
+            ([program], b"frame t x Int\n", b"0 frames, 0 views; help lists the commands, quit ends\n> ok\n> ", b"ok\n"),
+        ]:
             for name, typed, at_input, at_output, wanted in [
-                ("quit", TYPED + b"quit\n", True, True, SAID),
-                ("the end of input", TYPED + END_OF_INPUT, True, True, SAID + b"\n"),
-                ("output in a pipe", TYPED + b"quit\n", True, False, BARE),
-                ("input from a pipe", TYPED, False, True, BARE),
+                ("quit", asked + b"quit\n", True, True, said_of),
+                ("the end of input", asked + END_OF_INPUT, True, True, said_of + b"\n"),
+                ("output in a pipe", asked + b"quit\n", True, False, bare_of),
+                ("input from a pipe", asked, False, True, bare_of),
             ]:
                 runs += 1
                 said, error, status = run(words, typed, at_input, at_output)

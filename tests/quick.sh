@@ -22,7 +22,7 @@ done
 documents=()
 for session in "${sessions[@]}"; do
   document=${session%.session}.toml
-  documents+=(--data "${document##*/}=$PWD/$document")
+  [ ! -f "$document" ] || documents+=(--data "${document##*/}=$PWD/$document")
 done
 for file in tests/sessions/*.commands tests/sessions/*.csv; do
   documents+=(--data "${file##*/}=$PWD/$file")

@@ -6,7 +6,7 @@
                                                        NAME.args and the answers as NAME.stdout, as `rt try --cases`
                                                        reads them
 
-NAME.session is a transcript over the document NAME.toml. A line `> COMMAND` is what is typed, `| LINE` a line of CSV
+NAME.session is a transcript over the document NAME.toml; where there is none, of a session without a document. A line `> COMMAND` is what is typed, `| LINE` a line of CSV
 behind an append, and `N| LINE` the same line N times; the lines below are the answer, and those above the first
 command are what the shell writes at its start. A command is sent only when the answer to the one before it is there.
 
@@ -70,6 +70,11 @@ class Session:
         memory is refused to others, or has a command that is no text, behind which lines are guessed where memory is refused."""
         return any(typed.startswith((b"source ", b"load ")) or b"\xff" in typed for typed in self.typed)
 
+    def names(self):
+        """The names of the frames that it declares, and of the views that it defines: those that are no words in quotes."""
+        accepted = [typed.decode().split() for typed, answer in zip(self.typed, self.answers) if answer == b"ok\n" and b'"' not in typed.split(b"\n")[0]]
+        return [[words[1] for words in accepted if words[:1] == [word]] for word in ("frame", "define")]
+
     def is_cut(self, at):
         """Whether the end of input cuts the lines of an append that is refused all the same."""
         words, *lines = self.typed[at].split(b"\n")
@@ -86,14 +91,19 @@ class Runner:
     """Runs one session, and keeps what differs."""
 
     def __init__(self, program, words, session):
-        document = os.path.basename(session.path)[: -len("session")] + "toml"
-        self.command = [os.path.abspath(program), *words, document]
+        document = document_of(session.path)
+        self.command = [os.path.abspath(program), *words, *document]
         self.folder = os.path.dirname(os.path.abspath(session.path))
         self.session = session
-        with open(os.path.join(self.folder, document), "rb") as file:
-            self.document = tomllib.load(file)
+        self.frames, self.views = session.names()
         # What a start without enough memory tells: by itself, or of the document.
-        self.starts = [b"dfshell: memory\n", f"{document}: takes more memory than there is [memory]\n".encode()]
+        self.starts = [b"dfshell: memory\n"]
+        for name in document:
+            self.starts.append(f"{name}: takes more memory than there is [memory]\n".encode())
+            with open(os.path.join(self.folder, name), "rb") as file:
+                tables = tomllib.load(file)
+            self.frames += [frame["name"] for frame in tables.get("frame", [])]
+            self.views += [view["name"] for view in tables.get("view", [])]
         self.wrong = []
         self.cache = {}
 
@@ -204,8 +214,8 @@ class Runner:
     def probes(self):
         """Questions for all that a command may change."""
         asked = ["check", "views"]
-        asked += [f"{word} {quoted(frame['name'])}" for frame in self.document.get("frame", []) for word in ("rows", "books")]
-        asked += [f"show {quoted(view['name'])}" for view in self.document.get("view", [])]
+        asked += [f"{word} {quoted(frame)}" for frame in self.frames for word in ("rows", "books")]
+        asked += [f"show {quoted(view)}" for view in self.views]
         asked += ["version"] * ("--hall" in self.command)
         return "".join(f"{question}\n" for question in asked).encode()
 
@@ -218,6 +228,12 @@ class Runner:
         if typed not in self.cache:
             self.cache[typed] = self.whole(typed)[0]
         return self.cache[typed]
+
+
+def document_of(path):
+    """The name of a session's document, in a list of at most one."""
+    name = os.path.basename(path)[: -len("session")] + "toml"
+    return [name] if os.path.exists(os.path.join(os.path.dirname(path), name)) else []
 
 
 def quoted(name):
@@ -278,7 +294,7 @@ def export(folder, hall, paths):
         with open(name + ".stdout", "wb") as file:
             file.write(b"".join(session.answers))
         with open(name + ".args", "w") as file:
-            file.write("".join(f"{word}\n" for word in [*hall, os.path.basename(name) + ".toml"]))
+            file.write("".join(f"{word}\n" for word in [*hall, *document_of(path)]))
 
 
 def main(words):

@@ -1,6 +1,7 @@
 pub mod Texts
 pub mod Told
 pub mod Commands
+pub mod Declarations
 pub mod Defined
 pub mod DefinitionTexts
 pub mod Asked

@@ -33,6 +33,7 @@ mistake_text mistake.NoView = codes "the document has no such view"
 mistake_text mistake.NoTable = codes "the document has no frame and no view of this name"
 mistake_text mistake.NoFile = codes "the file cannot be opened or read"
 mistake_text mistake.NestedSource = codes "source stands in no file that is sourced itself"
+mistake_text mistake.LateFrame = codes "a frame is declared before all changes: begin a session with it, or put it into the document"
 mistake_text mistake.OnlyWithHall = codes "only with --hall"
 mistake_text mistake.NotWithHall = codes "not with --hall"
 

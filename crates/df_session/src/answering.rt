@@ -65,7 +65,8 @@ pub fn answer_line<S: ViewStore>(
     answer_command(alloc, commands, definitions, store, command, lines)
 }
 
-fn words_of(alloc: Global, fields: &StringRecord) -> Result<Vec<&str>, AllocError>
+/// The words of a line.
+pub fn words_of(alloc: Global, fields: &StringRecord) -> Result<Vec<&str>, AllocError>
     ensures { IfOk result (λ words. map (λ w. w.now) words.items ≡ fields_of fields.now) }
 {
     fields.iter().collect(alloc)
@@ -133,7 +134,8 @@ fn load_of(alloc: Global, frame: &str, path: &str) -> Result<Answer, AllocError>
     Ok(Answer::Load(frame, path))
 }
 
-fn explain(alloc: Global, commands: &[CommandHelp], name: &str) -> Result<Vec<u8>, Refusal>
+/// The forms of the command of this name.
+pub fn explain(alloc: Global, commands: &[CommandHelp], name: &str) -> Result<Vec<u8>, Refusal>
     ensures told { IfOk result (λ text.
         help_on name.now (map (λ c. (c.0.now, c.1.now, c.2.now)) commands.now)
         ≡ Some text.items) }

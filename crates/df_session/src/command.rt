@@ -104,6 +104,7 @@ fn command_of<'a>(alloc: Global, name: &str, arguments: &[&'a str]) -> Result<Co
         "source" => Ok(Command::Source(only(arguments)?)),
         "help" => Ok(read_help(arguments)?),
         "quit" => bare(Command::Quit, arguments),
+        "frame" => Err(Refusal::Mistake(Mistake::LateFrame)),
         _ => question_of(name, arguments),
     }
 }

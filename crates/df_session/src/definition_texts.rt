@@ -1,4 +1,4 @@
-//! The texts of the faults of views that a session defines.
+//! The texts of the faults of frames that a session declares, and of views that it defines.
 ghost use Rattle.std.specs.Prelude.{◌≡◌, ◌++◌, IfOk, codes, string_bytes};
 ghost use Rattle.df_session.specs.DefinitionTexts as texts;
 
@@ -6,9 +6,10 @@ use df_document::{DocumentFault, document_fault_text, plan_text, views_text};
 use df_expr::ExprFault;
 use df_plan::PlanFault;
 use df_text::{Location, ViewsFault};
+use df_value::SchemaFault;
 use std::alloc::{AllocError, Global};
 
-/// The text of a view's fault: that of a document without the view's name, then `: ` and both in words.
+/// The text of the fault of a frame or a view: that of a document without the view's name, then `: ` and both in words.
 pub fn definition_text(alloc: Global, fault: &DocumentFault) -> Result<String, AllocError>
     ensures { IfOk result (λ text. string_bytes text ≡ texts.definition_text fault.now) }
 {
@@ -37,7 +38,7 @@ fn views_words(alloc: Global, fault: &ViewsFault) -> Result<String, AllocError>
 {
     match fault {
         ViewsFault::Shape(location) => at_place(alloc, *location, shape_words(*location)),
-        ViewsFault::Word(location) => at_place(alloc, *location, "an unknown word"),
+        ViewsFault::Word(location) => at_place(alloc, *location, word_words(*location)),
         ViewsFault::NoFrame(location) => at_place(alloc, *location, "no frame of this name"),
         _ => String::from_str(alloc, placeless_words(fault)),
     }
@@ -68,13 +69,43 @@ fn shape_words(location: Location) -> &'static str
     }
 }
 
+fn word_words(location: Location) -> &'static str
+    ensures { result.now ≡ texts.word_words location }
+{
+    match location {
+        Location::Frame(_) => "a column's type is Int, Text or Bool",
+        _ => "an unknown word",
+    }
+}
+
+fn doubled_words(location: Location) -> &'static str
+    ensures { result.now ≡ texts.doubled_words location }
+{
+    match location {
+        Location::Frame(_) => "a frame of this name is declared",
+        _ => "a view of this name is defined",
+    }
+}
+
+fn schema_words(fault: &SchemaFault) -> &'static str
+    ensures { result.now ≡ texts.schema_words fault.now }
+{
+    match fault {
+        SchemaFault::DoubledName => "two columns have one name",
+        SchemaFault::TooWide => "more than 32 columns",
+        SchemaFault::NoColumns => "no column",
+    }
+}
+
 fn placeless_words(fault: &ViewsFault) -> &'static str
     ensures { result.now ≡ texts.placeless_words fault.now }
 {
     match fault {
         ViewsFault::NotToml => "the steps are no TOML",
-        ViewsFault::Doubled(_) => "a view of this name is defined",
+        ViewsFault::Doubled(location) => doubled_words(*location),
+        ViewsFault::TooManyFrames => "8 frames are declared",
         ViewsFault::TooManyViews => "32 views are defined",
+        ViewsFault::Schema(_, fault) => schema_words(fault),
         ViewsFault::Memory => "out of memory",
         _ => "a fault of a document",
     }

@@ -48,6 +48,18 @@ pub fn shell_fault_text(alloc: Global, fault: &ShellFault) -> Result<String, All
     }
 }
 
+impl ShellFault {
+    /// Whether memory was refused to the opening of a store.
+    pub fn is_memory(&self) -> bool {
+        matches!(
+            self,
+            ShellFault::Memory
+                | ShellFault::Frames(NewFault::Memory)
+                | ShellFault::Store(Refusal::Memory)
+        )
+    }
+}
+
 impl From<DocumentFault> for ShellFault {
     ghost from_gives = { λ f e. e ≡ fault.Document f };
 

@@ -8,7 +8,12 @@ use std::alloc::{AllocError, Global};
 pub type CommandHelp = (&'static str, &'static str, &'static str);
 
 /// The commands, in the order in which `help` lists them. A command of several forms has an entry for each.
-pub const COMMANDS: [CommandHelp; 22] = [
+pub const COMMANDS: [CommandHelp; 23] = [
+    (
+        "frame",
+        "frame NAME COLUMN TYPE ..    declares a frame of these columns; without a document, before all changes\n",
+        "    > frame sales region Text qty Int\n    ok\n",
+    ),
     (
         "append",
         "append FRAME                 and lines of CSV up to a line with a dot alone: adds rows behind all others\n",

@@ -1,7 +1,7 @@
 //! What a shell reads before its session begins.
 use crate::definitions::Definitions;
 use crate::fault::ShellFault;
-use crate::session::Buffers;
+use crate::session::{Beginning, Buffers};
 use df_document::{Files, OpenedDocument, open_document, refused_lines};
 use df_value::{List, Piece};
 use std::alloc::Global;
@@ -23,6 +23,7 @@ pub struct Prepared {
     /// The lines of the chunks among them that are refused.
     pub refused: List<u8>,
     pub buffers: Buffers,
+    pub beginning: Beginning,
 }
 
 /// Opens a document, with the first rows of its frames in chunks of 1,000 records. At most 4 threads read a file.
@@ -53,5 +54,6 @@ pub fn prepare<R: Threads + Sync, V: Read, F: Files>(
         pieces,
         refused,
         buffers,
+        beginning: Beginning::Greeting,
     })
 }

@@ -79,6 +79,9 @@ pub enum Mistake {
     /// A file of commands names another.
     #[error("commands of a file in a file of commands")]
     NestedSource,
+    /// A frame is declared where the frames are settled.
+    #[error("a frame behind the first change")]
+    LateFrame,
     /// A question about versions, which a catalogue has not.
     #[error("only with --hall")]
     OnlyWithHall,

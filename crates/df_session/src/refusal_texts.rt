@@ -49,6 +49,8 @@ fn mistake_text(mistake: Mistake) -> &'static str
         Mistake::NoTable => "the document has no frame and no view of this name",
         Mistake::NoFile => "the file cannot be opened or read",
         Mistake::NestedSource => "source stands in no file that is sourced itself",
+        Mistake::LateFrame =>
+            "a frame is declared before all changes: begin a session with it, or put it into the document",
         Mistake::OnlyWithHall => "only with --hall",
         Mistake::NotWithHall => "not with --hall",
     }

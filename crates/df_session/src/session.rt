@@ -46,6 +46,24 @@ impl Buffers {
         let record = line_buffer(alloc)?;
         Ok(Buffers { command, record })
     }
+
+    /// Room for lines, with the line of a command.
+    pub fn with_command(alloc: Global, line: &[u8]) -> Result<Buffers, AllocError> {
+        let mut buffers = Buffers::new(alloc)?;
+        buffers.command.extend_from_slice(line)?;
+        Ok(buffers)
+    }
+}
+
+/// What a session begins with.
+#[derive(Clone, Copy, PartialEq, Eq, Drop)]
+pub enum Beginning {
+    /// Its first lines. Then it answers the commands of the input.
+    Greeting,
+    /// The question in its buffers, which is all that it answers.
+    Question,
+    /// The command in its buffers. Then it answers those of the input.
+    Command,
 }
 
 /// What comes behind a command.
@@ -63,19 +81,31 @@ enum Turn {
     Quit,
 }
 
-/// Writes the first lines, those of the refused chunks among them, and answers the commands.
+/// Writes the first lines, those of the refused chunks among them, and answers the commands. A session that begins with a
+/// command in its buffers answers it in place of the first lines.
 pub fn answer_from<R: Threads + Sync, S: ViewStore, F: Files, I: BufRead, W: Write>(
     rt: &R,
     alloc: Global,
     session: &mut Session<S>,
+    beginning: Beginning,
     refused: List<u8>,
     files: &mut F,
     input: &mut I,
     output: &mut W,
 ) -> Result<(), ShellFault> {
-    greet(alloc, session, output)?;
-    write_answer(output, refused.as_slice())?;
-    drop(refused);
+    match beginning {
+        Beginning::Greeting => {
+            greet(alloc, session, output)?;
+            write_answer(output, refused.as_slice())?;
+        }
+        Beginning::Question | Beginning::Command => {
+            let turn = take_turn(alloc, session, input, output)?;
+            let ended = follow(rt, alloc, session, files, turn, output)?;
+            if ended || beginning == Beginning::Question {
+                return Ok(());
+            }
+        }
+    }
     answer_all(rt, alloc, session, files, input, output)
 }
 
@@ -99,18 +129,32 @@ fn answer_all<R: Threads + Sync, S: ViewStore, F: Files, I: BufRead, W: Write>(
     output: &mut W,
 ) -> Result<(), ShellFault> {
     for _ in 0..u64::MAX {
-        match answer_next(alloc, session, input, output)? {
-            Turn::Next => {}
-            Turn::Load(frame, path) => load_file(rt, alloc, session, files, frame, path, output)?,
-            Turn::Source(path) => {
-                if source(rt, alloc, session, files, &path, output)? {
-                    return Ok(());
-                }
-            }
-            Turn::End | Turn::Quit => return Ok(()),
+        let turn = answer_next(alloc, session, input, output)?;
+        if follow(rt, alloc, session, files, turn, output)? {
+            return Ok(());
         }
     }
     Ok(())
+}
+
+// Does what comes behind a command. Whether the session has ended.
+fn follow<R: Threads + Sync, S: ViewStore, F: Files, W: Write>(
+    rt: &R,
+    alloc: Global,
+    session: &mut Session<S>,
+    files: &mut F,
+    turn: Turn,
+    output: &mut W,
+) -> Result<bool, ShellFault> {
+    match turn {
+        Turn::Next => Ok(false),
+        Turn::Load(frame, path) => {
+            load_file(rt, alloc, session, files, frame, path, output)?;
+            Ok(false)
+        }
+        Turn::Source(path) => source(rt, alloc, session, files, &path, output),
+        Turn::End | Turn::Quit => Ok(true),
+    }
 }
 
 // Answers the commands in a file, without prompts; whether one of them ends the session.
@@ -329,8 +373,8 @@ fn tell<W: Write>(
     }
 }
 
-// Whether a line is empty or a comment, behind its first blanks.
-fn is_passed_over(line: &[u8]) -> bool {
+/// Whether a line is empty or a comment, behind its first blanks.
+pub fn is_passed_over(line: &[u8]) -> bool {
     for byte in line {
         if *byte != b' ' {
             return *byte == b'#';

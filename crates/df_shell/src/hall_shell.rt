@@ -9,8 +9,8 @@ use df_catalogue::{Desk, NewFault, PARTS_OF_LEDGER};
 use df_document::{Files, copy_schemas};
 use df_hall::{Hall, OpenedHall};
 use df_session::{
-    Numbers, Prepared, Prompts, Refusal, Session, ShellFault, VersionFault, answer_from, fill,
-    prepare,
+    Beginning, Numbers, Prepared, Prompts, Refusal, Session, ShellFault, VersionFault, answer_from,
+    fill, prepare,
 };
 use df_value::{List, Piece};
 use df_versions::{Naming, OpenFault, Reader};
@@ -34,6 +34,19 @@ pub fn run_hall_shell<R: Threads + Wait + Sync, V: Read, F: Files, I: BufRead, W
     output: &mut W,
 ) -> Result<(), ShellFault> {
     let prepared = prepare(rt, alloc, document, files)?;
+    answer_prepared_in_hall(rt, alloc, prepared, prompts, files, input, output)
+}
+
+/// Opens a hall of what is prepared, answers the commands, and closes the hall.
+pub fn answer_prepared_in_hall<R: Threads + Wait + Sync, F: Files, I: BufRead, W: Write>(
+    rt: &R,
+    alloc: Global,
+    prepared: Prepared,
+    prompts: Prompts,
+    files: &mut F,
+    input: &mut I,
+    output: &mut W,
+) -> Result<(), ShellFault> {
     open::<Brand, Brand, R, F, I, W>(
         rt,
         alloc,
@@ -161,6 +174,7 @@ fn answer_and_close<
         pieces,
         refused,
         buffers,
+        beginning,
     } = prepared;
     let mut session = Session {
         definitions,
@@ -172,6 +186,7 @@ fn answer_and_close<
         rt,
         alloc,
         &mut session,
+        beginning,
         pieces,
         refused,
         files,
@@ -205,6 +220,7 @@ fn fill_and_answer<
     rt: &R,
     alloc: Global,
     session: &mut Session<HallStore<'r, R, Acc, Del, J>>,
+    beginning: Beginning,
     pieces: List<List<Piece>>,
     refused: List<u8>,
     files: &mut F,
@@ -212,5 +228,5 @@ fn fill_and_answer<
     output: &mut W,
 ) -> Result<(), ShellFault> {
     fill(alloc, &mut session.store, &session.definitions, pieces)?;
-    answer_from(rt, alloc, session, refused, files, input, output)
+    answer_from(rt, alloc, session, beginning, refused, files, input, output)
 }

@@ -1,11 +1,12 @@
 //! The shell of the store: commands in, a line each, and the answer to each out, before the next one is read.
 //!
 //! [`run_shell`] opens a view document and answers commands to the end of input, from a [`Store`], which holds a catalogue;
-//! [`run_hall_shell`] answers them from a [`HallStore`], which holds a hall. This crate also offers what its callers need
+//! [`run_hall_shell`] answers them from a [`HallStore`], which holds a hall; [`run_declared_shell`] takes no document. This crate also offers what its callers need
 //! of `df_session`, which reads the commands. docs/ARCHITECTURE.md says where to add a command.
 #![tactic(auto)]
 
 mod checking;
+mod declared_shell;
 mod hall_shell;
 mod hall_store;
 mod opening;
@@ -14,6 +15,7 @@ mod shell;
 mod store;
 mod version_reading;
 
+pub use declared_shell::run_declared_shell;
 pub use df_session::{
     Answer, AskedChange, COMMANDS, Command, CommandHelp, Definitions, DocumentCheck,
     MOST_BYTES_OF_LINE, Mistake, Part, Prompts, Question, Refusal, ShellFault, VersionFault,

@@ -6,7 +6,7 @@ use crate::opening::open_store;
 use crate::store::Store;
 use df_catalogue::PARTS_OF_LEDGER;
 use df_document::Files;
-use df_session::{Prepared, Prompts, Session, ShellFault, answer_from, prepare};
+use df_session::{Beginning, Prepared, Prompts, Session, ShellFault, answer_from, prepare};
 use df_value::List;
 use std::alloc::Global;
 use std::io::{BufRead, Read, Write};
@@ -30,6 +30,19 @@ pub fn run_shell<R: Threads + Sync, V: Read, F: Files, I: BufRead, W: Write>(
     output: &mut W,
 ) -> Result<(), ShellFault> {
     let prepared = prepare(rt, alloc, document, files)?;
+    answer_prepared(rt, alloc, prepared, prompts, files, input, output)
+}
+
+/// Opens a store of what is prepared, and answers the commands.
+pub fn answer_prepared<R: Threads + Sync, F: Files, I: BufRead, W: Write>(
+    rt: &R,
+    alloc: Global,
+    prepared: Prepared,
+    prompts: Prompts,
+    files: &mut F,
+    input: &mut I,
+    output: &mut W,
+) -> Result<(), ShellFault> {
     serve::<Brand, Brand, R, F, I, W>(
         rt,
         alloc,
@@ -67,6 +80,7 @@ fn serve<Acc: Ledger, Del: Ledger, R: Threads + Sync, F: Files, I: BufRead, W: W
         pieces,
         refused,
         buffers,
+        beginning,
     } = prepared;
     match open_store::<Acc, Del>(alloc, accepted, deleted, &definitions, pieces) {
         Ok(store) => {
@@ -76,7 +90,7 @@ fn serve<Acc: Ledger, Del: Ledger, R: Threads + Sync, F: Files, I: BufRead, W: W
                 buffers,
                 prompts,
             };
-            answer_session(rt, alloc, session, refused, files, input, output)
+            answer_session(rt, alloc, session, beginning, refused, files, input, output)
         }
         Err(fault) => {
             drop(definitions);
@@ -93,13 +107,23 @@ fn answer_session<Acc: Ledger, Del: Ledger, R: Threads + Sync, F: Files, I: BufR
     rt: &R,
     alloc: Global,
     session: Session<Store<Acc, Del>>,
+    beginning: Beginning,
     refused: List<u8>,
     files: &mut F,
     input: &mut I,
     output: &mut W,
 ) -> Result<(), ShellFault> {
     let mut session = session;
-    let answered = answer_from(rt, alloc, &mut session, refused, files, input, output);
+    let answered = answer_from(
+        rt,
+        alloc,
+        &mut session,
+        beginning,
+        refused,
+        files,
+        input,
+        output,
+    );
     let Session {
         definitions,
         store,

@@ -1,6 +1,10 @@
 -- What the words of `dfshell` say, over `clap`'s own words.
-use Rattle.std.specs.Prelude.{◌≡◌, ℕ, Bool, true, false, List, Option, Some, None, codes, option_map}
-use Rattle.clap.specs.Words.{App, Rule, first_of, matches_of, new_app, new_rule, one_of, with_rule}
+use Rattle.std.specs.Prelude.{◌≡◌, ◌⊎◌, ℕ, Bool, true, false, List, [], Option, Some, None, Result, MatchResult, codes, option_map}
+use Rattle.clap.specs.Kinds.{HasKind}
+use Rattle.clap.specs.Values.{kind_of}
+use Rattle.clap.specs.declared.error.Error.{Error}
+use Rattle.clap.specs.Words.{App, Rule, fault_of, first_of, matches_of, new_app, new_rule, one_of, with_rule}
+use Rattle.clap.specs.declared.error.kind.ErrorKind.TheVariants.{MissingRequiredArgument}
 use Rattle.clap.specs.declared.builder.action.ArgAction.TheVariants.{SetTrue}
 use Rattle.df_words.specs.declared.session_line.CommandLine.{CommandLine}
 
@@ -11,13 +15,13 @@ program_app = record (new_app (codes "dfshell")) {
 }
 
 abbrev pub views_rule : Rule
-views_rule = record (new_rule (codes "views")) { value_names = 1; required = true }
+views_rule = record (new_rule (codes "views")) { value_names = 1 }
 
 -- a word that stands in the line or does not
 abbrev pub flag_rule : List ℕ → Rule
 flag_rule name = record (new_rule name) { long = Some name; action = Some SetTrue }
 
--- the command line: [--hall] [--check] VIEWS
+-- the command line: [--hall] [--check] [VIEWS]
 abbrev pub command_line : App
 command_line = with_rule (with_rule (with_rule program_app views_rule) (flag_rule (codes "hall"))) (flag_rule (codes "check"))
 
@@ -31,3 +35,17 @@ pub record Says (words : List (List ℕ)) (line : CommandLine) : Type 0 where
   pub views : option_map (λ v. v.now) line.views ≡ first_of (codes "views") (matches_of command_line words)
   pub hall : IsFlagOf (one_of (codes "hall") (matches_of command_line words)) line.hall
   pub check : IsFlagOf (one_of (codes "check") (matches_of command_line words)) line.check
+
+-- a check of no document
+abbrev pub IsBareCheck : CommandLine → Type 0
+IsBareCheck line = (line.check ≡ true) × (line.views ≡ None)
+
+-- Why the words are refused: by clap's own rules; or, where these refuse nothing, for a check of no document.
+abbrev pub IsRefusalOfWords : List (List ℕ) → Error → Type 0
+IsRefusalOfWords words e =
+    HasKind (fault_of command_line words) e
+    ⊎ ((kind_of e ≡ MissingRequiredArgument) × (line : CommandLine) × Says words line × IsBareCheck line)
+
+-- the words are refused just where there is a reason for it
+abbrev pub IsRead : List (List ℕ) → Result CommandLine Error → Type 0
+IsRead words result = MatchResult result (λ line. (fault_of command_line words ≡ []) × ¬ IsBareCheck line) (IsRefusalOfWords words)

@@ -1,10 +1,13 @@
 //! Reading the words of `dfshell`.
-ghost use Rattle.std.specs.Prelude.{◌≡◌, IfOk, codes, false, map, option_map};
+ghost use Rattle.std.specs.Prelude.{◌≡◌, ◌↔◌, IfOk, IsTrue, codes, false, map, option_map};
 ghost use Rattle.clap.specs.Words.{FailsBy, app_of, fault_of, first_value, found_of, one_text, rule_of};
+ghost use Rattle.clap.specs.Values.{kind_of};
+ghost use Rattle.clap.specs.declared.error.kind.ErrorKind.TheVariants.{MissingRequiredArgument};
 ghost use Rattle.df_words.specs.SessionLine as command_line_spec;
-ghost use Rattle.df_words.specs.SessionLine.{IsFlagOf, Says, flag_rule, program_app, views_rule};
+ghost use Rattle.df_words.specs.SessionLine.{IsBareCheck, IsFlagOf, IsRead, Says, flag_rule, program_app, views_rule};
 
 use crate::session_line::CommandLine;
+use clap::error::ErrorKind;
 use clap::{Arg, ArgAction, ArgMatches, Command, Error};
 use std::alloc::{AllocError, Global};
 
@@ -13,6 +16,7 @@ const VERSION: &str = "1.0.0";
 
 // The end of the help.
 const AFTER_HELP: &str = r#"Commands, one a line of standard input:
+  frame NAME COLUMN TYPE ..    declares a frame of these columns; without a document, before all changes
   append FRAME                 and lines of CSV up to a line with a dot alone: adds rows behind all others
   append FRAME FIRST COUNT     and COUNT lines of CSV: adds rows, numbered from FIRST
   load FRAME PATH              adds the rows of a CSV file behind all others; a chunk of 1000 that is refused is left out
@@ -41,18 +45,47 @@ Exit status:
   1  with --check: the document opens without the chunks that have a bad cell, which the output names
   2  a fault, or a refused word: standard error says which"#;
 
-/// Reads the words behind the program's name: `[--hall] [--check] VIEWS`.
+/// Reads the words behind the program's name: `[--hall] [--check] [VIEWS]`.
 ///
-/// Refused are other words, no VIEWS or a second one, and a flag twice. `-h`, `--help` and `--version` are an error too,
+/// Refused are other words, a second VIEWS, a flag twice, and `--check` without VIEWS. `-h`, `--help` and `--version` are an error too,
 /// whose text is the help or the version: its `use_stderr` is false and its `exit_code` 0, where those of a refusal are
 /// true and 2.
 pub fn read_command_line<'a>(alloc: Global, words: &'a [&'a str]) -> Result<CommandLine<'a>, Error>
+    ensures says { IfOk result (λ line. Says (map (λ word. word.now) words.entry.now) line) }
+    ensures read { IsRead (map (λ word. word.now) words.entry.now) result }
+{
+    let line = parse(alloc, words)?;
+    if is_bare_check(line) {
+        return Err(no_views(alloc)?);
+    }
+    Ok(line)
+}
+
+// What the words say by clap's rules alone.
+fn parse<'a>(alloc: Global, words: &'a [&'a str]) -> Result<CommandLine<'a>, Error>
     ensures says { IfOk result (λ line. Says (map (λ word. word.now) words.entry.now) line) }
     ensures refused { FailsBy (fault_of command_line_spec.command_line
         (map (λ word. word.now) words.entry.now)) result }
 {
     let matches = command(alloc)?.try_get_matches_from(words)?;
     Ok(said_in(&matches))
+}
+
+fn is_bare_check(line: CommandLine<'_>) -> bool
+    ensures { IsTrue result ↔ IsBareCheck line.entry }
+{
+    line.check && line.views.is_none()
+}
+
+// A check without a document.
+fn no_views(alloc: Global) -> Result<Error, AllocError>
+    ensures { IfOk result (λ error. kind_of error ≡ MissingRequiredArgument) }
+{
+    let mut command = command(alloc)?;
+    command.error(
+        ErrorKind::MissingRequiredArgument,
+        "--check wants a view document: dfshell --check VIEWS",
+    )
 }
 
 fn command<'a>(alloc: Global) -> Result<Command<'a>, AllocError>
@@ -82,10 +115,9 @@ fn views_word<'a>(alloc: Global) -> Arg<'a>
     ensures rule { rule_of result ≡ views_rule }
     ensures own { result.global ≡ false }
 {
-    Arg::new(alloc, "views")
-        .value_name("VIEWS")
-        .required(true)
-        .help("The view document")
+    Arg::new(alloc, "views").value_name("VIEWS").help(
+        "The view document; without it, a session begins without frames",
+    )
 }
 
 fn flag<'a>(alloc: Global, name: &'a str, help: &'a str) -> Arg<'a>

@@ -3,7 +3,7 @@
 /// What the words of `dfshell` say.
 #[derive(Clone, Copy, PartialEq, Eq)]
 pub struct CommandLine<'a> {
-    /// The path of the view document. Words without one are refused.
+    /// The path of the view document; without one a session begins without frames.
     pub views: Option<&'a str>,
     /// Whether the session goes through a hall.
     pub hall: bool,

@@ -8,7 +8,8 @@ use clap::error::ErrorKind;
 use df_document::DocumentFault;
 use df_explain::explain;
 use df_shell::{
-    DocumentCheck, Prompts, ShellFault, check_document, run_hall_shell, run_shell, shell_fault_text,
+    DocumentCheck, Prompts, ShellFault, check_document, run_declared_shell, run_hall_shell,
+    run_shell, shell_fault_text,
 };
 use df_words::{CommandLine, read_command_line};
 use std::alloc::AllocError;
@@ -56,29 +57,41 @@ fn run_words<R: Threads + Wait + Sync>(rt: &HostRuntime, waiting: &R, words: &[&
     }
 }
 
-// A view document that cannot be opened is one that cannot be read. A session is clean also where chunks are refused: it
-// goes on without them.
+// A session is clean also where chunks are refused: it goes on without them.
 fn run_line<R: Threads + Wait + Sync>(
     rt: &HostRuntime,
     waiting: &R,
     line: CommandLine<'_>,
 ) -> Result<DocumentCheck, ShellFault> {
-    let Some(mut document) = line.views.and_then(|path| open(rt, path)) else {
-        return Err(ShellFault::Document(DocumentFault::ReadFault));
-    };
+    let mut document = document_of(rt, line)?;
     let mut files = SystemFiles { rt };
-    if line.check {
-        let mut output = rt.stdout();
-        return check_document(waiting, rt.alloc(), &mut document, &mut files, &mut output);
+    match &mut document {
+        Some(document) if line.check => {
+            let mut output = rt.stdout();
+            check_document(waiting, rt.alloc(), document, &mut files, &mut output)
+        }
+        document => {
+            answer_commands(rt, waiting, document.as_mut(), &mut files, line.hall)?;
+            Ok(DocumentCheck::Clean)
+        }
     }
-    answer_commands(rt, waiting, &mut document, &mut files, line.hall)?;
-    Ok(DocumentCheck::Clean)
+}
+
+// The view document, if the words name one. One that cannot be opened is one that cannot be read.
+fn document_of(rt: &HostRuntime, line: CommandLine<'_>) -> Result<Option<File>, ShellFault> {
+    let Some(path) = line.views else {
+        return Ok(None);
+    };
+    match open(rt, path) {
+        Some(document) => Ok(Some(document)),
+        None => Err(ShellFault::Document(DocumentFault::ReadFault)),
+    }
 }
 
 fn answer_commands<R: Threads + Wait + Sync>(
     rt: &HostRuntime,
     waiting: &R,
-    document: &mut File,
+    document: Option<&mut File>,
     files: &mut SystemFiles<'_>,
     hall: bool,
 ) -> Result<(), ShellFault> {
@@ -88,6 +101,17 @@ fn answer_commands<R: Threads + Wait + Sync>(
     };
     let mut output = rt.stdout();
     let prompts = prompts_at(rt);
+    let Some(document) = document else {
+        return run_declared_shell(
+            waiting,
+            alloc,
+            hall,
+            files,
+            prompts,
+            &mut input,
+            &mut output,
+        );
+    };
     if hall {
         return run_hall_shell(
             waiting,

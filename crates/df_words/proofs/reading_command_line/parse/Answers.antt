@@ -3,7 +3,7 @@ use Rattle.clap.specs.Words.{App, first_of, found_of, is_simple, matches_of, one
 use Rattle.clap.proofs.WalkLemmas.{first_value-rows, one_text-rows}
 use Rattle.df_words.specs.SessionLine.{IsFlagOf}
 use Rattle.df_words.proofs.FlagFacts.{is_exact}
-use Rattle.df_words.proofs.reading_command_line.read_command_line.Goals as goal
+use Rattle.df_words.proofs.reading_command_line.parse.Goals as goal
 
 pub returns-clause-says : goal.returns-clause-says
 returns-clause-says c =

@@ -1,4 +1,4 @@
-use Rattle.df_shell.proofs.shell.run_shell.Given as goal
+use Rattle.df_shell.proofs.shell.answer_prepared.Given as goal
 
 -- the ledgers are the blanks
 abbrev pub ghosts-serve-Acc-Ledger : goal.ghosts-serve-Acc-Ledger

@@ -1,4 +1,4 @@
-use Rattle.df_shell.proofs.hall_shell.run_hall_shell.Given as goal
+use Rattle.df_shell.proofs.hall_shell.answer_prepared_in_hall.Given as goal
 
 -- the ledgers are the blanks
 abbrev pub ghosts-open-Acc-Ledger : goal.ghosts-open-Acc-Ledger

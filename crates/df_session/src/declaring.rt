@@ -1,0 +1,205 @@
+//! A session without a document, up to the command that opens its store.
+use crate::answering::{Answer, words_of};
+use crate::behind::read_behind;
+use crate::declared_frames::{Declaration, DeclaredFrames, answer_declaring};
+use crate::definitions::Definitions;
+use crate::fault::ShellFault;
+use crate::help::COMMANDS;
+use crate::lines::{Line, line_buffer, read_line, without_end};
+use crate::prepared::Prepared;
+use crate::prompts::{COMMAND_PROMPT, Prompts, greeting};
+use crate::refusal::{Mistake, Refusal};
+use crate::session::{Beginning, Buffers, is_passed_over};
+use crate::words::{lines_behind, read_words};
+use crate::writing::{write_answer, write_prompt, write_refusal};
+use df_document::DocumentFault;
+use df_text::ViewsFault;
+use df_value::List;
+use std::alloc::Global;
+use std::io::{BufRead, Write};
+
+/// What a session without a document has until its store is opened.
+pub struct Declaring {
+    declared: DeclaredFrames,
+    command: Vec<u8>,
+    record: Vec<u8>,
+    prompts: Prompts,
+}
+
+// A body that owns one drops it by a call.
+impl Drop for Declaring {
+    fn drop(self) {
+        let Declaring {
+            declared,
+            command,
+            record,
+            prompts: _,
+        } = self;
+        drop(declared);
+        drop(command);
+        drop(record);
+    }
+}
+
+/// What comes behind a line.
+enum Step {
+    /// The next one.
+    Next,
+    /// A store, whose session begins with the line.
+    Store(Beginning),
+    /// Nothing: the session ends.
+    End,
+}
+
+impl Declaring {
+    pub fn new(alloc: Global, prompts: Prompts) -> Result<Declaring, ShellFault> {
+        let command = line_buffer(alloc)?;
+        let record = line_buffer(alloc)?;
+        Ok(Declaring {
+            declared: DeclaredFrames::new(alloc),
+            command,
+            record,
+            prompts,
+        })
+    }
+
+    /// Writes the first line of a session at a terminal.
+    pub fn greet<W: Write>(&self, alloc: Global, output: &mut W) -> Result<(), ShellFault> {
+        match self.prompts {
+            Prompts::Shown => {
+                let definitions = self.definitions(alloc)?;
+                let text = greeting(alloc, &definitions);
+                drop(definitions);
+                write_answer(output, text?.as_bytes())
+            }
+            Prompts::Hidden => Ok(()),
+        }
+    }
+
+    /// Answers the lines of the input, up to one that wants a store, whose session begins so. None: the session has ended.
+    pub fn answer_lines<I: BufRead, W: Write>(
+        &mut self,
+        alloc: Global,
+        input: &mut I,
+        output: &mut W,
+    ) -> Result<Option<Beginning>, ShellFault> {
+        for _ in 0..u64::MAX {
+            match self.answer_next(alloc, input, output)? {
+                Step::Next => {}
+                Step::Store(beginning) => return Ok(Some(beginning)),
+                Step::End => return Ok(None),
+            }
+        }
+        Ok(None)
+    }
+
+    // Reads a line, and answers it, if it wants no store.
+    fn answer_next<I: BufRead, W: Write>(
+        &mut self,
+        alloc: Global,
+        input: &mut I,
+        output: &mut W,
+    ) -> Result<Step, ShellFault> {
+        write_prompt(output, self.prompts, COMMAND_PROMPT)?;
+        match read_line(input, &mut self.command) {
+            Ok(Line::Whole) => self.answer_line(alloc, input, output),
+            Ok(Line::TooLong) => {
+                write_refusal(alloc, output, &Refusal::Mistake(Mistake::LongLine))?;
+                Ok(Step::Next)
+            }
+            Ok(Line::End) => {
+                write_prompt(output, self.prompts, b"\n")?;
+                Ok(Step::End)
+            }
+            Err(_) => Err(ShellFault::Read),
+        }
+    }
+
+    fn answer_line<I: BufRead, W: Write>(
+        &mut self,
+        alloc: Global,
+        input: &mut I,
+        output: &mut W,
+    ) -> Result<Step, ShellFault> {
+        let line = without_end(self.command.as_slice());
+        if is_passed_over(line) {
+            return Ok(Step::Next);
+        }
+        match declare_line(alloc, &mut self.declared, line) {
+            Ok(Declaration::Asked) => Ok(Step::Store(Beginning::Question)),
+            Ok(Declaration::Opens) => Ok(Step::Store(Beginning::Command)),
+            Ok(Declaration::Answered(answer)) => tell(output, answer),
+            Err(refusal) => {
+                let told = self.refuse(alloc, input, output, &refusal);
+                drop(refusal);
+                told?;
+                Ok(Step::Next)
+            }
+        }
+    }
+
+    /// Answers the last line with a refusal, and passes over the lines behind it.
+    pub fn refuse<I: BufRead, W: Write>(
+        &mut self,
+        alloc: Global,
+        input: &mut I,
+        output: &mut W,
+        refusal: &Refusal,
+    ) -> Result<(), ShellFault> {
+        let line = without_end(self.command.as_slice());
+        let words = read_words(alloc, line);
+        let following = lines_behind(alloc, &words, line);
+        drop(words);
+        let prompts = self.prompts;
+        let record = &mut self.record;
+        let lines = read_behind(alloc, prompts, input, output, line, record, following)?;
+        drop(lines);
+        write_refusal(alloc, output, refusal)
+    }
+
+    /// What a store of the declared frames is opened with, for a session that begins so.
+    pub fn prepare(&self, alloc: Global, beginning: Beginning) -> Result<Prepared, ShellFault> {
+        let buffers = Buffers::with_command(alloc, self.command.as_slice())?;
+        let definitions = self.definitions(alloc)?;
+        Ok(Prepared {
+            definitions,
+            pieces: List::from_vec(Vec::new(alloc)),
+            refused: List::from_vec(Vec::new(alloc)),
+            buffers,
+            beginning,
+        })
+    }
+
+    fn definitions(&self, alloc: Global) -> Result<Definitions, ShellFault> {
+        match self.declared.read(alloc) {
+            Ok(document) => Ok(Definitions {
+                document,
+                plans: List::from_vec(Vec::new(alloc)),
+            }),
+            Err(ViewsFault::Memory) => Err(ShellFault::Memory),
+            Err(fault) => Err(ShellFault::Document(DocumentFault::Views(fault))),
+        }
+    }
+}
+
+fn declare_line(
+    alloc: Global,
+    declared: &mut DeclaredFrames,
+    line: &[u8],
+) -> Result<Declaration, Refusal> {
+    let record = read_words(alloc, line)?;
+    let words = words_of(alloc, &record)?;
+    answer_declaring(alloc, &COMMANDS, declared, words.as_slice())
+}
+
+fn tell<W: Write>(output: &mut W, answer: Answer) -> Result<Step, ShellFault> {
+    match answer {
+        Answer::Ended => Ok(Step::End),
+        answer => {
+            let written = write_answer(output, answer.bytes());
+            drop(answer);
+            written?;
+            Ok(Step::Next)
+        }
+    }
+}

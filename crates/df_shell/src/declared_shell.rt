@@ -1,0 +1,86 @@
+//! The shell without a document.
+use crate::hall_shell::answer_prepared_in_hall;
+use crate::shell::answer_prepared;
+use df_document::Files;
+use df_session::{Beginning, Declaring, Prompts, Refusal, ShellFault};
+use std::alloc::Global;
+use std::io::{BufRead, Write};
+use std::sync::Wait;
+use std::thread::Threads;
+
+/// Answers the commands of `input` as [`run_shell`](crate::run_shell) does, or with a hall as
+/// [`run_hall_shell`](crate::run_hall_shell), over no document: the session begins without frames, and declares them up to the
+/// first command that may change them. A question before it is answered from a store of its own.
+pub fn run_declared_shell<R: Threads + Wait + Sync, F: Files, I: BufRead, W: Write>(
+    rt: &R,
+    alloc: Global,
+    hall: bool,
+    files: &mut F,
+    prompts: Prompts,
+    input: &mut I,
+    output: &mut W,
+) -> Result<(), ShellFault> {
+    let mut declaring = Declaring::new(alloc, prompts)?;
+    let answered = answer_declaring(
+        rt,
+        alloc,
+        hall,
+        &mut declaring,
+        files,
+        prompts,
+        input,
+        output,
+    );
+    drop(declaring);
+    answered
+}
+
+fn answer_declaring<R: Threads + Wait + Sync, F: Files, I: BufRead, W: Write>(
+    rt: &R,
+    alloc: Global,
+    hall: bool,
+    declaring: &mut Declaring,
+    files: &mut F,
+    prompts: Prompts,
+    input: &mut I,
+    output: &mut W,
+) -> Result<(), ShellFault> {
+    declaring.greet(alloc, output)?;
+    for _ in 0..u64::MAX {
+        let Some(beginning) = declaring.answer_lines(alloc, input, output)? else {
+            return Ok(());
+        };
+        match open_and_answer(
+            rt, alloc, hall, declaring, beginning, files, prompts, input, output,
+        ) {
+            Ok(()) if beginning == Beginning::Question => {}
+            Ok(()) => return Ok(()),
+            Err(fault) => {
+                if !fault.is_memory() {
+                    return Err(fault);
+                }
+                declaring.refuse(alloc, input, output, &Refusal::Memory)?;
+            }
+        }
+    }
+    Ok(())
+}
+
+fn open_and_answer<R: Threads + Wait + Sync, F: Files, I: BufRead, W: Write>(
+    rt: &R,
+    alloc: Global,
+    hall: bool,
+    declaring: &Declaring,
+    beginning: Beginning,
+    files: &mut F,
+    prompts: Prompts,
+    input: &mut I,
+    output: &mut W,
+) -> Result<(), ShellFault> {
+    let prepared = declaring.prepare(alloc, beginning)?;
+    if hall {
+        answer_prepared_in_hall(rt, alloc, prepared, prompts, files, input, output)
+    } else {
+        answer_prepared(rt, alloc, prepared, prompts, files, input, output)
+    }
+}
