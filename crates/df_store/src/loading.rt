@@ -124,6 +124,7 @@ impl<Acc: Ledger, Del: Ledger, J: Naming, B: Beginning> LoadingCatalogue<Acc, De
             desk_after desk.old (Append desk.old.frame (chunk_of chunk.entry))) }
         ensures same_desk { OnErr result (desk.new ≡ desk.old) }
     {
-        self.catalogue.change_rows(rt, alloc, desk, chunk.change(), told)
+        self.catalogue
+            .change_rows(rt, alloc, desk, chunk.change(), told)
     }
 }
