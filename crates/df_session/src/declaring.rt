@@ -1,4 +1,7 @@
 //! A session without a document, up to the command that opens its store.
+ghost use Rattle.std.specs.Prelude.{◌≡◌, [], IfOk, Ok};
+ghost use Rattle.df_text.specs.Document.{document_of};
+
 use crate::answering::{Answer, words_of};
 use crate::behind::read_behind;
 use crate::declared_frames::{Declaration, DeclaredFrames, answer_declaring};
@@ -158,7 +161,11 @@ impl Declaring {
     }
 
     /// What a store of the declared frames is opened with, for a session that begins so.
-    pub fn prepare(&self, alloc: Global, beginning: Beginning) -> Result<Prepared, ShellFault> {
+    pub fn prepare(&self, alloc: Global, beginning: Beginning) -> Result<Prepared, ShellFault>
+        ensures frames { IfOk result (λ p.
+            document_of self.now.declared.document.items ≡ Ok p.definitions.document) }
+        ensures rest { IfOk result (λ p. (p.definitions.plans ≡ []) × (p.pieces ≡ [])) }
+    {
         let buffers = Buffers::with_command(alloc, self.command.as_slice())?;
         let definitions = self.definitions(alloc)?;
         Ok(Prepared {
@@ -170,7 +177,11 @@ impl Declaring {
         })
     }
 
-    fn definitions(&self, alloc: Global) -> Result<Definitions, ShellFault> {
+    fn definitions(&self, alloc: Global) -> Result<Definitions, ShellFault>
+        ensures frames { IfOk result (λ d.
+            document_of self.now.declared.document.items ≡ Ok d.document) }
+        ensures plans { IfOk result (λ d. d.plans ≡ []) }
+    {
         match self.declared.read(alloc) {
             Ok(document) => Ok(Definitions {
                 document,
