@@ -171,6 +171,7 @@ def checked(crate, texts, functions, kept):
 GONE = r"is not in scope|has no field|has no `|is no name|was not admitted|(record|module) `[^`]*`( \(nearest: .*\))?$"
 TOLD = r"(\S+:\d+:\d+: error|note: \S+:\d+:\d+: )"
 UNPROVED = r"fn (\S+): (no proof|not proved)"
+UNCOVERED = r"fn \S+: no proof: .*the borrow checker does not cover.*"
 
 
 def told_by(status, said):
@@ -189,7 +190,12 @@ def told_by(status, said):
 
 def refusal(status, said):
     """Why the prover refuses, or None where it proves all; raises where the prover did not come to a contract."""
-    return next(iter(told_by(status, said)), "a goal is open") if status else None
+    if not status:
+        return None
+    told, uncovered = told_by(status, said), re.search(UNCOVERED, said)
+    if uncovered and not told:
+        raise BadEdit(f"no proof of it is begun: {uncovered[0][:300]}")
+    return next(iter(told), "a goal is open")
 
 
 def is_about(line, function, texts):
