@@ -1,4 +1,4 @@
--- The rows of a chunk by themselves.
+-- The rows of a chunk, or of a run, by themselves.
 use Rattle.std.proofs.Common.{◌≡◌, ◌+◌, ◌<◌, ◌≤◌, ◌∙◌, ℕ, false, List, [], ◌∷◌, None, drop, get_or, length, map, take, ap, sym, subst, refl, arith}
 use Rattle.std.specs.Prelude.{find, nat_lt}
 use Rattle.std.specs.List.{enumerate_from}
@@ -7,6 +7,7 @@ use Rattle.std.proofs.lemmas.List.{append-nil, get_or-drop, get_or-map, get_or-t
 use Rattle.std.proofs.lemmas.List.FromFn.{get_or-enumerate_from, length-enumerate_from}
 use Rattle.std.specs.FinMap as finite
 use Rattle.df_value.specs.Chunks.{ChunkParts, IsChunk}
+use Rattle.df_frame.specs.Runs.{IsRun}
 use Rattle.df_value.specs.Limits as limits
 use Rattle.df_value.specs.declared.cell.Cell.{Cell}
 use Rattle.df_column.specs.Changes.{applied}
@@ -25,33 +26,37 @@ use Rattle.df_frame.specs.declared.state.FrameState.{FrameState}
 use Rattle.df_frame.proofs.FrameFacts.{empty-sound, frame-with_chunk, numbered-with_chunk}
 use Rattle.df_frame.proofs.FrameTableFacts.{appended-diff, empty-table, table-entries, table-fits}
 
--- a frame that has accepted nothing refuses no number, and has room for a chunk
+-- the rows of a chunk are a run
+pub run-of-chunk : (c : ChunkParts) → IsChunk c.schema c.first c.rows → IsRun c.schema c.first c.rows
+run-of-chunk c sound = record { few = omega (arith, sound.short); numbered = sound.numbered; fitting = sound.fitting }
+
+-- a frame that has accepted nothing refuses no number, and has room for a run
 nothing-taken : (ns : List ℕ) → find (λ n. has_number [] n) ns ≡ None
 nothing-taken [] = refl
 nothing-taken (n ∷ ns) = nothing-taken ns
 
-has-room : (n : ℕ) → n ≤ limits.most_rows_of_chunk → nat_lt limits.most_rows_of_frame (0 + n) ≡ false
+has-room : (n : ℕ) → n ≤ limits.most_rows_of_frame → nat_lt limits.most_rows_of_frame (0 + n) ≡ false
 has-room n few = le-ltb limits.most_rows_of_frame (0 + n) (omega (arith, few))
 
 -- the frame that takes a chunk alone is sound
-alone-sound : (c : ChunkParts) → IsChunk c.schema c.first c.rows → IsFrame c.schema (with_chunk c empty_frame)
+alone-sound : (c : ChunkParts) → IsRun c.schema c.first c.rows → IsFrame c.schema (with_chunk c empty_frame)
 alone-sound c sound =
-    frame-with_chunk c.schema c empty_frame sound.fitting sound.numbered (empty-sound c.schema) (nothing-taken (chunk_numbers c)) (has-room (length c.rows) sound.short)
+    frame-with_chunk c.schema c empty_frame sound.fitting sound.numbered (empty-sound c.schema) (nothing-taken (chunk_numbers c)) (has-room (length c.rows) sound.few)
 
 -- and its table is what the chunk's delta makes of a table without rows
-alone-table : (c : ChunkParts) → IsChunk c.schema c.first c.rows → applied finite.empty (delta_of_chunk c) ≡ tagged_rows_of (with_chunk c empty_frame)
+alone-table : (c : ChunkParts) → IsRun c.schema c.first c.rows → applied finite.empty (delta_of_chunk c) ≡ tagged_rows_of (with_chunk c empty_frame)
 alone-table c sound =
     ap (λ t. applied t (delta_of_chunk c)) empty-table
     ∙ (appended-diff c empty_frame (empty-sound c.schema).numbered (alone-sound c sound).numbered (nothing-taken (chunk_numbers c))).gives
 
 -- a chunk's rows fit its schema also where they stand alone
-pub chunk-fits : (c : ChunkParts) → IsChunk c.schema c.first c.rows → RowsFit c.schema (applied finite.empty (delta_of_chunk c))
+pub chunk-fits : (c : ChunkParts) → IsRun c.schema c.first c.rows → RowsFit c.schema (applied finite.empty (delta_of_chunk c))
 chunk-fits c sound =
     let after = alone-sound c sound in
     subst (RowsFit c.schema) (sym (alone-table c sound)) (table-fits c.schema (with_chunk c empty_frame) after.numbered after.fitting)
 
 -- there each stands at the tag of its number
-pub chunk-entries : (c : ChunkParts) → IsChunk c.schema c.first c.rows → finite.entries (applied finite.empty (delta_of_chunk c)) ≡ map at_tag (enumerate_from c.first c.rows)
+pub chunk-entries : (c : ChunkParts) → IsRun c.schema c.first c.rows → finite.entries (applied finite.empty (delta_of_chunk c)) ≡ map at_tag (enumerate_from c.first c.rows)
 chunk-entries c sound =
     ap finite.entries (alone-table c sound)
     ∙ (table-entries (with_chunk c empty_frame) (alone-sound c sound).numbered
@@ -86,14 +91,14 @@ tagged-stand n rows low first len within number =
 
 -- what stands in the table of a chunk from an index on are rows of the chunk
 pub part-rows :
-    (c : ChunkParts) → IsChunk c.schema c.first c.rows → (t : TableParts) → t.rows ≡ applied finite.empty (delta_of_chunk c) → (low len : ℕ) →
+    (c : ChunkParts) → IsRun c.schema c.first c.rows → (t : TableParts) → t.rows ≡ applied finite.empty (delta_of_chunk c) → (low len : ℕ) →
     rows_from t low len ≡ take len (drop low c.rows)
 part-rows c sound t is low len =
     ap (λ rows. take len (drop low rows)) (ap finite.values is ∙ (ap (map (λ e. e.1)) (chunk-entries c sound) ∙ tagged-cells c.first c.rows))
 
 -- and are there under their numbers
 pub part-stored :
-    (c : ChunkParts) → IsChunk c.schema c.first c.rows → (t : TableParts) → t.rows ≡ applied finite.empty (delta_of_chunk c) → (low first len : ℕ) →
+    (c : ChunkParts) → IsRun c.schema c.first c.rows → (t : TableParts) → t.rows ≡ applied finite.empty (delta_of_chunk c) → (low first len : ℕ) →
     low + len ≤ length c.rows → first ≡ c.first + low → IsStored t first low len
 part-stored c sound t is low first len within number =
     let entries : finite.entries t.rows ≡ map at_tag (enumerate_from c.first c.rows) = ap finite.entries is ∙ chunk-entries c sound in
@@ -112,6 +117,6 @@ part-stored c sound t is low first len within number =
 
 -- the delta of a chunk leads a frame that takes it to the frame with it
 pub prepared-diff :
-    (c : ChunkParts) (f : FrameState) → IsChunk c.schema c.first c.rows → IsNumbered f → TakesChunk f c →
+    (c : ChunkParts) (f : FrameState) → IsRun c.schema c.first c.rows → IsNumbered f → TakesChunk f c →
     IsDiff (tagged_rows_of f) (tagged_rows_of (with_chunk c f)) (delta_of_chunk c)
 prepared-diff c f sound numbered takes = appended-diff c f numbered (numbered-with_chunk c f numbered sound.numbered takes.0 takes.1) takes.0

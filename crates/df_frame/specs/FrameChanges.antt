@@ -1,6 +1,7 @@
 -- Changes of one frame's rows: what each makes of the frame, and when the frame takes it.
 use Rattle.std.specs.Prelude.{◌≡◌, ℕ, ⊤, List, [], None, false, length, map}
-use Rattle.df_value.specs.Chunks.{ChunkParts, IsChunk}
+use Rattle.df_value.specs.Chunks.{ChunkParts}
+use Rattle.df_frame.specs.Runs.{IsRun}
 use Rattle.df_delta.specs.Deltas.{Changes}
 use Rattle.df_frame.specs.declared.frame_change.FrameChange.{FrameChange}
 use Rattle.df_frame.specs.declared.frame_change.FrameChange.TheVariants.{Append, Delete, Prepared, Replace}
@@ -14,7 +15,7 @@ use Rattle.df_frame.specs.Prepared.{delta_of_chunk}
 -- the frame after the change
 abbrev pub frame_after : FrameState → FrameChange → FrameState
 frame_after x (Append chunk) = with_chunk chunk.now x
-frame_after x (Prepared chunk) = with_chunk chunk.now x
+frame_after x (Prepared run) = with_chunk run.now x
 frame_after x (Delete numbers) = without_rows numbers.now x
 frame_after x (Replace rows) = with_replaced_rows rows.now x
 
@@ -29,31 +30,31 @@ TakesChunk x c = (first_taken x c ≡ None) × (would_be_full x c ≡ false)
 -- nothing in the frame refuses the change
 abbrev pub FrameTakes : FrameState → FrameChange → Type 0
 FrameTakes x (Append chunk) = TakesChunk x chunk.now
-FrameTakes x (Prepared chunk) = TakesChunk x chunk.now
+FrameTakes x (Prepared run) = TakesChunk x run.now
 FrameTakes x (Delete numbers) = TakesNumbers x numbers.now
 FrameTakes x (Replace rows) = TakesNumbers x (map (λ r. r.0) rows.now)
 
 -- how many rows it adds, and how many it takes out
 abbrev pub accepted_rows : FrameChange → ℕ
 accepted_rows (Append chunk) = length chunk.now.rows
-accepted_rows (Prepared chunk) = length chunk.now.rows
+accepted_rows (Prepared run) = length run.now.rows
 accepted_rows (Delete numbers) = 0
 accepted_rows (Replace rows) = 0
 
 abbrev pub deleted_rows : FrameChange → ℕ
 deleted_rows (Append chunk) = 0
-deleted_rows (Prepared chunk) = 0
+deleted_rows (Prepared run) = 0
 deleted_rows (Delete numbers) = length numbers.now
 deleted_rows (Replace rows) = 0
 
--- a change that code can make: its chunk is sound
+-- a change that code can make: the rows that it adds are a run
 abbrev pub IsSound : FrameChange → Type 0
-IsSound (Append chunk) = IsChunk chunk.now.schema chunk.now.first chunk.now.rows
-IsSound (Prepared chunk) = IsChunk chunk.now.schema chunk.now.first chunk.now.rows
+IsSound (Append chunk) = IsRun chunk.now.schema chunk.now.first chunk.now.rows
+IsSound (Prepared run) = IsRun run.now.schema run.now.first run.now.rows
 IsSound (Delete numbers) = ⊤
 IsSound (Replace rows) = ⊤
 
--- the delta of a change: made for it, or that of a prepared chunk
+-- the delta of a change: made for it, or that of a prepared run
 abbrev pub delta_in : FrameDelta → Changes
 delta_in (Made d) = d
-delta_in (Lent chunk) = delta_of_chunk chunk.now
+delta_in (Lent run) = delta_of_chunk run.now

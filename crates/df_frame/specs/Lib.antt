@@ -4,6 +4,7 @@ pub mod Frames
 pub mod FrameParts
 pub mod FrameTables
 pub mod Refusals
+pub mod Runs
 pub mod Prepared
 pub mod FrameChanges
 pub mod Stored

@@ -1,19 +1,20 @@
--- Chunks whose rows stand in blocks already.
+-- Runs whose rows stand in blocks already.
 use Rattle.std.specs.Prelude.{◌≡◌, map}
 use Rattle.std.specs.FinMap as finite
 use Rattle.std.specs.List.{enumerate_from}
-use Rattle.df_value.specs.Chunks.{ChunkParts, IsChunk}
+use Rattle.df_value.specs.Chunks.{ChunkParts}
+use Rattle.df_frame.specs.Runs.{IsRun}
 use Rattle.df_column.specs.Changes.{applied}
 use Rattle.df_column.specs.Tables.{TaggedRows}
 use Rattle.df_delta.specs.Deltas.{Changes}
 use Rattle.df_frame.specs.FrameTables.{coming_row}
 
--- the delta by which the rows of a chunk come
+-- the delta by which the rows of a chunk or a run come
 abbrev pub delta_of_chunk : ChunkParts → Changes
 delta_of_chunk c = finite.from_sorted (map coming_row (enumerate_from c.first c.rows))
 
--- the chunk is sound, the delta brings its rows, and these are the rows that it brings to a table without rows
+-- it is a run, the delta brings its rows, and these are the rows that it brings to a table without rows
 pub record IsPrepared (c : ChunkParts) (delta : Changes) (rows : TaggedRows) : Type 0 where
-  pub sound : IsChunk c.schema c.first c.rows
+  pub sound : IsRun c.schema c.first c.rows
   pub delta_is : delta ≡ delta_of_chunk c
   pub rows_are : rows ≡ applied finite.empty delta

@@ -1,10 +1,12 @@
 //! One frame: its rows under their numbers, and the numbers that it accepted.
-ghost use Rattle.std.specs.Prelude.{◌≡◌, ◌≤◌, ◌<◌, IfOk, IsTrue, length, map, slice_index};
+ghost use Rattle.std.specs.Prelude.{◌≡◌, ◌+◌, ◌≤◌, ◌<◌, None, IfOk, IsTrue, length, map, slice_index};
+ghost use Rattle.std.specs.List.{range_with_len};
 ghost use Rattle.df_frame.specs.FrameChanges as frame_changes;
 ghost use Rattle.df_frame.specs.FrameParts.{empty_parts};
 ghost use Rattle.df_frame.specs.FrameTables.{table_parts, tagged_rows_of};
 ghost use Rattle.df_frame.specs.Frames as frames;
 ghost use Rattle.df_frame.specs.Frames.{IsNumbered, numbers_of, rows_of};
+ghost use Rattle.df_frame.specs.Numbers.{put_from};
 ghost use Rattle.df_frame.specs.Refusals as refusals;
 ghost use Rattle.df_delta.specs.Differences.{IsDiff};
 ghost use Rattle.df_value.specs.Limits as limits;
@@ -17,7 +19,7 @@ use crate::prepared::FrameDelta;
 use crate::ranges::Ranges;
 use crate::table_numbers::{number_at, row_numbers};
 use df_column::Table;
-use df_value::{Chunk, Duplicate, List, MOST_ROWS_OF_FRAME, Row, Schema};
+use df_value::{Duplicate, List, MOST_ROWS_OF_FRAME, Row, Schema};
 use std::alloc::{AllocError, Global};
 use std::marker::Model;
 
@@ -143,21 +145,21 @@ impl Frame {
         self.number_at(place) == number && self.table.is_row(place, row)
     }
 
-    /// The least number of the chunk that was accepted before.
-    pub fn first_taken(&self, chunk: &Chunk) -> Option<u32>
-        ensures { result ≡ refusals.first_taken self.now.state chunk.now }
+    /// The least of so many numbers from this one on that was accepted before.
+    pub fn first_accepted(&self, first: u32, count: usize) -> Option<u32>
+        requires { first + count ≤ limits.row_numbers }
+        ensures { result ≡ refusals.first_accepted self.now.state first count }
     {
-        let rows = chunk.rows();
-        self.accepted.first_within(chunk.first(), rows.len())
+        self.accepted.first_within(first, count)
     }
 
-    /// Whether more than 1,048,576 numbers would have been accepted with the chunk.
-    pub fn would_be_full(&self, chunk: &Chunk) -> bool
-        requires { length self.now.state.accepted ≤ limits.most_rows_of_frame }
-        ensures { result ≡ refusals.would_be_full self.now.state chunk.now }
+    /// Whether more than 1,048,576 numbers would have been accepted with so many more.
+    pub fn has_no_room(&self, count: usize) -> bool
+        requires few { length self.now.state.accepted ≤ limits.most_rows_of_frame }
+        requires count { count ≤ limits.most_rows_of_frame }
+        ensures { result ≡ refusals.has_no_room self.now.state count }
     {
-        let rows = chunk.rows();
-        self.accepted() + rows.len() as u64 > MOST_ROWS_OF_FRAME as u64
+        self.accepted() + count as u64 > MOST_ROWS_OF_FRAME as u64
     }
 
     /// Whether there is a row of this number.
@@ -177,7 +179,7 @@ impl Frame {
             .find(|n| !self.has_row(*n))
     }
 
-    // The lean delta from the rows to those after a change that nothing in the frame refuses. That of a prepared chunk is
+    // The lean delta from the rows to those after a change that nothing in the frame refuses. That of a prepared run is
     // lent by it.
     fn delta<'a>(
         &self,
@@ -206,7 +208,7 @@ impl Frame {
     }
 
     /// The frame after a change that nothing in it refuses, and after which the rows fit, and the change's delta. Blocks
-    /// of rows that do not change are shared, and those of a prepared chunk can be.
+    /// of rows that do not change are shared, and those of a prepared run can be.
     pub fn changed<'a>(
         &self,
         alloc: Global,
@@ -243,18 +245,25 @@ impl Frame {
             accepted ≡ (frame_changes.frame_after self.now.state change.entry).accepted) }
     {
         match change {
-            FrameChange::Append(chunk) => self.accepted_with(alloc, chunk),
-            FrameChange::Prepared(prepared) => self.accepted_with(alloc, prepared.chunk()),
+            FrameChange::Append(chunk) => {
+                self.accepted_with(alloc, chunk.first(), chunk.rows().len())
+            }
+            FrameChange::Prepared(prepared) => {
+                let run = prepared.run();
+                self.accepted_with(alloc, run.first(), run.rows().len())
+            }
             FrameChange::Delete(_) | FrameChange::Replace(_) => self.accepted.copy(alloc),
         }
     }
 
-    fn accepted_with(&self, alloc: Global, chunk: &Chunk) -> Result<Ranges, AllocError>
+    // The numbers that were accepted once so many from this one on are, of which none was.
+    fn accepted_with(&self, alloc: Global, first: u32, count: usize) -> Result<Ranges, AllocError>
         requires sound { IsNumbered self.now.state }
-        requires free { frame_changes.TakesChunk self.now.state chunk.now }
+        requires within { first + count ≤ limits.row_numbers }
+        requires free { refusals.first_accepted self.now.state first count ≡ None }
         ensures { IfOk result (λ accepted.
-            accepted ≡ (frames.with_chunk chunk.now self.now.state).accepted) }
+            accepted ≡ put_from (λ n. n) first (range_with_len first count) self.now.state.accepted) }
     {
-        self.accepted.with(alloc, chunk.first(), chunk.rows().len())
+        self.accepted.with(alloc, first, count)
     }
 }

@@ -1,13 +1,14 @@
-//! Chunks whose rows stand in blocks already.
+//! Runs whose rows stand in blocks already.
 ghost use Rattle.std.specs.Prelude.{◌≡◌, ◌+◌, ◌≤◌, IfOk, IfSome, drop, length, take, true};
 ghost use Rattle.std.specs.FinMap as finite;
-ghost use Rattle.df_value.specs.Chunks.{IsChunk};
+ghost use Rattle.df_frame.specs.Runs.{IsRun};
 ghost use Rattle.df_column.specs.Changes.{applied};
 ghost use Rattle.df_frame.specs.FrameChanges.{delta_in};
 ghost use Rattle.df_frame.specs.Prepared.{delta_of_chunk};
 ghost use Rattle.df_delta.specs.Deltas.{RowsFit};
 
 use crate::deltas::delta_of_rows;
+use crate::run::Run;
 use crate::stored::StoredChunk;
 use df_column::Table;
 use df_delta::{Delta, apply, apply_with};
@@ -16,44 +17,40 @@ use std::alloc::{AllocError, Global};
 use std::marker::Model;
 use std::sync::Arc;
 
-/// A chunk, with the delta that it makes, and its rows in the blocks of a table. The frame that it enters can share these
-/// blocks, so that they are made before the frame is locked. Contracts see the chunk.
-pub struct PreparedChunk {
-    chunk: Chunk,
+/// A run, with the delta that it makes, and its rows in the blocks of a table. The frame that it enters can share these
+/// blocks, so that they are made before the frame is locked. Contracts see the run.
+pub struct PreparedRun {
+    run: Run,
     delta: Delta,
     table: Arc<Table>,
 }
 
 // A body that owns one drops it by a call.
-impl Drop for PreparedChunk {
+impl Drop for PreparedRun {
     fn drop(self) {
-        let PreparedChunk {
-            chunk,
-            delta,
-            table,
-        } = self;
-        drop(chunk);
+        let PreparedRun { run, delta, table } = self;
+        drop(run);
         drop(delta);
         drop(table);
     }
 }
 
-impl Model for PreparedChunk {
+impl Model for PreparedRun {
     ghost use Rattle.std.specs.Arc.{arc_value};
     ghost use Rattle.df_value.specs.Chunks.{ChunkParts};
     ghost use Rattle.df_frame.specs.Prepared.{IsPrepared};
 
     ghost Value = { ChunkParts };
 
-    ghost view = { λ p. p.chunk };
+    ghost view = { λ p. p.run };
 
-    ghost invariant = { λ p. IsPrepared p.chunk p.delta (arc_value p.table).rows };
+    ghost invariant = { λ p. IsPrepared p.run p.delta (arc_value p.table).rows };
 }
 
-/// The delta of a change of a frame: made for it, or that of a prepared chunk.
+/// The delta of a change of a frame: made for it, or that of a prepared run.
 pub enum FrameDelta<'a> {
     Made(Delta),
-    Lent(&'a PreparedChunk),
+    Lent(&'a PreparedRun),
 }
 
 // A body that owns one drops it by a call.
@@ -77,7 +74,7 @@ impl FrameDelta<'_> {
         }
     }
 
-    /// The table after it. The blocks of a prepared chunk are taken where that goes.
+    /// The table after it. The blocks of a prepared run are taken where that goes.
     pub fn applied(&self, alloc: Global, table: &Table) -> Result<Table, AllocError>
         ensures schema { IfOk result (λ t. t.schema ≡ table.now.schema) }
         ensures rows { RowsFit table.now.schema (applied table.now.rows (delta_in self.now))
@@ -92,36 +89,32 @@ impl FrameDelta<'_> {
     }
 }
 
-impl PreparedChunk {
-    /// The chunk, with its rows in blocks.
-    pub fn new(alloc: Global, chunk: Chunk) -> Result<PreparedChunk, AllocError>
-        ensures { IfOk result (λ prepared. prepared ≡ chunk) }
+impl PreparedRun {
+    /// The run, with its rows in blocks.
+    pub fn new(alloc: Global, run: Run) -> Result<PreparedRun, AllocError>
+        ensures { IfOk result (λ prepared. prepared ≡ run) }
     {
-        let rows = chunk.rows().as_slice();
-        let delta = delta_of_rows(alloc, chunk.first(), rows)?;
-        let none = Table::new(alloc, chunk.schema().copy(alloc)?)?;
+        let rows = run.rows().as_slice();
+        let delta = delta_of_rows(alloc, run.first(), rows)?;
+        let none = Table::new(alloc, run.schema().copy(alloc)?)?;
         let table = Arc::new(alloc, apply(alloc, &none, &delta)?)?;
-        Ok(PreparedChunk {
-            chunk,
-            delta,
-            table,
-        })
+        Ok(PreparedRun { run, delta, table })
     }
 
-    /// The chunk.
-    pub fn chunk(&self) -> &Chunk
+    /// The run.
+    pub fn run(&self) -> &Run
         ensures { result.now ≡ self.now }
     {
-        &self.chunk
+        &self.run
     }
 
     /// The delta by which its rows come.
     pub fn lend(&self) -> FrameDelta<'_>
         ensures value { delta_in result ≡ delta_of_chunk self.now }
-        ensures sound { IsChunk self.now.schema self.now.first self.now.rows }
+        ensures sound { IsRun self.now.schema self.now.first self.now.rows }
     {
-        // The clause `sound` is a fact of the chunk's type, which a proof has where the chunk is read.
-        let _ = &self.chunk;
+        // The clause `sound` is a fact of the run's type, which a proof has where the run is read.
+        let _ = &self.run;
         FrameDelta::Lent(self)
     }
 
@@ -138,7 +131,7 @@ impl PreparedChunk {
         &self.table
     }
 
-    /// A chunk that has rows of this one from an index on, in the blocks of this one. None where it has another schema, or
+    /// A chunk that has rows of this run from an index on, in its blocks. None where it has another schema, or
     /// other numbers. It takes no memory.
     pub fn part(&self, low: usize, chunk: &Chunk) -> Result<Option<StoredChunk>, AllocError>
         requires rows { take (length chunk.now.rows) (drop low self.now.rows) ≡ chunk.now.rows }
@@ -157,7 +150,7 @@ impl PreparedChunk {
         ensures within { result ≡ true → low + len ≤ length self.now.rows }
         ensures number { result ≡ true → first ≡ self.now.first + low }
     {
-        let rows = self.chunk.rows().len();
-        low <= rows && len <= rows - low && first as u64 == self.chunk.first() as u64 + low as u64
+        let rows = self.run.rows().len();
+        low <= rows && len <= rows - low && first as u64 == self.run.first() as u64 + low as u64
     }
 }

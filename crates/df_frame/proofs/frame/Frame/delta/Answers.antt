@@ -6,7 +6,7 @@ use Rattle.df_frame.specs.FrameParts.{FrameParts}
 use Rattle.df_frame.specs.FrameTables.{coming_row, set_rows, tagged_rows_of}
 use Rattle.df_frame.specs.Frames.{with_chunk}
 use Rattle.df_frame.proofs.FrameTableFacts.{rows-deleted, rows-replaced, table-is}
-use Rattle.df_frame.proofs.PreparedFacts.{prepared-diff}
+use Rattle.df_frame.proofs.PreparedFacts.{prepared-diff, run-of-chunk}
 use Rattle.df_frame.proofs.frame.Frame.delta.Goals as goal
 
 pub returns-in_ok-delta_of_rows-in-Append : goal.returns-in_ok-delta_of_rows-in-Append
@@ -19,7 +19,7 @@ returns-in_ok-delta_of_rows-in-Append c =
     ∙ ap (λ rows. finite.from_sorted (map coming_row (enumerate_from chunk.first rows))) (c.as_slice-rows.ensures ∙ c.rows.ensures.value) in
     rw c.in-Append.is
     (subst (IsDiff (tagged_rows_of f) (tagged_rows_of (with_chunk chunk f))) (sym (c.in_ok-delta_of_rows-in-Append.ensures ∙ same))
-    (prepared-diff chunk f c.rows.ensures.sound c.requires.sound takes))
+    (prepared-diff chunk f (run-of-chunk chunk c.rows.ensures.sound) c.requires.sound takes))
 
 pub returns-in-Prepared : goal.returns-in-Prepared
 returns-in-Prepared c =

@@ -6,11 +6,11 @@ use Rattle.df_column.specs.Tables.{TableParts}
 use Rattle.df_delta.specs.Deltas.{RowsFit}
 use Rattle.df_frame.specs.FrameTables.{coming_row}
 use Rattle.df_frame.proofs.PreparedFacts.{chunk-fits}
-use Rattle.df_frame.proofs.prepared.PreparedChunk.new.Goals as goal
+use Rattle.df_frame.proofs.prepared.PreparedRun.new.Goals as goal
 
 pub invariant_of-result : goal.invariant_of-result
 invariant_of-result c =
-    let chunk = c.args.chunk in
+    let chunk = c.args.run in
     let delta =
     c.in_ok-delta.ensures
     ∙ ap (λ first. finite.from_sorted (map coming_row (enumerate_from first c.as_slice-rows.result.now))) c.first.ensures

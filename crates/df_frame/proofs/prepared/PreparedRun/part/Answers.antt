@@ -7,11 +7,11 @@ use Rattle.df_column.specs.Tables.{TableParts}
 use Rattle.df_frame.specs.Prepared.{delta_of_chunk}
 use Rattle.df_frame.specs.Stored.{rows_from}
 use Rattle.df_frame.proofs.PreparedFacts.{part-rows, part-stored}
-use Rattle.df_frame.proofs.prepared.PreparedChunk.part.Goals as goal
+use Rattle.df_frame.proofs.prepared.PreparedRun.part.Goals as goal
 
 pub new-requires : goal.new-requires
 new-requires c =
-    let whole = c.self.inside.chunk in
+    let whole = c.self.inside.run in
     let table = arc_value c.in_ok-table.table in
     let is : table.rows ≡ applied finite.empty (delta_of_chunk whole) =
     ap (λ (t : TableParts). t.rows) c.in_ok-table.ensures ∙ (c.self.invariant.rows_are ∙ ap (applied finite.empty) c.self.invariant.delta_is) in
@@ -23,7 +23,7 @@ new-requires c =
 
 pub returns : goal.returns
 returns c =
-    let whole = c.self.inside.chunk in
+    let whole = c.self.inside.run in
     let table = arc_value c.in_ok-table.table in
     let is : table.rows ≡ applied finite.empty (delta_of_chunk whole) =
     ap (λ (t : TableParts). t.rows) c.in_ok-table.ensures ∙ (c.self.invariant.rows_are ∙ ap (applied finite.empty) c.self.invariant.delta_is) in

@@ -1,0 +1,123 @@
+//! Runs: rows of a frame with their numbers, as many as a frame accepts.
+ghost use Rattle.std.specs.Prelude.{◌≡◌, ◌↔◌, IfOk, IsTrue, MatchOption};
+
+use df_value::{Chunk, Duplicate, List, MOST_ROWS_OF_FRAME, Row, Schema, same};
+use std::alloc::{AllocError, Global};
+use std::marker::Model;
+
+/// Rows of a frame, of one schema, of which the first has the number [`first`](Run::first), and each further one the number
+/// after it. There are at most 1,048,576 of them, perhaps none; each fits the schema, and each number is below 2^32. The
+/// rows of chunks that follow one another are a run. Contracts see what they see of a chunk.
+pub struct Run {
+    schema: Schema,
+    first: u32,
+    rows: List<Row>,
+}
+
+// A body that owns one drops it by a call.
+impl Drop for Run {
+    fn drop(self) {
+        let Run {
+            schema,
+            first: _,
+            rows,
+        } = self;
+        drop(schema);
+        drop(rows);
+    }
+}
+
+impl Model for Run {
+    ghost use Rattle.df_value.specs.Chunks.{ChunkParts};
+    ghost use Rattle.df_frame.specs.Runs.{IsRun};
+
+    ghost Value = { ChunkParts };
+
+    ghost view = { λ r. record { schema = r.schema; first = r.first; rows = r.rows } };
+
+    ghost invariant = { λ r. IsRun r.schema r.first r.rows };
+}
+
+impl Run {
+    ghost use Rattle.df_frame.specs.Runs.{GoesOn, IsRun, run_of_both};
+
+    /// A copy of a chunk's rows.
+    pub fn of_chunk(alloc: Global, chunk: &Chunk) -> Result<Run, AllocError>
+        ensures { IfOk result (λ run. run ≡ chunk.now) }
+    {
+        let rows = chunk.rows();
+        Ok(Run {
+            schema: chunk.schema().copy(alloc)?,
+            first: chunk.first(),
+            rows: rows.copy(alloc)?,
+        })
+    }
+
+    /// The schema that the rows fit.
+    pub fn schema(&self) -> &Schema
+        ensures { result.now ≡ self.now.schema }
+    {
+        &self.schema
+    }
+
+    /// The number of the first row.
+    pub fn first(&self) -> u32
+        ensures { result ≡ self.now.first }
+    {
+        self.first
+    }
+
+    /// The rows by rising number.
+    pub fn rows(&self) -> &List<Row>
+        ensures value { result.now ≡ self.now.rows }
+        ensures sound { IsRun self.now.schema self.now.first self.now.rows }
+    {
+        &self.rows
+    }
+
+    /// The rows by rising number, taken out of the run.
+    pub fn into_rows(self) -> List<Row>
+        ensures { result ≡ self.rows }
+    {
+        let Run {
+            schema,
+            first: _,
+            rows,
+        } = self;
+        drop(schema);
+        rows
+    }
+
+    /// These rows and those of another run as one, where that goes on behind these: it has the same schema and begins with
+    /// the number behind the last one here, and both have few enough rows together. None otherwise.
+    pub fn joined(self, other: Run) -> Result<Option<Run>, AllocError>
+        ensures { IfOk result (λ r. MatchOption r (GoesOn self other → ⊥)
+            (λ run. GoesOn self other × (run ≡ run_of_both self other))) }
+    {
+        if !self.goes_on(&other) {
+            return Ok(None);
+        }
+        let Run {
+            schema,
+            first,
+            rows,
+        } = self;
+        let mut rows = rows.into_vec();
+        let mut more = other.into_rows().into_vec();
+        rows.append(&mut more)?;
+        Ok(Some(Run {
+            schema,
+            first,
+            rows: List::from_vec(rows),
+        }))
+    }
+
+    fn goes_on(&self, other: &Run) -> bool
+        ensures { IsTrue result ↔ GoesOn self.now other.now }
+    {
+        let count = self.rows.len();
+        count + other.rows.len() <= MOST_ROWS_OF_FRAME
+            && other.first as u64 == self.first as u64 + count as u64
+            && same(&self.schema, &other.schema)
+    }
+}
