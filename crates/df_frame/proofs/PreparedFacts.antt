@@ -1,30 +1,33 @@
 -- The rows of a chunk, or of a run, by themselves.
-use Rattle.std.proofs.Common.{◌≡◌, ◌+◌, ◌<◌, ◌≤◌, ◌∙◌, ℕ, false, List, [], ◌∷◌, None, drop, get_or, length, map, take, ap, sym, subst, refl, arith}
+use Rattle.std.proofs.Common.{◌≡◌, ◌+◌, ◌<◌, ◌≤◌, ◌++◌, ◌∙◌, ℕ, suc, false, List, [], ◌∷◌, None, drop, get_or, length, map, take, ap, sym, subst, refl, arith}
 use Rattle.std.specs.Prelude.{find, nat_lt}
 use Rattle.std.specs.List.{enumerate_from}
 use Rattle.std.proofs.lemmas.Bool.{le-ltb}
-use Rattle.std.proofs.lemmas.List.{append-nil, get_or-drop, get_or-map, get_or-take, length-drop, length-map, length-take-le}
+use Rattle.std.proofs.lemmas.List.{append-nil, map-append, get_or-drop, get_or-map, get_or-take, length-drop, length-map, length-take-le}
 use Rattle.std.proofs.lemmas.List.FromFn.{get_or-enumerate_from, length-enumerate_from}
 use Rattle.std.specs.FinMap as finite
 use Rattle.df_value.specs.Chunks.{ChunkParts, IsChunk}
-use Rattle.df_frame.specs.Runs.{IsRun}
+use Rattle.df_frame.specs.Runs.{GoesOn, IsRun, run_of_both}
 use Rattle.df_value.specs.Limits as limits
 use Rattle.df_value.specs.declared.cell.Cell.{Cell}
-use Rattle.df_column.specs.Changes.{applied}
+use Rattle.df_column.specs.Changes.{Change, applied, applied_list, set_at}
 use Rattle.df_column.specs.RowRuns.{StandFrom}
-use Rattle.df_column.specs.Tables.{TableParts}
+use Rattle.df_column.specs.Tables.{TableParts, TaggedRows}
+use Rattle.df_column.specs.Tags.{tag_cmp}
 use Rattle.df_column.specs.declared.tag.Tag.{Tag}
-use Rattle.df_delta.specs.Deltas.{RowsFit}
+use Rattle.df_delta.specs.Deltas.{Changes, RowsFit}
 use Rattle.df_delta.specs.Differences.{IsDiff}
 use Rattle.df_frame.specs.FrameChanges.{TakesChunk}
-use Rattle.df_frame.specs.FrameTables.{at_tag, row_tag, tagged_rows_of}
+use Rattle.df_frame.specs.FrameTables.{at_tag, coming_row, row_tag, tagged_rows_of}
 use Rattle.df_frame.specs.Frames.{IsFrame, IsNumbered, chunk_numbers, with_chunk, empty_frame}
-use Rattle.df_frame.specs.Numbers.{has_number}
+use Rattle.df_frame.specs.Numbers.{has_number, is_rising}
 use Rattle.df_frame.specs.Prepared.{delta_of_chunk}
 use Rattle.df_frame.specs.Stored.{IsStored, rows_from}
 use Rattle.df_frame.specs.declared.state.FrameState.{FrameState}
-use Rattle.df_frame.proofs.FrameFacts.{empty-sound, frame-with_chunk, numbered-with_chunk}
+use Rattle.df_frame.proofs.DeltaFacts.{coming-rise}
+use Rattle.df_frame.proofs.FrameFacts.{empty-sound, enumerated-numbers, frame-with_chunk, numbered-with_chunk}
 use Rattle.df_frame.proofs.FrameTableFacts.{appended-diff, empty-table, table-entries, table-fits}
+use Rattle.df_frame.proofs.Rising.{rising-block}
 
 -- the rows of a chunk are a run
 pub run-of-chunk : (c : ChunkParts) → IsChunk c.schema c.first c.rows → IsRun c.schema c.first c.rows
@@ -120,3 +123,44 @@ pub prepared-diff :
     (c : ChunkParts) (f : FrameState) → IsRun c.schema c.first c.rows → IsNumbered f → TakesChunk f c →
     IsDiff (tagged_rows_of f) (tagged_rows_of (with_chunk c f)) (delta_of_chunk c)
 prepared-diff c f sound numbered takes = appended-diff c f numbered (numbered-with_chunk c f numbered sound.numbered takes.0 takes.1) takes.0
+
+-- ---- a run and one that goes on behind it
+
+-- the changes by which the rows of a run come, in order
+coming-entries : (c : ChunkParts) → finite.entries (delta_of_chunk c) ≡ map coming_row (enumerate_from c.first c.rows)
+coming-entries c =
+    finite.entries-from_sorted tag_cmp (map coming_row (enumerate_from c.first c.rows))
+    (coming-rise (enumerate_from c.first c.rows) (ap is_rising (enumerated-numbers c.first c.rows) ∙ rising-block c.first (length c.rows)))
+
+enumerated-both : {T : Type 0} (n : ℕ) (xs ys : List T) → enumerate_from n (xs ++ ys) ≡ enumerate_from n xs ++ enumerate_from (n + length xs) ys
+enumerated-both n [] ys = let e : n + 0 ≡ n = omega arith in rw e refl
+enumerated-both n (x ∷ xs) ys =
+    let e : n + suc (length xs) ≡ (n + 1) + length xs = omega arith in
+    rw e (ap (λ rs. (n, x) ∷ rs) (enumerated-both (n + 1) xs ys))
+
+applied-both :
+    (t : TaggedRows) (es fs : List (Tag × Change (List Cell))) → applied_list t (es ++ fs) ≡ applied_list (applied_list t es) fs
+applied-both t [] fs = refl
+applied-both t (e ∷ es) fs = applied-both (set_at t e.0 e.1.new) es fs
+
+-- the changes of both are those of the one, and then those of the other
+both-entries :
+    (run next : ChunkParts) → GoesOn run next →
+    finite.entries (delta_of_chunk (run_of_both run next)) ≡ finite.entries (delta_of_chunk run) ++ finite.entries (delta_of_chunk next)
+both-entries run next h =
+    coming-entries (run_of_both run next)
+    ∙ (ap (map coming_row) (enumerated-both run.first run.rows next.rows)
+    ∙ (map-append coming_row (enumerate_from run.first run.rows) (enumerate_from (run.first + length run.rows) next.rows)
+    ∙ (ap (λ n. map coming_row (enumerate_from run.first run.rows) ++ map coming_row (enumerate_from n next.rows)) (sym h.of_first)
+    ∙ (ap (λ es. es ++ map coming_row (enumerate_from next.first next.rows)) (sym (coming-entries run))
+    ∙ ap (λ fs. finite.entries (delta_of_chunk run) ++ fs) (sym (coming-entries next))))))
+
+-- the rows of both stand where those of the one do and then those of the other come
+pub both-rows :
+    (run next : ChunkParts) → GoesOn run next → (t : TaggedRows) (d : Changes) → t ≡ applied finite.empty (delta_of_chunk run) → d ≡ delta_of_chunk next →
+    applied t d ≡ applied finite.empty (delta_of_chunk (run_of_both run next))
+both-rows run next h t d there is =
+    ap (λ e. applied t e) is
+    ∙ (ap (λ u. applied u (delta_of_chunk next)) there
+    ∙ (sym (applied-both finite.empty (finite.entries (delta_of_chunk run)) (finite.entries (delta_of_chunk next)))
+    ∙ ap (applied_list finite.empty) (sym (both-entries run next h))))

@@ -5,7 +5,7 @@ use Rattle.std.specs.List.{enumerate_from}
 use Rattle.df_value.specs.Chunks.{ChunkParts}
 use Rattle.df_frame.specs.Runs.{IsRun}
 use Rattle.df_column.specs.Changes.{applied}
-use Rattle.df_column.specs.Tables.{TaggedRows}
+use Rattle.df_column.specs.Tables.{TableParts}
 use Rattle.df_delta.specs.Deltas.{Changes}
 use Rattle.df_frame.specs.FrameTables.{coming_row}
 
@@ -13,8 +13,9 @@ use Rattle.df_frame.specs.FrameTables.{coming_row}
 abbrev pub delta_of_chunk : ChunkParts → Changes
 delta_of_chunk c = finite.from_sorted (map coming_row (enumerate_from c.first c.rows))
 
--- it is a run, the delta brings its rows, and these are the rows that it brings to a table without rows
-pub record IsPrepared (c : ChunkParts) (delta : Changes) (rows : TaggedRows) : Type 0 where
+-- it is a run, the delta brings its rows, and a table of its schema has the rows that the delta brings to one without rows
+pub record IsPrepared (c : ChunkParts) (delta : Changes) (t : TableParts) : Type 0 where
   pub sound : IsRun c.schema c.first c.rows
   pub delta_is : delta ≡ delta_of_chunk c
-  pub rows_are : rows ≡ applied finite.empty delta
+  pub schema_is : t.schema ≡ c.schema
+  pub rows_are : t.rows ≡ applied finite.empty delta

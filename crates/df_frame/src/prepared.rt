@@ -1,7 +1,7 @@
 //! Runs whose rows stand in blocks already.
 ghost use Rattle.std.specs.Prelude.{◌≡◌, ◌+◌, ◌≤◌, IfOk, IfSome, drop, length, take, true};
 ghost use Rattle.std.specs.FinMap as finite;
-ghost use Rattle.df_frame.specs.Runs.{IsRun};
+ghost use Rattle.df_frame.specs.Runs.{GoesOn, IsRun, run_of_both};
 ghost use Rattle.df_column.specs.Changes.{applied};
 ghost use Rattle.df_frame.specs.FrameChanges.{delta_in};
 ghost use Rattle.df_frame.specs.Prepared.{delta_of_chunk};
@@ -44,7 +44,7 @@ impl Model for PreparedRun {
 
     ghost view = { λ p. p.run };
 
-    ghost invariant = { λ p. IsPrepared p.run p.delta (arc_value p.table).rows };
+    ghost invariant = { λ p. IsPrepared p.run p.delta (arc_value p.table) };
 }
 
 /// The delta of a change of a frame: made for it, or that of a prepared run.
@@ -99,6 +99,25 @@ impl PreparedRun {
         let none = Table::new(alloc, run.schema().copy(alloc)?)?;
         let table = Arc::new(alloc, apply(alloc, &none, &delta)?)?;
         Ok(PreparedRun { run, delta, table })
+    }
+
+    /// This run and one that goes on behind it, as one, which takes the blocks of both. None where that does not go on.
+    pub fn joined(self, alloc: Global, next: PreparedRun) -> Result<Option<PreparedRun>, AllocError>
+        ensures { IfOk result (λ r. IfSome r (λ both. GoesOn self next × (both ≡ run_of_both self next))) }
+    {
+        let PreparedRun { run, delta, table } = self;
+        let PreparedRun {
+            run: more,
+            delta: coming,
+            table: behind,
+        } = next;
+        drop(delta);
+        let Some(run) = run.joined(more)? else {
+            return Ok(None);
+        };
+        let table = Arc::new(alloc, apply_with(alloc, &table, &coming, &behind)?)?;
+        let delta = delta_of_rows(alloc, run.first(), run.rows().as_slice())?;
+        Ok(Some(PreparedRun { run, delta, table }))
     }
 
     /// The run.

@@ -20,4 +20,4 @@ invariant_of-result c =
     let fits =
     subst (λ s. RowsFit s (applied c.in_ok-none.none.rows c.in_ok-delta.delta)) (sym schema)
     (subst (RowsFit chunk.schema) (sym (none ∙ ap (applied finite.empty) delta)) (chunk-fits chunk c.rows.ensures.sound)) in
-    record { sound = c.rows.ensures.sound; delta_is = delta; rows_are = ap (λ (t : TableParts). t.rows) c.in_ok-table.ensures.ok ∙ (c.in_ok-apply.ensures.rows fits ∙ none) }
+    record { sound = c.rows.ensures.sound; delta_is = delta; schema_is = ap (λ (t : TableParts). t.schema) c.in_ok-table.ensures.ok ∙ (c.in_ok-apply.ensures.schema ∙ schema); rows_are = ap (λ (t : TableParts). t.rows) c.in_ok-table.ensures.ok ∙ (c.in_ok-apply.ensures.rows fits ∙ none) }
