@@ -20,7 +20,7 @@ mod staging;
 mod views;
 
 pub use catalogue::Catalogue;
-pub use df_frame::{FrameChange, FrameState, PreparedChunk, StoredChunk};
+pub use df_frame::{FrameChange, FrameState, PreparedRun, StoredChunk};
 pub use df_live::{LiveView, StagedView};
 pub use df_state::{
     CatalogueFault, CatalogueParts, Change, Desk, NewFault, PARTS_OF_LEDGER, Picture, RowCounts,

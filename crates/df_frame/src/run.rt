@@ -1,7 +1,9 @@
 //! Runs: rows of a frame with their numbers, as many as a frame accepts.
 ghost use Rattle.std.specs.Prelude.{◌≡◌, ◌↔◌, IfOk, IsTrue, MatchOption};
+ghost use Rattle.std.specs.List.{list_all};
+ghost use Rattle.df_value.specs.Rows.{row_fits};
 
-use df_value::{Chunk, Duplicate, List, MOST_ROWS_OF_FRAME, Row, Schema, same};
+use df_value::{Duplicate, List, MOST_ROWS_OF_FRAME, ROW_NUMBERS, Row, Schema, same};
 use std::alloc::{AllocError, Global};
 use std::marker::Model;
 
@@ -39,18 +41,32 @@ impl Model for Run {
 }
 
 impl Run {
+    ghost use Rattle.df_value.specs.Chunks.{MakesChunk};
     ghost use Rattle.df_frame.specs.Runs.{GoesOn, IsRun, run_of_both};
 
-    /// A copy of a chunk's rows.
-    pub fn of_chunk(alloc: Global, chunk: &Chunk) -> Result<Run, AllocError>
-        ensures { IfOk result (λ run. run ≡ chunk.now) }
+    /// The run of these rows, of which the first has the number `first`; it keeps a copy of the schema. None where they are
+    /// too many, a number would be 2^32 or more, or a row does not fit the schema.
+    pub fn new(
+        alloc: Global,
+        schema: &Schema,
+        first: u32,
+        rows: List<Row>,
+    ) -> Result<Option<Run>, AllocError>
+        ensures { IfOk result (λ r. MatchOption r (IsRun schema.now first rows → ⊥)
+            (MakesChunk schema.now first rows)) }
     {
-        let rows = chunk.rows();
-        Ok(Run {
-            schema: chunk.schema().copy(alloc)?,
-            first: chunk.first(),
-            rows: rows.copy(alloc)?,
-        })
+        let count = rows.len();
+        if count > MOST_ROWS_OF_FRAME || first as u64 + count as u64 > ROW_NUMBERS {
+            return Ok(None);
+        }
+        if !all_fit(schema, rows.as_slice()) {
+            return Ok(None);
+        }
+        Ok(Some(Run {
+            schema: schema.copy(alloc)?,
+            first,
+            rows,
+        }))
     }
 
     /// The schema that the rows fit.
@@ -120,4 +136,10 @@ impl Run {
             && other.first as u64 == self.first as u64 + count as u64
             && same(&self.schema, &other.schema)
     }
+}
+
+fn all_fit(schema: &Schema, rows: &[Row]) -> bool
+    ensures { result ≡ list_all (row_fits schema.now) rows.now }
+{
+    rows.iter().all(|row| schema.fits(row))
 }

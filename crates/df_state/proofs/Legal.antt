@@ -6,7 +6,8 @@ use Rattle.std.proofs.lemmas.Bool.{leb-false}
 use Rattle.std.proofs.lemmas.List.{map-append}
 use Rattle.df_value.specs.declared.cell.Cell.{Cell}
 use Rattle.df_value.specs.declared.cell.CellType.{CellType}
-use Rattle.df_value.specs.Chunks.{ChunkParts, IsChunk}
+use Rattle.df_value.specs.Chunks.{ChunkParts}
+use Rattle.df_frame.specs.Runs.{IsRun}
 use Rattle.df_value.specs.Rows.{rows_fit}
 use Rattle.df_plan.specs.CheckedParts.{CheckedParts}
 use Rattle.df_state.specs.declared.state.State.{State}
@@ -100,7 +101,7 @@ with-frames s frames h sound = record {
 }
 
 append-frame :
-    (s : State) (f : ℕ) (c : ChunkParts) → IsChunk c.schema c.first c.rows → refusal_of s (Append f c) ≡ None →
+    (s : State) (f : ℕ) (c : ChunkParts) → IsRun c.schema c.first c.rows → refusal_of s (Append f c) ≡ None →
     (schema : Columns) (frame : FrameState) → slice_get s.schemas f ≡ Some schema → slice_get s.frames f ≡ Some frame →
     IsFrame schema frame → IsFrame schema (with_chunk c frame)
 append-frame s f c sound free schema frame e g h =

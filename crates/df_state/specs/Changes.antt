@@ -1,6 +1,6 @@
 -- What a change makes of a state: of its frames, of its views, and then every view's table is taken anew.
 use Rattle.std.specs.Prelude.{◌≡◌, ℕ, zero, suc, not, ⊤, Ok, List, [], ◌∷◌, ◌++◌, length, map, filter, bytes_eq}
-use Rattle.df_value.specs.Chunks.{IsChunk}
+use Rattle.df_frame.specs.Runs.{IsRun}
 use Rattle.df_plan.specs.CheckedParts.{CheckedParts}
 use Rattle.df_plan.specs.Checks.{plan_check}
 use Rattle.df_state.specs.declared.state.State.{State}
@@ -68,9 +68,9 @@ deleted_rows (Replace f rows) = 0
 deleted_rows (Register name p) = 0
 deleted_rows (DropView name) = 0
 
--- a change that code can make: its chunk is sound, its plan was checked
+-- a change that code can make: the rows that come are a run, its plan was checked
 abbrev pub IsSound : Change → Type 0
-IsSound (Append f c) = IsChunk c.schema c.first c.rows
+IsSound (Append f c) = IsRun c.schema c.first c.rows
 IsSound (Delete f ns) = ⊤
 IsSound (Replace f rows) = ⊤
 IsSound (Register name p) = plan_check p.plan p.frames ≡ Ok p.schema

@@ -15,7 +15,7 @@ use Rattle.df_state.specs.declared.change.Change.TheVariants.{Append, Delete, Re
 use Rattle.df_state.specs.declared.fault.CatalogueFault.{CatalogueFault}
 use Rattle.df_state.specs.declared.fault.CatalogueFault.TheVariants as fault
 use Rattle.df_value.specs.Limits as limits
-use Rattle.df_frame.specs.Refusals.{doubled_number_after, first_not_live, first_taken, would_be_full}
+use Rattle.df_frame.specs.Refusals.{doubled_number_after, first_accepted, first_not_live, has_no_room}
 use Rattle.df_state.specs.Schemas.{schema_eq, schemas_eq}
 
 -- the first reason of these that is there
@@ -32,15 +32,20 @@ reason_if b f = if b then Some f else None
 abbrev pub has_view : List ℕ → List ViewState → Bool
 has_view name views = list_any (λ v. bytes_eq v.name name) views
 
-abbrev pub append_refusal : ChunkParts → Option (List (List ℕ × CellType)) → Option FrameState → Option CatalogueFault
-append_refusal c None f = Some fault.NoFrame
-append_refusal c (Some schema) None = Some fault.NoFrame
-append_refusal c (Some schema) (Some f) = first_reason (
-    reason_if (not (schema_eq c.schema schema)) fault.SchemaUnlike
-    ∷ option_map fault.Taken (first_taken f c)
-    ∷ reason_if (would_be_full f c) fault.Full
+-- why so many rows of a schema, numbered from a first number on, cannot come
+abbrev pub coming_refusal : List (List ℕ × CellType) → ℕ → ℕ → Option (List (List ℕ × CellType)) → Option FrameState → Option CatalogueFault
+coming_refusal columns first count None f = Some fault.NoFrame
+coming_refusal columns first count (Some schema) None = Some fault.NoFrame
+coming_refusal columns first count (Some schema) (Some f) = first_reason (
+    reason_if (not (schema_eq columns schema)) fault.SchemaUnlike
+    ∷ option_map fault.Taken (first_accepted f first count)
+    ∷ reason_if (has_no_room f count) fault.Full
     ∷ []
     )
+
+-- why the rows of a chunk cannot
+abbrev pub append_refusal : ChunkParts → Option (List (List ℕ × CellType)) → Option FrameState → Option CatalogueFault
+append_refusal c schema f = coming_refusal c.schema c.first (length c.rows) schema f
 
 -- why the rows of these numbers cannot be taken out or replaced
 abbrev pub numbers_refusal : List ℕ → FrameState → Option CatalogueFault

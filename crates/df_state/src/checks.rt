@@ -1,18 +1,19 @@
 //! Whether a change of one frame is refused. Where memory is refused to a check it answers the same, by another way.
-ghost use Rattle.std.specs.Prelude.{◌≡◌, IfSome, Some, map, option_map, slice_get};
+ghost use Rattle.std.specs.Prelude.{◌≡◌, ◌+◌, ◌≤◌, IfSome, Some, map, option_map, slice_get};
 ghost use Rattle.std.specs.List.{AllZip, list_all};
 ghost use Rattle.std.specs.Option.{option_copied};
+ghost use Rattle.df_value.specs.Limits as limits;
 ghost use Rattle.df_value.specs.Rows.{row_fits, rows_fit};
 ghost use Rattle.df_frame.specs.FrameParts.{schemas_of, states_of};
 ghost use Rattle.df_frame.specs.Frames.{IsFrame, IsNumbered};
 ghost use Rattle.df_state.specs.Answers.{AnswersTest};
 ghost use Rattle.df_state.specs.FrameChanges.{frame_refusal};
-ghost use Rattle.df_state.specs.Refusals.{append_refusal, delete_refusal, numbers_refusal, replace_refusal};
+ghost use Rattle.df_state.specs.Refusals.{coming_refusal, delete_refusal, numbers_refusal, replace_refusal};
 
 use crate::fault::CatalogueFault;
 use crate::schemas::schema_eq;
 use df_frame::{Frame, FrameChange, HasNumber, Numbered, first_doubled_number};
-use df_value::{Chunk, Schema};
+use df_value::Schema;
 use std::alloc::Global;
 
 /// Whether the rows of a frame can be changed so.
@@ -27,8 +28,15 @@ pub fn check_frame_change(
         (frame_refusal (schemas_of frames.now) (states_of frames.now) frame change.entry) result }
 {
     match change {
-        FrameChange::Append(chunk) => check_append(frames, frame, chunk),
-        FrameChange::Prepared(prepared) => check_append(frames, frame, prepared.chunk()),
+        FrameChange::Append(chunk) => {
+            let rows = chunk.rows();
+            check_append(frames, frame, chunk.schema(), chunk.first(), rows.len())
+        }
+        FrameChange::Prepared(prepared) => {
+            let run = prepared.run();
+            let rows = run.rows();
+            check_append(frames, frame, run.schema(), run.first(), rows.len())
+        }
         FrameChange::Delete(numbers) => check_delete(alloc, frames, frame, numbers),
         FrameChange::Replace(rows) => check_replace(alloc, frames, frame, rows),
     }
@@ -46,14 +54,22 @@ pub fn frame_at(frames: &[Frame], frame: usize) -> Option<&Frame>
     frames.get(frame)
 }
 
-// Whether a frame would take the chunk.
-fn check_append(frames: &[Frame], frame: usize, chunk: &Chunk) -> Result<(), CatalogueFault>
-    requires { AllZip IsFrame (schemas_of frames.now) (states_of frames.now) }
-    ensures { AnswersTest (append_refusal chunk.now (slice_get (schemas_of frames.now) frame)
-        (slice_get (states_of frames.now) frame)) result }
+// Whether a frame would take so many rows of a schema, numbered from a first number on.
+fn check_append(
+    frames: &[Frame],
+    frame: usize,
+    schema: &Schema,
+    first: u32,
+    count: usize,
+) -> Result<(), CatalogueFault>
+    requires sound { AllZip IsFrame (schemas_of frames.now) (states_of frames.now) }
+    requires numbered { first + count ≤ limits.row_numbers }
+    requires few { count ≤ limits.most_rows_of_frame }
+    ensures { AnswersTest (coming_refusal schema.now first count
+        (slice_get (schemas_of frames.now) frame) (slice_get (states_of frames.now) frame)) result }
 {
     match frame_at(frames, frame) {
-        Some(frame) => check_chunk(frame, chunk),
+        Some(frame) => check_coming(frame, schema, first, count),
         None => Err(CatalogueFault::NoFrame),
     }
 }
@@ -91,18 +107,25 @@ fn check_replace(
     }
 }
 
-fn check_chunk(frame: &Frame, chunk: &Chunk) -> Result<(), CatalogueFault>
-    requires { IsNumbered frame.now.state }
-    ensures { AnswersTest
-        (append_refusal chunk.now (Some frame.now.schema) (Some frame.now.state)) result }
+fn check_coming(
+    frame: &Frame,
+    schema: &Schema,
+    first: u32,
+    count: usize,
+) -> Result<(), CatalogueFault>
+    requires sound { IsNumbered frame.now.state }
+    requires numbered { first + count ≤ limits.row_numbers }
+    requires few { count ≤ limits.most_rows_of_frame }
+    ensures { AnswersTest (coming_refusal schema.now first count (Some frame.now.schema)
+        (Some frame.now.state)) result }
 {
-    if !schema_eq(chunk.schema(), frame.schema()) {
+    if !schema_eq(schema, frame.schema()) {
         return Err(CatalogueFault::SchemaUnlike);
     }
-    if let Some(number) = frame.first_taken(chunk) {
+    if let Some(number) = frame.first_accepted(first, count) {
         return Err(CatalogueFault::Taken(number));
     }
-    if frame.would_be_full(chunk) {
+    if frame.has_no_room(count) {
         return Err(CatalogueFault::Full);
     }
     Ok(())
