@@ -101,9 +101,10 @@ impl PreparedRun {
         Ok(PreparedRun { run, delta, table })
     }
 
-    /// This run and one that goes on behind it, as one, which takes the blocks of both. None where that does not go on.
-    pub fn joined(self, alloc: Global, next: PreparedRun) -> Result<Option<PreparedRun>, AllocError>
-        ensures { IfOk result (λ r. IfSome r (λ both. GoesOn self next × (both ≡ run_of_both self next))) }
+    /// This run and one that goes on behind it, as one, which takes the blocks of both.
+    pub fn joined(self, alloc: Global, next: PreparedRun) -> Result<PreparedRun, AllocError>
+        requires { GoesOn self next }
+        ensures { IfOk result (λ both. both ≡ run_of_both self next) }
     {
         let PreparedRun { run, delta, table } = self;
         let PreparedRun {
@@ -112,12 +113,10 @@ impl PreparedRun {
             table: behind,
         } = next;
         drop(delta);
-        let Some(run) = run.joined(more)? else {
-            return Ok(None);
-        };
+        let run = run.joined(more)?;
         let table = Arc::new(alloc, apply_with(alloc, &table, &coming, &behind)?)?;
         let delta = delta_of_rows(alloc, run.first(), run.rows().as_slice())?;
-        Ok(Some(PreparedRun { run, delta, table }))
+        Ok(PreparedRun { run, delta, table })
     }
 
     /// The run.

@@ -104,37 +104,35 @@ impl Run {
         rows
     }
 
-    /// These rows and those of another run as one, where that goes on behind these: it has the same schema and begins with
-    /// the number behind the last one here, and both have few enough rows together. None otherwise.
-    pub fn joined(self, other: Run) -> Result<Option<Run>, AllocError>
-        ensures { IfOk result (λ r. MatchOption r (GoesOn self other → ⊥)
-            (λ run. GoesOn self other × (run ≡ run_of_both self other))) }
+    /// Whether another run goes on behind this one: it has the same schema and begins with the number behind the last one
+    /// here, and both have few enough rows together.
+    pub fn goes_on(&self, next: &Run) -> bool
+        ensures { IsTrue result ↔ GoesOn self.now next.now }
     {
-        if !self.goes_on(&other) {
-            return Ok(None);
-        }
+        let count = self.rows.len();
+        count + next.rows.len() <= MOST_ROWS_OF_FRAME
+            && next.first as u64 == self.first as u64 + count as u64
+            && same(&self.schema, &next.schema)
+    }
+
+    /// These rows and those of a run that goes on behind them, as one.
+    pub fn joined(self, next: Run) -> Result<Run, AllocError>
+        requires { GoesOn self next }
+        ensures { IfOk result (λ run. run ≡ run_of_both self next) }
+    {
         let Run {
             schema,
             first,
             rows,
         } = self;
         let mut rows = rows.into_vec();
-        let mut more = other.into_rows().into_vec();
+        let mut more = next.into_rows().into_vec();
         rows.append(&mut more)?;
-        Ok(Some(Run {
+        Ok(Run {
             schema,
             first,
             rows: List::from_vec(rows),
-        }))
-    }
-
-    fn goes_on(&self, other: &Run) -> bool
-        ensures { IsTrue result ↔ GoesOn self.now other.now }
-    {
-        let count = self.rows.len();
-        count + other.rows.len() <= MOST_ROWS_OF_FRAME
-            && other.first as u64 == self.first as u64 + count as u64
-            && same(&self.schema, &other.schema)
+        })
     }
 }
 

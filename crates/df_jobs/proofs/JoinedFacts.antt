@@ -42,15 +42,15 @@ entered-by false frame at schema (o ∷ os) e are =
     omega (arith, one, rest, here)
 
 -- the joined chunk brings as many rows into each frame as the chunks that are joined
-joined-entered : (os : List Outcome) (j : Joined) → IsJoined os j → (at : ℕ) → entered_at at os ≡ (if j.frame == at then length j.chunk.rows else 0)
+joined-entered : (os : List Outcome) (j : Joined) → IsJoined os j → (at : ℕ) → entered_at at os ≡ (if j.frame == at then length j.run.rows else 0)
 joined-entered os j is at =
     let b = j.frame == at in
-    let many = sym (ap length is.rows) ∙ length-enumerate j.chunk.first j.chunk.rows in
-    entered-by b j.frame at j.chunk.schema os refl is.parts ∙ ap (λ n. if b then n else 0) many
+    let many = sym (ap length is.rows) ∙ length-enumerate j.run.first j.run.rows in
+    entered-by b j.frame at j.run.schema os refl is.parts ∙ ap (λ n. if b then n else 0) many
 
 -- outcomes whose joined chunk was accepted, behind those that were there
 pub joined-counted :
-    (desks now : List DeskParts) (done kept os : List Outcome) (j : Joined) → IsJoined os j → HaveAccepted j.frame (length j.chunk.rows) desks now → kept ≡ done ++ os →
+    (desks now : List DeskParts) (done kept os : List Outcome) (j : Joined) → IsJoined os j → HaveAccepted j.frame (length j.run.rows) desks now → kept ≡ done ++ os →
     AreCounted desks done now kept
 joined-counted desks now done kept os j is more kept-is = record {
   same = λ at.

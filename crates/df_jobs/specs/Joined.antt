@@ -1,4 +1,4 @@
--- Chunks of one frame that follow one another, as one chunk.
+-- Chunks of one frame that follow one another, as one run.
 use Rattle.std.specs.Prelude.{◌≡◌, ◌+◌, ◌==◌, ℕ, All, List, [], ◌∷◌, flat_map}
 use Rattle.std.specs.List.{prefix_len}
 use Rattle.df_value.specs.Chunks.{ChunkParts}
@@ -21,9 +21,9 @@ pub record IsGoodOf (frame : ℕ) (schema : List (List ℕ × CellType)) (o : Ou
   pub good : o.made ≡ Good chunk
   pub of_schema : chunk.schema ≡ schema
 
--- these outcomes are good chunks of the frame and of the schema of the joined chunk, which has exactly their rows, at their
--- numbers and in their order; and `stored` lists the same outcomes
+-- these outcomes are good chunks of the frame and of the schema of the run, which has exactly their rows, at their numbers and in
+-- their order; and `stored` lists the same outcomes
 pub record IsJoined (outcomes : List Outcome) (joined : Joined) : Type 0 where
-  pub parts : All (IsGoodOf joined.frame joined.chunk.schema) outcomes
-  pub rows : chunk_rows joined.chunk ≡ flat_map (λ o. job_rows joined.frame (job_of o)) outcomes
+  pub parts : All (IsGoodOf joined.frame joined.run.schema) outcomes
+  pub rows : chunk_rows joined.run ≡ flat_map (λ o. job_rows joined.frame (job_of o)) outcomes
   pub stored : joined.stored.items ≡ outcomes

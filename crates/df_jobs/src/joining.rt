@@ -1,4 +1,4 @@
-//! Joining: the chunks of several jobs become one, which enters in one change.
+//! Joining: the chunks of several jobs become one run, which enters in one change.
 ghost use Rattle.std.specs.Prelude.{◌≡◌, ◌<◌, ◌≤◌, ◌+◌, ◌++◌, ◌^◌, ◌==◌, true, All, IfOk, IfSome, drop, flat_map, length, take};
 ghost use Rattle.std.specs.List.{enumerate_from, prefix_len};
 ghost use Rattle.df_jobs.specs.Jobs.{job_of};
@@ -6,21 +6,20 @@ ghost use Rattle.df_jobs.specs.Joined as joined;
 ghost use Rattle.df_jobs.specs.Joined.{IsGoodOf, IsJoined};
 ghost use Rattle.df_jobs.specs.Loaded.{job_rows};
 ghost use Rattle.df_jobs.specs.Made.{rows_in};
-ghost use Rattle.df_value.specs.Chunks.{MakesChunk};
 
 use crate::jobs::Outcome;
 use crate::made::Made;
-use df_frame::PreparedChunk;
-use df_value::{Chunk, ChunkFault, List, MOST_ROWS_OF_CHUNK, Row, copies, same};
+use df_frame::{PreparedRun, Run};
+use df_value::{Chunk, List, MOST_ROWS_OF_FRAME, Row, copies, same};
 use std::alloc::{AllocError, Global};
 
-/// The chunks of one or several outcomes as one.
+/// The chunks of one or several outcomes as one run.
 pub struct Joined {
     /// The index of their frame.
     pub frame: usize,
-    /// The joined chunk, whose rows stand in blocks.
-    pub chunk: PreparedChunk,
-    /// The outcomes, with the rows of each in the blocks of the joined chunk.
+    /// The run, whose rows stand in blocks.
+    pub run: PreparedRun,
+    /// The outcomes, with the rows of each in blocks of the run.
     pub stored: Vec<Outcome>,
 }
 
@@ -29,17 +28,17 @@ impl Drop for Joined {
     fn drop(self) {
         let Joined {
             frame: _,
-            chunk,
+            run,
             stored,
         } = self;
-        drop(chunk);
+        drop(run);
         drop(stored);
     }
 }
 
-/// The chunks of all these outcomes as one, where they are all good, of one frame and one schema, each begins at the number
-/// behind the one before, and one chunk can have so many rows. None otherwise. Its rows stand in blocks already, so that few
-/// are made while the lock is held.
+/// The chunks of all these outcomes as one run, where they are all good, of one frame and one schema, each begins at the
+/// number behind the one before, and a frame can have so many rows. None otherwise. Its rows stand in blocks already, so that
+/// few are made while the lock is held.
 pub fn join(alloc: Global, outcomes: &[Outcome]) -> Result<Option<Joined>, AllocError>
     ensures { IfOk result (λ joined. IfSome joined (IsJoined outcomes.now)) }
 {
@@ -53,24 +52,21 @@ pub fn join(alloc: Global, outcomes: &[Outcome]) -> Result<Option<Joined>, Alloc
     let Some(rows) = joined_rows(alloc, frame, begin, outcomes)? else {
         return Ok(None);
     };
-    let Some(chunk) = chunk_like(alloc, begin, rows)? else {
+    let rows = List::from_vec(rows);
+    let Some(run) = Run::new(alloc, begin.schema(), begin.first(), rows)? else {
         return Ok(None);
     };
-    let chunk = PreparedChunk::new(alloc, chunk)?;
-    match stored_in(alloc, &chunk, outcomes)? {
-        Some(stored) => Ok(Some(Joined {
-            frame,
-            chunk,
-            stored,
-        })),
+    let run = PreparedRun::new(alloc, run)?;
+    match stored_in(alloc, &run, outcomes)? {
+        Some(stored) => Ok(Some(Joined { frame, run, stored })),
         None => Ok(None),
     }
 }
 
-// The same outcomes, with the rows of each in the blocks of a chunk that has the rows of all of them.
+// The same outcomes, with the rows of each in the blocks of a run that has the rows of all of them.
 fn stored_in(
     alloc: Global,
-    joined: &PreparedChunk,
+    joined: &PreparedRun,
     outcomes: &[Outcome],
 ) -> Result<Option<Vec<Outcome>>, AllocError>
     requires rows { joined.now.rows ≡ flat_map (λ o. rows_in o.made) outcomes.now }
@@ -89,9 +85,9 @@ fn stored_in(
     Ok(Some(stored))
 }
 
-// The same outcome, with its rows in the blocks of a chunk that has them from an index on.
+// The same outcome, with its rows in the blocks of a run that has them from an index on.
 fn stored_at(
-    joined: &PreparedChunk,
+    joined: &PreparedRun,
     low: usize,
     outcome: &Outcome,
 ) -> Result<Option<Outcome>, AllocError>
@@ -112,22 +108,8 @@ fn stored_at(
     }
 }
 
-/// How many of the first outcomes are to enter together: of those of one frame as many as have room in one chunk, where each
-/// has as many rows as the first one.
-pub fn count_of_first_chunk(outcomes: &[Outcome]) -> usize
-    requires { 0 < length outcomes.now }
-    ensures some { 0 < result }
-    ensures of_frame { result ≤ joined.count_of_first_frame outcomes.now }
-    ensures within { result ≤ length outcomes.now }
-{
-    let of_frame = count_of_first_frame(outcomes);
-    let rows = outcomes[0].made.row_count().max(1);
-    let room = (MOST_ROWS_OF_CHUNK / rows).max(1);
-    of_frame.min(room)
-}
-
-// How many outcomes stand before the first one of another frame than the first.
-fn count_of_first_frame(outcomes: &[Outcome]) -> usize
+/// How many outcomes stand before the first one of another frame than the first: they are to enter together.
+pub fn count_of_first_frame(outcomes: &[Outcome]) -> usize
     requires { 0 < length outcomes.now }
     ensures value { result ≡ joined.count_of_first_frame outcomes.now }
     ensures some { 0 < result }
@@ -197,28 +179,14 @@ fn add_rows(
 }
 
 // Whether a chunk has the schema of `begin`, stands at the number behind so many rows from there on, and fits into one
-// chunk with them.
+// run with them.
 fn goes_on(begin: &Chunk, rows: usize, chunk: &Chunk) -> bool
     ensures first { result ≡ true → chunk.now.first ≡ begin.now.first + rows }
     ensures schema { result ≡ true → chunk.now.schema ≡ begin.now.schema }
 {
-    if rows > MOST_ROWS_OF_CHUNK || chunk.rows().len() > MOST_ROWS_OF_CHUNK - rows {
+    if rows > MOST_ROWS_OF_FRAME || chunk.rows().len() > MOST_ROWS_OF_FRAME - rows {
         return false;
     }
     chunk.first() as u64 == begin.first() as u64 + rows as u64
         && same(chunk.schema(), begin.schema())
-}
-
-// The chunk of these rows that begins as this one and has its schema; none where they are no chunk.
-fn chunk_like(alloc: Global, begin: &Chunk, rows: Vec<Row>) -> Result<Option<Chunk>, AllocError>
-    ensures { IfOk result (λ r. IfSome r
-        (MakesChunk begin.now.schema begin.now.first rows.items)) }
-{
-    match Chunk::new(alloc, begin.schema(), begin.first(), List::from_vec(rows)) {
-        Ok(chunk) => Ok(Some(chunk)),
-        Err(refused) => match refused.fault {
-            ChunkFault::Memory => Err(AllocError),
-            _ => Ok(None),
-        },
-    }
 }

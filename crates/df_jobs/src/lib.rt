@@ -21,7 +21,7 @@ mod worker;
 pub use comparing::first_unlike;
 pub use gate::{Gate, OpenGate};
 pub use jobs::{Outcome, job_count, make};
-pub use joining::{Joined, count_of_first_chunk, join};
+pub use joining::{Joined, count_of_first_frame, join};
 pub use made::{KeptPiece, Made};
 pub use outcomes::{first_lost, in_order};
 pub use pool::WorkerPool;

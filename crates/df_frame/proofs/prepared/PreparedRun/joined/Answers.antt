@@ -7,7 +7,7 @@ use Rattle.df_column.specs.Tables.{TableParts}
 use Rattle.df_delta.specs.Deltas.{RowsFit}
 use Rattle.df_frame.specs.FrameTables.{coming_row}
 use Rattle.df_frame.specs.Prepared.{delta_of_chunk}
-use Rattle.df_frame.specs.Runs.{run_of_both}
+use Rattle.df_frame.specs.Runs.{GoesOn}
 use Rattle.df_frame.proofs.PreparedFacts.{both-rows, chunk-fits}
 use Rattle.df_frame.proofs.prepared.PreparedRun.joined.Goals as goal
 
@@ -15,16 +15,17 @@ pub invariant_of-result : goal.invariant_of-result
 invariant_of-result c =
     let run = c.self.inside.run in
     let next = c.next.inside.run in
-    let made = c.in-Some.run' in
-    let joined = rw c.in-Some.is at c.in_ok-run.ensures in
+    let made = c.in_ok-run.run' in
+    let goes : GoesOn run next = subst (λ (x : ChunkParts). GoesOn x next) (sym c.self.view_is) (subst (GoesOn c.args.self) (sym c.next.view_is) c.requires) in
+    let is = c.in_ok-run.ensures in
     let t = c.deref.result.now in
     let d = c.next.inside.delta in
     let rows : applied t.rows d ≡ applied finite.empty (delta_of_chunk made) =
-    both-rows run next joined.0 t.rows d
+    both-rows run next goes t.rows d
     (ap (λ (u : TableParts). u.rows) c.deref.ensures ∙ (c.self.invariant.rows_are ∙ ap (applied finite.empty) c.self.invariant.delta_is)) c.next.invariant.delta_is
-    ∙ ap (λ (x : ChunkParts). applied finite.empty (delta_of_chunk x)) (sym joined.1) in
+    ∙ ap (λ (x : ChunkParts). applied finite.empty (delta_of_chunk x)) (sym is) in
     let schema : t.schema ≡ made.schema =
-    ap (λ (u : TableParts). u.schema) c.deref.ensures ∙ (c.self.invariant.schema_is ∙ ap (λ (x : ChunkParts). x.schema) (sym joined.1)) in
+    ap (λ (u : TableParts). u.schema) c.deref.ensures ∙ (c.self.invariant.schema_is ∙ ap (λ (x : ChunkParts). x.schema) (sym is)) in
     let fits =
     subst (λ s. RowsFit s (applied t.rows d)) (sym schema) (subst (RowsFit made.schema) (sym rows) (chunk-fits made c.rows.ensures.sound)) in
     let delta =
