@@ -1,11 +1,13 @@
 //! Joining: the chunks of several jobs become one run, which enters in one change.
-ghost use Rattle.std.specs.Prelude.{◌≡◌, ◌<◌, ◌≤◌, ◌+◌, ◌++◌, ◌^◌, ◌==◌, true, All, IfOk, IfSome, drop, flat_map, length, take};
+ghost use Rattle.std.specs.Prelude.{◌≡◌, ◌<◌, ◌≤◌, ◌+◌, ◌++◌, ◌^◌, ◌==◌, true, All, IfOk, IfSome, List as Seq, drop, flat_map, length, take};
 ghost use Rattle.std.specs.List.{enumerate_from, prefix_len};
+ghost use Rattle.df_frame.specs.Runs.{GoesOn};
 ghost use Rattle.df_jobs.specs.Jobs.{job_of};
 ghost use Rattle.df_jobs.specs.Joined as joined;
 ghost use Rattle.df_jobs.specs.Joined.{IsGoodOf, IsJoined};
 ghost use Rattle.df_jobs.specs.Loaded.{job_rows};
 ghost use Rattle.df_jobs.specs.Made.{rows_in};
+ghost use Rattle.df_jobs.specs.declared.jobs.Outcome.{Outcome as AnyOutcome};
 
 use crate::jobs::Outcome;
 use crate::made::Made;
@@ -33,6 +35,36 @@ impl Drop for Joined {
         } = self;
         drop(run);
         drop(stored);
+    }
+}
+
+impl Joined {
+    /// Whether the run of another goes on behind this one, in the same frame.
+    pub fn goes_on(&self, next: &Joined) -> bool
+        ensures frame { result ≡ true → next.now.frame ≡ self.now.frame }
+        ensures run { result ≡ true → GoesOn self.now.run next.now.run }
+    {
+        self.frame == next.frame && self.run.run().goes_on(next.run.run())
+    }
+
+    /// This run and one that goes on behind it, as one, with the outcomes of both.
+    pub fn joined(self, alloc: Global, next: Joined) -> Result<Joined, AllocError>
+        requires frame { next.frame ≡ self.frame }
+        requires run { GoesOn self.run next.run }
+        ensures { IfOk result (λ both. (outcomes others : Seq AnyOutcome) → IsJoined outcomes self
+            → IsJoined others next → IsJoined (outcomes ++ others) both) }
+    {
+        let Joined { frame, run, stored } = self;
+        let Joined {
+            frame: _,
+            run: more,
+            stored: others,
+        } = next;
+        let run = run.joined(alloc, more)?;
+        let mut stored = stored;
+        let mut others = others;
+        stored.append(&mut others)?;
+        Ok(Joined { frame, run, stored })
     }
 }
 

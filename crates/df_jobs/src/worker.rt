@@ -60,14 +60,15 @@ pub struct Work<'a, S, G> {
     pub at_once: usize,
 }
 
-/// The most jobs that a worker draws at once.
-pub const MOST_AT_ONCE: u64 = 64;
+/// The most jobs that all workers together draw at once: each takes its share of them.
+pub const MOST_AT_ONCE: u64 = 256;
 
 impl<S, G> Work<'_, S, G> {
     // How many jobs a worker draws at once where so many were drawn before. A commit may change every row of a view: where
     // each brings half as many rows as stand, all commits together change three times as many as the last one.
     fn jobs_behind(&self, drawn: u64) -> usize {
-        let half = (drawn / 2).min(MOST_AT_ONCE);
+        let most = MOST_AT_ONCE / self.workers.max(1) as u64;
+        let half = (drawn / 2).min(most);
         self.at_once.max(half as usize)
     }
 }
