@@ -198,6 +198,6 @@ module _ (chunks : List (List (ℕ × Piece))) where
     rows = sym (ap made_rows good) ∙ (sym (rows-of-own o.frame o refl) ∙ sym (append-nil (job_rows o.frame (job_of o))));
   }
 
-  -- so is the joined chunk of several
-  pub whole-joined : (os : List Outcome) (j : Joined) → AreOutcomes chunks os → IsJoined os j → IsWhole chunks j.frame j.chunk
+  -- so is the run of several
+  pub whole-joined : (os : List Outcome) (j : Joined) → AreOutcomes chunks os → IsJoined os j → IsWhole chunks j.frame j.run
   whole-joined os j are is = record { outcomes = os; made = are; of_frame = λ k d h. (is.parts k d h).of_frame; rows = is.rows }

@@ -1,4 +1,5 @@
 pub mod Incoming
+pub mod Batches
 pub mod Grown
 pub mod Loads
 pub mod Faults

@@ -1,5 +1,5 @@
 //! The commits of a worker: chunks enter their frames through its desks, and the outcomes that stand are kept.
-ghost use Rattle.std.specs.Prelude.{◌≡◌, ◌<◌, ◌≤◌, ◌+◌, ◌++◌, ◌∷◌, [], ℕ, List, IfOk, IfSome, OnErr, if◌then◌else◌, length, slice_index_or, vec_capacity};
+ghost use Rattle.std.specs.Prelude.{◌≡◌, ◌<◌, ◌≤◌, ◌+◌, ◌++◌, ◌∷◌, [], ℕ, All, List, IfOk, IfSome, OnErr, if◌then◌else◌, length, slice_index_or, vec_capacity};
 ghost use Rattle.df_state.specs.declared.change.Change.TheVariants.{Append};
 ghost use Rattle.df_state.specs.Desks.{DeskParts};
 ghost use Rattle.df_state.specs.FrameChanges.{change_of};
@@ -7,12 +7,14 @@ ghost use Rattle.df_value.specs.declared.chunk.Piece.{Piece};
 ghost use Rattle.df_jobs.specs.Jobs.{AreOutcomes, IsOutcome};
 ghost use Rattle.df_jobs.specs.Joined.{IsJoined};
 ghost use Rattle.df_jobs.specs.Counted.{AreCounted, HaveAccepted, all_without_accepted};
+ghost use Rattle.df_store.specs.Batches.{IsBatch};
 ghost use Rattle.df_store.specs.Grown.{IsWhole};
 ghost use Rattle.df_store.specs.Incoming.{chunk_of};
 
 use crate::loading::{Beginning, LoadingCatalogue};
+use crate::waiting::Batch;
 use core::mem;
-use df_catalogue::{Desk, FrameChange, PreparedChunk};
+use df_catalogue::{Desk, FrameChange, PreparedRun};
 use df_jobs::{Joined, Outcome, Stop};
 use df_value::Chunk;
 use df_versions::{ChangeFault, Naming, Told};
@@ -20,11 +22,11 @@ use std::alloc::Global;
 use std::sync::Wait;
 use std::sync::ledger::Ledger;
 
-/// What a worker commits: a chunk, or one whose blocks it has made.
+/// What a worker commits: a chunk, or a run whose blocks it has made.
 #[derive(Clone, Copy)]
 pub(crate) enum Incoming<'a> {
     Chunk(&'a Chunk),
-    Prepared(&'a PreparedChunk),
+    Prepared(&'a PreparedRun),
 }
 
 impl<'a> Incoming<'a> {
@@ -34,14 +36,64 @@ impl<'a> Incoming<'a> {
     {
         match self {
             Incoming::Chunk(chunk) => FrameChange::Append(chunk),
-            Incoming::Prepared(chunk) => FrameChange::Prepared(chunk),
+            Incoming::Prepared(run) => FrameChange::Prepared(run),
         }
     }
 }
 
-/// Commits the good chunks of these outcomes, and keeps the outcomes that stand. The chunk that has the rows of all of
-/// them, if there is one, enters in one change; where it is refused, each chunk enters by itself, as far as it can.
-pub(crate) fn enter_all<Acc: Ledger, Del: Ledger, J: Naming, B: Beginning, R: Wait>(
+/// Commits these batches in their order, and keeps the outcomes that stand.
+pub(crate) fn enter_batches<Acc: Ledger, Del: Ledger, J: Naming, B: Beginning, R: Wait>(
+    rt: &R,
+    alloc: Global,
+    catalogue: &mut LoadingCatalogue<Acc, Del, J, B>,
+    desks: &mut Vec<Desk<Acc, Del>>,
+    batches: &mut Vec<Batch>,
+    done: &mut Vec<Outcome>,
+    told: &mut Option<Told<J>>,
+) -> Result<(), Stop>
+    requires { All (IsBatch B.chunks) batches.old.items }
+    ensures desks { all_without_accepted desks.new.items ≡ all_without_accepted desks.old.items }
+    ensures counted { AreCounted desks.old.items done.old.items desks.new.items done.new.items }
+    ensures done { AreOutcomes B.chunks done.old.items → AreOutcomes B.chunks done.new.items }
+{
+    for at in 0..batches.len() {
+        enter_batch(rt, alloc, catalogue, desks, &mut batches[at], done, told)?;
+    }
+    Ok(())
+}
+
+// Commits a batch, and keeps the outcomes that stand. The room comes first: of each chunk that has entered there is an
+// outcome.
+fn enter_batch<Acc: Ledger, Del: Ledger, J: Naming, B: Beginning, R: Wait>(
+    rt: &R,
+    alloc: Global,
+    catalogue: &mut LoadingCatalogue<Acc, Del, J, B>,
+    desks: &mut Vec<Desk<Acc, Del>>,
+    batch: &mut Batch,
+    done: &mut Vec<Outcome>,
+    told: &mut Option<Told<J>>,
+) -> Result<(), Stop>
+    requires { IsBatch B.chunks batch.old }
+    ensures desks { all_without_accepted desks.new.items ≡ all_without_accepted desks.old.items }
+    ensures counted { AreCounted desks.old.items done.old.items desks.new.items done.new.items }
+    ensures done { AreOutcomes B.chunks done.old.items → AreOutcomes B.chunks done.new.items }
+{
+    done.reserve(batch.made.len())?;
+    enter_all(
+        rt,
+        alloc,
+        catalogue,
+        desks,
+        &mut batch.made,
+        &mut batch.joined,
+        done,
+        told,
+    )
+}
+
+// Commits the good chunks of these outcomes, and keeps the outcomes that stand. The run that has the rows of all of
+// them, if there is one, enters in one change; where it is refused, each chunk enters by itself, as far as it can.
+fn enter_all<Acc: Ledger, Del: Ledger, J: Naming, B: Beginning, R: Wait>(
     rt: &R,
     alloc: Global,
     catalogue: &mut LoadingCatalogue<Acc, Del, J, B>,
@@ -60,7 +112,7 @@ pub(crate) fn enter_all<Acc: Ledger, Del: Ledger, J: Naming, B: Beginning, R: Wa
         AreOutcomes chunks done.old.items → AreOutcomes chunks done.new.items }
 {
     if let Some(joined) = joined {
-        let incoming = Incoming::Prepared(&joined.chunk);
+        let incoming = Incoming::Prepared(&joined.run);
         if enter_chunk(rt, alloc, catalogue, desks, joined.frame, incoming, told)? {
             keep_all(mem::replace(&mut joined.stored, Vec::new(alloc)), done);
             return Ok(());

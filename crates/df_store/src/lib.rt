@@ -11,6 +11,7 @@ mod load;
 mod loading;
 mod pool;
 mod views;
+mod waiting;
 mod working;
 
 pub use df_claims::{ClaimSeat, Claims};

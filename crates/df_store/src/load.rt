@@ -80,8 +80,9 @@ impl<Acc: Ledger, Del: Ledger> Drop for LoadFault<Acc, Del> {
 /// the nearest of these is taken.
 ///
 /// Each worker draws the next jobs, again and again, until none is left. It passes the gate with each, makes the job's
-/// chunk, and commits the good ones through its own desk of the frame; only the commits hold the hall's lock. Where all
-/// chunks of a draw and a frame follow one another, they enter in one change, with blocks that were made before. After
+/// chunk, and commits the good ones through a desk of the frame; only the commits hold the hall's lock. Where all
+/// chunks of a draw and a frame follow one another, they enter in one change, with blocks that were made before, together
+/// with those of other workers that wait for the lock meanwhile and follow on them. After
 /// all workers have ended, what came of the jobs is compared with the sources and the views, once; at most as many threads
 /// as there are workers look for the rows. Readers of the hall get no version from then on.
 ///
@@ -201,7 +202,7 @@ fn run_load<
     ensures left_totals { IfErr result (λ fault. IfSome fault.left (λ left.
         left.1 ≡ closing.totals_of left.0.state)) }
 {
-    let hall: LoadingHall<Acc, Del, J, B> = LoadingHall::over(catalogue);
+    let hall: LoadingHall<Acc, Del, J, B> = LoadingHall::over(work.alloc, catalogue);
     let (desks, outcomes) = do_jobs(rt, &hall, work, seats, desks);
     finish(
         rt,
@@ -214,11 +215,11 @@ fn run_load<
     )
 }
 
-// How many jobs each of so many workers draws at once, at the least: so many that a lock is taken seldom, and so few that
-// each worker draws several times.
+// How many jobs each of so many workers draws at once, at the least: its share of all jobs, or of the most that all together
+// draw.
 fn jobs_at_once(jobs: u64, workers: usize) -> usize {
-    let share = jobs.div_ceil(workers.clamp(4, MOST_WORKERS) as u64);
-    share.clamp(1, MOST_AT_ONCE) as usize
+    let workers = workers.clamp(1, MOST_WORKERS) as u64;
+    jobs.div_ceil(workers).clamp(1, MOST_AT_ONCE / workers) as usize
 }
 
 // Registers copies of the views, and numbers the jobs for so many workers.

@@ -1,16 +1,18 @@
 //! What stands behind the lock while workers load: a catalogue whose frames grow by whole chunks alone.
-ghost use Rattle.std.specs.Prelude.{◌≡◌, OnErr, OnOk};
+ghost use Rattle.std.specs.Prelude.{◌≡◌, All, IfOk, OnErr, OnOk};
 ghost use Rattle.df_state.specs.Desks.{desk_after};
 ghost use Rattle.df_state.specs.declared.change.Change.TheVariants.{Append};
+ghost use Rattle.df_store.specs.Batches.{IsBatch};
 ghost use Rattle.df_store.specs.Grown.{HaveGrown, IsWhole};
 ghost use Rattle.df_store.specs.Incoming.{chunk_of};
 ghost use Rattle.df_store.specs.Loads.{AllowsAppends};
 
 use crate::entering::Incoming;
+use crate::waiting::{Batch, Waiting};
 use df_catalogue::Desk;
 use df_hall::VersionedCatalogue;
 use df_versions::{ChangeFault, Naming, Told};
-use std::alloc::Global;
+use std::alloc::{AllocError, Global};
 use std::marker::{Brand, Model, PhantomData};
 use std::sync::ledger::Ledger;
 use std::sync::{Mutex, MutexGuard, Wait};
@@ -35,19 +37,24 @@ impl Beginning for Brand {
     ghost chunks = { [] };
 }
 
-/// A lock round a catalogue that workers load. Threads share it by reference.
+/// A lock round a catalogue that workers load, and what waits for it. Threads share it by reference.
 pub(crate) struct LoadingHall<Acc: Ledger, Del: Ledger, J: Naming, B: Beginning> {
     catalogue: Mutex<LoadingCatalogue<Acc, Del, J, B>>,
+    waiting: Mutex<Waiting<B>>,
 }
 
 impl<Acc: Ledger, Del: Ledger, J: Naming, B: Beginning> LoadingHall<Acc, Del, J, B> {
-    /// A lock round the catalogue that the load begins with.
-    pub(crate) fn over(catalogue: VersionedCatalogue<Acc, Del, J>) -> LoadingHall<Acc, Del, J, B>
+    /// A lock round the catalogue that the load begins with, for which nothing waits.
+    pub(crate) fn over(
+        alloc: Global,
+        catalogue: VersionedCatalogue<Acc, Del, J>,
+    ) -> LoadingHall<Acc, Del, J, B>
         requires history { catalogue ≡ B.history }
         requires allowed { AllowsAppends J.allows }
     {
         LoadingHall {
             catalogue: Mutex::new(LoadingCatalogue::over(catalogue)),
+            waiting: Mutex::new(Waiting::new(alloc)),
         }
     }
 
@@ -56,11 +63,48 @@ impl<Acc: Ledger, Del: Ledger, J: Naming, B: Beginning> LoadingHall<Acc, Del, J,
         self.catalogue.lock(rt)
     }
 
+    /// Has a batch wait for the lock, together with those whose runs and its own follow one another.
+    pub(crate) fn put<R: Wait>(&self, rt: &R, alloc: Global, batch: Batch) -> Result<(), AllocError>
+        requires { IsBatch B.chunks batch }
+    {
+        let batch = self.with_beside(rt, alloc, batch)?;
+        let batch = self.with_beside(rt, alloc, batch)?;
+        let mut waiting = self.waiting.lock(rt);
+        let put = waiting.push(batch);
+        MutexGuard::unlock(waiting);
+        put
+    }
+
+    // A batch together with one that waits, if the runs of both follow one another. Others may wait meanwhile.
+    fn with_beside<R: Wait>(&self, rt: &R, alloc: Global, batch: Batch) -> Result<Batch, AllocError>
+        requires { IsBatch B.chunks batch }
+        ensures { IfOk result (IsBatch B.chunks) }
+    {
+        let mut waiting = self.waiting.lock(rt);
+        let beside = waiting.take_beside(&batch);
+        MutexGuard::unlock(waiting);
+        match beside {
+            Some(other) => batch.with(alloc, other),
+            None => Ok(batch),
+        }
+    }
+
+    /// Takes out all batches that wait.
+    pub(crate) fn take_waiting<R: Wait>(&self, rt: &R, alloc: Global) -> Vec<Batch>
+        ensures { All (IsBatch B.chunks) result.items }
+    {
+        let mut waiting = self.waiting.lock(rt);
+        let batches = waiting.take_all(alloc);
+        MutexGuard::unlock(waiting);
+        batches
+    }
+
     /// The catalogue that the load leaves.
     pub(crate) fn into_catalogue(self) -> VersionedCatalogue<Acc, Del, J>
         ensures { HaveGrown B.chunks B.history result }
     {
-        let LoadingHall { catalogue } = self;
+        let LoadingHall { catalogue, waiting } = self;
+        drop(waiting);
         catalogue.into_inner().into_catalogue()
     }
 }

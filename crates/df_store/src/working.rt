@@ -4,9 +4,10 @@ ghost use Rattle.df_jobs.specs.Counted.{AreCounted, all_without_accepted};
 ghost use Rattle.df_jobs.specs.Jobs.{AreOutcomes, chunks_of};
 ghost use Rattle.df_jobs.specs.Workers.{IsWorker};
 
-use crate::entering::enter_all;
+use crate::entering::enter_batches;
 use crate::loading::{Beginning, LoadingHall};
-use df_jobs::{Gate, Outcome, Stop, Work, Worker, count_of_first_chunk, join};
+use crate::waiting::Batch;
+use df_jobs::{Gate, Outcome, Stop, Work, Worker, count_of_first_frame, join};
 use df_value::Source;
 use df_versions::{Naming, Told};
 use std::sync::ledger::Ledger;
@@ -44,8 +45,7 @@ pub(crate) fn run<Acc: Ledger, Del: Ledger, J: Naming, B: Beginning, S: Source, 
     }
 }
 
-// Does the next jobs that it draws, and tells whether there were any. Those of one frame are committed together, as far
-// as one chunk has room for them.
+// Does the next jobs that it draws, and tells whether there were any. Those of one frame are committed together.
 fn do_next<Acc: Ledger, Del: Ledger, J: Naming, B: Beginning, S: Source, G: Gate, R: Wait>(
     rt: &R,
     hall: &LoadingHall<Acc, Del, J, B>,
@@ -70,15 +70,16 @@ fn do_next<Acc: Ledger, Del: Ledger, J: Naming, B: Beginning, S: Source, G: Gate
         return Ok(false);
     }
     while !left.is_empty() {
-        let others = left.split_off(count_of_first_chunk(left.as_slice()))?;
+        let others = left.split_off(count_of_first_frame(left.as_slice()))?;
         commit(rt, hall, work, worker, left, told)?;
         left = others;
     }
     Ok(true)
 }
 
-// Commits what came of some jobs. Before the lock is taken their chunks are joined, and the blocks of the joined chunk
-// made. All enter under one lock: what the commits work on goes from one processor's cache to another's with it.
+// Commits what came of some jobs, with what other workers have waiting. Before the lock is taken the chunks are joined, and
+// the blocks of their run made. Whoever takes the lock next commits all that waits, so that each change brings the more rows
+// the longer the one before it takes.
 fn commit<Acc: Ledger, Del: Ledger, J: Naming, B: Beginning, S: Source, G: Gate, R: Wait>(
     rt: &R,
     hall: &LoadingHall<Acc, Del, J, B>,
@@ -100,24 +101,21 @@ fn commit<Acc: Ledger, Del: Ledger, J: Naming, B: Beginning, S: Source, G: Gate,
     ensures counted { AreCounted worker.old.desks.items worker.old.done.items
         worker.new.desks.items worker.new.done.items }
 {
-    // The room comes first: of each chunk that has entered there is an outcome.
-    worker.done.reserve(made.len())?;
-    let mut made = made;
-    let mut joined = join(work.alloc, made.as_slice())?;
+    let joined = join(work.alloc, made.as_slice())?;
+    hall.put(rt, work.alloc, Batch { made, joined })?;
     let mut catalogue = hall.lock(rt);
-    let entered = enter_all(
+    let mut batches = hall.take_waiting(rt, work.alloc);
+    let entered = enter_batches(
         rt,
         work.alloc,
         &mut catalogue,
         &mut worker.desks,
-        &mut made,
-        &mut joined,
+        &mut batches,
         &mut worker.done,
         told,
     );
     MutexGuard::unlock(catalogue);
     // The typed rows of chunks that entered joined are freed once the lock is free.
-    drop(joined);
-    drop(made);
+    drop(batches);
     entered
 }

@@ -13,6 +13,6 @@ returns-then-branch-clause-counted g c =
     let made = c.args.made.now.items in
     let j = c.in-Some.joined in
     let is = subst (λ o. IfSome o (IsJoined made)) c.in-Some.is c.requires.joined in
-    let accepted = subst (λ b. HaveAccepted j.frame (if b then length j.chunk.rows else 0) before after) c.if-branch.true c.in_ok-enter_chunk.ensures.accepted in
+    let accepted = subst (λ b. HaveAccepted j.frame (if b then length j.run.rows else 0) before after) c.if-branch.true c.in_ok-enter_chunk.ensures.accepted in
     let kept : c.keep_all.new.done.items ≡ done ++ j.stored.items = search rules in
     joined-counted before after done c.keep_all.new.done.items made j is accepted (kept ∙ ap (λ os. done ++ os) is.stored)
