@@ -1,14 +1,19 @@
--- The outcomes of jobs may go to another thread.
+-- The outcomes of jobs, and runs that they are joined to, may go to another thread.
 use denote.Param.Send.{IsSend, sendable}
 use Rattle.std.proofs.Crossing.{crosses}
 use Rattle.df_value.proofs.chunk.Piece.TheSendSync as piece
 use Rattle.df_column.proofs.Crossing.{table_send, table_sync}
+use Rattle.df_delta.proofs.delta.Delta.TheSendSync as delta
+use Rattle.df_frame.proofs.run.Run.TheSendSync as run
+use Rattle.df_frame.specs.contracts.prepared.PreparedRun as PreparedRun
+use Rattle.df_frame.specs.contracts.prepared.PreparedRun.TheInside as PreparedInside
 use Rattle.df_frame.specs.contracts.stored.StoredChunk as StoredChunk
 use Rattle.df_frame.specs.contracts.stored.StoredChunk.TheInside as StoredInside
 use Rattle.df_jobs.specs.contracts.made.KeptPiece as KeptPiece
 use Rattle.df_jobs.specs.contracts.made.Made as Made
 use Rattle.df_jobs.specs.contracts.made.Made.TheInside as MadeInside
 use Rattle.df_jobs.specs.contracts.jobs.Outcome as Outcome
+use Rattle.df_jobs.specs.contracts.joining.Joined as Joined
 
 stored_inside_send : IsSend StoredInside.the_row
 stored_inside_send = search (sendable, crosses, table_send, table_sync) depth 40
@@ -27,3 +32,12 @@ made_send = let i = made_inside_send in search sendable depth 20
 
 pub outcome_send : IsSend (Outcome.the_field).row
 outcome_send = let m = made_send in search (sendable, crosses) depth 40
+
+prepared_inside_send : IsSend PreparedInside.the_row
+prepared_inside_send = search (sendable, crosses, delta.the_send, run.the_send, table_send, table_sync) depth 40
+
+prepared_send : IsSend PreparedRun.the_row
+prepared_send = let i = prepared_inside_send in search sendable depth 20
+
+pub joined_send : IsSend (Joined.the_field).row
+joined_send = let p = prepared_send in let o = outcome_send in search (sendable, crosses) depth 40

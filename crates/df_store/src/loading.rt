@@ -84,7 +84,7 @@ impl<Acc: Ledger, Del: Ledger, J: Naming, B: Beginning> LoadingHall<Acc, Del, J,
         let beside = waiting.take_beside(&batch);
         MutexGuard::unlock(waiting);
         match beside {
-            Some(other) => batch.with(alloc, other),
+            Some(other) => Ok(batch.with(alloc, other)?),
             None => Ok(batch),
         }
     }

@@ -47,9 +47,9 @@ impl Batch {
             → IsBatch chunks other → IsBatch chunks both) }
     {
         if self.goes_on(&other) {
-            self.before(alloc, other)
+            Ok(self.before(alloc, other)?)
         } else {
-            other.before(alloc, self)
+            Ok(other.before(alloc, self)?)
         }
     }
 
