@@ -1,3 +1,4 @@
+pub mod BatchFacts
 pub mod Crosses
 pub mod GatheredFacts
 pub mod GrownFacts
