@@ -88,7 +88,7 @@ impl<Acc: Ledger, Del: Ledger> Drop for LoadFault<Acc, Del> {
 ///
 /// [`LoadCause`] says which cause of a fault comes before which. A worker that is refused memory, or a further
 /// version, stops, and the others go on: what has entered is then in [`LoadFault::left`]. A desk of few parts
-/// cannot be split for all workers, and the chunk of a worker without a desk of its frame is lost.
+/// cannot be split for all workers, and a chunk that a worker without a desk of its frame commits is lost.
 pub fn load_all<
     Acc: Ledger + Send + Sync,
     Del: Ledger + Send + Sync,
