@@ -215,11 +215,12 @@ fn run_load<
     )
 }
 
-// How many jobs each of so many workers draws at once, at the least: its share of all jobs, or of the most that all together
-// draw.
+// How many jobs each of so many workers draws at once, at the least: one worker all, and several so few that a free one finds
+// jobs where there are few; and no more than its share of what all together may draw.
 fn jobs_at_once(jobs: u64, workers: usize) -> usize {
     let workers = workers.clamp(1, MOST_WORKERS) as u64;
-    jobs.div_ceil(workers).clamp(1, MOST_AT_ONCE / workers) as usize
+    let parts = if workers == 1 { 1 } else { workers.max(4) };
+    jobs.div_ceil(parts).clamp(1, MOST_AT_ONCE / workers) as usize
 }
 
 // Registers copies of the views, and numbers the jobs for so many workers.
