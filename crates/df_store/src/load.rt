@@ -80,9 +80,9 @@ impl<Acc: Ledger, Del: Ledger> Drop for LoadFault<Acc, Del> {
 /// the nearest of these is taken.
 ///
 /// Each worker draws the next jobs, again and again, until none is left. It passes the gate with each, makes the job's
-/// chunk, and commits the good ones through a desk of the frame; only the commits hold the hall's lock. Where all
+/// chunk; the good ones enter through a desk of the frame, and only these commits hold the hall's lock. Where all
 /// chunks of a draw and a frame follow one another, they enter in one change, with blocks that were made before, together
-/// with those of other workers that wait for the lock meanwhile and follow on them. After
+/// with those of other workers that they follow or that follow them: one worker commits all that waits. After
 /// all workers have ended, what came of the jobs is compared with the sources and the views, once; at most as many threads
 /// as there are workers look for the rows. Readers of the hall get no version from then on.
 ///

@@ -8,7 +8,7 @@ ghost use Rattle.df_store.specs.Incoming.{chunk_of};
 ghost use Rattle.df_store.specs.Loads.{AllowsAppends};
 
 use crate::entering::Incoming;
-use crate::waiting::{Batch, Waiting};
+use crate::waiting::{Batch, Turn, Waiting};
 use df_catalogue::Desk;
 use df_hall::VersionedCatalogue;
 use df_versions::{ChangeFault, Naming, Told};
@@ -63,16 +63,23 @@ impl<Acc: Ledger, Del: Ledger, J: Naming, B: Beginning> LoadingHall<Acc, Del, J,
         self.catalogue.lock(rt)
     }
 
-    /// Has a batch wait for the lock, together with those whose runs and its own follow one another.
-    pub(crate) fn put<R: Wait>(&self, rt: &R, alloc: Global, batch: Batch) -> Result<(), AllocError>
+    /// Has a batch of one of so many workers wait, together with those whose runs and its own follow one another, and says
+    /// what the worker is to do.
+    pub(crate) fn put<R: Wait>(
+        &self,
+        rt: &R,
+        alloc: Global,
+        batch: Batch,
+        workers: usize,
+    ) -> Result<Turn, AllocError>
         requires { IsBatch B.chunks batch }
     {
         let batch = self.with_beside(rt, alloc, batch)?;
         let batch = self.with_beside(rt, alloc, batch)?;
         let mut waiting = self.waiting.lock(rt);
-        let put = waiting.push(batch);
+        let turn = waiting.push(batch, workers);
         MutexGuard::unlock(waiting);
-        put
+        turn
     }
 
     // A batch together with one that waits, if the runs of both follow one another. Others may wait meanwhile.
@@ -89,7 +96,7 @@ impl<Acc: Ledger, Del: Ledger, J: Naming, B: Beginning> LoadingHall<Acc, Del, J,
         }
     }
 
-    /// Takes out all batches that wait.
+    /// Takes out all batches that wait, for the worker that commits. Where there are none, it has ended.
     pub(crate) fn take_waiting<R: Wait>(&self, rt: &R, alloc: Global) -> Vec<Batch>
         ensures { All (IsBatch B.chunks) result.items }
     {
@@ -97,6 +104,18 @@ impl<Acc: Ledger, Del: Ledger, J: Naming, B: Beginning> LoadingHall<Acc, Del, J,
         let batches = waiting.take_all(alloc);
         MutexGuard::unlock(waiting);
         batches
+    }
+
+    /// The worker that committed has stopped.
+    pub(crate) fn give_up<R: Wait>(&self, rt: &R) {
+        let mut waiting = self.waiting.lock(rt);
+        waiting.give_up();
+        MutexGuard::unlock(waiting);
+    }
+
+    /// Waits for the commit that is going on.
+    pub(crate) fn pause<R: Wait>(&self, rt: &R) {
+        MutexGuard::unlock(self.lock(rt));
     }
 
     /// The catalogue that the load leaves.

@@ -1,5 +1,5 @@
-//! What waits for the lock of a load: batches of outcomes. A batch joins one that waits already, where the runs of both
-//! follow one another, so that who takes the lock commits them in one change.
+//! What waits to be committed: batches of outcomes. One worker commits what waits, and the others make more meanwhile. A batch
+//! joins one that waits already, where the runs of both follow one another, so that both enter in one change.
 ghost use Rattle.std.specs.Prelude.{◌++◌, ℕ, List as Seq, IfOk, IfSome, All};
 ghost use Rattle.df_value.specs.declared.chunk.Piece.{Piece};
 ghost use Rattle.df_jobs.specs.declared.jobs.Outcome.{Outcome as AnyOutcome};
@@ -93,16 +93,36 @@ fn joined_runs(
     Ok(Some(run.joined(alloc, next)?))
 }
 
-/// The batches that wait for the lock of a load. They are of the chunks of its sources.
+/// What a worker is to do whose batch waits.
+#[derive(Clone, Copy, PartialEq, Eq)]
+pub(crate) enum Turn {
+    /// Commit all that waits: nobody else does.
+    Commit,
+    /// Make more.
+    Make,
+    /// Let the commit end that is going on: so much waits already.
+    Pause,
+}
+
+/// The batches that wait to be committed. They are of the chunks of a load's sources.
 pub(crate) struct Waiting<B: Beginning> {
     batches: Vec<Batch>,
+    /// How many were put here since the last were taken out.
+    count: usize,
+    /// Whether a worker commits.
+    is_committing: bool,
     of: PhantomData<B>,
 }
 
 // A body that owns one drops it by a call.
 impl<B: Beginning> Drop for Waiting<B> {
     fn drop(self) {
-        let Waiting { batches, of } = self;
+        let Waiting {
+            batches,
+            count: _,
+            is_committing: _,
+            of,
+        } = self;
         drop(batches);
         drop(of);
     }
@@ -124,16 +144,27 @@ impl<B: Beginning> Waiting<B> {
     pub(crate) fn new(alloc: Global) -> Waiting<B> {
         Waiting {
             batches: Vec::new(alloc),
+            count: 0,
+            is_committing: false,
             of: PhantomData,
         }
     }
 
-    /// Adds a batch.
-    pub(crate) fn push(&mut self, batch: Batch) -> Result<(), AllocError>
+    /// Adds a batch, and says what its worker, one of so many, is to do.
+    pub(crate) fn push(&mut self, batch: Batch, workers: usize) -> Result<Turn, AllocError>
         requires { IsBatch B.chunks batch }
     {
         self.batches.push(batch)?;
-        Ok(())
+        self.count = self.count.saturating_add(1);
+        if !self.is_committing {
+            self.is_committing = true;
+            return Ok(Turn::Commit);
+        }
+        Ok(if self.count < workers {
+            Turn::Make
+        } else {
+            Turn::Pause
+        })
     }
 
     /// Takes out a batch whose run and that of this one follow one another, if there is one.
@@ -147,10 +178,18 @@ impl<B: Beginning> Waiting<B> {
         Some(self.batches.remove(at))
     }
 
-    /// Takes all out, in the order in which they came.
+    /// Takes all out, in the order in which they came, for the worker that commits. Where there are none, it has ended.
     pub(crate) fn take_all(&mut self, alloc: Global) -> Vec<Batch>
         ensures { All (IsBatch B.chunks) result.items }
     {
-        mem::replace(&mut self.batches, Vec::new(alloc))
+        let batches = mem::replace(&mut self.batches, Vec::new(alloc));
+        self.count = 0;
+        self.is_committing = !batches.is_empty();
+        batches
+    }
+
+    /// The worker that committed has stopped.
+    pub(crate) fn give_up(&mut self) {
+        self.is_committing = false;
     }
 }

@@ -6,7 +6,7 @@ ghost use Rattle.df_jobs.specs.Workers.{IsWorker};
 
 use crate::entering::enter_batches;
 use crate::loading::{Beginning, LoadingHall};
-use crate::waiting::Batch;
+use crate::waiting::{Batch, Turn};
 use df_jobs::{Gate, Outcome, Stop, Work, Worker, count_of_first_frame, join};
 use df_value::Source;
 use df_versions::{Naming, Told};
@@ -77,9 +77,8 @@ fn do_next<Acc: Ledger, Del: Ledger, J: Naming, B: Beginning, S: Source, G: Gate
     Ok(true)
 }
 
-// Commits what came of some jobs, with what other workers have waiting. Before the lock is taken the chunks are joined, and
-// the blocks of their run made. Whoever takes the lock next commits all that waits, so that each change brings the more rows
-// the longer the one before it takes.
+// Has what came of some jobs wait to be committed, and commits all that waits, unless another worker does. Before that the
+// chunks are joined, and the blocks of their run made.
 fn commit<Acc: Ledger, Del: Ledger, J: Naming, B: Beginning, S: Source, G: Gate, R: Wait>(
     rt: &R,
     hall: &LoadingHall<Acc, Del, J, B>,
@@ -102,9 +101,76 @@ fn commit<Acc: Ledger, Del: Ledger, J: Naming, B: Beginning, S: Source, G: Gate,
         worker.new.desks.items worker.new.done.items }
 {
     let joined = join(work.alloc, made.as_slice())?;
-    hall.put(rt, work.alloc, Batch { made, joined })?;
-    let mut catalogue = hall.lock(rt);
+    match hall.put(rt, work.alloc, Batch { made, joined }, work.workers)? {
+        Turn::Commit => commit_waiting(rt, hall, work, worker, told),
+        Turn::Make => Ok(()),
+        Turn::Pause => {
+            hall.pause(rt);
+            Ok(())
+        }
+    }
+}
+
+// Commits all that waits, until nothing does. The longer a commit takes the more waits behind it, so that slow commits are
+// few.
+fn commit_waiting<Acc: Ledger, Del: Ledger, J: Naming, B: Beginning, S: Source, G: Gate, R: Wait>(
+    rt: &R,
+    hall: &LoadingHall<Acc, Del, J, B>,
+    work: &Work<S, G>,
+    worker: &mut Worker<Acc, Del>,
+    told: &mut Option<Told<J>>,
+) -> Result<(), Stop>
+    requires worker { IsWorker work.now.claims.now work.now.desks
+        (chunks_of S.made S.start_of work.now.sources.now)
+        worker.old }
+    requires chunks { B.chunks ≡ chunks_of S.made S.start_of work.now.sources.now }
+    ensures worker { IsWorker work.now.claims.now work.now.desks
+        (chunks_of S.made S.start_of work.now.sources.now)
+        worker.new }
+    ensures desks { all_without_accepted worker.new.desks.items
+        ≡ all_without_accepted worker.old.desks.items }
+    ensures counted { AreCounted worker.old.desks.items worker.old.done.items
+        worker.new.desks.items worker.new.done.items }
+{
+    for _ in 0..u64::MAX {
+        match commit_next(rt, hall, work, worker, told) {
+            Ok(true) => {}
+            Ok(false) => return Ok(()),
+            Err(stop) => {
+                hall.give_up(rt);
+                return Err(stop);
+            }
+        }
+    }
+    Ok(())
+}
+
+// Commits what waits under one lock, and tells whether anything did: what the commits work on goes from one processor's
+// cache to another's with the lock.
+fn commit_next<Acc: Ledger, Del: Ledger, J: Naming, B: Beginning, S: Source, G: Gate, R: Wait>(
+    rt: &R,
+    hall: &LoadingHall<Acc, Del, J, B>,
+    work: &Work<S, G>,
+    worker: &mut Worker<Acc, Del>,
+    told: &mut Option<Told<J>>,
+) -> Result<bool, Stop>
+    requires worker { IsWorker work.now.claims.now work.now.desks
+        (chunks_of S.made S.start_of work.now.sources.now)
+        worker.old }
+    requires chunks { B.chunks ≡ chunks_of S.made S.start_of work.now.sources.now }
+    ensures worker { IsWorker work.now.claims.now work.now.desks
+        (chunks_of S.made S.start_of work.now.sources.now)
+        worker.new }
+    ensures desks { all_without_accepted worker.new.desks.items
+        ≡ all_without_accepted worker.old.desks.items }
+    ensures counted { AreCounted worker.old.desks.items worker.old.done.items
+        worker.new.desks.items worker.new.done.items }
+{
     let mut batches = hall.take_waiting(rt, work.alloc);
+    if batches.is_empty() {
+        return Ok(false);
+    }
+    let mut catalogue = hall.lock(rt);
     let entered = enter_batches(
         rt,
         work.alloc,
@@ -117,5 +183,6 @@ fn commit<Acc: Ledger, Del: Ledger, J: Naming, B: Beginning, S: Source, G: Gate,
     MutexGuard::unlock(catalogue);
     // The typed rows of chunks that entered joined are freed once the lock is free.
     drop(batches);
-    entered
+    entered?;
+    Ok(true)
 }
