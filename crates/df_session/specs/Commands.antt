@@ -48,6 +48,7 @@ IsPartOf words (part.From first count) =
 abbrev pub IsQuestionOf : List (List ℕ) → Question → Type 0
 IsQuestionOf words question.Frames = words ≡ codes "frames" ∷ []
 IsQuestionOf words (question.Schema name) = words ≡ codes "schema" ∷ name.now ∷ []
+IsQuestionOf words (question.Plan view) = words ≡ codes "plan" ∷ view.now ∷ []
 IsQuestionOf words (question.Show view part) =
     (rest : List (List ℕ)) × (words ≡ codes "show" ∷ view.now ∷ rest) × IsPartOf rest part
 IsQuestionOf words (question.Rows frame) = words ≡ codes "rows" ∷ frame.now ∷ []

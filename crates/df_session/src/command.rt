@@ -52,6 +52,8 @@ pub enum Question<'a> {
     Frames,
     /// The columns of a frame or of a view with their types.
     Schema(&'a str),
+    /// The plan of a view, as a document writes it.
+    Plan(&'a str),
     /// The table of a view, or a part of its rows.
     Show(&'a str, Part),
     /// The table of a frame and the numbers of its rows.
@@ -116,6 +118,7 @@ fn question_of<'a>(name: &str, arguments: &[&'a str]) -> Result<Command<'a>, Ref
     match name {
         "frames" => bare(Command::Question(Question::Frames), arguments),
         "schema" => Ok(Command::Question(Question::Schema(only(arguments)?))),
+        "plan" => Ok(Command::Question(Question::Plan(only(arguments)?))),
         "show" => Ok(Command::Question(read_show(arguments)?)),
         "rows" => Ok(Command::Question(Question::Rows(only(arguments)?))),
         "books" => Ok(Command::Question(Question::Books(only(arguments)?))),

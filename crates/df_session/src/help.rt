@@ -8,7 +8,7 @@ use std::alloc::{AllocError, Global};
 pub type CommandHelp = (&'static str, &'static str, &'static str);
 
 /// The commands, in the order in which `help` lists them. A command of several forms has an entry for each.
-pub const COMMANDS: [CommandHelp; 23] = [
+pub const COMMANDS: [CommandHelp; 24] = [
     (
         "frame",
         "frame NAME COLUMN TYPE ..    declares a frame of these columns; without a document, before all changes\n",
@@ -68,6 +68,11 @@ pub const COMMANDS: [CommandHelp; 23] = [
         "schema",
         "schema NAME                  the columns of a frame, or else of a view, with their types\n",
         "    > schema by_region\n    region Text\n    n Int\n    total Wide\n",
+    ),
+    (
+        "plan",
+        "plan VIEW                    the view as a document writes it, registered or not\n",
+        "    > plan by_region\n    [[view]]\n    name = \"by_region\"\n    from = \"sales\"\n    steps = [\n      [\"group_by\", [\"region\"], [\"n\", \"len\"], [\"total\", \"sum\", \"qty\"]],\n    ]\n",
     ),
     (
         "show",

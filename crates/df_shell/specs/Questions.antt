@@ -10,7 +10,7 @@ use Rattle.df_state.specs.declared.state.ViewState.{ViewState}
 use Rattle.df_expr.specs.declared.meter.Meter.{Meter}
 use Rattle.df_print.specs.Printed.{printed}
 use Rattle.df_session.specs.Parts.{part_text}
-use Rattle.df_session.specs.Described.{frames_text, schema_named, schema_text}
+use Rattle.df_session.specs.Described.{frames_text, plan_text, schema_named, schema_text}
 use Rattle.df_session.specs.declared.command.Part.{Part}
 use Rattle.df_shell.specs.Checks.{first_differing}
 use Rattle.df_session.specs.Asked.{frame_index_of}
@@ -56,6 +56,7 @@ frame_text text d s None = None
 abbrev pub text_of_question : Definitions → CatalogueParts → Question → Option (List ℕ)
 text_of_question d c question.Frames = Some (frames_text d (live_of c.state))
 text_of_question d c (question.Schema name) = option_map schema_text (schema_named d name.now)
+text_of_question d c (question.Plan view) = plan_text d view.now
 text_of_question d c (question.Show view part) = option_map (view_text view.now part) (view_named view.now c.state.views)
 text_of_question d c (question.Rows frame) = frame_text rows_text d c.state (frame_index_of d frame.now)
 text_of_question d c (question.Books frame) = frame_text (λ spec. books_text) d c.state (frame_index_of d frame.now)
@@ -67,6 +68,7 @@ text_of_question d c question.Version = None
 -- what a question is refused with where it cannot be answered
 abbrev pub refusal_of_question : Question → Refusal
 refusal_of_question (question.Schema name) = refusal.Mistake mistake.NoTable
+refusal_of_question (question.Plan view) = refusal.Mistake mistake.NoView
 refusal_of_question (question.Show view part) = refusal.Store fault.NoView
 refusal_of_question question.Version = refusal.Mistake mistake.OnlyWithHall
 refusal_of_question _ = refusal.Store fault.NoFrame

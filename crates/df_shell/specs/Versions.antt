@@ -9,7 +9,7 @@ use Rattle.df_state.specs.declared.fault.CatalogueFault.{CatalogueFault}
 use Rattle.df_plan.specs.CheckedParts.{CheckedParts}
 use Rattle.df_print.specs.Printed.{printed}
 use Rattle.df_session.specs.Parts.{part_text}
-use Rattle.df_session.specs.Described.{frames_text, schema_named, schema_text}
+use Rattle.df_session.specs.Described.{frames_text, plan_text, schema_named, schema_text}
 use Rattle.df_session.specs.declared.command.Part.{Part}
 use Rattle.df_session.specs.Asked.{frame_index_of, plan_named}
 use Rattle.df_session.specs.Told.{books_line, check_text, names_text, numbers_line}
@@ -59,6 +59,7 @@ version_line number = codes "version " ++ (decimal number ++ codes "\n")
 abbrev pub text_of_version : Definitions → List DeskParts → ℕ × PictureParts → Question → Option (List ℕ)
 text_of_version d desks v question.Frames = Some (frames_text d (frame_len_in v.1))
 text_of_version d desks v (question.Schema name) = option_map schema_text (schema_named d name.now)
+text_of_version d desks v (question.Plan view) = plan_text d view.now
 text_of_version d desks v (question.Show view part) = shown_text view.now part (plan_named d view.now) (view_rows_in v.1 view.now)
 text_of_version d desks v (question.Rows frame) =
     text_of_index (λ at. numbered_text (slice_get d.document.frames at) (slice_get v.1.frames at)) (frame_index_of d frame.now)

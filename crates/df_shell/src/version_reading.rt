@@ -9,7 +9,7 @@ ghost use Rattle.df_shell.specs.Versions.{counted_text, differs_from, first_diff
 use df_catalogue::{CatalogueFault, Desk};
 use df_session::{
     Definitions, Mistake, Part, Question, Refusal, RowCounts, books_of, describe_frames,
-    describe_table, names_lines, print_part, print_rows, verdict,
+    describe_plan, describe_table, names_lines, print_part, print_rows, verdict,
 };
 use df_value::Text;
 use df_versions::Version;
@@ -31,6 +31,7 @@ pub fn answer_from_version<Acc: Ledger, Del: Ledger>(
     match question {
         Question::Frames => Ok(describe_frames(alloc, definitions, &VersionCounts { version })?),
         Question::Schema(name) => describe_table(alloc, definitions, name),
+        Question::Plan(view) => describe_plan(alloc, definitions, view),
         Question::Show(view, part) => show(alloc, definitions, version, view, part),
         Question::Rows(frame) => rows(alloc, definitions, version, frame),
         Question::Books(frame) => books(alloc, definitions, version, desks, frame),

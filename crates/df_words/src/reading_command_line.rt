@@ -28,6 +28,7 @@ const AFTER_HELP: &str = r#"Commands, one a line of standard input:
   frames                       the frames: how many rows each has, and its columns with their types
   views                        the names of the views
   schema NAME                  the columns of a frame, or else of a view, with their types
+  plan VIEW                    the view as a document writes it, registered or not
   show VIEW                    the table of a view
   show VIEW COUNT              its first COUNT rows, and how many more there are
   show VIEW from ROW COUNT     COUNT rows from row ROW on, the first being 0, and how many lie around them

@@ -1,5 +1,5 @@
-use Rattle.df_session.proofs.AppendFacts.{three-parts}
-use Rattle.df_session.proofs.toml_text.push_head.Goals as goal
+use Rattle.df_writing.proofs.AppendFacts.{three-parts}
+use Rattle.df_writing.proofs.frame_tables.push_head.Goals as goal
 
 pub returns : goal.returns
 returns c =

@@ -1,6 +1,6 @@
 use Rattle.std.proofs.Common.{◌≡◌, ◌++◌, flat_map, map, take}
-use Rattle.df_session.specs.Declarations.{column_item}
-use Rattle.df_session.proofs.toml_text.push_columns.Given as goal
+use Rattle.df_writing.specs.FrameTables.{column_item}
+use Rattle.df_writing.proofs.frame_tables.push_columns.Given as goal
 
 abbrev pub invariant-loop-column : goal.invariant-loop-column
 invariant-loop-column l =
