@@ -7,6 +7,7 @@ KIND says what is done to the output, once, at the first place where it can be d
     row        the first row of a table is left out
     order      the first two rows of a table, where they differ, change places
     title      a table tells of one row more
+    field      a line with a comma has another last character
     same       `same` becomes `differs v`
     ok         `ok` becomes `C3`
     fault      a fault on standard error has another number
@@ -47,6 +48,9 @@ class Damage:
         if self.kind == "title" and title:
             self.done = True
             return [b"%s (%d x %s)\n" % (title[1], int(title[2]) + 1, title[3])]
+        if self.kind == "field" and b"," in line:
+            self.done = True
+            return [other(line)]
         if self.kind in ("same", "ok") and line == self.kind.encode() + b"\n":
             self.done = True
             return [b"differs v\n" if self.kind == "same" else b"C3\n"]

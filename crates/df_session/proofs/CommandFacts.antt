@@ -1,5 +1,5 @@
 -- The words of commands.
-use Rattle.std.proofs.Common.{◌≡◌, ◌<◌, ◌≤◌, ◌+◌, ◌-◌, ◌++◌, ℕ, List, [], ◌∷◌, Bor, ap, map, length, take, drop, refl, slice_index_or, arith}
+use Rattle.std.proofs.Common.{◌≡◌, ◌∙◌, ◌<◌, ◌≤◌, ◌+◌, ◌-◌, ◌++◌, ℕ, List, [], ◌∷◌, Bor, ap, map, length, take, drop, refl, sym, slice_index_or, arith}
 use Rattle.std.specs.List.{AllZip}
 use Rattle.std.proofs.lemmas.Grind.{common_steps}
 use Rattle.std.proofs.lemmas.List.{take_all}
@@ -51,3 +51,10 @@ pub first-word :
 first-word d [] h = absurd (omega arith)
 first-word d (x ∷ xs) h =
     ap (λ (ws : List (Bor (List ℕ))). x.now ∷ map (λ w. w.now) ws) (take_all (length (x ∷ xs) - 1) xs (omega arith))
+
+-- the first word of a list, behind a name, and the others
+pub first-word-and-rest :
+    {name : List ℕ} (d : Bor (List ℕ)) (xs : List (Bor (List ℕ))) (rest : List (List ℕ)) → 1 ≤ length xs →
+    map (λ w. w.now) (take (length xs - 1) (drop 1 xs)) ≡ rest → name ∷ map (λ w. w.now) xs ≡ name ∷ (slice_index_or xs 0 d).now ∷ rest
+first-word-and-rest {name} d xs rest h same =
+    ap (λ (ws : List (List ℕ)). name ∷ ws) (sym (first-word d xs h) ∙ ap (λ (ws : List (List ℕ)). (slice_index_or xs 0 d).now ∷ ws) same)

@@ -1,5 +1,5 @@
 -- Commands: the words that say each of them.
-use Rattle.std.specs.Prelude.{◌≡◌, ◌<◌, ℕ, List, [], ◌∷◌, codes}
+use Rattle.std.specs.Prelude.{◌≡◌, ◌<◌, ◌++◌, ℕ, List, [], ◌∷◌, codes}
 use Rattle.df_value.specs.Limits.{row_numbers}
 use Rattle.std.specs.List.{AllZip}
 use Rattle.std.specs.Str.Parse.{IsNumeral, digits_value, without_leading_plus}
@@ -7,6 +7,8 @@ use Rattle.df_session.specs.declared.command.AskedChange.{AskedChange}
 use Rattle.df_session.specs.declared.command.AskedChange.TheVariants as asked
 use Rattle.df_session.specs.declared.command.Command.{Command}
 use Rattle.df_session.specs.declared.command.Command.TheVariants as command
+use Rattle.df_session.specs.declared.command.Format.{Format}
+use Rattle.df_session.specs.declared.command.Format.TheVariants as format
 use Rattle.df_session.specs.declared.command.Part.{Part}
 use Rattle.df_session.specs.declared.command.Part.TheVariants as part
 use Rattle.df_session.specs.declared.command.Question.{Question}
@@ -44,13 +46,20 @@ IsPartOf words (part.From first count) =
     (first_word : List ℕ) × (count_word : List ℕ) × (words ≡ codes "from" ∷ first_word ∷ count_word ∷ [])
     × IsLineCount first_word first × IsLineCount count_word count
 
+-- the word behind the others that names a format
+abbrev pub format_words : Format → List (List ℕ)
+format_words format.Printed = []
+format_words format.Csv = codes "csv" ∷ []
+format_words format.Json = codes "json" ∷ []
+
 -- the words of a question
 abbrev pub IsQuestionOf : List (List ℕ) → Question → Type 0
 IsQuestionOf words question.Frames = words ≡ codes "frames" ∷ []
 IsQuestionOf words (question.Schema name) = words ≡ codes "schema" ∷ name.now ∷ []
-IsQuestionOf words (question.Show view part) =
-    (rest : List (List ℕ)) × (words ≡ codes "show" ∷ view.now ∷ rest) × IsPartOf rest part
-IsQuestionOf words (question.Rows frame) = words ≡ codes "rows" ∷ frame.now ∷ []
+IsQuestionOf words (question.Plan view) = words ≡ codes "plan" ∷ view.now ∷ []
+IsQuestionOf words (question.Show view part format) =
+    (rest : List (List ℕ)) × (words ≡ codes "show" ∷ view.now ∷ (rest ++ format_words format)) × IsPartOf rest part
+IsQuestionOf words (question.Rows frame format) = words ≡ codes "rows" ∷ frame.now ∷ format_words format
 IsQuestionOf words (question.Books frame) = words ≡ codes "books" ∷ frame.now ∷ []
 IsQuestionOf words question.Views = words ≡ codes "views" ∷ []
 IsQuestionOf words question.Check = words ≡ codes "check" ∷ []

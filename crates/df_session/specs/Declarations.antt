@@ -1,10 +1,10 @@
 -- Frames that a session declares which has no document: they are those of a document that says them in tables of TOML 1.1, one
 -- behind the other.
-use Rattle.std.specs.Prelude.{◌≡◌, ◌⊎◌, ⊤, ◌++◌, ◌==◌, ◌||◌, ◌/◌, ◌%◌, ℕ, List, [], ◌∷◌, codes, flat_map, nat_lt, if◌then◌else◌, Err, IsOk, Result, Ok, Some}
-use Rattle.df_print.specs.Printed.{hex_digit}
+use Rattle.std.specs.Prelude.{◌≡◌, ◌⊎◌, ⊤, ◌++◌, ℕ, List, [], ◌∷◌, codes, flat_map, Err, IsOk, Result, Ok, Some}
 use Rattle.df_text.specs.Document.{document_of}
 use Rattle.df_text.specs.declared.fault.ViewsFault.{ViewsFault}
 use Rattle.df_document.specs.declared.fault.DocumentFault.TheVariants.{Views}
+use Rattle.df_writing.specs.FrameTables.{frame_table}
 use Rattle.df_session.specs.Answers.{IsRefusalOfHelp, IsWordFault}
 use Rattle.df_session.specs.Commands.{IsCommandOf, IsQuestionOf}
 use Rattle.df_session.specs.Help.{help_list, help_on}
@@ -16,33 +16,6 @@ use Rattle.df_session.specs.declared.declared_frames.Declaration.{Declaration}
 use Rattle.df_session.specs.declared.declared_frames.Declaration.TheVariants as declaration
 use Rattle.df_session.specs.declared.refusal.Refusal.{Refusal}
 use Rattle.df_session.specs.declared.refusal.Refusal.TheVariants as refusal
-
--- the code of a control character, as a text of TOML has it
-abbrev pub code_text : ℕ → List ℕ
-code_text b = codes "\\u00" ++ hex_digit (b / 16) ∷ hex_digit (b % 16) ∷ []
-
--- a byte of a text of TOML in double quotes: a quote and a backslash behind a backslash, a control character by its code
-abbrev pub byte_text : ℕ → List ℕ
-byte_text b =
-    if b == 34 then 92 ∷ 34 ∷ []
-    else if b == 92 then 92 ∷ 92 ∷ []
-    else if nat_lt b 32 || b == 127 then code_text b
-    else b ∷ []
-
--- a text of TOML, in double quotes
-abbrev pub quoted : List ℕ → List ℕ
-quoted text = 34 ∷ (flat_map byte_text text ++ 34 ∷ [])
-
--- a column, by its name and the word of its type, as a frame of a document has it
-abbrev pub column_item : List ℕ × List ℕ → List ℕ
-column_item column = codes "[" ++ (quoted column.0 ++ (codes ", " ++ (quoted column.1 ++ codes "], ")))
-
--- a frame of a document, without rows, up to its columns
-abbrev pub frame_head : List ℕ → List ℕ
-frame_head name = codes "[[frame]]\nname = " ++ (quoted name ++ codes "\ntext = ''\ncolumns = [")
-
-abbrev pub frame_table : List ℕ → List (List ℕ × List ℕ) → List ℕ
-frame_table name columns = frame_head name ++ (flat_map column_item columns ++ codes "]\n")
 
 -- The frame is declared: the document with one more says frames, and is kept.
 abbrev pub IsDeclared : List ℕ → List ℕ → List ℕ → List (List ℕ × List ℕ) → Type 0

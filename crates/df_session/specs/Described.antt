@@ -1,26 +1,19 @@
--- What is told of frames and views: their columns with their types, and how many rows the frames have.
-use Rattle.std.specs.Prelude.{◌++◌, ℕ, List, [], Option, Some, None, codes, decimal, flat_map, length, slice_get}
+-- What is told of frames and views: their columns with their types, how many rows the frames have, and the plans of the views.
+use Rattle.std.specs.Prelude.{◌++◌, ℕ, List, [], Option, Some, None, codes, decimal, flat_map, length, option_map, slice_get}
 use Rattle.std.specs.List.{range_with_len}
 use Rattle.df_plan.specs.CheckedParts.{CheckedParts}
 use Rattle.df_value.specs.declared.cell.CellType.{CellType}
-use Rattle.df_value.specs.declared.cell.CellType.TheVariants as dtype
 use Rattle.df_print.specs.Printed.{escaped_text}
 use Rattle.df_session.specs.Asked.{frame_index_of, plan_named}
 use Rattle.df_session.specs.Greetings.{plural_end}
 use Rattle.df_session.specs.declared.definitions.Definitions.{Definitions}
 use Rattle.df_text.specs.declared.document.FrameSpec.{FrameSpec}
-
--- a type, as a document writes it; the last two are of views alone
-abbrev pub dtype_text : CellType → List ℕ
-dtype_text dtype.Int = codes "Int"
-dtype_text dtype.Text = codes "Text"
-dtype_text dtype.Bool = codes "Bool"
-dtype_text dtype.Wide = codes "Wide"
-dtype_text dtype.Frac = codes "Frac"
+use Rattle.df_writing.specs.FrameTables.{dtype_word}
+use Rattle.df_writing.specs.ViewTables.{view_table}
 
 -- a column: its name, and behind a blank its type
 abbrev pub column_text : List ℕ × CellType → List ℕ
-column_text c = escaped_text c.0 ++ (codes " " ++ dtype_text c.1)
+column_text c = escaped_text c.0 ++ (codes " " ++ dtype_word c.1)
 
 -- columns, each between what stands before it and what stands behind it
 abbrev pub columns_text : List ℕ → List (List ℕ × CellType) → List ℕ → List ℕ
@@ -60,3 +53,7 @@ frame_at d None = None
 -- the schema of the document's frame of a name, or else of its view
 abbrev pub schema_named : Definitions → List ℕ → Option (List (List ℕ × CellType))
 schema_named d name = schema_of_either (frame_at d (frame_index_of d name)) (plan_named d name)
+
+-- the table of the view of a name, as the document has it or would have it
+abbrev pub plan_text : Definitions → List ℕ → Option (List ℕ)
+plan_text d name = option_map (λ (p : CheckedParts). view_table name d.document.frames p.plan) (plan_named d name)

@@ -1,9 +1,15 @@
--- Parts of a table: which of its rows are printed, and what the line below says of the others.
+-- Tables and parts of them: which rows are written, what the line below says of the others, and in which format.
 use Rattle.std.specs.Prelude.{◌++◌, ◌+◌, ◌-◌, ℕ, zero, suc, List, [], codes, decimal, drop, length, min, take}
 use Rattle.df_value.specs.declared.cell.Cell.{Cell}
 use Rattle.df_value.specs.declared.cell.CellType.{CellType}
 use Rattle.df_print.specs.Printed.{printed}
+use Rattle.df_export.specs.CsvTables.{csv_of}
+use Rattle.df_export.specs.JsonLines.{json_of}
+use Rattle.df_export.specs.Numbered.{numbered_columns, numbered_rows}
 use Rattle.df_session.specs.Greetings.{plural_end}
+use Rattle.df_session.specs.Told.{numbers_line}
+use Rattle.df_session.specs.declared.command.Format.{Format}
+use Rattle.df_session.specs.declared.command.Format.TheVariants as format
 use Rattle.df_session.specs.declared.command.Part.{Part}
 use Rattle.df_session.specs.declared.command.Part.TheVariants as part
 
@@ -32,6 +38,18 @@ part_line part.Whole total = []
 part_line (part.First count) total = more_line (total - count)
 part_line (part.From first count) total = around_line (min first total) (total - (first + count))
 
--- a part of a table, as it is printed
+-- a part of a table, printed
 abbrev pub part_text : List ℕ → List (List ℕ × CellType) → Part → List (List Cell) → List ℕ
 part_text name schema part rows = printed name schema (part_rows part rows) ++ part_line part (length rows)
+
+-- a part of a table in a format; of the other rows only the printed one tells
+abbrev pub part_in : Format → List ℕ → List (List ℕ × CellType) → Part → List (List Cell) → List ℕ
+part_in format.Printed name schema part rows = part_text name schema part rows
+part_in format.Csv name schema part rows = csv_of schema (part_rows part rows)
+part_in format.Json name schema part rows = json_of schema (part_rows part rows)
+
+-- the table of a frame in a format, with the numbers of its rows: printed below it, else in a column of their own
+abbrev pub numbered_in : Format → List ℕ → List (List ℕ × CellType) → List (List Cell) → List ℕ → List ℕ
+numbered_in format.Printed name schema rows numbers = printed name schema rows ++ numbers_line numbers
+numbered_in format.Csv name schema rows numbers = csv_of (numbered_columns schema) (numbered_rows numbers rows)
+numbered_in format.Json name schema rows numbers = json_of (numbered_columns schema) (numbered_rows numbers rows)

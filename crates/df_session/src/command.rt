@@ -1,8 +1,8 @@
 //! Commands, and the words that they are read of.
-ghost use Rattle.std.specs.Prelude.{◌≡◌, ◌∷◌, [], IfErr, IfOk, codes, map};
+ghost use Rattle.std.specs.Prelude.{◌≡◌, ◌∷◌, ◌++◌, [], IfErr, IfOk, codes, map};
 ghost use Rattle.std.specs.List.{AllZip};
 ghost use Rattle.df_session.specs.Answers.{IsWordFault};
-ghost use Rattle.df_session.specs.Commands.{IsChangeOf, IsCommandOf, IsLineCount, IsPartOf, IsQuestionOf, IsRowNumber};
+ghost use Rattle.df_session.specs.Commands.{IsChangeOf, IsCommandOf, IsLineCount, IsPartOf, IsQuestionOf, IsRowNumber, format_words};
 
 use crate::refusal::{Mistake, Refusal};
 use df_value::List;
@@ -52,10 +52,12 @@ pub enum Question<'a> {
     Frames,
     /// The columns of a frame or of a view with their types.
     Schema(&'a str),
+    /// The plan of a view, as a document writes it.
+    Plan(&'a str),
     /// The table of a view, or a part of its rows.
-    Show(&'a str, Part),
+    Show(&'a str, Part, Format),
     /// The table of a frame and the numbers of its rows.
-    Rows(&'a str),
+    Rows(&'a str, Format),
     /// How many rows a frame accepted, how many were deleted, and how many it has.
     Books(&'a str),
     /// The names of the views.
@@ -76,6 +78,17 @@ pub enum Part {
     First(usize),
     /// From this one on, the first being 0, so many.
     From(usize, usize),
+}
+
+/// How a table is written.
+#[derive(Clone, Copy)]
+pub enum Format {
+    /// In columns, under its name.
+    Printed,
+    /// As CSV.
+    Csv,
+    /// As lines of JSON.
+    Json,
 }
 
 /// The command that words say.
@@ -116,8 +129,9 @@ fn question_of<'a>(name: &str, arguments: &[&'a str]) -> Result<Command<'a>, Ref
     match name {
         "frames" => bare(Command::Question(Question::Frames), arguments),
         "schema" => Ok(Command::Question(Question::Schema(only(arguments)?))),
+        "plan" => Ok(Command::Question(Question::Plan(only(arguments)?))),
         "show" => Ok(Command::Question(read_show(arguments)?)),
-        "rows" => Ok(Command::Question(Question::Rows(only(arguments)?))),
+        "rows" => Ok(Command::Question(read_rows(arguments)?)),
         "books" => Ok(Command::Question(Question::Books(only(arguments)?))),
         "views" => bare(Command::Question(Question::Views), arguments),
         "check" => bare(Command::Question(Question::Check), arguments),
@@ -185,8 +199,41 @@ fn read_show<'a>(arguments: &[&'a str]) -> Result<Question<'a>, Mistake>
     ensures { IfOk result (IsQuestionOf (codes "show" ∷ map (λ w. w.now) arguments.now)) }
 {
     match arguments {
-        [view, part @ ..] => Ok(Question::Show(view, read_part(part)?)),
+        [view, rest @ ..] => {
+            let (part, format) = split_format(rest);
+            Ok(Question::Show(view, read_part(part)?, format))
+        }
         [] => Err(Mistake::MissingWord),
+    }
+}
+
+fn read_rows<'a>(arguments: &[&'a str]) -> Result<Question<'a>, Mistake>
+    ensures { IfOk result (IsQuestionOf (codes "rows" ∷ map (λ w. w.now) arguments.now)) }
+{
+    match arguments {
+        [frame, rest @ ..] => Ok(Question::Rows(frame, read_format(rest)?)),
+        [] => Err(Mistake::MissingWord),
+    }
+}
+
+fn read_format(words: &[&str]) -> Result<Format, Mistake>
+    ensures { IfOk result (λ format. map (λ w. w.now) words.now ≡ format_words format) }
+{
+    match split_format(words) {
+        ([], format) => Ok(format),
+        _ => Err(Mistake::ExtraWord),
+    }
+}
+
+// The words before the last one, where that names a format, and the format.
+fn split_format<'w, 'a>(words: &'w [&'a str]) -> (&'w [&'a str], Format)
+    ensures { map (λ w. w.now) words.now
+        ≡ map (λ w. w.now) result.0.now ++ format_words result.1 }
+{
+    match words.split_last() {
+        Some((&"csv", before)) => (before, Format::Csv),
+        Some((&"json", before)) => (before, Format::Json),
+        _ => (words, Format::Printed),
     }
 }
 

@@ -3,15 +3,16 @@ ghost use Rattle.std.specs.Prelude.{◌≡◌, ◌∷◌, ◌++◌, [], IfErr, I
 ghost use Rattle.df_value.specs.Outcomes.{Answers};
 ghost use Rattle.df_text.specs.Document.{document_of};
 ghost use Rattle.df_session.specs.Answers.{IsWordFault};
-ghost use Rattle.df_session.specs.Declarations.{IsDeclaration, IsDeclared, IsFaultOfFrames, IsOtherDeclaration, IsRefusalOfFrame, IsRefusalOfWords, IsDeclaredBy, frame_table, words_of_columns};
+ghost use Rattle.df_session.specs.Declarations.{IsDeclaration, IsDeclared, IsFaultOfFrames, IsOtherDeclaration, IsRefusalOfFrame, IsRefusalOfWords, IsDeclaredBy, words_of_columns};
+ghost use Rattle.df_writing.specs.FrameTables.{frame_table};
 
 use crate::answering::{Answer, explain};
 use crate::command::{Command, read_command};
 use crate::help::{CommandHelp, list_commands};
 use crate::refusal::{Mistake, Refusal};
-use crate::toml_text::push_frame_table;
 use df_document::DocumentFault;
 use df_text::{Views, ViewsFault, read_views};
+use df_writing::push_frame_table;
 use std::alloc::{AllocError, Global};
 
 /// The frames that a session has declared: the view document that says them.

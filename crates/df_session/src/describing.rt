@@ -1,14 +1,17 @@
-//! What frames and views are: their columns with their types, and how many rows the frames have.
+//! What frames and views are: their columns with their types, how many rows the frames have, and the plans of the views.
 ghost use Rattle.std.specs.Prelude.{◌≡◌, ◌++◌, IfOk, OnOk, Some, option_map, string_bytes};
 ghost use Rattle.df_session.specs.Described as described;
-ghost use Rattle.df_session.specs.Described.{column_text, columns_text, frame_line_of, frames_text, schema_named, schema_text};
+ghost use Rattle.df_session.specs.Described.{column_text, columns_text, frame_line_of, frames_text, plan_text, schema_named, schema_text};
 ghost use Rattle.df_session.specs.Told.{IsTold};
+ghost use Rattle.df_writing.specs.ViewTables as writing;
 
 use crate::definitions::Definitions;
 use crate::prompts::plural_end;
 use crate::refusal::{Mistake, Refusal};
+use df_plan::Plan;
 use df_text::{FrameSpec, escape};
 use df_value::{CellType, Schema, Text};
+use df_writing::{dtype_word, push_view_table};
 use std::alloc::{AllocError, Global};
 
 /// What knows how many rows each frame has.
@@ -118,18 +121,35 @@ fn push_column(
     let name = escape(alloc, column.0.as_str())?;
     text.extend_from_slice(name.as_bytes())?;
     text.push(b' ')?;
-    text.extend_from_slice(dtype_text(column.1).as_bytes())?;
+    text.extend_from_slice(dtype_word(column.1).as_bytes())?;
     Ok(())
 }
 
-fn dtype_text(dtype: CellType) -> &'static str
-    ensures { result.now ≡ described.dtype_text dtype }
+/// The table of the view of a name, as the document has it, or would have it where the session defined it.
+pub fn describe_plan(
+    alloc: Global,
+    definitions: &Definitions,
+    name: &str,
+) -> Result<Vec<u8>, Refusal>
+    ensures { IsTold (plan_text definitions.now name.now) (Refusal.Mistake Mistake.NoView) result }
 {
-    match dtype {
-        CellType::Int => "Int",
-        CellType::Text => "Text",
-        CellType::Bool => "Bool",
-        CellType::Wide => "Wide",
-        CellType::Frac => "Frac",
+    match definitions.plan(name) {
+        Some(plan) => Ok(view_table(alloc, definitions, name, plan.plan())?),
+        None => Err(Refusal::Mistake(Mistake::NoView)),
     }
+}
+
+fn view_table(
+    alloc: Global,
+    definitions: &Definitions,
+    name: &str,
+    plan: &Plan,
+) -> Result<Vec<u8>, AllocError>
+    ensures { IfOk result (λ text.
+        text.items ≡ writing.view_table name.now definitions.now.document.frames plan.now) }
+{
+    let mut text = Vec::new(alloc);
+    let frames = definitions.document.frames.as_slice();
+    push_view_table(alloc, &mut text, name, frames, plan)?;
+    Ok(text)
 }

@@ -8,7 +8,7 @@ use std::alloc::{AllocError, Global};
 pub type CommandHelp = (&'static str, &'static str, &'static str);
 
 /// The commands, in the order in which `help` lists them. A command of several forms has an entry for each.
-pub const COMMANDS: [CommandHelp; 23] = [
+pub const COMMANDS: [CommandHelp; 26] = [
     (
         "frame",
         "frame NAME COLUMN TYPE ..    declares a frame of these columns; without a document, before all changes\n",
@@ -70,6 +70,11 @@ pub const COMMANDS: [CommandHelp; 23] = [
         "    > schema by_region\n    region Text\n    n Int\n    total Wide\n",
     ),
     (
+        "plan",
+        "plan VIEW                    the view as a document writes it, registered or not\n",
+        "    > plan by_region\n    [[view]]\n    name = \"by_region\"\n    from = \"sales\"\n    steps = [\n      [\"group_by\", [\"region\"], [\"n\", \"len\"], [\"total\", \"sum\", \"qty\"]],\n    ]\n",
+    ),
+    (
         "show",
         "show VIEW                    the table of a view\n",
         "    > show by_region\n    by_region (2 x 3)\n    region  n  total\n    north   2      2\n    south   1      0\n",
@@ -85,9 +90,19 @@ pub const COMMANDS: [CommandHelp; 23] = [
         "    > show by_region from 1 1\n    by_region (1 x 3)\n    region  n  total\n    south   1      0\n    .. 1 row before, 0 behind\n",
     ),
     (
+        "show",
+        "show VIEW .. csv             these rows as CSV; with json as lines of JSON\n",
+        "    > show by_region csv\n    region,n,total\n    north,2,2\n    south,1,0\n    > show by_region 1 json\n    {\"region\":\"north\",\"n\":2,\"total\":2}\n",
+    ),
+    (
         "rows",
         "rows FRAME                   the table of a frame, and the numbers of its rows\n",
         "    > rows sales\n    sales (1 x 2)\n    region   qty\n    south   null\n    numbers 1\n",
+    ),
+    (
+        "rows",
+        "rows FRAME csv               the rows with their numbers as CSV; with json as lines of JSON\n",
+        "    > rows sales csv\n    number,region,qty\n    1,south,\n    > rows sales json\n    {\"number\":1,\"region\":\"south\",\"qty\":null}\n",
     ),
     (
         "books",

@@ -1,16 +1,57 @@
-//! Parts of a printed table.
+//! Tables and parts of them, in each format.
 ghost use Rattle.std.specs.Prelude.{◌≡◌, ◌++◌, IfOk, OnOk, drop, string_bytes, take};
 ghost use Rattle.df_session.specs.Parts as parts;
-ghost use Rattle.df_session.specs.Parts.{around_line, more_line, part_line, part_rows, part_text};
+ghost use Rattle.df_session.specs.Parts.{around_line, more_line, numbered_in, part_in, part_line, part_rows, part_text};
 
-use crate::command::Part;
+use crate::command::{Format, Part};
 use crate::prompts::plural_end;
+use crate::telling::print_rows;
+use df_export::{csv_table, json_lines, numbered_csv_table, numbered_json_lines};
 use df_text::print_table;
 use df_value::{Row, Schema, Text};
 use std::alloc::{AllocError, Global};
 
-/// A part of the rows of a table, printed, and below it how many rows lie around it.
-pub fn print_part(
+/// A part of the rows of a table in a format: printed, also how many rows lie around it.
+pub fn write_part(
+    alloc: Global,
+    name: &Text,
+    schema: &Schema,
+    rows: &[Row],
+    part: Part,
+    format: Format,
+) -> Result<Vec<u8>, AllocError>
+    ensures { IfOk result (λ text.
+        text.items ≡ part_in format name.now schema.now part rows.now) }
+{
+    match format {
+        Format::Printed => print_part(alloc, name, schema, rows, part),
+        Format::Csv => csv_table(alloc, schema, rows_in(part, rows)),
+        Format::Json => json_lines(alloc, schema, rows_in(part, rows)),
+    }
+}
+
+/// The table of a frame in a format, with the numbers of its rows: printed below it, else in a
+/// first column.
+pub fn write_rows(
+    alloc: Global,
+    name: &Text,
+    schema: &Schema,
+    rows: &[Row],
+    numbers: &[u32],
+    format: Format,
+) -> Result<Vec<u8>, AllocError>
+    ensures { IfOk result (λ text.
+        text.items ≡ numbered_in format name.now schema.now rows.now numbers.now) }
+{
+    match format {
+        Format::Printed => print_rows(alloc, name, schema, rows, numbers),
+        Format::Csv => numbered_csv_table(alloc, schema, rows, numbers),
+        Format::Json => numbered_json_lines(alloc, schema, rows, numbers),
+    }
+}
+
+// A part of the rows of a table, printed, and below it how many rows lie around it.
+fn print_part(
     alloc: Global,
     name: &Text,
     schema: &Schema,

@@ -7,12 +7,12 @@ use Rattle.df_state.specs.Desks.{DeskParts}
 use Rattle.df_state.specs.Pictures.{PictureParts, frame_len_in, value_in, view_rows_in}
 use Rattle.df_state.specs.declared.fault.CatalogueFault.{CatalogueFault}
 use Rattle.df_plan.specs.CheckedParts.{CheckedParts}
-use Rattle.df_print.specs.Printed.{printed}
-use Rattle.df_session.specs.Parts.{part_text}
-use Rattle.df_session.specs.Described.{frames_text, schema_named, schema_text}
+use Rattle.df_session.specs.Parts.{numbered_in, part_in}
+use Rattle.df_session.specs.Described.{frames_text, plan_text, schema_named, schema_text}
+use Rattle.df_session.specs.declared.command.Format.{Format}
 use Rattle.df_session.specs.declared.command.Part.{Part}
 use Rattle.df_session.specs.Asked.{frame_index_of, plan_named}
-use Rattle.df_session.specs.Told.{books_line, check_text, names_text, numbers_line}
+use Rattle.df_session.specs.Told.{books_line, check_text, names_text}
 use Rattle.df_shell.specs.Questions.{refusal_of_question}
 use Rattle.df_session.specs.declared.command.Question.{Question}
 use Rattle.df_session.specs.declared.command.Question.TheVariants as question
@@ -22,15 +22,15 @@ use Rattle.df_session.specs.declared.refusal.Refusal.{Refusal}
 use Rattle.df_session.specs.declared.refusal.Refusal.TheVariants as refusal
 use Rattle.df_text.specs.declared.document.FrameSpec.{FrameSpec}
 
--- a part of the rows of a view, printed under its name with the schema of its plan, where it has one
-abbrev pub shown_text : List ℕ → Part → Option CheckedParts → Result (List (List Cell)) CatalogueFault → Option (List ℕ)
-shown_text name part (Some plan) (Ok rows) = Some (part_text name plan.schema part rows)
-shown_text name part plan rows = None
+-- a part of the rows of a view in a format, under its name with the schema of its plan, where it has one
+abbrev pub shown_text : List ℕ → Part → Format → Option CheckedParts → Result (List (List Cell)) CatalogueFault → Option (List ℕ)
+shown_text name part format (Some plan) (Ok rows) = Some (part_in format name plan.schema part rows)
+shown_text name part format plan rows = None
 
--- the rows of a frame behind their numbers, printed, and then the numbers
-abbrev pub numbered_text : Option FrameSpec → Option (List (ℕ × List Cell)) → Option (List ℕ)
-numbered_text (Some spec) (Some rows) = Some (printed spec.name spec.schema (map (λ r. r.1) rows) ++ numbers_line (map (λ r. r.0) rows))
-numbered_text spec rows = None
+-- the rows of a frame behind their numbers in a format, and the numbers
+abbrev pub numbered_text : Format → Option FrameSpec → Option (List (ℕ × List Cell)) → Option (List ℕ)
+numbered_text format (Some spec) (Some rows) = Some (numbered_in format spec.name spec.schema (map (λ r. r.1) rows) (map (λ r. r.0) rows))
+numbered_text format spec rows = None
 
 -- the books of a frame: what its desk counted, and how many rows it has
 abbrev pub counted_text : Option DeskParts → Option (List (ℕ × List Cell)) → Option (List ℕ)
@@ -59,9 +59,10 @@ version_line number = codes "version " ++ (decimal number ++ codes "\n")
 abbrev pub text_of_version : Definitions → List DeskParts → ℕ × PictureParts → Question → Option (List ℕ)
 text_of_version d desks v question.Frames = Some (frames_text d (frame_len_in v.1))
 text_of_version d desks v (question.Schema name) = option_map schema_text (schema_named d name.now)
-text_of_version d desks v (question.Show view part) = shown_text view.now part (plan_named d view.now) (view_rows_in v.1 view.now)
-text_of_version d desks v (question.Rows frame) =
-    text_of_index (λ at. numbered_text (slice_get d.document.frames at) (slice_get v.1.frames at)) (frame_index_of d frame.now)
+text_of_version d desks v (question.Plan view) = plan_text d view.now
+text_of_version d desks v (question.Show view part format) = shown_text view.now part format (plan_named d view.now) (view_rows_in v.1 view.now)
+text_of_version d desks v (question.Rows frame format) =
+    text_of_index (λ at. numbered_text format (slice_get d.document.frames at) (slice_get v.1.frames at)) (frame_index_of d frame.now)
 text_of_version d desks v (question.Books frame) =
     text_of_index (λ at. counted_text (slice_get desks at) (slice_get v.1.frames at)) (frame_index_of d frame.now)
 text_of_version d desks v question.Views = Some (names_text (map (λ w. w.0) v.1.views))

@@ -7,19 +7,22 @@ ghost use Rattle.df_shell.specs.Questions.{books_text, frame_text, rows_text, vi
 
 use df_catalogue::{Catalogue, CatalogueFault};
 use df_expr::WorkCounts;
-use df_session::{Definitions, Part, Refusal, books_of, names_lines, print_part, print_rows};
+use df_session::{
+    Definitions, Format, Part, Refusal, books_of, names_lines, write_part, write_rows,
+};
 use df_value::Text;
 use std::alloc::{AllocError, Global};
 use std::sync::ledger::Ledger;
 
-/// The table of a view, or a part of its rows, as it is printed.
+/// The table of a view, or a part of its rows, in a format.
 pub fn show<Acc: Ledger, Del: Ledger>(
     alloc: Global,
     catalogue: &Catalogue<Acc, Del>,
     view: &str,
     part: Part,
+    format: Format,
 ) -> Result<Vec<u8>, Refusal>
-    ensures { IsTold (option_map (view_text view.now part)
+    ensures { IsTold (option_map (view_text view.now part format)
         (view_named view.now catalogue.now.state.views)) (Refusal.Store CatalogueFault.NoView) result }
 {
     let Some(schema) = catalogue.view_schema(view) else {
@@ -27,17 +30,19 @@ pub fn show<Acc: Ledger, Del: Ledger>(
     };
     let rows = catalogue.view_rows(alloc, view)?;
     let name = Text::from_str(alloc, view)?;
-    Ok(print_part(alloc, &name, schema, rows.as_slice(), part)?)
+    let rows = rows.as_slice();
+    Ok(write_part(alloc, &name, schema, rows, part, format)?)
 }
 
-/// The table of a frame, as it is printed, and the numbers of its rows.
+/// The table of a frame in a format, and the numbers of its rows.
 pub fn rows<Acc: Ledger, Del: Ledger>(
     alloc: Global,
     definitions: &Definitions,
     catalogue: &Catalogue<Acc, Del>,
     frame: &str,
+    format: Format,
 ) -> Result<Vec<u8>, Refusal>
-    ensures { IsTold (frame_text rows_text definitions.now catalogue.now.state
+    ensures { IsTold (frame_text (rows_text format) definitions.now catalogue.now.state
         (frame_index_of definitions.now frame.now)) (Refusal.Store CatalogueFault.NoFrame) result }
 {
     let Some(at) = definitions.frame_index(frame) else {
@@ -47,7 +52,7 @@ pub fn rows<Acc: Ledger, Del: Ledger>(
     let rows = catalogue.frame_rows(alloc, at)?;
     let numbers = catalogue.frame_numbers(alloc, at)?;
     let (rows, numbers) = (rows.as_slice(), numbers.as_slice());
-    Ok(print_rows(alloc, &spec.name, &spec.schema, rows, numbers)?)
+    Ok(write_rows(alloc, &spec.name, &spec.schema, rows, numbers, format)?)
 }
 
 /// How many rows a frame accepted, how many were deleted, and how many it has.

@@ -12,7 +12,7 @@ use crate::reading::{books, rows, show, views, work};
 use df_catalogue::{Catalogue, CatalogueFault, Change, Desk};
 use df_session::{
     Definitions, Mistake, Numbers, Question, Refusal, RowCounts, ViewStore, describe_frames,
-    describe_table, end_if_made, end_of,
+    describe_plan, describe_table, end_if_made, end_of,
 };
 use std::alloc::Global;
 use std::sync::ledger::Ledger;
@@ -111,8 +111,9 @@ impl<Acc: Ledger, Del: Ledger> ViewStore for Store<Acc, Del> {
         match question {
             Question::Frames => Ok(describe_frames(alloc, definitions, &*self)?),
             Question::Schema(name) => describe_table(alloc, definitions, name),
-            Question::Show(view, part) => show(alloc, catalogue, view, part),
-            Question::Rows(frame) => rows(alloc, definitions, catalogue, frame),
+            Question::Plan(view) => describe_plan(alloc, definitions, view),
+            Question::Show(view, part, format) => show(alloc, catalogue, view, part, format),
+            Question::Rows(frame, format) => rows(alloc, definitions, catalogue, frame, format),
             Question::Books(frame) => books(alloc, definitions, catalogue, frame),
             Question::Views => views(alloc, catalogue),
             Question::Check => check(alloc, catalogue),

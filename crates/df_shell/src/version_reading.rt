@@ -8,8 +8,8 @@ ghost use Rattle.df_shell.specs.Versions.{counted_text, differs_from, first_diff
 
 use df_catalogue::{CatalogueFault, Desk};
 use df_session::{
-    Definitions, Mistake, Part, Question, Refusal, RowCounts, books_of, describe_frames,
-    describe_table, names_lines, print_part, print_rows, verdict,
+    Definitions, Format, Mistake, Part, Question, Refusal, RowCounts, books_of, describe_frames,
+    describe_plan, describe_table, names_lines, verdict, write_part, write_rows,
 };
 use df_value::Text;
 use df_versions::Version;
@@ -31,8 +31,9 @@ pub fn answer_from_version<Acc: Ledger, Del: Ledger>(
     match question {
         Question::Frames => Ok(describe_frames(alloc, definitions, &VersionCounts { version })?),
         Question::Schema(name) => describe_table(alloc, definitions, name),
-        Question::Show(view, part) => show(alloc, definitions, version, view, part),
-        Question::Rows(frame) => rows(alloc, definitions, version, frame),
+        Question::Plan(view) => describe_plan(alloc, definitions, view),
+        Question::Show(view, part, format) => show(alloc, definitions, version, view, part, format),
+        Question::Rows(frame, format) => rows(alloc, definitions, version, frame, format),
         Question::Books(frame) => books(alloc, definitions, version, desks, frame),
         Question::Views => views(alloc, version),
         Question::Check => check(alloc, definitions, version),
@@ -55,15 +56,16 @@ impl<'a> RowCounts for VersionCounts<'a> {
     }
 }
 
-// The table of a view, or a part of its rows, as it is printed.
+// The table of a view, or a part of its rows, in a format.
 fn show(
     alloc: Global,
     definitions: &Definitions,
     version: &Version,
     view: &str,
     part: Part,
+    format: Format,
 ) -> Result<Vec<u8>, Refusal>
-    ensures { IsTold (shown_text view.now part (plan_named definitions.now view.now)
+    ensures { IsTold (shown_text view.now part format (plan_named definitions.now view.now)
         (view_rows_in version.now.1 view.now)) (Refusal.Store CatalogueFault.NoView) result }
 {
     let Some(plan) = definitions.plan(view) else {
@@ -71,17 +73,19 @@ fn show(
     };
     let rows = version.view_rows(alloc, view)?;
     let name = Text::from_str(alloc, view)?;
-    Ok(print_part(alloc, &name, plan.schema(), rows.as_slice(), part)?)
+    let rows = rows.as_slice();
+    Ok(write_part(alloc, &name, plan.schema(), rows, part, format)?)
 }
 
-// The table of a frame, as it is printed, and the numbers of its rows.
+// The table of a frame in a format, and the numbers of its rows.
 fn rows(
     alloc: Global,
     definitions: &Definitions,
     version: &Version,
     frame: &str,
+    format: Format,
 ) -> Result<Vec<u8>, Refusal>
-    ensures { IsTold (text_of_index (λ at. numbered_text
+    ensures { IsTold (text_of_index (λ at. numbered_text format
         (slice_get definitions.now.document.frames at) (slice_get version.now.1.frames at))
         (frame_index_of definitions.now frame.now)) (Refusal.Store CatalogueFault.NoFrame) result }
 {
@@ -92,7 +96,7 @@ fn rows(
     let rows = version.frame_rows(alloc, at)?;
     let numbers = version.frame_numbers(alloc, at)?;
     let (rows, numbers) = (rows.as_slice(), numbers.as_slice());
-    Ok(print_rows(alloc, &spec.name, &spec.schema, rows, numbers)?)
+    Ok(write_rows(alloc, &spec.name, &spec.schema, rows, numbers, format)?)
 }
 
 // How many rows were accepted and deleted through the desk of a frame, and how many the frame has.

@@ -28,10 +28,13 @@ const AFTER_HELP: &str = r#"Commands, one a line of standard input:
   frames                       the frames: how many rows each has, and its columns with their types
   views                        the names of the views
   schema NAME                  the columns of a frame, or else of a view, with their types
+  plan VIEW                    the view as a document writes it, registered or not
   show VIEW                    the table of a view
   show VIEW COUNT              its first COUNT rows, and how many more there are
   show VIEW from ROW COUNT     COUNT rows from row ROW on, the first being 0, and how many lie around them
+  show VIEW .. csv             these rows as CSV; with json as lines of JSON
   rows FRAME                   the table of a frame, and the numbers of its rows
+  rows FRAME csv               the rows with their numbers as CSV; with json as lines of JSON
   books FRAME                  how many rows were accepted and deleted, and how many there are
   check                        whether each view has the rows that its plan gives: same, or differs and a view
   work                         what the views counted at the last change of rows; not with --hall

@@ -1,10 +1,10 @@
-use Rattle.std.proofs.Common.{◌∷◌, ap, codes, sym}
-use Rattle.df_session.proofs.CommandFacts.{first-word}
+use Rattle.std.proofs.Common.{◌++◌, map}
+use Rattle.df_session.specs.Commands.{format_words}
+use Rattle.df_session.proofs.CommandFacts.{first-word-and-rest}
 use Rattle.df_session.proofs.command.read_show.Goals as goal
 
 pub returns-in_ok-read_part-in-len1-up : goal.returns-in_ok-read_part-in-len1-up
-returns-in_ok-read_part-in-len1-up c = (
-  _,
-  ap (λ ws. codes "show" ∷ ws) (sym (first-word _ c.args.arguments.now c.in-len1-up.len_at_least)),
-  c.in_ok-read_part-in-len1-up.ensures,
-)
+returns-in_ok-read_part-in-len1-up c =
+    let split = c.split_format-format.result in
+    let rest = map (λ w. w.now) split.0.now ++ format_words split.1 in
+    (_, first-word-and-rest _ c.args.arguments.now rest c.in-len1-up.len_at_least c.split_format-format.ensures, c.in_ok-read_part-in-len1-up.ensures)

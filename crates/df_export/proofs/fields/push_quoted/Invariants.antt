@@ -1,0 +1,7 @@
+use Rattle.std.proofs.Common.{◌≡◌, ◌++◌, drop}
+use Rattle.csv.specs.Writing.{default_writer, escaped}
+use Rattle.df_export.proofs.fields.push_quoted.Given as goal
+
+abbrev pub invariant-loop-byte : goal.invariant-loop-byte
+invariant-loop-byte l =
+    l.out.items ++ escaped default_writer (drop l.byte-index l.text) ≡ l.initial.out.items ++ escaped default_writer l.text

@@ -1,0 +1,4 @@
+pub mod CsvTables
+pub mod JsonLines
+pub mod Numbered
+pub mod ReadBack

@@ -1,0 +1,4 @@
+pub mod AppendFacts
+pub mod TextFacts
+pub mod StepFacts
+pub mod PlanFacts

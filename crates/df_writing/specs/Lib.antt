@@ -1,0 +1,5 @@
+pub mod Texts
+pub mod FrameTables
+pub mod ExpressionData
+pub mod StepData
+pub mod ViewTables

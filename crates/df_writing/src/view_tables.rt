@@ -1,0 +1,58 @@
+//! Views as a view document writes them.
+ghost use Rattle.std.specs.Prelude.{◌≡◌, ◌++◌, OnOk};
+ghost use Rattle.df_writing.specs.StepData.{written};
+ghost use Rattle.df_writing.specs.ViewTables.{step_lines, view_head, view_table};
+
+use crate::plan_steps::{first_frame, has_steps, push_steps};
+use crate::toml_text::push_quoted;
+use df_plan::Plan;
+use df_text::FrameSpec;
+use std::alloc::{AllocError, Global};
+
+/// Adds the table of a view of this name and plan, over these frames. `df_text::read_views` reads the plan of it.
+#[tactic(auto, unfolding(crate::specs::ViewTables::view_table))]
+pub fn push_view_table(
+    alloc: Global,
+    text: &mut Vec<u8>,
+    name: &str,
+    frames: &[FrameSpec],
+    plan: &Plan,
+) -> Result<(), AllocError>
+    ensures { OnOk result (text.new.items ≡ text.old.items
+        ++ view_table name.now frames.now plan.now) }
+{
+    push_head(text, name, first_frame(frames, plan))?;
+    push_lines(alloc, text, frames, plan)
+}
+
+fn push_head(text: &mut Vec<u8>, name: &str, source: &str) -> Result<(), AllocError>
+    ensures { OnOk result (text.new.items ≡ text.old.items ++ view_head name.now source.now) }
+{
+    text.extend_from_slice(b"[[view]]\nname = ")?;
+    push_quoted(text, name)?;
+    text.extend_from_slice(b"\nfrom = ")?;
+    push_quoted(text, source)?;
+    text.extend_from_slice(b"\nsteps = ")?;
+    Ok(())
+}
+
+// The array of the steps, a line each.
+fn push_lines(
+    alloc: Global,
+    text: &mut Vec<u8>,
+    frames: &[FrameSpec],
+    plan: &Plan,
+) -> Result<(), AllocError>
+    ensures { OnOk result (text.new.items ≡ text.old.items
+        ++ step_lines (written frames.now plan.now).steps) }
+{
+    if has_steps(plan) {
+        text.extend_from_slice(b"[\n  ")?;
+        push_steps(alloc, text, plan, frames, b",\n  ")?;
+        text.extend_from_slice(b",\n]\n")?;
+        Ok(())
+    } else {
+        text.extend_from_slice(b"[]\n")?;
+        Ok(())
+    }
+}
