@@ -43,10 +43,10 @@ const AFTER_HELP: &str = r#"Commands, one a line of standard input:
 
 Exit status:
   0  the input has ended, or the document opens
-  1  with --check: the document opens without the chunks that have a bad cell, which the output names
+  1  with --check: the document opens without the chunks that have a bad cell, which the output names; with --bail: a command was refused
   2  a fault, or a refused word: standard error says which"#;
 
-/// Reads the words behind the program's name: `[--hall] [--check] [VIEWS]`.
+/// Reads the words behind the program's name: `[--hall] [--check] [--bail] [--framed] [VIEWS]`.
 ///
 /// Refused are other words, a second VIEWS, a flag twice, and `--check` without VIEWS. `-h`, `--help` and `--version` are an error too,
 /// whose text is the help or the version: its `use_stderr` is false and its `exit_code` 0, where those of a refusal are
@@ -95,10 +95,15 @@ fn command<'a>(alloc: Global) -> Result<Command<'a>, AllocError>
     let hall =
         "A session through a hall: a lock round the frames and views, and a version after each change";
     let check = "Opens the document and its files, says how many frames and views it has, and ends";
+    let bail = "Ends the session at the first refusal, with status 1";
+    let framed =
+        "For programs: before each answer a line says how many lines it has, as `ok 3`; no prompts";
     nameless(alloc)
         .arg(views_word(alloc))?
         .arg(flag(alloc, "hall", hall))?
-        .arg(flag(alloc, "check", check))
+        .arg(flag(alloc, "check", check))?
+        .arg(flag(alloc, "bail", bail))?
+        .arg(flag(alloc, "framed", framed))
 }
 
 // The command without its arguments. The program's name is not among its words.
@@ -136,11 +141,15 @@ fn said_in<'a>(matches: &ArgMatches<'a>) -> CommandLine<'a>
         ≡ first_value (found_of matches.now) (codes "views") }
     ensures hall { IsFlagOf (one_text (found_of matches.now) (codes "hall")) result.hall }
     ensures check { IsFlagOf (one_text (found_of matches.now) (codes "check")) result.check }
+    ensures bail { IsFlagOf (one_text (found_of matches.now) (codes "bail")) result.bail }
+    ensures framed { IsFlagOf (one_text (found_of matches.now) (codes "framed")) result.framed }
 {
     CommandLine {
         views: matches.get_str("views"),
         hall: is_set(matches, "hall"),
         check: is_set(matches, "check"),
+        bail: is_set(matches, "bail"),
+        framed: is_set(matches, "framed"),
     }
 }
 

@@ -14,4 +14,6 @@ returns-clause-says c =
       views = c.said_in.ensures.views ∙ (first_value-rows found (codes "views") ∙ ap (first_of (codes "views")) same);
       hall = subst (λ text. IsFlagOf text c.said_in.result.hall) (one_text-rows found (codes "hall") ∙ ap (one_of (codes "hall")) same) c.said_in.ensures.hall;
       check = subst (λ text. IsFlagOf text c.said_in.result.check) (one_text-rows found (codes "check") ∙ ap (one_of (codes "check")) same) c.said_in.ensures.check;
+      bail = subst (λ text. IsFlagOf text c.said_in.result.bail) (one_text-rows found (codes "bail") ∙ ap (one_of (codes "bail")) same) c.said_in.ensures.bail;
+      framed = subst (λ text. IsFlagOf text c.said_in.result.framed) (one_text-rows found (codes "framed") ∙ ap (one_of (codes "framed")) same) c.said_in.ensures.framed;
     }
