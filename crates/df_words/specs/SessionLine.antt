@@ -21,11 +21,13 @@ views_rule = record (new_rule (codes "views")) { value_names = 1 }
 abbrev pub flag_rule : List ℕ → Rule
 flag_rule name = record (new_rule name) { long = Some name; action = Some SetTrue }
 
+-- the command line up to its first flags
+abbrev pub document_line : App
+document_line = with_rule (with_rule (with_rule program_app views_rule) (flag_rule (codes "hall"))) (flag_rule (codes "check"))
+
 -- the command line: [--hall] [--check] [--bail] [--framed] [VIEWS]
-abbrev pub command_line : App
-command_line =
-    with_rule (with_rule (with_rule (with_rule (with_rule program_app views_rule) (flag_rule (codes "hall"))) (flag_rule (codes "check")))
-    (flag_rule (codes "bail"))) (flag_rule (codes "framed"))
+unfoldable pub command_line : App
+command_line = with_rule (with_rule document_line (flag_rule (codes "bail"))) (flag_rule (codes "framed"))
 
 -- whether a flag stands, by its text: none where it is no flag of the command
 abbrev pub IsFlagOf : Option (List ℕ) → Bool → Type 0

@@ -4,7 +4,7 @@ ghost use Rattle.clap.specs.Words.{FailsBy, app_of, fault_of, first_value, found
 ghost use Rattle.clap.specs.Values.{kind_of};
 ghost use Rattle.clap.specs.declared.error.kind.ErrorKind.TheVariants.{MissingRequiredArgument};
 ghost use Rattle.df_words.specs.SessionLine as command_line_spec;
-ghost use Rattle.df_words.specs.SessionLine.{IsBareCheck, IsFlagOf, IsRead, Says, flag_rule, program_app, views_rule};
+ghost use Rattle.df_words.specs.SessionLine.{IsBareCheck, IsFlagOf, IsRead, Says, document_line, flag_rule, program_app, views_rule};
 
 use crate::session_line::CommandLine;
 use clap::error::ErrorKind;
@@ -63,6 +63,7 @@ pub fn read_command_line<'a>(alloc: Global, words: &'a [&'a str]) -> Result<Comm
 }
 
 // What the words say by clap's rules alone.
+#[tactic(auto, using(crate::proofs::FlagFacts::is_free))]
 fn parse<'a>(alloc: Global, words: &'a [&'a str]) -> Result<CommandLine<'a>, Error>
     ensures says { IfOk result (λ line. Says (map (λ word. word.now) words.entry.now) line) }
     ensures refused { FailsBy (fault_of command_line_spec.command_line
@@ -89,21 +90,29 @@ fn no_views(alloc: Global) -> Result<Error, AllocError>
     )
 }
 
+#[tactic(auto, unfolding(crate::specs::SessionLine::command_line))]
 fn command<'a>(alloc: Global) -> Result<Command<'a>, AllocError>
     ensures { IfOk result (λ command. app_of command ≡ command_line_spec.command_line) }
+{
+    let bail = "Ends the session at the first refusal, with status 1";
+    let framed =
+        "For programs: before each answer a line says how many lines it has, as `ok 3`; no prompts";
+    document_command(alloc)?
+        .arg(flag(alloc, "bail", bail))?
+        .arg(flag(alloc, "framed", framed))
+}
+
+// The command with the document and its first flags.
+fn document_command<'a>(alloc: Global) -> Result<Command<'a>, AllocError>
+    ensures { IfOk result (λ command. app_of command ≡ document_line) }
 {
     let hall =
         "A session through a hall: a lock round the frames and views, and a version after each change";
     let check = "Opens the document and its files, says how many frames and views it has, and ends";
-    let bail = "Ends the session at the first refusal, with status 1";
-    let framed =
-        "For programs: before each answer a line says how many lines it has, as `ok 3`; no prompts";
     nameless(alloc)
         .arg(views_word(alloc))?
         .arg(flag(alloc, "hall", hall))?
-        .arg(flag(alloc, "check", check))?
-        .arg(flag(alloc, "bail", bail))?
-        .arg(flag(alloc, "framed", framed))
+        .arg(flag(alloc, "check", check))
 }
 
 // The command without its arguments. The program's name is not among its words.
