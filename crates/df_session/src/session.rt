@@ -185,12 +185,8 @@ fn source<R: Threads + Sync, S: ViewStore, F: Files, W: Write>(
     output: &mut W,
 ) -> Result<Option<SessionEnd>, ShellFault> {
     let Some(file) = files.open(path.as_str()) else {
-        return refuse(
-            alloc,
-            output,
-            session.options,
-            &Refusal::Mistake(Mistake::NoFile),
-        );
+        let no_file = Refusal::Mistake(Mistake::NoFile);
+        return refuse(alloc, output, session.options, &no_file);
     };
     let prompts = session.options.prompts;
     session.options.prompts = Prompts::Hidden;
@@ -251,29 +247,14 @@ fn take_sourced<R: Threads + Sync, S: ViewStore, F: Files, W: Write>(
     output: &mut W,
 ) -> Result<Option<SessionEnd>, ShellFault> {
     match turn {
-        Turn::Source(path) => {
-            drop(path);
+        Turn::Next | Turn::End => Ok(None),
+        Turn::Load(frame, path) => load_file(rt, alloc, session, files, frame, path, output),
+        Turn::Source(_) => {
             let nested = Refusal::Mistake(Mistake::NestedSource);
             refuse(alloc, output, session.options, &nested)
         }
-        turn => follow_in_file(rt, alloc, session, files, turn, output),
-    }
-}
-
-// Does what comes behind a command of a file that is no `source`.
-fn follow_in_file<R: Threads + Sync, S: ViewStore, F: Files, W: Write>(
-    rt: &R,
-    alloc: Global,
-    session: &mut Session<S>,
-    files: &mut F,
-    turn: Turn,
-    output: &mut W,
-) -> Result<Option<SessionEnd>, ShellFault> {
-    match turn {
-        Turn::Load(frame, path) => load_file(rt, alloc, session, files, frame, path, output),
         Turn::Quit => Ok(Some(SessionEnd::Whole)),
         Turn::Refused => Ok(Some(SessionEnd::Refused)),
-        Turn::Next | Turn::Source(_) | Turn::End => Ok(None),
     }
 }
 
