@@ -4,7 +4,9 @@
 Random commands, also wrong ones, empty lines and comments, without and with --hall: with --framed the bodies one behind
 another are what the plain session prints, each frame has as many lines as its head says, an `error` has one line and begins as a
 refusal does, an `ok` does not, and each command has its own frame, one of `source` one for each command of its file. Then
-the client of the guide, which stands in examples/shell/client.py, asks and is refused. Prints what went otherwise, and ends with a count.
+the client of the guide, which stands in examples/shell/client.py, asks and is refused. Last a session runs with each tenth allocation refused: it
+has as many frames, of which one says `error 1` and `memory`, or fewer where a file was not read to its end. Prints what went otherwise, and ends with a
+count.
 """
 import os
 import pathlib
@@ -17,6 +19,7 @@ import tempfile
 HERE = pathlib.Path(__file__).resolve().parent.parent
 sys.path.insert(0, str(HERE / "examples/shell"))
 from client import Refused, Shell  # noqa: E402
+from sessions import failing_library  # noqa: E402
 
 DOCUMENT = """
 [[frame]]
@@ -121,6 +124,41 @@ def client_fault(program, folder):
     return None if asked == wanted else f"the client: {asked}"
 
 
+SHORT = "views\nappend t\nx,1\ny,2\n.\nshow by_k\nplan by_k\nload t more.csv\nload t bad.csv\nnosuch\nbooks t\ncheck\n"
+
+
+def memory_faults(program, folder):
+    """What is wrong where allocations are refused in turn; and how often memory was answered."""
+    library, wrong, answered, quiet = failing_library(folder), [], 0, 0
+    for number in range(1, 20000, 10):
+        run = subprocess.run(
+            [program, "--framed", "d.toml"],
+            input=SHORT,
+            capture_output=True,
+            text=True,
+            cwd=folder,
+            timeout=120,
+            check=False,
+            env={**os.environ, "LD_PRELOAD": library, "FAIL_ALLOC": str(number)},
+        )
+        if run.returncode == 2 and not run.stdout:
+            continue
+        try:
+            frames = frames_of(run.stdout)
+        except (AttributeError, ValueError) as error:
+            wrong.append(f"allocation {number}: {error}")
+            continue
+        refused = [body for word, body in frames if word == "error"]
+        said = refused.count(["memory"]) or any("memory" in body for _, body in frames)
+        if run.returncode or len(frames) != 10 or any(len(body) != 1 for body in refused):
+            wrong.append(f"allocation {number}: {frames}")
+        # Behind the last allocation none is refused.
+        answered, quiet = (answered + 1, 0) if said else (answered, quiet + 1)
+        if quiet == 50:
+            break
+    return wrong, answered
+
+
 def main(program, seed="1", commands="1000"):
     program, rng, wrong, runs = os.path.abspath(program), random.Random(int(seed)), 0, 0
     with tempfile.TemporaryDirectory() as folder:
@@ -140,6 +178,11 @@ def main(program, seed="1", commands="1000"):
         if fault:
             print(f"otherwise: {fault}")
             wrong += 1
+        faults, answered = memory_faults(program, folder)
+        if answered < 10:
+            faults.append(f"memory was answered {answered} times")
+        print("".join(f"otherwise: {fault}\n" for fault in faults[:5]), end="")
+        wrong += len(faults)
     print(f"frames: {runs + 1} runs, {wrong} otherwise")
     return wrong > 0
 

@@ -39,6 +39,7 @@ TESTS = [
     ("live.py", "dfshell", ["20261124", "2"], ["nothing", "cell", "row", "order", "title", "same", "ok", *ENDS], r"differs$"),
     ("explanations.py", "dfshell", [], ["fault"], r"want "),
     ("shell_words.py", "dfshell", [], ["status", "complaint"], r""),
+    ("framed.py", "dfshell", ["1", "100"], ["status"], r"otherwise: "),
 ]
 
 
