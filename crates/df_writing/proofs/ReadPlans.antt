@@ -138,10 +138,10 @@ module _ (fs : List FrameSpec) where
       let b = reads.1 said in
       elim (cases_Bool (has_any (written fs p).steps)) [
         | inl some ↦
-          rw some (side_table at (written fs p).source (frame_name fs (written fs p).source) (written fs p).steps p (b.named at) (few_steps _ _ reads.0 few) (b.back at))
+            rw some (side_table at (written fs p).source (frame_name fs (written fs p).source) (written fs p).steps p (b.named at) (few_steps _ _ reads.0 few) (b.back at))
         | inr none ↦
-          let is = rw (no_steps (written fs p).steps none) at (b.back at) in
-          rw (none, b.named at) is
+            let is = rw (no_steps (written fs p).steps none) at (b.back at) in
+            rw (none, b.named at) is
       ]
 
   one_more :
@@ -150,12 +150,12 @@ module _ (fs : List FrameSpec) where
   one_more p after said d sum is reads last = (
     (let count = reads.0 in let longer = length-append (written fs p).steps (d ∷ []) in rw (sum, is) (omega arith)),
     (λ h.
-    let (before, own) = and_parts (sayable fs p).said said (ap (λ (s : Sayable). s.said) (sym sum) ∙ h) in
-    let b = reads.1 before in
-    record {
-      named = λ at. rw is (b.named at);
-      back = λ at. rw is (more_back at 0 (plan.Scan (written fs p).source) p after (written fs p).steps d (b.back at) (last own));
-    }),
+        let (before, own) = and_parts (sayable fs p).said said (ap (λ (s : Sayable). s.said) (sym sum) ∙ h) in
+        let b = reads.1 before in
+        record {
+          named = λ at. rw is (b.named at);
+          back = λ at. rw is (more_back at 0 (plan.Scan (written fs p).source) p after (written fs p).steps d (b.back at) (last own));
+        }),
   )
 
   found_back : (at : Location) (o : Option ℕ) (i : ℕ) → is_index o i ≡ true → found_frame at o ≡ Ok i
@@ -180,11 +180,11 @@ module _ (fs : List FrameSpec) where
   step (Plan-F.Scan i) = (
     rw (fold-roll-Plan Sayable (sayable_step fs), fold-roll-Plan Written (written_step fs)) refl,
     (λ h.
-    let said = rw (fold-roll-Plan Sayable (sayable_step fs)) at h in
-    record {
-      named = λ at. rw (fold-roll-Plan Written (written_step fs)) (scan_named at i said);
-      back = λ at. rw (fold-roll-Plan Written (written_step fs)) refl;
-    }),
+        let said = rw (fold-roll-Plan Sayable (sayable_step fs)) at h in
+        record {
+          named = λ at. rw (fold-roll-Plan Written (written_step fs)) (scan_named at i said);
+          back = λ at. rw (fold-roll-Plan Written (written_step fs)) refl;
+        }),
   )
   step (Plan-F.Filter p e) = one_more p.0 _ (is_said e) _ (sum_of (Plan-F.Filter p e)) (text_of (Plan-F.Filter p e)) p.1 (λ said at. filter_back at p.0 e said)
   step (Plan-F.Select p outputs) = one_more p.0 _ (are_said outputs) _ (sum_of (Plan-F.Select p outputs)) (text_of (Plan-F.Select p outputs)) p.1 (λ said at. select_back at p.0 outputs said)
