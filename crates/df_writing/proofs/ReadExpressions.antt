@@ -1,11 +1,9 @@
 -- Expressions and aggregates are read as they were before they were written.
-use Rattle.std.proofs.Common.{◌≡◌, ◌∙◌, ℕ, Bool, true, false, List, [], ◌∷◌, ◌++◌, Result, Ok, ap, codes, length, map, refl, subst, sym, ◌+◌}
-use Rattle.std.specs.Prelude.{◌&&◌, is_ok}
-use Rattle.std.specs.List.{list_all}
+use Rattle.std.proofs.Common.{◌≡◌, ◌∙◌, ℕ, Bool, true, List, [], ◌∷◌, ◌++◌, Ok, ap, codes, length, map, refl, subst, sym, ◌+◌}
+use Rattle.std.specs.Prelude.{is_ok}
 use Rattle.std.proofs.lemmas.Bool.{and_parts}
 use Rattle.std.proofs.lemmas.List.{append-nil, append_assoc}
 use Rattle.toml.specs.Data.{Data, string}
-use Rattle.toml.specs.View.{items_of}
 use Rattle.df_value.specs.declared.cell.Cell.{Cell}
 use Rattle.df_value.specs.declared.cell.Cell.TheVariants as cell
 use Rattle.df_value.specs.declared.cell.CellType.{CellType}
@@ -34,7 +32,6 @@ use Rattle.df_text.specs.declared.expressions.BinaryWord.TheVariants as binary
 use Rattle.df_text.specs.declared.expressions.ExprWord.TheVariants as form
 use Rattle.df_text.specs.declared.expressions.UnaryWord.{UnaryWord}
 use Rattle.df_text.specs.declared.expressions.UnaryWord.TheVariants as unary
-use Rattle.df_text.specs.declared.fault.ViewsFault.{ViewsFault}
 use Rattle.df_writing.specs.ExpressionData.{aggregate_data, arith_word, compare_word, expr_data, expr_data_step, literal_data, operand_data, operands_data, output_data}
 use Rattle.df_writing.specs.Sayable.{are_said, is_said, is_said_step}
 

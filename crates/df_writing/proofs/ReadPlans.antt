@@ -1,10 +1,10 @@
 -- Plans are read as they were before they were written.
-use Rattle.std.proofs.Common.{◌≡◌, ◌∙◌, ◌<◌, ◌≤◌, ℕ, suc, Bool, true, false, List, [], ◌∷◌, ◌++◌, Result, Ok, Err, ap, arith, cond, codes, inl, inr, length, map, refl, rules, subst, sym, ◌+◌}
-use Rattle.std.specs.Prelude.{ℤ, ◌&&◌, ◌==◌, Option, Some, None, nat_le, nat_lt}
+use Rattle.std.proofs.Common.{◌≡◌, ◌∙◌, ℕ, Bool, true, false, List, [], ◌∷◌, ◌++◌, Result, Ok, Err, ap, arith, codes, inl, inr, length, map, refl, subst, sym, ◌+◌}
+use Rattle.std.specs.Prelude.{ℤ, ◌&&◌, Option, Some, None, nat_le, nat_lt}
 use Rattle.std.proofs.lemmas.Bool.{and_parts, cases_Bool}
 use Rattle.std.proofs.lemmas.Bool.Decides.{nat_tests}
 use Rattle.std.proofs.lemmas.List.{length-append}
-use Rattle.toml.specs.Data.{Data, string, item, no_items, Items}
+use Rattle.toml.specs.Data.{Data, string}
 use Rattle.toml.specs.View.{items_of}
 use Rattle.df_value.specs.Names.{index_of_name}
 use Rattle.df_value.specs.Outcomes.{then_next}
@@ -22,9 +22,7 @@ use Rattle.df_plan.specs.declared.plan.Plan.TheOpen.{Plan-F}
 use Rattle.df_plan.specs.declared.plan.Plan.TheVariants as plan
 use Rattle.df_plan.specs.declared.plan.Plan.TheViews.{roll-Plan}
 use Rattle.df_text.proofs.TreeFacts.{list_of-items}
-use Rattle.df_text.specs.AggregateItems.{next_aggregate_of}
 use Rattle.df_text.specs.Locations.{item_at, step_at}
-use Rattle.df_text.specs.RowWiseSteps.{next_item_of}
 use Rattle.df_text.specs.Sources.{found_frame, frame_named, most_steps}
 use Rattle.df_text.specs.Steps.{side_of, step_of, steps_after}
 use Rattle.df_text.specs.Tree.{keys_pass, list_of}
@@ -33,7 +31,7 @@ use Rattle.df_text.specs.declared.document.Location.{Location}
 use Rattle.df_text.specs.declared.fault.ViewsFault.{ViewsFault}
 use Rattle.df_writing.specs.ExpressionData.{aggregate_data, expr_data, operand_data, output_data, triple_data}
 use Rattle.df_writing.specs.Sayable.{IsReadBack, Sayable, and_said, are_said, can_be_said, is_index, is_named, is_said, sayable, sayable_step}
-use Rattle.df_writing.specs.StepData.{Written, frame_name, group_by_data, has_any, join_data, names_data, outputs_data, plan_table, rank_data, rolling_data, side_data, source_table, then_step, written, written_step}
+use Rattle.df_writing.specs.StepData.{Written, frame_name, group_by_data, has_any, join_data, outputs_data, rank_data, rolling_data, side_data, source_table, then_step, written, written_step}
 use Rattle.df_writing.proofs.ReadExpressions.{aggregates_back, expr_back, names_back, outputs_back}
 
 module _ (fs : List FrameSpec) where
