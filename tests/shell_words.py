@@ -19,9 +19,11 @@ FILES = {
     "refused.toml": FRAME.format(cell="many") + "view = [{name='v', from='t'}]\n",
     "fault.toml": FRAME.format(cell="2") + "view = [{name='v', from='u'}]\n",
     "text.toml": "frame = ",
+    "c.commands": "books t\n# a comment\nshow none\nbooks t\n",
+    "bad.csv": "x\nmany\n",
     "no_file.toml": "frame = [{name='t', columns=[['x', 'Int']], path='none.csv'}]\nview = []\n",
 }
-HELP = r"(?s).*Usage: .*VIEWS.*--hall.*--check.*Commands.*append FRAME FIRST COUNT.*quit .*Exit status.*"
+HELP = r"(?s).*Usage: .*VIEWS.*--hall.*--check.*--bail.*--framed.*Commands.*append FRAME FIRST COUNT.*quit .*Exit status.*"
 VERSION = r"dfshell \d+\.\d+\.\d+\n"
 ANY = r"(?s).+"
 # The words, what is typed, and of the output, the error and the status what they are to be.
@@ -44,6 +46,26 @@ RUNS = [
     (["--", "good.toml"], "views\n", "v\n", "", 0),
     (["refused.toml"], "books t\n", "refused t 0: record 2, column x\naccepted 0, deleted 0, live 0\n", "", 0),
     (["none.toml"], "", "", r"none.toml: .* \[V10\]\n", 2),
+    (["--bail", "good.toml"], "books t\n", "accepted 2, deleted 0, live 2\n", "", 0),
+    (["--bail", "good.toml"], "views\nbook t\nviews\n", r"v\n\? no such command: help lists them\n", "", 1),
+    (["good.toml", "--hall", "--bail"], "delete t 7\nversion\n", r"C5 7: the frame has no row 7\n", "", 1),
+    (["--bail", "good.toml"], "append t 2 1\nmany\nviews\n", "record 1, column x: the cell is no value of the column's type\n", "", 1),
+    (["--bail", "good.toml"], "append t 2 2\n3\n", r"\? the input ends before the lines of the command\n", "", 1),
+    (["--bail", "good.toml"], "source c.commands\nviews\n", r"accepted 2, deleted 0, live 2\nC8: no view .*\n", "", 1),
+    (["--bail", "good.toml"], "source none\nviews\n", r"\? the file cannot be opened or read\n", "", 1),
+    (["--bail", "good.toml"], "load t none.csv\nviews\n", r"F1: .*\n", "", 1),
+    (["--bail", "good.toml"], "load t bad.csv\nviews\n", r"refused t 0: record 1, column x\nok 0 rows\nv\n", "", 0),
+    (["--bail", "good.toml"], "x" * 1048577 + "\nviews\n", r"\? a line has more than 1048576 bytes\n", "", 1),
+    (["--bail", "refused.toml"], "views\n", "refused t 0: record 2, column x\nv\n", "", 0),
+    (["--bail"], "frame t x Int\nframe t x Int\nframes\n", r"ok\nV4 frame 1: .*\n", "", 1),
+    (["--bail"], "show v\nframe t x Int\n", r"C8: .*\n", "", 1),
+    (["--bail", "--hall"], "frame t x Int\nappend t\n1\n.\nquit now\nviews\n", r"ok\nok 0..0\n\? a word too many: .*\n", "", 1),
+    (["--bail", "--bail"], "", "", ANY, 2),
+    (["--framed", "refused.toml"], "\nbooks t\n# no answer\nbook t\nquit\n",
+     r"ready 1\nrefused t 0: record 2, column x\nok 1\naccepted 0, deleted 0, live 0\nerror 1\n\? no such command: .*\n", "", 0),
+    (["--framed", "--bail"], "frame t x Int\nshow v\nhelp\n", r"ready 0\nok 1\nok\nerror 1\nC8: .*\n", "", 1),
+    (["--framed"], "frame t x Int\nappend t\n7\n8\n.\nrows t\n",
+     r"ready 0\nok 1\nok\nok 1\nok 0..1\nok 5\nt \(2 x 1\)\nx\n7\n8\nnumbers 0 1\n", "", 0),
     (["--check", "good.toml"], "books t\n", "ok: 1 frame, 1 view\n", "", 0),
     (["two.toml", "--check"], "", "ok: 2 frames, 0 views\n", "", 0),
     (["--check", "--hall", "two.toml"], "", "ok: 2 frames, 0 views\n", "", 0),

@@ -6,3 +6,4 @@ mod DeclarationFacts
 mod DescribedFacts
 mod NumberFacts
 mod LoadFacts
+mod FramedFacts

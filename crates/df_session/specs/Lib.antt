@@ -1,4 +1,5 @@
 pub mod Texts
+pub mod Framed
 pub mod Told
 pub mod Commands
 pub mod Declarations

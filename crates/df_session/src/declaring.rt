@@ -9,12 +9,13 @@ use crate::definitions::Definitions;
 use crate::fault::ShellFault;
 use crate::help::COMMANDS;
 use crate::lines::{Line, line_buffer, read_line, without_end};
+use crate::options::{SessionEnd, SessionOptions};
 use crate::prepared::Prepared;
 use crate::prompts::{COMMAND_PROMPT, Prompts, greeting};
 use crate::refusal::{Mistake, Refusal};
 use crate::session::{Beginning, Buffers, is_passed_over};
 use crate::words::{lines_behind, read_words};
-use crate::writing::{write_answer, write_prompt, write_refusal};
+use crate::writing::{Status, write_all, write_answer, write_prompt, write_refusal};
 use df_document::DocumentFault;
 use df_text::ViewsFault;
 use df_value::List;
@@ -26,7 +27,7 @@ pub struct Declaring {
     declared: DeclaredFrames,
     command: Vec<u8>,
     record: Vec<u8>,
-    prompts: Prompts,
+    options: SessionOptions,
 }
 
 // A body that owns one drops it by a call.
@@ -36,7 +37,7 @@ impl Drop for Declaring {
             declared,
             command,
             record,
-            prompts: _,
+            options: _,
         } = self;
         drop(declared);
         drop(command);
@@ -50,50 +51,60 @@ enum Step {
     Next,
     /// A store, whose session begins with the line.
     Store(Beginning),
-    /// Nothing: the session ends.
-    End,
+    /// Nothing: the session ends so.
+    End(SessionEnd),
+}
+
+/// Where the lines lead that no store answers.
+#[derive(Clone, Copy, PartialEq, Eq)]
+pub enum Declared {
+    /// To a store, whose session begins so.
+    Store(Beginning),
+    /// To the end of the session.
+    End(SessionEnd),
 }
 
 impl Declaring {
-    pub fn new(alloc: Global, prompts: Prompts) -> Result<Declaring, ShellFault> {
+    pub fn new(alloc: Global, options: SessionOptions) -> Result<Declaring, ShellFault> {
         let command = line_buffer(alloc)?;
         let record = line_buffer(alloc)?;
         Ok(Declaring {
             declared: DeclaredFrames::new(alloc),
             command,
             record,
-            prompts,
+            options,
         })
     }
 
-    /// Writes the first line of a session at a terminal.
+    /// Writes the first line of a session.
     pub fn greet<W: Write>(&self, alloc: Global, output: &mut W) -> Result<(), ShellFault> {
-        match self.prompts {
+        match self.options.prompts {
             Prompts::Shown => {
                 let definitions = self.definitions(alloc)?;
                 let text = greeting(alloc, &definitions);
                 drop(definitions);
-                write_answer(output, text?.as_bytes())
+                write_all(output, text?.as_bytes())?;
             }
-            Prompts::Hidden => Ok(()),
+            Prompts::Hidden => {}
         }
+        write_answer(output, self.options.framed, Status::Ready, &[])
     }
 
-    /// Answers the lines of the input, up to one that wants a store, whose session begins so. None: the session has ended.
+    /// Answers the lines of the input, up to one that wants a store, or to the end of the session.
     pub fn answer_lines<I: BufRead, W: Write>(
         &mut self,
         alloc: Global,
         input: &mut I,
         output: &mut W,
-    ) -> Result<Option<Beginning>, ShellFault> {
+    ) -> Result<Declared, ShellFault> {
         for _ in 0..u64::MAX {
             match self.answer_next(alloc, input, output)? {
                 Step::Next => {}
-                Step::Store(beginning) => return Ok(Some(beginning)),
-                Step::End => return Ok(None),
+                Step::Store(beginning) => return Ok(Declared::Store(beginning)),
+                Step::End(end) => return Ok(Declared::End(end)),
             }
         }
-        Ok(None)
+        Ok(Declared::End(SessionEnd::Whole))
     }
 
     // Reads a line, and answers it, if it wants no store.
@@ -103,16 +114,17 @@ impl Declaring {
         input: &mut I,
         output: &mut W,
     ) -> Result<Step, ShellFault> {
-        write_prompt(output, self.prompts, COMMAND_PROMPT)?;
+        write_prompt(output, self.options.prompts, COMMAND_PROMPT)?;
         match read_line(input, &mut self.command) {
             Ok(Line::Whole) => self.answer_line(alloc, input, output),
             Ok(Line::TooLong) => {
-                write_refusal(alloc, output, &Refusal::Mistake(Mistake::LongLine))?;
-                Ok(Step::Next)
+                let long = Refusal::Mistake(Mistake::LongLine);
+                write_refusal(alloc, output, self.options, &long)?;
+                Ok(behind_refusal(self.options))
             }
             Ok(Line::End) => {
-                write_prompt(output, self.prompts, b"\n")?;
-                Ok(Step::End)
+                write_prompt(output, self.options.prompts, b"\n")?;
+                Ok(Step::End(SessionEnd::Whole))
             }
             Err(_) => Err(ShellFault::Read),
         }
@@ -131,12 +143,12 @@ impl Declaring {
         match declare_line(alloc, &mut self.declared, line) {
             Ok(Declaration::Asked) => Ok(Step::Store(Beginning::Question)),
             Ok(Declaration::Opens) => Ok(Step::Store(Beginning::Command)),
-            Ok(Declaration::Answered(answer)) => tell(output, answer),
+            Ok(Declaration::Answered(answer)) => tell(output, self.options, answer),
             Err(refusal) => {
                 let told = self.refuse(alloc, input, output, &refusal);
                 drop(refusal);
                 told?;
-                Ok(Step::Next)
+                Ok(behind_refusal(self.options))
             }
         }
     }
@@ -153,11 +165,11 @@ impl Declaring {
         let words = read_words(alloc, line);
         let following = lines_behind(alloc, &words, line);
         drop(words);
-        let prompts = self.prompts;
+        let prompts = self.options.prompts;
         let record = &mut self.record;
         let lines = read_behind(alloc, prompts, input, output, line, record, following)?;
         drop(lines);
-        write_refusal(alloc, output, refusal)
+        write_refusal(alloc, output, self.options, refusal)
     }
 
     /// What a store of the declared frames is opened with, for a session that begins so.
@@ -203,11 +215,24 @@ fn declare_line(
     answer_declaring(alloc, &COMMANDS, declared, words.as_slice())
 }
 
-fn tell<W: Write>(output: &mut W, answer: Answer) -> Result<Step, ShellFault> {
+// What comes behind a refusal.
+fn behind_refusal(options: SessionOptions) -> Step {
+    if options.bail {
+        Step::End(SessionEnd::Refused)
+    } else {
+        Step::Next
+    }
+}
+
+fn tell<W: Write>(
+    output: &mut W,
+    options: SessionOptions,
+    answer: Answer,
+) -> Result<Step, ShellFault> {
     match answer {
-        Answer::Ended => Ok(Step::End),
+        Answer::Ended => Ok(Step::End(SessionEnd::Whole)),
         answer => {
-            let written = write_answer(output, answer.bytes());
+            let written = write_answer(output, options.framed, Status::Ok, &[answer.bytes()]);
             drop(answer);
             written?;
             Ok(Step::Next)

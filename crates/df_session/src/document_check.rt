@@ -2,7 +2,7 @@
 use crate::fault::ShellFault;
 use crate::prepared::{Prepared, prepare};
 use crate::prompts::counts;
-use crate::writing::write_answer;
+use crate::writing::{Status, write_answer};
 use df_document::Files;
 use std::alloc::Global;
 use std::io::{Read, Write};
@@ -42,9 +42,9 @@ fn tell_check<W: Write>(
         let counts = counts(alloc, &prepared.definitions)?;
         let counts = counts.as_str();
         let line = format!(in alloc; "ok: {counts}\n")?;
-        write_answer(output, line.as_bytes())?;
+        write_answer(output, false, Status::Ok, &[line.as_bytes()])?;
         return Ok(DocumentCheck::Clean);
     }
-    write_answer(output, refused)?;
+    write_answer(output, false, Status::Ok, &[refused])?;
     Ok(DocumentCheck::Refused)
 }

@@ -5,12 +5,13 @@ use crate::definitions::Definitions;
 use crate::fault::ShellFault;
 use crate::help::COMMANDS;
 use crate::lines::{Line, line_buffer, read_line, without_end};
-use crate::loading::{Loaded, load};
+use crate::loading::load;
+use crate::options::{SessionEnd, SessionOptions};
 use crate::prompts::{COMMAND_PROMPT, Prompts, greeting};
 use crate::refusal::{Mistake, Refusal};
 use crate::view_store::ViewStore;
 use crate::words::{lines_behind, read_words};
-use crate::writing::{write_all, write_answer, write_prompt, write_refusal};
+use crate::writing::{Status, write_all, write_answer, write_loaded, write_prompt, write_refusal};
 use df_document::Files;
 use df_value::{List, Text};
 use std::alloc::{AllocError, Global};
@@ -22,7 +23,7 @@ pub struct Session<S> {
     pub definitions: Definitions,
     pub store: S,
     pub buffers: Buffers,
-    pub prompts: Prompts,
+    pub options: SessionOptions,
 }
 
 /// Room for the line of a command, and for a line of CSV behind it.
@@ -79,10 +80,12 @@ enum Turn {
     End,
     /// Nothing: the session ends.
     Quit,
+    /// Nothing: a refusal ends the session.
+    Refused,
 }
 
 /// Writes the first lines, those of the refused chunks among them, and answers the commands. A session that begins with a
-/// command in its buffers answers it in place of the first lines.
+/// command in its buffers answers it in place of the first lines. None: it goes on, behind the question that it began with.
 pub fn answer_from<R: Threads + Sync, S: ViewStore, F: Files, I: BufRead, W: Write>(
     rt: &R,
     alloc: Global,
@@ -92,17 +95,18 @@ pub fn answer_from<R: Threads + Sync, S: ViewStore, F: Files, I: BufRead, W: Wri
     files: &mut F,
     input: &mut I,
     output: &mut W,
-) -> Result<(), ShellFault> {
+) -> Result<Option<SessionEnd>, ShellFault> {
     match beginning {
         Beginning::Greeting => {
             greet(alloc, session, output)?;
-            write_answer(output, refused.as_slice())?;
+            let framed = session.options.framed;
+            write_answer(output, framed, Status::Ready, &[refused.as_slice()])?;
         }
         Beginning::Question | Beginning::Command => {
             let turn = take_turn(alloc, session, input, output)?;
-            let ended = follow(rt, alloc, session, files, turn, output)?;
-            if ended || beginning == Beginning::Question {
-                return Ok(());
+            let end = follow(rt, alloc, session, files, turn, output)?;
+            if end.is_some() || beginning == Beginning::Question {
+                return Ok(end);
             }
         }
     }
@@ -114,7 +118,7 @@ fn greet<S, W: Write>(
     session: &Session<S>,
     output: &mut W,
 ) -> Result<(), ShellFault> {
-    match session.prompts {
+    match session.options.prompts {
         Prompts::Shown => write_all(output, greeting(alloc, &session.definitions)?.as_bytes()),
         Prompts::Hidden => Ok(()),
     }
@@ -127,17 +131,18 @@ fn answer_all<R: Threads + Sync, S: ViewStore, F: Files, I: BufRead, W: Write>(
     files: &mut F,
     input: &mut I,
     output: &mut W,
-) -> Result<(), ShellFault> {
+) -> Result<Option<SessionEnd>, ShellFault> {
     for _ in 0..u64::MAX {
         let turn = answer_next(alloc, session, input, output)?;
-        if follow(rt, alloc, session, files, turn, output)? {
-            return Ok(());
+        let end = follow(rt, alloc, session, files, turn, output)?;
+        if end.is_some() {
+            return Ok(end);
         }
     }
-    Ok(())
+    Ok(Some(SessionEnd::Whole))
 }
 
-// Does what comes behind a command. Whether the session has ended.
+// Does what comes behind a command. Some: so the session has ended.
 fn follow<R: Threads + Sync, S: ViewStore, F: Files, W: Write>(
     rt: &R,
     alloc: Global,
@@ -145,19 +150,32 @@ fn follow<R: Threads + Sync, S: ViewStore, F: Files, W: Write>(
     files: &mut F,
     turn: Turn,
     output: &mut W,
-) -> Result<bool, ShellFault> {
+) -> Result<Option<SessionEnd>, ShellFault> {
     match turn {
-        Turn::Next => Ok(false),
-        Turn::Load(frame, path) => {
-            load_file(rt, alloc, session, files, frame, path, output)?;
-            Ok(false)
-        }
+        Turn::Next => Ok(None),
+        Turn::Load(frame, path) => load_file(rt, alloc, session, files, frame, path, output),
         Turn::Source(path) => source(rt, alloc, session, files, &path, output),
-        Turn::End | Turn::Quit => Ok(true),
+        Turn::End | Turn::Quit => Ok(Some(SessionEnd::Whole)),
+        Turn::Refused => Ok(Some(SessionEnd::Refused)),
     }
 }
 
-// Answers the commands in a file, without prompts; whether one of them ends the session.
+// Writes why a command is refused. Some: that ends the session.
+fn refuse<W: Write>(
+    alloc: Global,
+    output: &mut W,
+    options: SessionOptions,
+    refusal: &Refusal,
+) -> Result<Option<SessionEnd>, ShellFault> {
+    write_refusal(alloc, output, options, refusal)?;
+    if options.bail {
+        Ok(Some(SessionEnd::Refused))
+    } else {
+        Ok(None)
+    }
+}
+
+// Answers the commands in a file, without prompts. Some: one of them ends the session.
 fn source<R: Threads + Sync, S: ViewStore, F: Files, W: Write>(
     rt: &R,
     alloc: Global,
@@ -165,16 +183,16 @@ fn source<R: Threads + Sync, S: ViewStore, F: Files, W: Write>(
     files: &mut F,
     path: &Text,
     output: &mut W,
-) -> Result<bool, ShellFault> {
+) -> Result<Option<SessionEnd>, ShellFault> {
     let Some(file) = files.open(path.as_str()) else {
-        write_refusal(alloc, output, &Refusal::Mistake(Mistake::NoFile))?;
-        return Ok(false);
+        let no_file = Refusal::Mistake(Mistake::NoFile);
+        return refuse(alloc, output, session.options, &no_file);
     };
-    let prompts = session.prompts;
-    session.prompts = Prompts::Hidden;
-    let ended = answer_file(rt, alloc, session, files, file, output);
-    session.prompts = prompts;
-    ended
+    let prompts = session.options.prompts;
+    session.options.prompts = Prompts::Hidden;
+    let end = answer_file(rt, alloc, session, files, file, output);
+    session.options.prompts = prompts;
+    end
 }
 
 fn answer_file<R: Threads + Sync, S: ViewStore, F: Files, W: Write>(
@@ -184,13 +202,10 @@ fn answer_file<R: Threads + Sync, S: ViewStore, F: Files, W: Write>(
     files: &mut F,
     file: F::Reader,
     output: &mut W,
-) -> Result<bool, ShellFault> {
+) -> Result<Option<SessionEnd>, ShellFault> {
     match BufReader::new(alloc, file) {
         Ok(mut input) => answer_sourced(rt, alloc, session, files, &mut input, output),
-        Err(_) => {
-            write_refusal(alloc, output, &Refusal::Memory)?;
-            Ok(false)
-        }
+        Err(_) => refuse(alloc, output, session.options, &Refusal::Memory),
     }
 }
 
@@ -202,25 +217,27 @@ fn answer_sourced<R: Threads + Sync, S: ViewStore, F: Files, I: BufRead, W: Writ
     files: &mut F,
     input: &mut I,
     output: &mut W,
-) -> Result<bool, ShellFault> {
+) -> Result<Option<SessionEnd>, ShellFault> {
     for _ in 0..u64::MAX {
         match answer_next(alloc, session, input, output) {
+            Ok(Turn::End) => return Ok(None),
             Ok(turn) => {
-                if let Some(ended) = take_sourced(rt, alloc, session, files, turn, output)? {
-                    return Ok(ended);
+                let end = take_sourced(rt, alloc, session, files, turn, output)?;
+                if end.is_some() {
+                    return Ok(end);
                 }
             }
             Err(ShellFault::Read) => {
-                write_refusal(alloc, output, &Refusal::Mistake(Mistake::NoFile))?;
-                return Ok(false);
+                let no_file = Refusal::Mistake(Mistake::NoFile);
+                return refuse(alloc, output, session.options, &no_file);
             }
             Err(fault) => return Err(fault),
         }
     }
-    Ok(false)
+    Ok(None)
 }
 
-// Does what comes behind a command of a file. Some: the file has ended, and whether the session has.
+// Does what comes behind a command of a file.
 fn take_sourced<R: Threads + Sync, S: ViewStore, F: Files, W: Write>(
     rt: &R,
     alloc: Global,
@@ -228,19 +245,16 @@ fn take_sourced<R: Threads + Sync, S: ViewStore, F: Files, W: Write>(
     files: &mut F,
     turn: Turn,
     output: &mut W,
-) -> Result<Option<bool>, ShellFault> {
+) -> Result<Option<SessionEnd>, ShellFault> {
     match turn {
-        Turn::Next => Ok(None),
-        Turn::Load(frame, path) => {
-            load_file(rt, alloc, session, files, frame, path, output)?;
-            Ok(None)
-        }
+        Turn::Next | Turn::End => Ok(None),
+        Turn::Load(frame, path) => load_file(rt, alloc, session, files, frame, path, output),
         Turn::Source(_) => {
-            write_refusal(alloc, output, &Refusal::Mistake(Mistake::NestedSource))?;
-            Ok(None)
+            let nested = Refusal::Mistake(Mistake::NestedSource);
+            refuse(alloc, output, session.options, &nested)
         }
-        Turn::End => Ok(Some(false)),
-        Turn::Quit => Ok(Some(true)),
+        Turn::Quit => Ok(Some(SessionEnd::Whole)),
+        Turn::Refused => Ok(Some(SessionEnd::Refused)),
     }
 }
 
@@ -253,7 +267,8 @@ fn load_file<R: Threads + Sync, S: ViewStore, F: Files, W: Write>(
     frame: Text,
     path: Text,
     output: &mut W,
-) -> Result<(), ShellFault> {
+) -> Result<Option<SessionEnd>, ShellFault> {
+    let options = session.options;
     let definitions = &session.definitions;
     let store = &mut session.store;
     let loaded = load(
@@ -269,25 +284,17 @@ fn load_file<R: Threads + Sync, S: ViewStore, F: Files, W: Write>(
     drop(path);
     match loaded {
         Ok(loaded) => {
-            let written = write_loaded(output, &loaded);
+            let written = write_loaded(output, options, &loaded);
             drop(loaded);
-            written
+            written?;
+            Ok(None)
         }
         Err(refusal) => {
-            let written = write_refusal(alloc, output, &refusal);
+            let written = refuse(alloc, output, options, &refusal);
             drop(refusal);
             written
         }
     }
-}
-
-// It takes no memory, since rows have entered.
-fn write_loaded<W: Write>(output: &mut W, loaded: &Loaded) -> Result<(), ShellFault> {
-    write_all(output, loaded.refused())?;
-    if loaded.is_cut() {
-        write_all(output, b"memory\n")?;
-    }
-    write_answer(output, loaded.entered())
 }
 
 // Reads a line, and answers the command that it is.
@@ -297,15 +304,15 @@ fn answer_next<S: ViewStore, I: BufRead, W: Write>(
     input: &mut I,
     output: &mut W,
 ) -> Result<Turn, ShellFault> {
-    write_prompt(output, session.prompts, COMMAND_PROMPT)?;
+    write_prompt(output, session.options.prompts, COMMAND_PROMPT)?;
     match read_line(input, &mut session.buffers.command) {
         Ok(Line::Whole) => take_turn(alloc, session, input, output),
         Ok(Line::TooLong) => {
-            write_refusal(alloc, output, &Refusal::Mistake(Mistake::LongLine))?;
-            Ok(Turn::Next)
+            let long = Refusal::Mistake(Mistake::LongLine);
+            Ok(turn_of(refuse(alloc, output, session.options, &long)?))
         }
         Ok(Line::End) => {
-            write_prompt(output, session.prompts, b"\n")?;
+            write_prompt(output, session.options.prompts, b"\n")?;
             Ok(Turn::End)
         }
         Err(_) => Err(ShellFault::Read),
@@ -328,7 +335,7 @@ fn take_turn<S: ViewStore, I: BufRead, W: Write>(
     let record = &mut session.buffers.record;
     match read_behind(
         alloc,
-        session.prompts,
+        session.options.prompts,
         input,
         output,
         line,
@@ -339,7 +346,7 @@ fn take_turn<S: ViewStore, I: BufRead, W: Write>(
             let definitions = &mut session.definitions;
             let store = &mut session.store;
             let answer = answer_line(alloc, &COMMANDS, definitions, store, words, lines);
-            tell(alloc, output, answer)
+            tell(alloc, output, session.options, answer)
         }
         Err(fault) => {
             drop(words);
@@ -352,6 +359,7 @@ fn take_turn<S: ViewStore, I: BufRead, W: Write>(
 fn tell<W: Write>(
     alloc: Global,
     output: &mut W,
+    options: SessionOptions,
     answer: Result<Answer, Refusal>,
 ) -> Result<Turn, ShellFault> {
     match answer {
@@ -359,17 +367,24 @@ fn tell<W: Write>(
         Ok(Answer::Load(frame, path)) => Ok(Turn::Load(frame, path)),
         Ok(Answer::Source(path)) => Ok(Turn::Source(path)),
         Ok(answer) => {
-            let written = write_answer(output, answer.bytes());
+            let written = write_answer(output, options.framed, Status::Ok, &[answer.bytes()]);
             drop(answer);
             written?;
             Ok(Turn::Next)
         }
         Err(refusal) => {
-            let written = write_refusal(alloc, output, &refusal);
+            let written = refuse(alloc, output, options, &refusal);
             drop(refusal);
-            written?;
-            Ok(Turn::Next)
+            Ok(turn_of(written?))
         }
+    }
+}
+
+// What comes behind a refusal.
+fn turn_of(end: Option<SessionEnd>) -> Turn {
+    match end {
+        Some(_) => Turn::Refused,
+        None => Turn::Next,
     }
 }
 

@@ -1,11 +1,41 @@
 //! What a session writes.
+ghost use Rattle.std.specs.Prelude.{◌≡◌, ◌++◌, ℕ, List, OnOk, Some, flat_map, sum_by, true};
+ghost use Rattle.std.specs.Io.KnownBytes.{Appends, Keeps};
+ghost use Rattle.df_session.specs.Framed as framed_spec;
+ghost use Rattle.df_session.specs.Framed.{answer_written, ends_lines, frame_head, lines_and_rest, status_word};
+
 use crate::fault::ShellFault;
+use crate::loading::Loaded;
+use crate::options::SessionOptions;
 use crate::prompts::Prompts;
 use crate::refusal::Refusal;
 use crate::refusal_texts::refusal_text;
 use df_text::write_text;
+use itoa::Buffer;
 use std::alloc::Global;
 use std::io::Write;
+
+/// What an answer is to its command.
+#[derive(Clone, Copy, PartialEq, Eq)]
+pub enum Status {
+    /// What a session begins with, before all commands.
+    Ready,
+    Ok,
+    /// The command is refused.
+    Error,
+}
+
+impl Status {
+    fn word(self) -> &'static [u8]
+        ensures { result.now ≡ status_word self }
+    {
+        match self {
+            Status::Ready => b"ready ",
+            Status::Ok => b"ok ",
+            Status::Error => b"error ",
+        }
+    }
+}
 
 /// Writes what only a terminal shows.
 pub fn write_prompt<W: Write>(
@@ -14,37 +44,130 @@ pub fn write_prompt<W: Write>(
     text: &[u8],
 ) -> Result<(), ShellFault> {
     match prompts {
-        Prompts::Shown => write_answer(output, text),
+        Prompts::Shown => {
+            write_all(output, text)?;
+            flush(output)
+        }
         Prompts::Hidden => Ok(()),
     }
 }
 
-/// Writes why a command is refused.
+/// Writes why a command is refused. Where there is no memory for the text, it is `memory`.
 pub fn write_refusal<W: Write>(
     alloc: Global,
     output: &mut W,
+    options: SessionOptions,
     refusal: &Refusal,
 ) -> Result<(), ShellFault> {
     match refusal_text(alloc, refusal) {
         Ok(text) => {
-            write_all(output, text.as_bytes())?;
-            write_answer(output, b"\n")
+            let line: [&[u8]; 2] = [text.as_bytes(), b"\n"];
+            write_answer(output, options.framed, Status::Error, &line)
         }
-        Err(_) => write_answer(output, b"memory\n"),
+        Err(_) => write_answer(output, options.framed, Status::Error, &[b"memory\n"]),
     }
 }
 
-/// Writes the last part of an answer, so that whoever waits for it has it.
-pub fn write_answer<W: Write>(output: &mut W, text: &[u8]) -> Result<(), ShellFault> {
-    write_all(output, text)?;
+/// Writes what came of a load. It takes no memory, since rows have entered.
+pub fn write_loaded<W: Write>(
+    output: &mut W,
+    options: SessionOptions,
+    loaded: &Loaded,
+) -> Result<(), ShellFault> {
+    let cut: &[u8] = if loaded.is_cut() { b"memory\n" } else { b"" };
+    let parts = [loaded.refused(), cut, loaded.entered()];
+    write_answer(output, options.framed, Status::Ok, &parts)
+}
+
+/// Writes an answer whose parts follow one another, so that whoever waits for it has it: if it is framed, behind a line that
+/// says how many lines it has. It takes no memory.
+pub fn write_answer<W: Write>(
+    output: &mut W,
+    framed: bool,
+    status: Status,
+    parts: &[&[u8]],
+) -> Result<(), ShellFault>
+    ensures { OnOk result (Appends (W.contents output.old) (W.contents output.new)
+        (answer_written framed (status_word status) (flat_map (λ part. part.now) parts.now))) }
+{
+    if framed {
+        write_head(output, status, line_ends_of(parts))?;
+        write_whole(output, parts)
+    } else {
+        write_whole(output, parts)
+    }
+}
+
+// Writes parts that follow one another, and what the output keeps back.
+fn write_whole<W: Write>(output: &mut W, parts: &[&[u8]]) -> Result<(), ShellFault>
+    ensures { OnOk result (Appends (W.contents output.old) (W.contents output.new)
+        (flat_map (λ part. part.now) parts.now)) }
+{
+    write_parts(output, parts)?;
+    flush(output)?;
+    Ok(())
+}
+
+// The line before an answer of so many lines.
+fn write_head<W: Write>(output: &mut W, status: Status, lines: u128) -> Result<(), ShellFault>
+    ensures { OnOk result (Appends (W.contents output.old) (W.contents output.new)
+        (frame_head (status_word status) lines)) }
+{
+    let mut buffer = Buffer::new();
+    write_all(output, status.word())?;
+    write_all(output, buffer.format(lines).as_bytes())?;
+    write_all(output, b"\n")
+}
+
+fn write_parts<W: Write>(output: &mut W, parts: &[&[u8]]) -> Result<(), ShellFault>
+    ensures { OnOk result (Appends (W.contents output.old) (W.contents output.new)
+        (flat_map (λ part. part.now) parts.now)) }
+{
+    for part in parts {
+        write_all(output, part)?;
+    }
+    Ok(())
+}
+
+// How many lines of the parts have an end.
+fn line_ends_of(parts: &[&[u8]]) -> u128
+    ensures { result ≡ sum_by (λ part. framed_spec.line_ends part.now) parts.now }
+{
+    let mut lines = 0;
+    for part in parts {
+        lines += line_ends(part) as u128;
+    }
+    lines
+}
+
+// How many lines of a text have an end. If each has one, a reader that takes so many lines has the text.
+fn line_ends(text: &[u8]) -> usize
+    ensures count { result ≡ framed_spec.line_ends text.now }
+    ensures read_back { (rest : List ℕ) → ends_lines text.now ≡ true →
+        lines_and_rest result (text.now ++ rest) ≡ Some (text.now, rest) }
+{
+    count_ends(text)
+}
+
+fn count_ends(text: &[u8]) -> usize
+    ensures { result ≡ framed_spec.line_ends text.now }
+{
+    text.iter().filter(|byte| **byte == b'\n').count()
+}
+
+fn flush<W: Write>(output: &mut W) -> Result<(), ShellFault>
+    ensures { Keeps (W.contents output.old) (W.contents output.new) }
+{
     match output.flush() {
         Ok(()) => Ok(()),
         Err(_) => Err(ShellFault::Write),
     }
 }
 
-/// Writes a part of an answer.
-pub fn write_all<W: Write>(output: &mut W, text: &[u8]) -> Result<(), ShellFault> {
+/// Writes a text.
+pub fn write_all<W: Write>(output: &mut W, text: &[u8]) -> Result<(), ShellFault>
+    ensures { OnOk result (Appends (W.contents output.old) (W.contents output.new) text.now) }
+{
     match write_text(output, text) {
         Ok(()) => Ok(()),
         Err(_) => Err(ShellFault::Write),

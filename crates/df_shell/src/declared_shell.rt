@@ -2,7 +2,7 @@
 use crate::hall_shell::answer_prepared_in_hall;
 use crate::shell::answer_prepared;
 use df_document::Files;
-use df_session::{Beginning, Declaring, Prompts, Refusal, ShellFault};
+use df_session::{Beginning, Declared, Declaring, Refusal, SessionEnd, SessionOptions, ShellFault};
 use std::alloc::Global;
 use std::io::{BufRead, Write};
 use std::sync::Wait;
@@ -16,18 +16,18 @@ pub fn run_declared_shell<R: Threads + Wait + Sync, F: Files, I: BufRead, W: Wri
     alloc: Global,
     hall: bool,
     files: &mut F,
-    prompts: Prompts,
+    options: SessionOptions,
     input: &mut I,
     output: &mut W,
-) -> Result<(), ShellFault> {
-    let mut declaring = Declaring::new(alloc, prompts)?;
+) -> Result<Option<SessionEnd>, ShellFault> {
+    let mut declaring = Declaring::new(alloc, options)?;
     let answered = answer_declaring(
         rt,
         alloc,
         hall,
         &mut declaring,
         files,
-        prompts,
+        options,
         input,
         output,
     );
@@ -41,29 +41,33 @@ fn answer_declaring<R: Threads + Wait + Sync, F: Files, I: BufRead, W: Write>(
     hall: bool,
     declaring: &mut Declaring,
     files: &mut F,
-    prompts: Prompts,
+    options: SessionOptions,
     input: &mut I,
     output: &mut W,
-) -> Result<(), ShellFault> {
+) -> Result<Option<SessionEnd>, ShellFault> {
     declaring.greet(alloc, output)?;
     for _ in 0..u64::MAX {
-        let Some(beginning) = declaring.answer_lines(alloc, input, output)? else {
-            return Ok(());
+        let beginning = match declaring.answer_lines(alloc, input, output)? {
+            Declared::Store(beginning) => beginning,
+            Declared::End(end) => return Ok(Some(end)),
         };
         match open_and_answer(
-            rt, alloc, hall, declaring, beginning, files, prompts, input, output,
+            rt, alloc, hall, declaring, beginning, files, options, input, output,
         ) {
-            Ok(()) if beginning == Beginning::Question => {}
-            Ok(()) => return Ok(()),
+            Ok(None) => {}
+            Ok(end) => return Ok(end),
             Err(fault) => {
                 if !fault.is_memory() {
                     return Err(fault);
                 }
                 declaring.refuse(alloc, input, output, &Refusal::Memory)?;
+                if options.bail {
+                    return Ok(Some(SessionEnd::Refused));
+                }
             }
         }
     }
-    Ok(())
+    Ok(None)
 }
 
 fn open_and_answer<R: Threads + Wait + Sync, F: Files, I: BufRead, W: Write>(
@@ -73,14 +77,14 @@ fn open_and_answer<R: Threads + Wait + Sync, F: Files, I: BufRead, W: Write>(
     declaring: &Declaring,
     beginning: Beginning,
     files: &mut F,
-    prompts: Prompts,
+    options: SessionOptions,
     input: &mut I,
     output: &mut W,
-) -> Result<(), ShellFault> {
+) -> Result<Option<SessionEnd>, ShellFault> {
     let prepared = declaring.prepare(alloc, beginning)?;
     if hall {
-        answer_prepared_in_hall(rt, alloc, prepared, prompts, files, input, output)
+        answer_prepared_in_hall(rt, alloc, prepared, options, files, input, output)
     } else {
-        answer_prepared(rt, alloc, prepared, prompts, files, input, output)
+        answer_prepared(rt, alloc, prepared, options, files, input, output)
     }
 }

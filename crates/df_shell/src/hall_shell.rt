@@ -9,8 +9,8 @@ use df_catalogue::{Desk, NewFault, PARTS_OF_LEDGER};
 use df_document::{Files, copy_schemas};
 use df_hall::{Hall, OpenedHall};
 use df_session::{
-    Beginning, Numbers, Prepared, Prompts, Refusal, Session, ShellFault, VersionFault, answer_from,
-    fill, prepare,
+    Beginning, Numbers, Prepared, Refusal, Session, SessionEnd, SessionOptions, ShellFault,
+    VersionFault, answer_from, fill, prepare,
 };
 use df_value::{List, Piece};
 use df_versions::{Naming, OpenFault, Reader};
@@ -29,12 +29,12 @@ pub fn run_hall_shell<R: Threads + Wait + Sync, V: Read, F: Files, I: BufRead, W
     alloc: Global,
     document: &mut V,
     files: &mut F,
-    prompts: Prompts,
+    options: SessionOptions,
     input: &mut I,
     output: &mut W,
-) -> Result<(), ShellFault> {
+) -> Result<Option<SessionEnd>, ShellFault> {
     let prepared = prepare(rt, alloc, document, files)?;
-    answer_prepared_in_hall(rt, alloc, prepared, prompts, files, input, output)
+    answer_prepared_in_hall(rt, alloc, prepared, options, files, input, output)
 }
 
 /// Opens a hall of what is prepared, answers the commands, and closes the hall.
@@ -42,18 +42,18 @@ pub fn answer_prepared_in_hall<R: Threads + Wait + Sync, F: Files, I: BufRead, W
     rt: &R,
     alloc: Global,
     prepared: Prepared,
-    prompts: Prompts,
+    options: SessionOptions,
     files: &mut F,
     input: &mut I,
     output: &mut W,
-) -> Result<(), ShellFault> {
+) -> Result<Option<SessionEnd>, ShellFault> {
     open::<Brand, Brand, R, F, I, W>(
         rt,
         alloc,
         Blank::new(PARTS_OF_LEDGER),
         Blank::new(PARTS_OF_LEDGER),
         prepared,
-        prompts,
+        options,
         files,
         input,
         output,
@@ -67,11 +67,11 @@ fn open<Acc: Ledger, Del: Ledger, R: Threads + Wait + Sync, F: Files, I: BufRead
     accepted: Blank,
     deleted: Blank,
     prepared: Prepared,
-    prompts: Prompts,
+    options: SessionOptions,
     files: &mut F,
     input: &mut I,
     output: &mut W,
-) -> Result<(), ShellFault>
+) -> Result<Option<SessionEnd>, ShellFault>
     requires accepted_name { accepted.name ≡ Acc.name }
     requires accepted_parts { (accepted.parts ≡ Acc.parts)
         × (accepted.parts ≡ ledgers.parts_of_ledger) }
@@ -83,7 +83,7 @@ fn open<Acc: Ledger, Del: Ledger, R: Threads + Wait + Sync, F: Files, I: BufRead
     let numbers = Numbers::new(alloc, schemas.len())?;
     match OpenedHall::<Acc, Del>::open(rt, alloc, accepted, deleted, schemas, 1) {
         Ok(opened) => serve::<Acc, Del, Brand, R, F, I, W>(
-            rt, alloc, opened, numbers, prepared, prompts, files, input, output,
+            rt, alloc, opened, numbers, prepared, options, files, input, output,
         ),
         Err(fault) => {
             drop(prepared);
@@ -120,11 +120,11 @@ fn serve<
     opened: OpenedHall<Acc, Del>,
     numbers: Numbers,
     prepared: Prepared,
-    prompts: Prompts,
+    options: SessionOptions,
     files: &mut F,
     input: &mut I,
     output: &mut W,
-) -> Result<(), ShellFault>
+) -> Result<Option<SessionEnd>, ShellFault>
     requires book { opened.0 ≡ J.book }
     requires schemas { schemas_of opened.1.0 ≡ J.schemas }
     requires allowed { AllowsAll J.allows }
@@ -137,7 +137,7 @@ fn serve<
     match reader {
         Some(reader) => {
             let store = HallStore::new(rt, hall, desks, reader, numbers);
-            answer_and_close(rt, alloc, store, prepared, prompts, files, input, output)
+            answer_and_close(rt, alloc, store, prepared, options, files, input, output)
         }
         None => {
             drop(prepared);
@@ -164,11 +164,11 @@ fn answer_and_close<
     alloc: Global,
     store: HallStore<'r, R, Acc, Del, J>,
     prepared: Prepared,
-    prompts: Prompts,
+    options: SessionOptions,
     files: &mut F,
     input: &mut I,
     output: &mut W,
-) -> Result<(), ShellFault> {
+) -> Result<Option<SessionEnd>, ShellFault> {
     let Prepared {
         definitions,
         pieces,
@@ -180,7 +180,7 @@ fn answer_and_close<
         definitions,
         store,
         buffers,
-        prompts,
+        options,
     };
     let answered = fill_and_answer(
         rt,
@@ -197,13 +197,14 @@ fn answer_and_close<
         definitions,
         store,
         buffers,
-        prompts: _,
+        options: _,
     } = session;
     drop(definitions);
     drop(buffers);
     let closed = store.close();
-    answered?;
-    closed
+    let end = answered?;
+    closed?;
+    Ok(end)
 }
 
 // The first rows and the views, and then the commands.
@@ -226,7 +227,7 @@ fn fill_and_answer<
     files: &mut F,
     input: &mut I,
     output: &mut W,
-) -> Result<(), ShellFault> {
+) -> Result<Option<SessionEnd>, ShellFault> {
     fill(alloc, &mut session.store, &session.definitions, pieces)?;
     answer_from(rt, alloc, session, beginning, refused, files, input, output)
 }

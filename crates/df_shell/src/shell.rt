@@ -6,7 +6,9 @@ use crate::opening::open_store;
 use crate::store::Store;
 use df_catalogue::PARTS_OF_LEDGER;
 use df_document::Files;
-use df_session::{Beginning, Prepared, Prompts, Session, ShellFault, answer_from, prepare};
+use df_session::{
+    Beginning, Prepared, Session, SessionEnd, SessionOptions, ShellFault, answer_from, prepare,
+};
 use df_value::List;
 use std::alloc::Global;
 use std::io::{BufRead, Read, Write};
@@ -25,12 +27,12 @@ pub fn run_shell<R: Threads + Sync, V: Read, F: Files, I: BufRead, W: Write>(
     alloc: Global,
     document: &mut V,
     files: &mut F,
-    prompts: Prompts,
+    options: SessionOptions,
     input: &mut I,
     output: &mut W,
-) -> Result<(), ShellFault> {
+) -> Result<Option<SessionEnd>, ShellFault> {
     let prepared = prepare(rt, alloc, document, files)?;
-    answer_prepared(rt, alloc, prepared, prompts, files, input, output)
+    answer_prepared(rt, alloc, prepared, options, files, input, output)
 }
 
 /// Opens a store of what is prepared, and answers the commands.
@@ -38,18 +40,18 @@ pub fn answer_prepared<R: Threads + Sync, F: Files, I: BufRead, W: Write>(
     rt: &R,
     alloc: Global,
     prepared: Prepared,
-    prompts: Prompts,
+    options: SessionOptions,
     files: &mut F,
     input: &mut I,
     output: &mut W,
-) -> Result<(), ShellFault> {
+) -> Result<Option<SessionEnd>, ShellFault> {
     serve::<Brand, Brand, R, F, I, W>(
         rt,
         alloc,
         Blank::new(PARTS_OF_LEDGER),
         Blank::new(PARTS_OF_LEDGER),
         prepared,
-        prompts,
+        options,
         files,
         input,
         output,
@@ -63,11 +65,11 @@ fn serve<Acc: Ledger, Del: Ledger, R: Threads + Sync, F: Files, I: BufRead, W: W
     accepted: Blank,
     deleted: Blank,
     prepared: Prepared,
-    prompts: Prompts,
+    options: SessionOptions,
     files: &mut F,
     input: &mut I,
     output: &mut W,
-) -> Result<(), ShellFault>
+) -> Result<Option<SessionEnd>, ShellFault>
     requires accepted_name { accepted.name ≡ Acc.name }
     requires accepted_parts { (accepted.parts ≡ Acc.parts)
         × (accepted.parts ≡ ledgers.parts_of_ledger) }
@@ -88,7 +90,7 @@ fn serve<Acc: Ledger, Del: Ledger, R: Threads + Sync, F: Files, I: BufRead, W: W
                 definitions,
                 store,
                 buffers,
-                prompts,
+                options,
             };
             answer_session(rt, alloc, session, beginning, refused, files, input, output)
         }
@@ -112,7 +114,7 @@ fn answer_session<Acc: Ledger, Del: Ledger, R: Threads + Sync, F: Files, I: BufR
     files: &mut F,
     input: &mut I,
     output: &mut W,
-) -> Result<(), ShellFault> {
+) -> Result<Option<SessionEnd>, ShellFault> {
     let mut session = session;
     let answered = answer_from(
         rt,
@@ -128,7 +130,7 @@ fn answer_session<Acc: Ledger, Del: Ledger, R: Threads + Sync, F: Files, I: BufR
         definitions,
         store,
         buffers,
-        prompts: _,
+        options: _,
     } = session;
     drop(definitions);
     drop(store);

@@ -1,7 +1,7 @@
 -- The flags of a command line.
 use Rattle.std.proofs.Common.{◌≡◌, ℕ, Bool, true, false, List, refl, codes}
 use Rattle.std.specs.Prelude.{Option, Some, None}
-use Rattle.clap.specs.Words.{is_simple}
+use Rattle.clap.specs.Words.{is_simple, is_simple_and_free}
 use Rattle.clap.proofs.OnLiterals.{clap_on_literals}
 use Rattle.df_words.specs.SessionLine.{IsFlagOf, command_line}
 
@@ -14,5 +14,10 @@ flag_of (Some text) stands none on off = (λ e. on (rw e refl), λ e. off (rw e 
 
 -- the command line is one of which clap's own words give the matches
 pub is_exact : is_simple command_line ≡ true
-unfolding clap_on_literals
+unfolding clap_on_literals command_line
 is_exact = refl
+
+-- and the faults
+pub is_free : is_simple_and_free command_line ≡ true
+unfolding clap_on_literals command_line
+is_free = refl

@@ -21,9 +21,13 @@ views_rule = record (new_rule (codes "views")) { value_names = 1 }
 abbrev pub flag_rule : List ℕ → Rule
 flag_rule name = record (new_rule name) { long = Some name; action = Some SetTrue }
 
--- the command line: [--hall] [--check] [VIEWS]
-abbrev pub command_line : App
-command_line = with_rule (with_rule (with_rule program_app views_rule) (flag_rule (codes "hall"))) (flag_rule (codes "check"))
+-- the command line up to its first flags
+abbrev pub document_line : App
+document_line = with_rule (with_rule (with_rule program_app views_rule) (flag_rule (codes "hall"))) (flag_rule (codes "check"))
+
+-- the command line: [--hall] [--check] [--bail] [--framed] [VIEWS]
+unfoldable pub command_line : App
+command_line = with_rule (with_rule document_line (flag_rule (codes "bail"))) (flag_rule (codes "framed"))
 
 -- whether a flag stands, by its text: none where it is no flag of the command
 abbrev pub IsFlagOf : Option (List ℕ) → Bool → Type 0
@@ -35,6 +39,8 @@ pub record Says (words : List (List ℕ)) (line : CommandLine) : Type 0 where
   pub views : option_map (λ v. v.now) line.views ≡ first_of (codes "views") (matches_of command_line words)
   pub hall : IsFlagOf (one_of (codes "hall") (matches_of command_line words)) line.hall
   pub check : IsFlagOf (one_of (codes "check") (matches_of command_line words)) line.check
+  pub bail : IsFlagOf (one_of (codes "bail") (matches_of command_line words)) line.bail
+  pub framed : IsFlagOf (one_of (codes "framed") (matches_of command_line words)) line.framed
 
 -- a check of no document
 abbrev pub IsBareCheck : CommandLine → Type 0

@@ -4,7 +4,7 @@ ghost use Rattle.clap.specs.Words.{FailsBy, app_of, fault_of, first_value, found
 ghost use Rattle.clap.specs.Values.{kind_of};
 ghost use Rattle.clap.specs.declared.error.kind.ErrorKind.TheVariants.{MissingRequiredArgument};
 ghost use Rattle.df_words.specs.SessionLine as command_line_spec;
-ghost use Rattle.df_words.specs.SessionLine.{IsBareCheck, IsFlagOf, IsRead, Says, flag_rule, program_app, views_rule};
+ghost use Rattle.df_words.specs.SessionLine.{IsBareCheck, IsFlagOf, IsRead, Says, document_line, flag_rule, program_app, views_rule};
 
 use crate::session_line::CommandLine;
 use clap::error::ErrorKind;
@@ -45,10 +45,10 @@ const AFTER_HELP: &str = r#"Commands, one a line of standard input:
 
 Exit status:
   0  the input has ended, or the document opens
-  1  with --check: the document opens without the chunks that have a bad cell, which the output names
+  1  with --check: the document opens without the chunks that have a bad cell, which the output names; with --bail: a command was refused
   2  a fault, or a refused word: standard error says which"#;
 
-/// Reads the words behind the program's name: `[--hall] [--check] [VIEWS]`.
+/// Reads the words behind the program's name: `[--hall] [--check] [--bail] [--framed] [VIEWS]`.
 ///
 /// Refused are other words, a second VIEWS, a flag twice, and `--check` without VIEWS. `-h`, `--help` and `--version` are an error too,
 /// whose text is the help or the version: its `use_stderr` is false and its `exit_code` 0, where those of a refusal are
@@ -65,6 +65,7 @@ pub fn read_command_line<'a>(alloc: Global, words: &'a [&'a str]) -> Result<Comm
 }
 
 // What the words say by clap's rules alone.
+#[tactic(auto, using(crate::proofs::FlagFacts::is_free))]
 fn parse<'a>(alloc: Global, words: &'a [&'a str]) -> Result<CommandLine<'a>, Error>
     ensures says { IfOk result (λ line. Says (map (λ word. word.now) words.entry.now) line) }
     ensures refused { FailsBy (fault_of command_line_spec.command_line
@@ -91,8 +92,21 @@ fn no_views(alloc: Global) -> Result<Error, AllocError>
     )
 }
 
+#[tactic(auto, unfolding(crate::specs::SessionLine::command_line))]
 fn command<'a>(alloc: Global) -> Result<Command<'a>, AllocError>
     ensures { IfOk result (λ command. app_of command ≡ command_line_spec.command_line) }
+{
+    let bail = "Ends the session at the first refusal, with status 1";
+    let framed =
+        "For programs: before each answer a line says how many lines it has, as `ok 3`; no prompts";
+    document_command(alloc)?
+        .arg(flag(alloc, "bail", bail))?
+        .arg(flag(alloc, "framed", framed))
+}
+
+// The command with the document and its first flags.
+fn document_command<'a>(alloc: Global) -> Result<Command<'a>, AllocError>
+    ensures { IfOk result (λ command. app_of command ≡ document_line) }
 {
     let hall =
         "A session through a hall: a lock round the frames and views, and a version after each change";
@@ -138,11 +152,15 @@ fn said_in<'a>(matches: &ArgMatches<'a>) -> CommandLine<'a>
         ≡ first_value (found_of matches.now) (codes "views") }
     ensures hall { IsFlagOf (one_text (found_of matches.now) (codes "hall")) result.hall }
     ensures check { IsFlagOf (one_text (found_of matches.now) (codes "check")) result.check }
+    ensures bail { IsFlagOf (one_text (found_of matches.now) (codes "bail")) result.bail }
+    ensures framed { IsFlagOf (one_text (found_of matches.now) (codes "framed")) result.framed }
 {
     CommandLine {
         views: matches.get_str("views"),
         hall: is_set(matches, "hall"),
         check: is_set(matches, "check"),
+        bail: is_set(matches, "bail"),
+        framed: is_set(matches, "framed"),
     }
 }
 

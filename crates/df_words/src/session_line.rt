@@ -9,4 +9,8 @@ pub struct CommandLine<'a> {
     pub hall: bool,
     /// Whether the document is only opened.
     pub check: bool,
+    /// Whether the first refusal ends the session.
+    pub bail: bool,
+    /// Whether each answer says before it how many lines it has.
+    pub framed: bool,
 }

@@ -2,3 +2,5 @@ pub mod AppendFacts
 pub mod TextFacts
 pub mod StepFacts
 pub mod PlanFacts
+pub mod ReadExpressions
+pub mod ReadPlans

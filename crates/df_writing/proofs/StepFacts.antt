@@ -1,14 +1,12 @@
 -- The steps of a plan as they are written.
-use Rattle.std.proofs.Common.{◌≡◌, ◌∙◌, ◌++◌, ℕ, Bool, true, false, List, [], ◌∷◌, Result, ap, codes, flat_map, refl, sym}
-use Rattle.std.specs.Prelude.{ℤ, OnOk}
+use Rattle.std.proofs.Common.{◌≡◌, ◌∙◌, ◌++◌, ℕ, true, false, List, [], ◌∷◌, Result, ap, codes, flat_map, refl, sym}
+use Rattle.std.specs.Prelude.{OnOk}
 use Rattle.std.proofs.lemmas.Grind.{flat_map-append}
 use Rattle.std.proofs.lemmas.List.{append-nil, append_assoc}
 use Rattle.std.proofs.lemmas.Result.{on_ok_weaker}
-use Rattle.std.specs.List.{join_by}
 use Rattle.toml.specs.Data.{Data}
 use Rattle.df_writing.specs.StepData.{Written, frame_name, has_any, plan_table, side_data, then_step}
-use Rattle.df_writing.specs.Texts.{data_text, items_text, quoted}
-use Rattle.toml.specs.View.{items_of}
+use Rattle.df_writing.specs.Texts.{data_text, quoted}
 use Rattle.df_text.specs.declared.document.FrameSpec.{FrameSpec}
 use Rattle.df_writing.specs.ViewTables.{step_lines, steps_before, steps_text}
 use Rattle.df_writing.proofs.TextFacts.{items_text-join}

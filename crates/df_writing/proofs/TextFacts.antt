@@ -1,12 +1,11 @@
 -- Arrays as they are written.
 use Rattle.std.proofs.Common.{◌≡◌, ◌∙◌, ◌++◌, ℕ, List, [], ◌∷◌, ap, codes, flat_map, map, refl, sym}
-use Rattle.std.proofs.lemmas.Grind.{flat_map-append}
-use Rattle.std.proofs.lemmas.List.{append-nil, append_assoc}
+use Rattle.std.proofs.lemmas.List.{append_assoc}
 use Rattle.std.specs.List.{join_by}
 use Rattle.toml.specs.Data.{Data}
 use Rattle.toml.specs.View.{items_of}
 use Rattle.df_writing.specs.ExpressionData.{operands_data}
-use Rattle.df_writing.specs.Texts.{data_text, items_text, last_item, later_items, quoted, two_items}
+use Rattle.df_writing.specs.Texts.{data_text, items_text, last_item, later_items, two_items}
 
 -- the later items of an array, one by one
 pub later_items-map :

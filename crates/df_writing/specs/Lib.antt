@@ -3,3 +3,4 @@ pub mod FrameTables
 pub mod ExpressionData
 pub mod StepData
 pub mod ViewTables
+pub mod Sayable

@@ -1,5 +1,6 @@
 //! Views as a view document writes them.
-ghost use Rattle.std.specs.Prelude.{◌≡◌, ◌++◌, OnOk};
+ghost use Rattle.std.specs.Prelude.{◌≡◌, ◌++◌, OnOk, true};
+ghost use Rattle.df_writing.specs.Sayable.{IsReadBack, can_be_said};
 ghost use Rattle.df_writing.specs.StepData.{written};
 ghost use Rattle.df_writing.specs.ViewTables.{step_lines, view_head, view_table};
 
@@ -9,8 +10,9 @@ use df_plan::Plan;
 use df_text::FrameSpec;
 use std::alloc::{AllocError, Global};
 
-/// Adds the table of a view of this name and plan, over these frames. `df_text::read_views` reads the plan of it.
-#[tactic(auto, unfolding(crate::specs::ViewTables::view_table))]
+/// Adds the table of a view of this name and plan, over these frames. A plan that a document can say is read of it again: one
+/// over frames of different names, of typed literals, and of at most 64 steps in each right side.
+#[tactic(auto, using(crate::proofs::ReadPlans::plan_back), unfolding(crate::specs::ViewTables::view_table))]
 pub fn push_view_table(
     alloc: Global,
     text: &mut Vec<u8>,
@@ -18,8 +20,9 @@ pub fn push_view_table(
     frames: &[FrameSpec],
     plan: &Plan,
 ) -> Result<(), AllocError>
-    ensures { OnOk result (text.new.items ≡ text.old.items
+    ensures text { OnOk result (text.new.items ≡ text.old.items
         ++ view_table name.now frames.now plan.now) }
+    ensures read_back { can_be_said frames.now plan.now ≡ true → IsReadBack frames.now plan.now }
 {
     push_head(text, name, first_frame(frames, plan))?;
     push_lines(alloc, text, frames, plan)

@@ -8,8 +8,8 @@ use clap::error::ErrorKind;
 use df_document::DocumentFault;
 use df_explain::explain;
 use df_shell::{
-    DocumentCheck, Prompts, ShellFault, check_document, run_declared_shell, run_hall_shell,
-    run_shell, shell_fault_text,
+    DocumentCheck, Prompts, SessionEnd, SessionOptions, ShellFault, check_document,
+    run_declared_shell, run_hall_shell, run_shell, shell_fault_text,
 };
 use df_words::{CommandLine, read_command_line};
 use std::alloc::AllocError;
@@ -49,8 +49,7 @@ fn run_arguments<R: Threads + Wait + Sync>(
 fn run_words<R: Threads + Wait + Sync>(rt: &HostRuntime, waiting: &R, words: &[&str]) -> ExitCode {
     match read_command_line(rt.alloc(), words) {
         Ok(line) => match run_line(rt, waiting, line) {
-            Ok(DocumentCheck::Clean) => ExitCode::from(0),
-            Ok(DocumentCheck::Refused) => ExitCode::from(1),
+            Ok(code) => code,
             Err(fault) => report_at(rt, line.views, &fault),
         },
         Err(error) => answer(rt, &error),
@@ -62,18 +61,21 @@ fn run_line<R: Threads + Wait + Sync>(
     rt: &HostRuntime,
     waiting: &R,
     line: CommandLine<'_>,
-) -> Result<DocumentCheck, ShellFault> {
+) -> Result<ExitCode, ShellFault> {
     let mut document = document_of(rt, line)?;
     let mut files = SystemFiles { rt };
     match &mut document {
         Some(document) if line.check => {
             let mut output = rt.stdout();
-            check_document(waiting, rt.alloc(), document, &mut files, &mut output)
+            match check_document(waiting, rt.alloc(), document, &mut files, &mut output)? {
+                DocumentCheck::Clean => Ok(ExitCode::from(0)),
+                DocumentCheck::Refused => Ok(ExitCode::from(1)),
+            }
         }
-        document => {
-            answer_commands(rt, waiting, document.as_mut(), &mut files, line.hall)?;
-            Ok(DocumentCheck::Clean)
-        }
+        document => match answer_commands(rt, waiting, document.as_mut(), &mut files, line)? {
+            Some(SessionEnd::Refused) => Ok(ExitCode::from(1)),
+            _ => Ok(ExitCode::from(0)),
+        },
     }
 }
 
@@ -93,32 +95,32 @@ fn answer_commands<R: Threads + Wait + Sync>(
     waiting: &R,
     document: Option<&mut File>,
     files: &mut SystemFiles<'_>,
-    hall: bool,
-) -> Result<(), ShellFault> {
+    line: CommandLine<'_>,
+) -> Result<Option<SessionEnd>, ShellFault> {
     let alloc = rt.alloc();
     let Ok(mut input) = BufReader::new(alloc, rt.stdin()) else {
         return Err(ShellFault::Memory);
     };
     let mut output = rt.stdout();
-    let prompts = prompts_at(rt);
+    let options = options_at(rt, line);
     let Some(document) = document else {
         return run_declared_shell(
             waiting,
             alloc,
-            hall,
+            line.hall,
             files,
-            prompts,
+            options,
             &mut input,
             &mut output,
         );
     };
-    if hall {
+    if line.hall {
         return run_hall_shell(
             waiting,
             alloc,
             document,
             files,
-            prompts,
+            options,
             &mut input,
             &mut output,
         );
@@ -128,18 +130,24 @@ fn answer_commands<R: Threads + Wait + Sync>(
         alloc,
         document,
         files,
-        prompts,
+        options,
         &mut input,
         &mut output,
     )
 }
 
-// A terminal on both sides has someone who types.
-fn prompts_at(rt: &HostRuntime) -> Prompts {
-    if rt.stdin().is_terminal() && rt.stdout().is_terminal() {
+// A terminal on both sides has someone who types, but where a program wants frames.
+fn options_at(rt: &HostRuntime, line: CommandLine<'_>) -> SessionOptions {
+    let typed = rt.stdin().is_terminal() && rt.stdout().is_terminal();
+    let prompts = if typed && !line.framed {
         Prompts::Shown
     } else {
         Prompts::Hidden
+    };
+    SessionOptions {
+        prompts,
+        bail: line.bail,
+        framed: line.framed,
     }
 }
 

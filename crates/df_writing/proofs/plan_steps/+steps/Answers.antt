@@ -1,7 +1,6 @@
-use Rattle.std.proofs.Common.{◌≡◌, ◌∙◌, ℕ, List, of_z, rules, sym, to_z}
+use Rattle.std.proofs.Common.{◌≡◌, ◌∙◌, of_z, rules, sym, to_z}
 use Rattle.std.specs.Int.{w64}
 use Rattle.df_writing.specs.StepData.{written}
-use Rattle.df_writing.specs.Texts.{quoted}
 use Rattle.df_writing.proofs.PlanFacts.{written-CumSum, written-Filter, written-GroupBy, written-Join, written-Rank, written-Rolling, written-Select, written-WithColumns}
 use Rattle.df_writing.proofs.StepFacts.{before_written, nothing_before, side-name, side-table, step_written, table_written}
 use Rattle.df_writing.proofs.plan_steps.+steps.Goals as goal

@@ -1,5 +1,3 @@
-use Rattle.std.proofs.Common.{◌≡◌, ap, sym}
-use Rattle.df_writing.specs.StepData.{Written, has_any}
 use Rattle.df_writing.proofs.PlanFacts.{written-CumSum, written-Filter, written-GroupBy, written-Join, written-Rank, written-Rolling, written-Select, written-WithColumns}
 use Rattle.df_writing.proofs.StepFacts.{some-step}
 use Rattle.df_writing.proofs.plan_steps.has_steps.Goals as goal

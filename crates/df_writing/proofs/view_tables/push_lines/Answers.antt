@@ -1,4 +1,4 @@
-use Rattle.std.proofs.Common.{◌≡◌, ◌∙◌, sym}
+use Rattle.std.proofs.Common.{◌∙◌, sym}
 use Rattle.df_writing.specs.StepData.{written}
 use Rattle.df_writing.proofs.StepFacts.{lines_written, no_lines}
 use Rattle.df_writing.proofs.view_tables.push_lines.Goals as goal
