@@ -90,29 +90,9 @@ impl<Acc: Ledger, Del: Ledger> Worker<Acc, Del> {
         })
     }
 
-    /// Draws the next jobs, passes the gate with each, and makes their chunks. There are none where no job is left.
-    pub fn make_next<S: Source, G: Gate>(
-        &mut self,
-        work: &Work<S, G>,
-    ) -> Result<Vec<Outcome>, AllocError>
-        requires { IsWorker work.now.claims.now work.now.desks
-            (chunks_of S.made S.start_of work.now.sources.now)
-            self.old }
-        ensures worker { IsWorker work.now.claims.now work.now.desks
-            (chunks_of S.made S.start_of work.now.sources.now)
-            self.new }
-        ensures desks { self.new.desks ≡ self.old.desks }
-        ensures done { self.new.done ≡ self.old.done }
-        ensures made { IfOk result (λ made.
-            AreOutcomes (chunks_of S.made S.start_of work.now.sources.now) made.items) }
-    {
-        let jobs = self.draw(work)?;
-        make_all(work, jobs.as_slice())
-    }
-
-    // Draws the next jobs. All are drawn before the first is made, so that they mostly follow one another although other
-    // workers draw meanwhile. There are none where no job is left.
-    fn draw<S: Source, G: Gate>(&mut self, work: &Work<S, G>) -> Result<Vec<u64>, AllocError>
+    /// Draws the next jobs. They follow one another where no other worker draws meanwhile. There are none where no job is
+    /// left.
+    pub fn draw<S: Source, G: Gate>(&mut self, work: &Work<S, G>) -> Result<Vec<u64>, AllocError>
         requires { IsWorker work.now.claims.now work.now.desks
             (chunks_of S.made S.start_of work.now.sources.now)
             self.old }
@@ -149,8 +129,11 @@ impl<Acc: Ledger, Del: Ledger> Worker<Acc, Del> {
     }
 }
 
-// Passes the gate with each of these jobs, and makes their chunks.
-fn make_all<S: Source, G: Gate>(work: &Work<S, G>, jobs: &[u64]) -> Result<Vec<Outcome>, AllocError>
+/// Passes the gate with each of these jobs, and makes their chunks.
+pub fn make_all<S: Source, G: Gate>(
+    work: &Work<S, G>,
+    jobs: &[u64],
+) -> Result<Vec<Outcome>, AllocError>
     ensures made { IfOk result (λ made.
         AreOutcomes (chunks_of S.made S.start_of work.now.sources.now) made.items) }
 {

@@ -63,6 +63,11 @@ impl<Acc: Ledger, Del: Ledger, J: Naming, B: Beginning> LoadingHall<Acc, Del, J,
         self.catalogue.lock(rt)
     }
 
+    /// Takes the lock of what waits.
+    pub(crate) fn lock_waiting<R: Wait>(&self, rt: &R) -> MutexGuard<'_, Waiting<B>> {
+        self.waiting.lock(rt)
+    }
+
     /// Has a batch of one of so many workers wait, together with those whose runs and its own follow one another, and says
     /// what the worker is to do.
     pub(crate) fn put<R: Wait>(

@@ -7,9 +7,10 @@ ghost use Rattle.df_jobs.specs.Workers.{IsWorker};
 use crate::entering::enter_batches;
 use crate::loading::{Beginning, LoadingHall};
 use crate::waiting::{Batch, Turn};
-use df_jobs::{Gate, Outcome, Stop, Work, Worker, count_of_first_frame, join};
+use df_jobs::{Gate, Outcome, Stop, Work, Worker, count_of_first_frame, join, make_all};
 use df_value::Source;
 use df_versions::{Naming, Told};
+use std::alloc::AllocError;
 use std::sync::ledger::Ledger;
 use std::sync::{MutexGuard, Wait};
 
@@ -65,7 +66,8 @@ fn do_next<Acc: Ledger, Del: Ledger, J: Naming, B: Beginning, S: Source, G: Gate
     ensures counted { AreCounted worker.old.desks.items worker.old.done.items
         worker.new.desks.items worker.new.done.items }
 {
-    let mut left = worker.make_next(work)?;
+    let jobs = draw(rt, hall, work, worker)?;
+    let mut left = make_all(work, jobs.as_slice())?;
     if left.is_empty() {
         return Ok(false);
     }
@@ -75,6 +77,28 @@ fn do_next<Acc: Ledger, Del: Ledger, J: Naming, B: Beginning, S: Source, G: Gate
         left = others;
     }
     Ok(true)
+}
+
+// Draws the next jobs. One worker draws at a time, so that the jobs of each draw follow one another.
+fn draw<Acc: Ledger, Del: Ledger, J: Naming, B: Beginning, S: Source, G: Gate, R: Wait>(
+    rt: &R,
+    hall: &LoadingHall<Acc, Del, J, B>,
+    work: &Work<S, G>,
+    worker: &mut Worker<Acc, Del>,
+) -> Result<Vec<u64>, AllocError>
+    requires { IsWorker work.now.claims.now work.now.desks
+        (chunks_of S.made S.start_of work.now.sources.now)
+        worker.old }
+    ensures worker { IsWorker work.now.claims.now work.now.desks
+        (chunks_of S.made S.start_of work.now.sources.now)
+        worker.new }
+    ensures desks { worker.new.desks ≡ worker.old.desks }
+    ensures done { worker.new.done ≡ worker.old.done }
+{
+    let waiting = hall.lock_waiting(rt);
+    let jobs = worker.draw(work);
+    MutexGuard::unlock(waiting);
+    jobs
 }
 
 // Has what came of some jobs wait to be committed, and commits all that waits, unless another worker does. Before that the
