@@ -1,5 +1,5 @@
 //! Workers: what each of them owns, and the chunks of the jobs that it draws.
-ghost use Rattle.std.specs.Prelude.{◌≡◌, ◌++◌, IfOk, None, OnOk};
+ghost use Rattle.std.specs.Prelude.{◌≡◌, ◌<◌, ◌++◌, IfOk, None, OnOk};
 ghost use Rattle.df_claims.specs.Seats.{IsSeatOf};
 ghost use Rattle.df_jobs.specs.Jobs.{AreOutcomes, chunks_of};
 ghost use Rattle.df_jobs.specs.Workers.{IsIdle, IsWorker};
@@ -60,15 +60,22 @@ pub struct Work<'a, S, G> {
     pub at_once: usize,
 }
 
-/// The most jobs that all workers together draw at once: each takes its share of them.
-pub const MOST_AT_ONCE: u64 = 256;
+/// The most jobs that each of so many workers draws at once: one worker many, and several together half as many, since as
+/// much may wait to be committed.
+pub fn most_at_once(workers: usize) -> u64
+    ensures { 0 < result }
+{
+    if workers <= 1 {
+        return 256;
+    }
+    (128 / workers as u64).max(1)
+}
 
 impl<S, G> Work<'_, S, G> {
     // How many jobs a worker draws at once where so many were drawn before. A commit may change every row of a view: where
     // each brings half as many rows as stand, all commits together change three times as many as the last one.
     fn jobs_behind(&self, drawn: u64) -> usize {
-        let most = MOST_AT_ONCE / self.workers.max(1) as u64;
-        let half = (drawn / 2).min(most);
+        let half = (drawn / 2).min(most_at_once(self.workers));
         self.at_once.max(half as usize)
     }
 }

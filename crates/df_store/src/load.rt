@@ -23,7 +23,7 @@ use crate::pool::do_jobs;
 use df_catalogue::{Catalogue, Desk, ViewChange};
 use df_claims::{ClaimSeat, Claims};
 use df_hall::{Hall, Totals, TotalsRoom, Unsettled, VersionedCatalogue, settle};
-use df_jobs::{Gate, MOST_AT_ONCE, Outcome, Refused, Stop, Work, job_count};
+use df_jobs::{Gate, Outcome, Refused, Stop, Work, job_count, most_at_once};
 use df_plan::CheckedPlan;
 use df_value::{Duplicate, List, Source, Text};
 use df_versions::{Naming, Told};
@@ -216,11 +216,10 @@ fn run_load<
 }
 
 // How many jobs each of so many workers draws at once, at the least: one worker all, and several so few that a free one finds
-// jobs where there are few; and no more than its share of what all together may draw.
+// jobs where there are few; and no more than it may.
 fn jobs_at_once(jobs: u64, workers: usize) -> usize {
-    let workers = workers.clamp(1, MOST_WORKERS) as u64;
-    let parts = if workers == 1 { 1 } else { workers.max(4) };
-    jobs.div_ceil(parts).clamp(1, MOST_AT_ONCE / workers) as usize
+    let parts = if workers <= 1 { 1 } else { workers.max(4) };
+    jobs.div_ceil(parts as u64).clamp(1, most_at_once(workers)) as usize
 }
 
 // Registers copies of the views, and numbers the jobs for so many workers.

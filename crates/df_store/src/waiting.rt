@@ -160,7 +160,7 @@ impl<B: Beginning> Waiting<B> {
             self.is_committing = true;
             return Ok(Turn::Commit);
         }
-        Ok(if self.count < workers {
+        Ok(if self.count / 2 < workers {
             Turn::Make
         } else {
             Turn::Pause
