@@ -111,6 +111,14 @@ impl<Acc: Ledger, Del: Ledger, J: Naming, B: Beginning> LoadingHall<Acc, Del, J,
         batches
     }
 
+    /// Leaves batches that have entered, for whoever frees them, and takes those that were left before.
+    pub(crate) fn swap_spent<R: Wait>(&self, rt: &R, batches: Vec<Batch>) -> Vec<Batch> {
+        let mut waiting = self.waiting.lock(rt);
+        let before = waiting.swap_spent(batches);
+        MutexGuard::unlock(waiting);
+        before
+    }
+
     /// The worker that committed has stopped.
     pub(crate) fn give_up<R: Wait>(&self, rt: &R) {
         let mut waiting = self.waiting.lock(rt);

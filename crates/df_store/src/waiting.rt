@@ -111,6 +111,8 @@ pub(crate) struct Waiting<B: Beginning> {
     count: usize,
     /// Whether a worker commits.
     is_committing: bool,
+    /// Batches that have entered, and are to be freed.
+    spent: Vec<Batch>,
     of: PhantomData<B>,
 }
 
@@ -121,9 +123,11 @@ impl<B: Beginning> Drop for Waiting<B> {
             batches,
             count: _,
             is_committing: _,
+            spent,
             of,
         } = self;
         drop(batches);
+        drop(spent);
         drop(of);
     }
 }
@@ -146,6 +150,7 @@ impl<B: Beginning> Waiting<B> {
             batches: Vec::new(alloc),
             count: 0,
             is_committing: false,
+            spent: Vec::new(alloc),
             of: PhantomData,
         }
     }
@@ -186,6 +191,11 @@ impl<B: Beginning> Waiting<B> {
         self.count = 0;
         self.is_committing = !batches.is_empty();
         batches
+    }
+
+    /// Leaves batches that have entered, for whoever frees them, and takes those that were left before.
+    pub(crate) fn swap_spent(&mut self, batches: Vec<Batch>) -> Vec<Batch> {
+        mem::replace(&mut self.spent, batches)
     }
 
     /// The worker that committed has stopped.

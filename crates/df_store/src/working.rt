@@ -127,8 +127,12 @@ fn commit<Acc: Ledger, Del: Ledger, J: Naming, B: Beginning, S: Source, G: Gate,
     let joined = join(work.alloc, made.as_slice())?;
     match hall.put(rt, work.alloc, Batch { made, joined }, work.workers)? {
         Turn::Commit => commit_waiting(rt, hall, work, worker, told),
-        Turn::Make => Ok(()),
+        Turn::Make => {
+            drop(hall.swap_spent(rt, Vec::new(work.alloc)));
+            Ok(())
+        }
         Turn::Pause => {
+            drop(hall.swap_spent(rt, Vec::new(work.alloc)));
             hall.pause(rt);
             Ok(())
         }
@@ -205,7 +209,11 @@ fn commit_next<Acc: Ledger, Del: Ledger, J: Naming, B: Beginning, S: Source, G: 
         told,
     );
     MutexGuard::unlock(catalogue);
-    // The typed rows of chunks that entered joined are freed once the lock is free.
+    // The typed rows of chunks that entered joined are freed once the lock is free, by other workers where there are any:
+    // that takes as long as a commit.
+    if work.workers > 1 {
+        batches = hall.swap_spent(rt, batches);
+    }
     drop(batches);
     entered?;
     Ok(true)
