@@ -112,13 +112,13 @@ pub left-of-fresh :
     (schemas : List (List (List ℕ × CellType))) (chunks : List (List (ℕ × Piece))) (views : List (List ℕ × CheckedParts)) (cause : LoadCause) (s : State) →
     IsLeft schemas chunks views (first_desks (length schemas)) cause s → HaveWholeChunks chunks s.frames
 left-of-fresh schemas chunks views cause s left = record {
-  entered = left.grown.entered;
-  made = left.grown.made;
+  entered = left.reached.grown.entered;
+  made = left.reached.grown.made;
   rows = λ frame g at.
       let within = (found s.frames frame g at).0 in
-      let count = left.grown.frames.count in
-      let was = item-at left.before.frames frame (omega (arith, within, count)) in
-      let none = fresh-frame schemas left.before frame was.0 left.began left.agreed was.1 in
-      subst (λ (rs : List (ℕ × List Cell)). IsPermutation (rs ++ rows_at frame left.grown.entered) g.rows) none
-      (left.grown.frames.rows frame was.0 g was.1 at);
+      let count = left.reached.grown.frames.count in
+      let was = item-at left.reached.before.frames frame (omega (arith, within, count)) in
+      let none = fresh-frame schemas left.reached.before frame was.0 left.reached.began left.reached.agreed was.1 in
+      subst (λ (rs : List (ℕ × List Cell)). IsPermutation (rs ++ rows_at frame left.reached.grown.entered) g.rows) none
+      (left.reached.grown.frames.rows frame was.0 g was.1 at);
 }

@@ -14,6 +14,7 @@ use Rattle.df_jobs.specs.Counted.{HaveDone, entered_at}
 use Rattle.df_jobs.specs.Jobs.{IsOutcome}
 use Rattle.df_jobs.proofs.CountFacts.{all-done, deleted-in-all}
 use Rattle.df_store.specs.declared.fault.LoadCause.{LoadCause}
+use Rattle.df_store.specs.Grown.{IsReachedByLoad}
 use Rattle.df_store.specs.Loads.{AreShares, IsLeft, IsNotLeft, is_accounted, unaccounted_from}
 
 module _ (desks joined : List DeskParts) (same : HaveSameSums desks joined) where
@@ -61,6 +62,9 @@ module _ (desks joined : List DeskParts) (same : HaveSameSums desks joined) wher
 
   -- a load that was refused for it
   module _ (schemas : List (List (List ℕ × CellType))) (chunks : List (List (ℕ × Piece))) (views : List (List ℕ × CheckedParts)) where
+    reached-so : (s : State) → IsReachedByLoad schemas chunks joined s → IsReachedByLoad schemas chunks desks s
+    reached-so s h = record { before = h.before; began = h.began; agreed = agree-same h.before h.agreed; grown = h.grown }
+
     left-so : (cause : LoadCause) (s : State) → IsLeft schemas chunks views joined cause s → IsLeft schemas chunks views desks cause s
     left-so cause s h = record {
       last = h.last;
@@ -68,10 +72,7 @@ module _ (desks joined : List DeskParts) (same : HaveSameSums desks joined) wher
       outcomes = h.outcomes;
       made = h.made;
       accounted = sym (accounted-so h.outcomes 0 s.frames) ∙ h.accounted;
-      before = h.before;
-      began = h.began;
-      agreed = agree-same h.before h.agreed;
-      grown = h.grown;
+      reached = reached-so s h.reached;
       why = h.why;
     }
 
@@ -86,6 +87,7 @@ module _ (desks joined : List DeskParts) (same : HaveSameSums desks joined) wher
       state = h.state;
       frame = h.frame;
       unsettled = h.unsettled;
+      reached = reached-so h.state h.reached;
       why = h.why;
     }
 

@@ -16,7 +16,7 @@ use Rattle.df_store.specs.declared.fault.LoadCause.{LoadCause}
 use Rattle.df_jobs.specs.declared.stop.Stop.{Stop}
 use Rattle.df_jobs.specs.declared.jobs.Outcome.{Outcome}
 use Rattle.df_store.specs.Faults.{IsCauseAtStart}
-use Rattle.df_store.specs.Grown.{HasGrown, HaveGrown}
+use Rattle.df_store.specs.Grown.{HaveGrown, IsReachedByLoad}
 use Rattle.df_store.proofs.GrownFacts.{grown-none}
 use Rattle.df_jobs.specs.Jobs.{AreOutcomes, IsOutcome, jobs_of}
 use Rattle.df_store.specs.Loads.{IsCauseAtEnd, IsCauseLeft, IsCauseNotLeft, IsCauseUnsettled, IsDifference, IsLeft, IsNotLeft, is_accounted, unaccounted_from}
@@ -41,39 +41,44 @@ last-of-begun : (history : List State) → 0 < length history → (s : State) ×
 last-of-begun [] begun = absurd (omega (arith, begun))
 last-of-begun (o ∷ later) begun = (last_of o later, refl)
 
--- the last state of a history has grown from that of another where the history has
-grown-left :
-    {L : Type 0} (state_of : L → State) (schemas : List (List (List ℕ × CellType))) (chunks : List (List (ℕ × Piece))) (back : List DeskParts) (history last : List State)
-    (before : State) (left : Option L) → last_state history ≡ Some before → HaveGrown chunks history last →
-    IfSome left (λ l. (last_state last ≡ Some (state_of l)) × IsSettledState schemas back (state_of l)) →
-    IfSome left (λ l. HasGrown chunks before (state_of l) × IsSettledState schemas back (state_of l))
-grown-left state_of schemas chunks back history last before (Some l) first grown settled = (grown before (state_of l) first settled.0, settled.1)
-grown-left state_of schemas chunks back history last before None first grown settled = tt
-
 module _ (schemas : List (List (List ℕ × CellType))) (chunks : List (List (ℕ × Piece))) (views : List (List ℕ × CheckedParts)) (desks : List DeskParts) where
+  -- a load whose workers began with a history with whose books the desks agree reaches the last state of the history that grew from it
+  reached-last :
+      (history last : List State) (s : State) → ((s : State) → last_state history ≡ Some s → AgreeWithBooks desks s) → IsHistoryOver schemas history →
+      HaveGrown chunks history last → last_state last ≡ Some s → IsReachedByLoad schemas chunks desks s
+  reached-last history last s agreed over grown ends =
+      let before = last-of-begun history over.begun in record {
+        before = before.0;
+        began = record { history = history; over = over; last = before.1 };
+        agreed = agreed before.0 before.1;
+        grown = grown before.0 s before.1 ends;
+      }
+
+  -- one that has not begun
+  reached-none : (s : State) → IsLastState schemas s → AgreeWithBooks desks s → IsReachedByLoad schemas chunks desks s
+  reached-none s last agreed = record { before = s; began = last; agreed = agreed; grown = grown-none chunks s }
+
   left-of :
-      (back : List DeskParts) (os : List Outcome) (cause : LoadCause) (before s : State) → AreOutcomes chunks os →
+      (back : List DeskParts) (os : List Outcome) (cause : LoadCause) (s : State) → AreOutcomes chunks os →
       ((frame : ℕ) → accepted_at frame back ≡ accepted_at frame desks + entered_at frame os) → ((frame : ℕ) → deleted_at frame back ≡ deleted_at frame desks) →
-      IsSettledState schemas back s → IsLastState schemas before → AgreeWithBooks desks before → HasGrown chunks before s → IsCauseLeft (jobs_of chunks) views os s cause →
+      IsSettledState schemas back s → IsReachedByLoad schemas chunks desks s → IsCauseLeft (jobs_of chunks) views os s cause →
       IsLeft schemas chunks views desks cause s
-  left-of back os cause before s made accepted deleted settled began agreed grown is = record {
+  left-of back os cause s made accepted deleted settled reached is = record {
     last = settled.last;
     legal = settled.legal;
     outcomes = os;
     made = made;
     accounted = sym (accounted-same desks back os accepted deleted 0 s.frames) ∙ settled.settled;
-    before = before;
-    began = began;
-    agreed = agreed;
-    grown = grown;
+    reached = reached;
     why = is;
   }
 
   not-left-of :
       (back : List DeskParts) (os : List Outcome) (cause : LoadCause) (s : State) (frame : ℕ) → AreOutcomes chunks os → parts_of back ≡ parts_of desks →
       ((frame : ℕ) → accepted_at frame back ≡ accepted_at frame desks + entered_at frame os) → ((frame : ℕ) → deleted_at frame back ≡ deleted_at frame desks) →
-      IsUnsettledState schemas back s frame → IsCauseNotLeft views os s frame cause → IsNotLeft schemas chunks views desks cause
-  not-left-of back os cause s frame made parts accepted deleted unsettled is = record {
+      IsUnsettledState schemas back s frame → IsReachedByLoad schemas chunks desks s → IsCauseNotLeft views os s frame cause →
+      IsNotLeft schemas chunks views desks cause
+  not-left-of back os cause s frame made parts accepted deleted unsettled reached is = record {
     outcomes = os;
     made = made;
     gathered = back;
@@ -83,6 +88,7 @@ module _ (schemas : List (List (List ℕ × CellType))) (chunks : List (List (�
     state = s;
     frame = frame;
     unsettled = unsettled;
+    reached = reached;
     why = is;
   }
 
@@ -100,10 +106,11 @@ module _ (schemas : List (List (List ℕ × CellType))) (chunks : List (List (�
       IfNone left ((s : State) × (frame : ℕ) × (last_state history ≡ Some s) × IsUnsettledState schemas desks s frame) →
       MatchOption left (IsNotLeft schemas chunks views desks cause) (λ l. IsLeft schemas chunks views desks cause (state_of l))
   given-up state_of history cause (Some l) is settled unsettled =
-      left-of desks [] cause (state_of l) (state_of l) no-outcomes nothing-entered (λ frame. refl) settled.2 settled.2.last settled.1 (grown-none chunks (state_of l))
+      left-of desks [] cause (state_of l) no-outcomes nothing-entered (λ frame. refl) settled.2 (reached-none (state_of l) settled.2.last settled.1)
       (inl (refl, is (state_of l) settled.0))
   given-up state_of history cause None is settled unsettled =
-      not-left-of desks [] cause unsettled.0 unsettled.1 no-outcomes refl nothing-entered (λ frame. refl) unsettled.3 (inl (refl, is unsettled.0 unsettled.2))
+      not-left-of desks [] cause unsettled.0 unsettled.1 no-outcomes refl nothing-entered (λ frame. refl) unsettled.3
+      (reached-none unsettled.0 unsettled.3.last unsettled.3.books) (inl (refl, is unsettled.0 unsettled.2))
 
   cause-left :
       {V : Type 0} (items : V → List Outcome) (s : State) (entered : Result V Stop) (cause : LoadCause) (os : List Outcome) →
@@ -114,15 +121,18 @@ module _ (schemas : List (List (List ℕ × CellType))) (chunks : List (List (�
   -- what a load that came to its end left
   ended :
       {L V : Type 0} (state_of : L → State) (items : V → List Outcome) (back : List DeskParts) (entered : Result V Stop) (cause : LoadCause)
-      (before : State) (left : Option L) → parts_of back ≡ parts_of desks → HaveDone items chunks desks back entered → IsLastState schemas before → AgreeWithBooks desks before →
-      IfSome left (λ l. HasGrown chunks before (state_of l) × IsSettledState schemas back (state_of l)) → IfSome left (λ l. IsCauseAtEnd items (jobs_of chunks) views (state_of l) entered cause) →
-      IfNone left ((s : State) × (frame : ℕ) × IsUnsettledState schemas back s frame × IsCauseUnsettled frame cause) →
+      (last : List State) (left : Option L) → parts_of back ≡ parts_of desks → HaveDone items chunks desks back entered →
+      ((s : State) → last_state last ≡ Some s → IsReachedByLoad schemas chunks desks s) →
+      IfSome left (λ l. (last_state last ≡ Some (state_of l)) × IsSettledState schemas back (state_of l)) →
+      IfSome left (λ l. IsCauseAtEnd items (jobs_of chunks) views (state_of l) entered cause) →
+      IfNone left ((s : State) × (frame : ℕ) × (last_state last ≡ Some s) × IsUnsettledState schemas back s frame × IsCauseUnsettled frame cause) →
       MatchOption left (IsNotLeft schemas chunks views desks cause) (λ l. IsLeft schemas chunks views desks cause (state_of l))
-  ended state_of items back entered cause before (Some l) parts done began agreed settled is unsettled =
-      left-of back done.outcomes cause before (state_of l) done.made done.accepted done.deleted settled.1 began agreed settled.0
+  ended state_of items back entered cause last (Some l) parts done reached settled is unsettled =
+      left-of back done.outcomes cause (state_of l) done.made done.accepted done.deleted settled.1 (reached (state_of l) settled.0)
       (cause-left items (state_of l) entered cause done.outcomes done.all is)
-  ended state_of items back entered cause before None parts done began agreed settled is unsettled =
-      not-left-of back done.outcomes cause unsettled.0 unsettled.1 done.made parts done.accepted done.deleted unsettled.2 (inr unsettled.3)
+  ended state_of items back entered cause last None parts done reached settled is unsettled =
+      not-left-of back done.outcomes cause unsettled.0 unsettled.1 done.made parts done.accepted done.deleted unsettled.3
+      (reached unsettled.0 unsettled.2) (inr unsettled.4)
 
   -- the same of its answer
   pub ended-so :
@@ -131,13 +141,11 @@ module _ (schemas : List (List (List ℕ × CellType))) (chunks : List (List (�
       ((s : State) → last_state history ≡ Some s → AgreeWithBooks desks s) → IsHistoryOver schemas history → HaveGrown chunks history last →
       IfErr result (λ f. IfSome (left_of f) (λ l. (last_state last ≡ Some (state_of l)) × IsSettledState schemas back (state_of l))) →
       IfErr result (λ f. IfSome (left_of f) (λ l. IsCauseAtEnd items (jobs_of chunks) views (state_of l) entered (cause_of f))) →
-      IfErr result (λ f. IfNone (left_of f) ((s : State) × (frame : ℕ) × IsUnsettledState schemas back s frame × IsCauseUnsettled frame (cause_of f))) →
+      IfErr result (λ f. IfNone (left_of f) ((s : State) × (frame : ℕ) × (last_state last ≡ Some s) × IsUnsettledState schemas back s frame × IsCauseUnsettled frame (cause_of f))) →
       IfErr result (λ f. MatchOption (left_of f) (IsNotLeft schemas chunks views desks (cause_of f)) (λ l. IsLeft schemas chunks views desks (cause_of f) (state_of l)))
   ended-so state_of items cause_of left_of back entered (Ok a) history last parts done agreed over grown settled is unsettled = tt
   ended-so state_of items cause_of left_of back entered (Err f) history last parts done agreed over grown settled is unsettled =
-      let before = last-of-begun history over.begun in
-      ended state_of items back entered (cause_of f) before.0 (left_of f) parts done (record { history = history; over = over; last = before.1 }) (agreed before.0 before.1)
-      (grown-left state_of schemas chunks back history last before.0 (left_of f) before.1 grown settled) is unsettled
+      ended state_of items back entered (cause_of f) last (left_of f) parts done (λ s ends. reached-last history last s agreed over grown ends) settled is unsettled
 
 settled-one :
     {C : Type 0} (state_of : C → State) (schemas : List (List (List ℕ × CellType))) (desks : List DeskParts) (catalogue c : C) → c ≡ catalogue →
@@ -176,26 +184,27 @@ given-not-left state_of frame_of schemas desks history catalogue (Err u) left is
 
 -- the same of a load that came to its end
 unsettled-left :
-    {C T U : Type 0} (state_of : C → State) (frame_of : U → ℕ) (schemas : List (List (List ℕ × CellType))) (desks : List DeskParts) (catalogue : C)
-    (r : Result (C × T) U) (left : Option (C × T)) (P : ℕ → Type 0) →
+    {C T U : Type 0} (state_of : C → State) (frame_of : U → ℕ) (schemas : List (List (List ℕ × CellType))) (desks : List DeskParts) (history : List State) (catalogue : C)
+    (r : Result (C × T) U) (left : Option (C × T)) (P : ℕ → Type 0) → last_state history ≡ Some (state_of catalogue) →
     IfNone left (IsErrAnd r (λ u. P (frame_of u))) → IfErr r (λ u. missing_frame desks (state_of catalogue) ≡ Some (frame_of u)) →
     AgreeWithBooks desks (state_of catalogue) → IsLegal (state_of catalogue) → IsLastState schemas (state_of catalogue) →
-    IfNone left ((s : State) × (frame : ℕ) × IsUnsettledState schemas desks s frame × P frame)
-unsettled-left state_of frame_of schemas desks catalogue r (Some l) P is missing books legal last = tt
-unsettled-left state_of frame_of schemas desks catalogue (Ok x) None P is missing books legal last = absurd is
-unsettled-left state_of frame_of schemas desks catalogue (Err u) None P is missing books legal last =
-    (state_of catalogue, frame_of u, record { last = last; legal = legal; missing = missing; books = books }, is)
+    IfNone left ((s : State) × (frame : ℕ) × (last_state history ≡ Some s) × IsUnsettledState schemas desks s frame × P frame)
+unsettled-left state_of frame_of schemas desks history catalogue r (Some l) P ends is missing books legal last = tt
+unsettled-left state_of frame_of schemas desks history catalogue (Ok x) None P ends is missing books legal last = absurd is
+unsettled-left state_of frame_of schemas desks history catalogue (Err u) None P ends is missing books legal last =
+    (state_of catalogue, frame_of u, ends, record { last = last; legal = legal; missing = missing; books = books }, is)
 
 pub unsettled-answer :
     {A F C T U : Type 0} (state_of : C → State) (frame_of : U → ℕ) (left_of : F → Option (C × T)) (cause_of : F → LoadCause)
-    (schemas : List (List (List ℕ × CellType))) (desks : List DeskParts) (catalogue : C) (r : Result (C × T) U) (result : Result A F) →
+    (schemas : List (List (List ℕ × CellType))) (desks : List DeskParts) (history : List State) (catalogue : C) (r : Result (C × T) U) (result : Result A F) →
+    last_state history ≡ Some (state_of catalogue) →
     IfErr result (λ f. IfNone (left_of f) (IsErrAnd r (λ u. IsCauseUnsettled (frame_of u) (cause_of f)))) →
     IfErr r (λ u. missing_frame desks (state_of catalogue) ≡ Some (frame_of u)) → AgreeWithBooks desks (state_of catalogue) → IsLegal (state_of catalogue) →
     IsLastState schemas (state_of catalogue) →
-    IfErr result (λ f. IfNone (left_of f) ((s : State) × (frame : ℕ) × IsUnsettledState schemas desks s frame × IsCauseUnsettled frame (cause_of f)))
-unsettled-answer state_of frame_of left_of cause_of schemas desks catalogue r (Ok a) is missing books legal last = tt
-unsettled-answer state_of frame_of left_of cause_of schemas desks catalogue r (Err f) is missing books legal last =
-    unsettled-left state_of frame_of schemas desks catalogue r (left_of f) (λ frame. IsCauseUnsettled frame (cause_of f)) is missing books legal last
+    IfErr result (λ f. IfNone (left_of f) ((s : State) × (frame : ℕ) × (last_state history ≡ Some s) × IsUnsettledState schemas desks s frame × IsCauseUnsettled frame (cause_of f)))
+unsettled-answer state_of frame_of left_of cause_of schemas desks history catalogue r (Ok a) ends is missing books legal last = tt
+unsettled-answer state_of frame_of left_of cause_of schemas desks history catalogue r (Err f) ends is missing books legal last =
+    unsettled-left state_of frame_of schemas desks history catalogue r (left_of f) (λ frame. IsCauseUnsettled frame (cause_of f)) ends is missing books legal last
 
 -- outcomes that are handed over
 pub handed-outcomes :

@@ -1,15 +1,17 @@
 -- What a load adds to the rows that stood when its workers began: whole chunks.
 use Rattle.std.specs.Prelude.{◌≡◌, ◌++◌, ℕ, All, List, Some, length, slice_get}
 use Rattle.std.specs.List.Sorted.{IsPermutation}
+use Rattle.df_value.specs.declared.cell.CellType.{CellType}
 use Rattle.df_value.specs.Chunks.{ChunkParts}
 use Rattle.df_value.specs.declared.chunk.Piece.{Piece}
 use Rattle.df_frame.specs.declared.state.FrameState.{FrameState}
 use Rattle.df_state.specs.declared.state.State.{State}
+use Rattle.df_state.specs.Desks.{AgreeWithBooks, DeskParts}
 use Rattle.df_jobs.specs.declared.jobs.Outcome.{Outcome}
 use Rattle.df_jobs.specs.Expected.{rows_at}
 use Rattle.df_jobs.specs.Jobs.{AreOutcomes}
 use Rattle.df_jobs.specs.Loaded.{chunk_rows}
-use Rattle.df_versions.specs.Histories.{last_state}
+use Rattle.df_versions.specs.Histories.{IsLastState, last_state}
 
 -- each frame has the rows that it had, and all rows of these outcomes that are of it; as the numbers of a frame rise, this says
 -- in which order they stand
@@ -26,6 +28,14 @@ pub record HasGrown (chunks : List (List (ℕ × Piece))) (before after : State)
 -- the same of the last states of two histories
 abbrev pub HaveGrown : List (List (ℕ × Piece)) → List State → List State → Type 0
 HaveGrown chunks before after = (s t : State) → last_state before ≡ Some s → last_state after ≡ Some t → HasGrown chunks s t
+
+-- a load of these chunks that was given these desks may reach this state of a hall over frames of these schemas: its workers began
+-- with a state that the hall may have come to, with whose books the desks agreed, and what came to the frames since are whole chunks
+pub record IsReachedByLoad (schemas : List (List (List ℕ × CellType))) (chunks : List (List (ℕ × Piece))) (desks : List DeskParts) (s : State) : Type 0 where
+  pub before : State
+  pub began : IsLastState schemas before
+  pub agreed : AgreeWithBooks desks before
+  pub grown : HasGrown chunks before s
 
 -- a chunk has all rows of some outcomes of this frame, and no others
 pub record IsWhole (chunks : List (List (ℕ × Piece))) (frame : ℕ) (c : ChunkParts) : Type 0 where

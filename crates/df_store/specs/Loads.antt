@@ -17,7 +17,7 @@ use Rattle.df_store.specs.declared.fault.LoadCause.TheVariants.{Refused, Memory,
 use Rattle.df_jobs.specs.declared.stop.Stop.{Stop}
 use Rattle.df_jobs.specs.declared.jobs.Outcome.{Outcome}
 use Rattle.df_store.specs.Faults.{IsCauseAtStart, cause_of_stop}
-use Rattle.df_store.specs.Grown.{HasGrown}
+use Rattle.df_store.specs.Grown.{IsReachedByLoad}
 use Rattle.df_jobs.specs.Jobs.{AreOutcomes, jobs_of}
 use Rattle.df_jobs.specs.Loaded.{AreLoaded, IsUnlike}
 use Rattle.df_jobs.specs.Lost.{HaveOneEach, IsLost}
@@ -101,9 +101,7 @@ abbrev pub unaccounted_frame : List DeskParts → List Outcome → State → Opt
 unaccounted_frame desks outcomes s = unaccounted_from desks outcomes 0 s.frames
 
 -- a load that was refused for this left this state, which a hall over frames of these schemas may come to: of each frame the
--- books are as large as the shares of the desks that were given and the rows of some outcomes of jobs together. Its workers began
--- with a state that the hall may have come to, with whose books the desks agreed, and what came to the frames since are whole
--- chunks
+-- books are as large as the shares of the desks that were given and the rows of some outcomes of jobs together
 pub record IsLeft (schemas : List (List (List ℕ × CellType))) (chunks : List (List (ℕ × Piece))) (views : List (List ℕ × CheckedParts)) (desks : List DeskParts)
     (cause : LoadCause) (s : State) : Type 0 where
   pub last : IsLastState schemas s
@@ -111,15 +109,11 @@ pub record IsLeft (schemas : List (List (List ℕ × CellType))) (chunks : List 
   pub outcomes : List Outcome
   pub made : AreOutcomes chunks outcomes
   pub accounted : unaccounted_frame desks outcomes s ≡ None
-  pub before : State
-  pub began : IsLastState schemas before
-  pub agreed : AgreeWithBooks desks before
-  pub grown : HasGrown chunks before s
+  pub reached : IsReachedByLoad schemas chunks desks s
   pub why : IsCauseLeft (jobs_of chunks) views outcomes s cause
 
 -- one that was refused for this left nothing: its desks came back with all their parts and with the rows of some outcomes of jobs,
--- and there is a state that a hall over frames of these schemas may come to, with whose books they agree over all frames, but
--- not frame by frame
+-- and there is a state that the load may reach, with whose books they agree over all frames, but not frame by frame
 pub record IsNotLeft (schemas : List (List (List ℕ × CellType))) (chunks : List (List (ℕ × Piece))) (views : List (List ℕ × CheckedParts)) (desks : List DeskParts)
     (cause : LoadCause) : Type 0 where
   pub outcomes : List Outcome
@@ -131,4 +125,5 @@ pub record IsNotLeft (schemas : List (List (List ℕ × CellType))) (chunks : Li
   pub state : State
   pub frame : ℕ
   pub unsettled : IsUnsettledState schemas gathered state frame
+  pub reached : IsReachedByLoad schemas chunks desks state
   pub why : IsCauseNotLeft views outcomes state frame cause

@@ -352,6 +352,7 @@ fn finish<Acc: Ledger, Del: Ledger, J: Naming, S: Source, G: Gate, R: Threads + 
         (jobs_of (chunks_of S.made S.start_of work.now.sources.now)) views.now left.0.state
         entered fault.cause)) }
     ensures not_left { IfErr result (λ fault. IfNone fault.left ((s : State) × (frame : ℕ)
+        × (last_state catalogue ≡ Some s)
         × closing.IsUnsettledState J.schemas desks.items s frame
         × loads.IsCauseUnsettled frame fault.cause)) }
     ensures left_totals { IfErr result (λ fault. IfSome fault.left (λ left.
