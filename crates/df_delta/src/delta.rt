@@ -91,6 +91,15 @@ impl Delta {
         &self.entries
     }
 
+    /// The changes by rising tags, taken out of the delta.
+    pub fn into_entries(self) -> Vec<Entry>
+        ensures all { map entry_change result.items ≡ finite.entries self }
+        ensures sound { IsDelta result.items }
+    {
+        let Delta { entries } = self;
+        entries
+    }
+
     /// The number of changes.
     pub fn len(&self) -> usize
         ensures { result ≡ finite.len self.now }

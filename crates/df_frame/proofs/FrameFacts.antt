@@ -31,18 +31,12 @@ pub enumerated-items : {T : Type 0} (a : ℕ) (xs : List T) → map (λ r. r.1) 
 enumerated-items a [] = refl
 enumerated-items a (x ∷ xs) = ap (λ ys. x ∷ ys) (enumerated-items (a + 1) xs)
 
-enumerated-suc :
-    {T : Type 0} (a n : ℕ) (xs : List T) (d : T) → n < length xs → enumerate_from a (take (suc n) xs) ≡ enumerate_from a (take n xs) ++ (a + n, get_or xs n d) ∷ []
-enumerated-suc a n [] d h = absurd (omega (arith, h))
-enumerated-suc a zero (x ∷ xs) d h = let e : a + zero ≡ a = omega arith in rw e refl
-enumerated-suc a (suc n) (x ∷ xs) d h =
-    let e : a + suc n ≡ (a + 1) + n = omega arith in
-    rw e (ap (λ rs. (a, x) ∷ rs) (enumerated-suc (a + 1) n xs d (omega (arith, h))))
-
--- numbered in turn, one more of the list is one pair more
-pub enumerated-more :
-    {T : Type 0} (a n : ℕ) (xs : List T) (d : T) → n < length xs → enumerate_from a (take (n + 1) xs) ≡ enumerate_from a (take n xs) ++ (a + n, get_or xs n d) ∷ []
-enumerated-more a n xs d h = let e : n + 1 ≡ suc n = omega arith in rw e (enumerated-suc a n xs d h)
+-- numbered in turn, two lists behind one another are the one and then the other
+pub enumerated-both : {T : Type 0} (a : ℕ) (xs ys : List T) → enumerate_from a (xs ++ ys) ≡ enumerate_from a xs ++ enumerate_from (a + length xs) ys
+enumerated-both a [] ys = let e : a + 0 ≡ a = omega arith in rw e refl
+enumerated-both a (x ∷ xs) ys =
+    let e : a + suc (length xs) ≡ (a + 1) + length xs = omega arith in
+    rw e (ap (λ rs. (a, x) ∷ rs) (enumerated-both (a + 1) xs ys))
 
 all-map-cond :
     {S T : Type 0} (q : T → Bool) (g : S → T) (b : Bool) (x : S) (xs : List S) →

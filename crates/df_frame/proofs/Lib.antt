@@ -9,6 +9,7 @@ pub mod Counting
 pub mod FrameTableFacts
 pub mod FrameChangeFacts
 mod StoredRows
+mod StoredAgain
 mod RangeFacts
 mod RangesApart
 mod RangeSearch

@@ -15,7 +15,7 @@ ghost use Rattle.df_value.specs.Limits as limits;
 use crate::numbered::{HasNumber, NewRow};
 use df_column::{Entry, Table, Tag};
 use df_delta::{Delta, push_change};
-use df_value::{Duplicate, Row};
+use df_value::Row;
 use std::alloc::{AllocError, Global};
 use std::collections::BTreeMap;
 
@@ -31,27 +31,27 @@ pub fn row_tag(number: u32) -> Tag
 }
 
 /// The delta by which the rows come behind the numbers from `first` on.
-pub fn delta_of_rows(alloc: Global, first: u32, rows: &[Row]) -> Result<Delta, AllocError>
-    requires { first + length rows.now ≤ limits.row_numbers }
+pub fn delta_of_rows(alloc: Global, first: u32, rows: Vec<Row>) -> Result<Delta, AllocError>
+    requires { first + length rows.items ≤ limits.row_numbers }
     ensures { IfOk result (λ delta.
-        delta ≡ finite.from_sorted (map coming_row (enumerate_from first rows.now))) }
+        delta ≡ finite.from_sorted (map coming_row (enumerate_from first rows.items))) }
 {
     let entries = coming_entries(alloc, first, rows)?;
     Ok(Delta::from_entries(entries))
 }
 
 // An entry for each row, which comes.
-fn coming_entries(alloc: Global, first: u32, rows: &[Row]) -> Result<Vec<Entry>, AllocError>
-    requires { first + length rows.now ≤ limits.row_numbers }
+fn coming_entries(alloc: Global, first: u32, rows: Vec<Row>) -> Result<Vec<Entry>, AllocError>
+    requires { first + length rows.items ≤ limits.row_numbers }
     ensures changes { IfOk result (λ entries.
-        map entry_change entries.items ≡ map coming_row (enumerate_from first rows.now)) }
+        map entry_change entries.items ≡ map coming_row (enumerate_from first rows.items)) }
     ensures rows { IfOk result (λ entries. T (list_all has_row entries.items)) }
 {
     let mut entries = Vec::with_capacity(alloc, rows.len())?;
-    for i in 0..rows.len() {
-        let number = (first as u64 + i as u64) as u32;
-        let row = rows[i].copy(alloc)?;
-        push_change(&mut entries, row_tag(number), None, Some(row))?;
+    let mut number = first as u64;
+    for row in rows {
+        push_change(&mut entries, row_tag(number as u32), None, Some(row))?;
+        number += 1;
     }
     Ok(entries)
 }

@@ -19,7 +19,7 @@ use crate::prepared::FrameDelta;
 use crate::ranges::Ranges;
 use crate::table_numbers::{number_at, row_numbers};
 use df_column::Table;
-use df_value::{Duplicate, List, MOST_ROWS_OF_FRAME, Row, Schema};
+use df_value::{Duplicate, List, MOST_ROWS_OF_FRAME, Row, Schema, copies};
 use std::alloc::{AllocError, Global};
 use std::marker::Model;
 
@@ -194,7 +194,7 @@ impl Frame {
     {
         match change {
             FrameChange::Append(chunk) => {
-                let rows = chunk.rows().as_slice();
+                let rows = copies(alloc, chunk.rows().as_slice())?;
                 Ok(FrameDelta::Made(delta_of_rows(alloc, chunk.first(), rows)?))
             }
             FrameChange::Prepared(prepared) => Ok(prepared.lend()),
@@ -249,8 +249,7 @@ impl Frame {
                 self.accepted_with(alloc, chunk.first(), chunk.rows().len())
             }
             FrameChange::Prepared(prepared) => {
-                let run = prepared.run();
-                self.accepted_with(alloc, run.first(), run.rows().len())
+                self.accepted_with(alloc, prepared.first(), prepared.len())
             }
             FrameChange::Delete(_) | FrameChange::Replace(_) => self.accepted.copy(alloc),
         }

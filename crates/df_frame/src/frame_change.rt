@@ -28,7 +28,7 @@ impl FrameChange<'_> {
     {
         match self {
             FrameChange::Append(chunk) => chunk.rows().len() as u64,
-            FrameChange::Prepared(prepared) => prepared.run().rows().len() as u64,
+            FrameChange::Prepared(prepared) => prepared.len() as u64,
             FrameChange::Delete(_) | FrameChange::Replace(_) => 0,
         }
     }

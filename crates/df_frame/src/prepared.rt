@@ -1,6 +1,7 @@
-//! Runs whose rows stand in blocks already.
-ghost use Rattle.std.specs.Prelude.{◌≡◌, ◌+◌, ◌≤◌, IfOk, IfSome, drop, length, take, true};
+//! Runs: rows of a frame with their numbers, as many as a frame accepts, which stand in blocks already.
+ghost use Rattle.std.specs.Prelude.{◌≡◌, ◌↔◌, ◌+◌, ◌≤◌, IfOk, IsTrue, drop, length, take};
 ghost use Rattle.std.specs.FinMap as finite;
+ghost use Rattle.df_value.specs.Limits as limits;
 ghost use Rattle.df_frame.specs.Runs.{GoesOn, IsRun, run_of_both};
 ghost use Rattle.df_column.specs.Changes.{applied};
 ghost use Rattle.df_frame.specs.FrameChanges.{delta_in};
@@ -8,19 +9,22 @@ ghost use Rattle.df_frame.specs.Prepared.{delta_of_chunk};
 ghost use Rattle.df_delta.specs.Deltas.{RowsFit};
 
 use crate::deltas::delta_of_rows;
-use crate::run::Run;
 use crate::stored::StoredChunk;
 use df_column::Table;
 use df_delta::{Delta, apply, apply_with};
-use df_value::{Chunk, Duplicate, same};
+use df_value::{Duplicate, MOST_ROWS_OF_FRAME, Row, Schema, same};
 use std::alloc::{AllocError, Global};
 use std::marker::Model;
 use std::sync::Arc;
 
-/// A run, with the delta that it makes, and its rows in the blocks of a table. The frame that it enters can share these
-/// blocks, so that they are made before the frame is locked. Contracts see the run.
+/// A run: rows of a frame, of one schema, of which the first has the number [`first`](PreparedRun::first), and each further
+/// one the number after it. There are at most 1,048,576 of them, perhaps none; each fits the schema, and each number is below
+/// 2^32. The rows of chunks that follow one another are a run.
+///
+/// It has the delta by which its rows come, and their blocks in a table. The frame that it enters can share these blocks, so
+/// that they are made before the frame is locked. Contracts see of a run what they see of a chunk.
 pub struct PreparedRun {
-    run: Run,
+    first: u32,
     delta: Delta,
     table: Arc<Table>,
 }
@@ -28,8 +32,11 @@ pub struct PreparedRun {
 // A body that owns one drops it by a call.
 impl Drop for PreparedRun {
     fn drop(self) {
-        let PreparedRun { run, delta, table } = self;
-        drop(run);
+        let PreparedRun {
+            first: _,
+            delta,
+            table,
+        } = self;
         drop(delta);
         drop(table);
     }
@@ -38,13 +45,13 @@ impl Drop for PreparedRun {
 impl Model for PreparedRun {
     ghost use Rattle.std.specs.Arc.{arc_value};
     ghost use Rattle.df_value.specs.Chunks.{ChunkParts};
-    ghost use Rattle.df_frame.specs.Prepared.{IsPrepared};
+    ghost use Rattle.df_frame.specs.Prepared.{IsPrepared, run_in};
 
     ghost Value = { ChunkParts };
 
-    ghost view = { λ p. p.run };
+    ghost view = { λ p. run_in (arc_value p.table) p.first };
 
-    ghost invariant = { λ p. IsPrepared p.run p.delta (arc_value p.table) };
+    ghost invariant = { λ p. IsPrepared (run_in (arc_value p.table) p.first) p.delta (arc_value p.table) };
 }
 
 /// The delta of a change of a frame: made for it, or that of a prepared run.
@@ -90,15 +97,35 @@ impl FrameDelta<'_> {
 }
 
 impl PreparedRun {
-    /// The run, with its rows in blocks.
-    pub fn new(alloc: Global, run: Run) -> Result<PreparedRun, AllocError>
-        ensures { IfOk result (λ prepared. prepared ≡ run) }
+    /// The run of these rows, of which the first has the number `first`. They are moved into its delta.
+    pub fn new(
+        alloc: Global,
+        schema: &Schema,
+        first: u32,
+        rows: Vec<Row>,
+    ) -> Result<PreparedRun, AllocError>
+        requires { IsRun schema.now first rows.items }
+        ensures { IfOk result (λ run. run ≡ record { schema = schema.now; first = first; rows = rows.items }) }
     {
-        let rows = run.rows().as_slice();
-        let delta = delta_of_rows(alloc, run.first(), rows)?;
-        let none = Table::new(alloc, run.schema().copy(alloc)?)?;
+        let delta = delta_of_rows(alloc, first, rows)?;
+        let none = Table::new(alloc, schema.copy(alloc)?)?;
         let table = Arc::new(alloc, apply(alloc, &none, &delta)?)?;
-        Ok(PreparedRun { run, delta, table })
+        Ok(PreparedRun {
+            first,
+            delta,
+            table,
+        })
+    }
+
+    /// Whether another run goes on behind this one: it has the same schema and begins with the number behind the last one
+    /// here, and both have few enough rows together.
+    pub fn goes_on(&self, next: &PreparedRun) -> bool
+        ensures { IsTrue result ↔ GoesOn self.now next.now }
+    {
+        let count = self.len();
+        count + next.len() <= MOST_ROWS_OF_FRAME
+            && next.first as u64 == self.first as u64 + count as u64
+            && same(self.schema(), next.schema())
     }
 
     /// This run and one that goes on behind it, as one, which takes the blocks of both.
@@ -106,24 +133,47 @@ impl PreparedRun {
         requires { GoesOn self next }
         ensures { IfOk result (λ both. both ≡ run_of_both self next) }
     {
-        let PreparedRun { run, delta, table } = self;
         let PreparedRun {
-            run: more,
+            first,
+            delta,
+            table,
+        } = self;
+        let PreparedRun {
+            first: _,
             delta: coming,
             table: behind,
         } = next;
-        drop(delta);
-        let run = run.joined(more)?;
         let table = Arc::new(alloc, apply_with(alloc, &table, &coming, &behind)?)?;
-        let delta = delta_of_rows(alloc, run.first(), run.rows().as_slice())?;
-        Ok(PreparedRun { run, delta, table })
+        let mut entries = delta.into_entries();
+        let mut more = coming.into_entries();
+        entries.append(&mut more)?;
+        Ok(PreparedRun {
+            first,
+            delta: Delta::from_entries(entries),
+            table,
+        })
     }
 
-    /// The run.
-    pub fn run(&self) -> &Run
-        ensures { result.now ≡ self.now }
+    /// The schema that the rows fit.
+    pub fn schema(&self) -> &Schema
+        ensures { result.now ≡ self.now.schema }
     {
-        &self.run
+        self.table.schema()
+    }
+
+    /// The number of the first row.
+    pub fn first(&self) -> u32
+        ensures { result ≡ self.now.first }
+    {
+        self.first
+    }
+
+    /// The number of rows.
+    pub fn len(&self) -> usize
+        ensures value { result ≡ length self.now.rows }
+        ensures sound { IsRun self.now.schema self.now.first self.now.rows }
+    {
+        self.table.len()
     }
 
     /// The delta by which its rows come.
@@ -131,8 +181,6 @@ impl PreparedRun {
         ensures value { delta_in result ≡ delta_of_chunk self.now }
         ensures sound { IsRun self.now.schema self.now.first self.now.rows }
     {
-        // The clause `sound` is a fact of the run's type, which a proof has where the run is read.
-        let _ = &self.run;
         FrameDelta::Lent(self)
     }
 
@@ -149,26 +197,16 @@ impl PreparedRun {
         &self.table
     }
 
-    /// A chunk that has rows of this run from an index on, in its blocks. None where it has another schema, or
-    /// other numbers. It takes no memory.
-    pub fn part(&self, low: usize, chunk: &Chunk) -> Result<Option<StoredChunk>, AllocError>
-        requires rows { take (length chunk.now.rows) (drop low self.now.rows) ≡ chunk.now.rows }
-        ensures { IfOk result (λ part. IfSome part (λ stored. stored ≡ chunk.now)) }
+    /// The chunk of so many of its rows from an index on, in its blocks; its first row has the number `first`. It takes no
+    /// memory: the refusal is that of a further owner of the table.
+    pub fn part(&self, low: usize, len: usize, first: u32) -> Result<StoredChunk, AllocError>
+        requires within { low + len ≤ length self.now.rows }
+        requires short { len ≤ limits.most_rows_of_chunk }
+        requires number { first ≡ self.now.first + low }
+        ensures { IfOk result (λ part. part ≡
+            record { schema = self.now.schema; first = first; rows = take len (drop low self.now.rows) }) }
     {
-        let len = chunk.rows().len();
-        if !self.has_part(low, len, chunk.first()) || !same(self.table.schema(), chunk.schema()) {
-            return Ok(None);
-        }
         let table = Arc::try_clone(&self.table)?;
-        Ok(Some(StoredChunk::new(table, chunk.first(), low, len)))
-    }
-
-    // Whether there are so many rows from an index on, the first of which has this number.
-    fn has_part(&self, low: usize, len: usize, first: u32) -> bool
-        ensures within { result ≡ true → low + len ≤ length self.now.rows }
-        ensures number { result ≡ true → first ≡ self.now.first + low }
-    {
-        let rows = self.run.rows().len();
-        low <= rows && len <= rows - low && first as u64 == self.run.first() as u64 + low as u64
+        Ok(StoredChunk::new(table, first, low, len))
     }
 }

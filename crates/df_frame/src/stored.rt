@@ -1,12 +1,15 @@
 //! Chunks whose rows stand in blocks alone.
-ghost use Rattle.std.specs.Prelude.{◌≡◌, ◌+◌, ◌≤◌, length, true};
+ghost use Rattle.std.specs.Prelude.{◌≡◌, ◌+◌, ◌≤◌, IfOk, length, true};
 ghost use Rattle.std.specs.Arc.{arc_value};
 ghost use Rattle.std.specs.FinMap as finite;
 ghost use Rattle.df_column.specs.RowRuns.{StandFrom};
+ghost use Rattle.df_value.specs.declared.chunk.ChunkFault.TheVariants as chunk_fault;
 ghost use Rattle.df_frame.specs.FrameTables.{IsNumberedTable};
 ghost use Rattle.df_frame.specs.Stored.{IsStored, chunk_in};
 
 use df_column::Table;
+use df_value::{Chunk, List, RefusedRows};
+use std::alloc::{AllocError, Global};
 use std::marker::Model;
 use std::sync::Arc;
 
@@ -67,6 +70,18 @@ impl StoredChunk {
         self.len
     }
 
+    /// The chunk, with copies of its rows.
+    pub fn to_chunk(&self, alloc: Global) -> Result<Chunk, AllocError>
+        ensures { IfOk result (λ chunk. chunk ≡ self.now) }
+    {
+        let rows = self.table.rows_between(alloc, self.low, self.low + self.len)?;
+        let rows = List::from_vec(rows);
+        match Chunk::new(alloc, self.table.schema(), self.first, rows) {
+            Ok(chunk) => Ok(chunk),
+            Err(refused) => Err(memory_of(refused)),
+        }
+    }
+
     /// Whether its rows stand in a table from an index on, at the tags of their numbers. No cell is copied.
     pub fn stands_in(&self, table: &Table, at: usize) -> bool
         requires { IsNumberedTable table.now.rows }
@@ -79,4 +94,12 @@ impl StoredChunk {
     {
         table.has_rows_of(at, &self.table, self.low, self.len)
     }
+}
+
+// The refusal of memory that kept rows from being a chunk, where nothing else does.
+fn memory_of(refused: RefusedRows) -> AllocError
+    requires { refused.fault ≡ chunk_fault.Memory }
+{
+    drop(refused);
+    AllocError
 }

@@ -1,72 +1,70 @@
--- Outcomes whose rows stand one after another among those of a chunk.
-use Rattle.std.proofs.Common.{◌≡◌, ℕ, suc, ◌+◌, ◌<◌, ◌≤◌, ◌∙◌, List, [], ◌∷◌, ◌++◌, length, length-append, take, drop, drop-cons, drop-drop, get_or, refl, ap, sym, arith}
-use Rattle.std.specs.Prelude.{flat_map}
-use Rattle.std.proofs.Math.Seq.{drop-append_seam}
+-- Outcomes whose rows were taken out, and stand one after another among those of a run.
+use Rattle.std.proofs.Common.{◌≡◌, ℕ, suc, ◌+◌, ◌<◌, ◌≤◌, ◌∙◌, List, [], ◌∷◌, ◌++◌, length, length-append, map, take, drop, drop-cons, drop-drop, get_or, refl, ap, subst, sym, arith}
+use Rattle.std.proofs.Math.Seq.{drop-append_seam, take-append_seam}
+use Rattle.df_value.specs.Chunks.{ChunkParts}
+use Rattle.df_value.specs.Limits as limits
 use Rattle.df_value.specs.declared.cell.Cell.{Cell}
+use Rattle.df_value.specs.declared.cell.CellType.{CellType}
 use Rattle.df_value.specs.declared.chunk.Piece.{Piece}
 use Rattle.df_value.specs.declared.chunk.Piece.TheVariants.{Bad, Good}
-use Rattle.df_state.proofs.ListFacts.{take-more}
 use Rattle.df_jobs.specs.declared.jobs.Outcome.{Outcome}
+use Rattle.df_jobs.specs.declared.joining.Part.{Part}
+use Rattle.df_jobs.specs.Joined.{FollowFrom, IsGoodAt, StandIn, all_rows, outcome_in, outcomes_in, part_of}
 use Rattle.df_jobs.specs.Loaded.{made_rows}
-use Rattle.df_jobs.specs.Made.{rows_in}
-use Rattle.df_jobs.proofs.RowFacts.{flat-more, length-enumerate}
-
--- the rows of these outcomes, one after another
-abbrev pub cells_of : List Outcome → List (List Cell)
-cells_of os = flat_map (λ o. rows_in o.made) os
+use Rattle.df_jobs.specs.Made.{number_in, rows_in}
+use Rattle.df_jobs.proofs.RowFacts.{behind, length-enumerate}
 
 -- a piece gives as many rows to its frame as it has
 pub many-given : (p : Piece) → length (made_rows p) ≡ length (rows_in p)
 many-given (Good c) = length-enumerate c.first c.rows
 many-given (Bad b) = refl
 
--- those of one more outcome stand behind those before it
-pub cells-more :
-    (os : List Outcome) (i : ℕ) (o : Outcome) → i < length os → o ≡ get_or os i o → cells_of (take (i + 1) os) ≡ cells_of (take i os) ++ rows_in o.made
-cells-more os i o h is =
-    ap cells_of (take-more os i o h)
-    ∙ (flat-more (λ o. rows_in o.made) (take i os) (get_or os i o)
-    ∙ ap (λ d. cells_of (take i os) ++ rows_in d.made) (sym is))
+module _ (frame : ℕ) (schema : List (List ℕ × CellType)) (run : ChunkParts) where
+  -- what is left of outcomes that follow one another stands in a run that begins as they do
+  pub parts-stand :
+      (n low : ℕ) (os : List Outcome) → FollowFrom frame schema n os → n ≡ run.first + low → low + length (all_rows os) ≤ length run.rows → StandIn run low (map part_of os)
+  parts-stand n low [] follow number within = tt
+  parts-stand n low (o ∷ os) follow number within =
+      let part = follow.0 in
+      let many = length-append (rows_in o.made) (all_rows os) in
+      let own : length (rows_in o.made) ≡ length part.chunk.rows = ap (λ p. length (rows_in p)) part.good in
+      let short = part.sound.short in
+      (omega (arith, within, many), omega (arith, own, short), ap number_in part.good ∙ (part.of_number ∙ number),
+      parts-stand (n + length (rows_in o.made)) (low + length (rows_in o.made)) os follow.1 (omega (arith, number)) (omega (arith, within, many)))
 
--- outcomes that are those before a place, and one that is that at the place
-pub kept-more :
-    (kept os : List Outcome) (i : ℕ) (o : Outcome) → i < length os → o ≡ get_or os i o → kept ≡ take i os → kept ++ o ∷ [] ≡ take (i + 1) os
-kept-more kept os i o h is are =
-    ap (λ ks. ks ++ o ∷ []) are
-    ∙ (ap (λ d. take i os ++ d ∷ []) is
-    ∙ sym (take-more os i o h))
+  -- and the outcomes are those that stand there
+  outcome-again : (n low : ℕ) (o : Outcome) (later : List (List Cell)) → IsGoodAt frame schema n o → run.schema ≡ schema → drop low run.rows ≡ rows_in o.made ++ later → outcome_in run low (part_of o) ≡ o
+  outcome-again n low o later part columns rows =
+      let all = ap (take (length (rows_in o.made))) rows ∙ (take-append_seam (rows_in o.made) later ∙ ap rows_in part.good) in
+      let same = columns ∙ sym part.of_schema in
+      let number = ap number_in part.good in
+      let made : (outcome_in run low (part_of o)).made ≡ o.made = (λ i. Good (record { schema = same i; first = number i; rows = all i })) ∙ sym part.good in
+      λ i. record { job = o.job; frame = o.frame; first = o.first; made = made i }
 
--- these rows have, from an index on, those of the outcomes from a place on, and no others
-pub record HaveFrom (rows : List (List Cell)) (low : ℕ) (os : List Outcome) (i : ℕ) : Type 0 where
-  pub are : drop low rows ≡ cells_of (drop i os)
-  pub many : low + length (cells_of (drop i os)) ≡ length rows
+  pub outcomes-again :
+      (n low : ℕ) (os : List Outcome) → FollowFrom frame schema n os → run.schema ≡ schema → drop low run.rows ≡ all_rows os → outcomes_in run low (map part_of os) ≡ os
+  outcomes-again n low [] follow columns rows = refl
+  outcomes-again n low (o ∷ os) follow columns rows =
+      let len = length (rows_in o.made) in
+      let rest : drop (low + len) run.rows ≡ all_rows os =
+      sym (drop-drop len low run.rows) ∙ (ap (drop len) rows ∙ drop-append_seam (rows_in o.made) (all_rows os)) in
+      ap (λ p. p ∷ outcomes_in run (low + len) (map part_of os)) (outcome-again n low o (all_rows os) follow.0 columns rows)
+      ∙ ap (λ ps. o ∷ ps) (outcomes-again (n + len) (low + len) os follow.1 columns rest)
 
-from-here : (os : List Outcome) (i : ℕ) (o : Outcome) → i < length os → o ≡ get_or os i o → cells_of (drop i os) ≡ rows_in o.made ++ cells_of (drop (i + 1) os)
-from-here os i o h is =
-    let e : suc i ≡ i + 1 = omega arith in
-    ap cells_of (drop-cons os i o h)
-    ∙ (ap (λ d. rows_in d.made ++ cells_of (drop (suc i) os)) (sym is)
-    ∙ ap (λ k. rows_in o.made ++ cells_of (drop k os)) e)
+-- the first of the parts from a place on
+module _ (run : ChunkParts) (ps : List Part) (i : ℕ) (p : Part) (h : i < length ps) (is : p ≡ get_or ps i p) where
+  from-here : drop i ps ≡ p ∷ drop (i + 1) ps
+  from-here =
+      let e : suc i ≡ i + 1 = omega arith in
+      drop-cons ps i p h ∙ (ap (λ d. d ∷ drop (suc i) ps) (sym is) ∙ ap (λ k. p ∷ drop k ps) e)
 
-module _ (rows : List (List Cell)) (low : ℕ) (os : List Outcome) (i : ℕ) (o : Outcome) (h : i < length os) (is : o ≡ get_or os i o) (have : HaveFrom rows low os i) where
-  -- the rows of the outcome at the place end among them
-  pub first-within : low + length (rows_in o.made) ≤ length rows
-  first-within =
-      let many = have.many in
-      let here = ap length (from-here os i o h is) in
-      let both = length-append (rows_in o.made) (cells_of (drop (i + 1) os)) in
-      omega (arith, many, here, both)
+  pub stands-here : (low : ℕ) → StandIn run low (drop i ps) → StandIn run low (p ∷ drop (i + 1) ps)
+  stands-here low stand = subst (StandIn run low) from-here stand
 
-  -- and those of the outcomes behind it come behind
-  pub have-rest : HaveFrom rows (low + length (rows_in o.made)) os (i + 1)
-  have-rest = record {
-    are =
-        sym (drop-drop (length (rows_in o.made)) low rows)
-        ∙ (ap (drop (length (rows_in o.made))) (have.are ∙ from-here os i o h is)
-        ∙ drop-append_seam (rows_in o.made) (cells_of (drop (i + 1) os)));
-    many =
-        let many = have.many in
-        let here = ap length (from-here os i o h is) in
-        let both = length-append (rows_in o.made) (cells_of (drop (i + 1) os)) in
-        omega (arith, many, here, both);
-  }
+  pub stored-more :
+      (low : ℕ) (kept : List Outcome) (o : Outcome) → o ≡ outcome_in run low p → kept ++ outcomes_in run low (drop i ps) ≡ outcomes_in run 0 ps →
+      (kept ++ o ∷ []) ++ outcomes_in run (low + p.rows) (drop (i + 1) ps) ≡ outcomes_in run 0 ps
+  stored-more low kept o same all =
+      sym (behind kept (o ∷ []) (outcomes_in run (low + p.rows) (drop (i + 1) ps)))
+      ∙ (ap (λ d. kept ++ d ∷ outcomes_in run (low + p.rows) (drop (i + 1) ps)) same
+      ∙ (sym (ap (λ l. kept ++ outcomes_in run low l) from-here) ∙ all))

@@ -1,18 +1,19 @@
 //! What jobs made, and what is kept of it.
-ghost use Rattle.std.specs.Prelude.{◌≡◌, IfSome, length};
+ghost use Rattle.std.specs.Prelude.{◌≡◌, IfOk, IfSome, length};
 ghost use Rattle.std.specs.Option.{option_copied};
 ghost use Rattle.df_value.specs.declared.chunk.Piece.TheVariants.{Good};
-ghost use Rattle.df_jobs.specs.Made.{bad_cell_of, piece_in, rows_in};
+ghost use Rattle.df_jobs.specs.Made.{bad_cell_of, chunk_of, piece_in, rows_in};
 
 use df_frame::StoredChunk;
 use df_value::{BadCell, Chunk, Piece};
+use std::alloc::{AllocError, Global};
 use std::marker::Model;
 
-/// A piece as its source made it, or a chunk whose rows stand in the blocks of a joined one.
+/// A piece as its source made it, or a chunk whose rows stand in the blocks of a run.
 pub enum KeptPiece {
     /// A piece as its source made it.
     Typed(Piece),
-    /// A chunk whose rows stand in the blocks of a joined one.
+    /// A chunk whose rows stand in the blocks of a run.
     Stored(StoredChunk),
 }
 
@@ -58,7 +59,7 @@ impl Made {
         }
     }
 
-    /// A chunk whose rows stand in the blocks of a joined one.
+    /// A chunk whose rows stand in the blocks of a run.
     pub(crate) fn stored(chunk: StoredChunk) -> Made
         ensures { result ≡ Good chunk }
     {
@@ -81,6 +82,18 @@ impl Made {
         match &self.kept {
             KeptPiece::Typed(Piece::Good(chunk)) => Some(chunk),
             _ => None,
+        }
+    }
+
+    /// The chunk, if it is one. That of a source is moved, and copies are made of rows that stand in blocks.
+    pub(crate) fn into_chunk(self, alloc: Global) -> Result<Option<Chunk>, AllocError>
+        ensures { IfOk result (λ chunk. chunk ≡ chunk_of self) }
+    {
+        let Made { kept } = self;
+        match kept {
+            KeptPiece::Typed(Piece::Good(chunk)) => Ok(Some(chunk)),
+            KeptPiece::Typed(Piece::Bad(_)) => Ok(None),
+            KeptPiece::Stored(stored) => Ok(Some(stored.to_chunk(alloc)?)),
         }
     }
 

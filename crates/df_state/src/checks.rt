@@ -33,9 +33,8 @@ pub fn check_frame_change(
             check_append(frames, frame, chunk.schema(), chunk.first(), rows.len())
         }
         FrameChange::Prepared(prepared) => {
-            let run = prepared.run();
-            let rows = run.rows();
-            check_append(frames, frame, run.schema(), run.first(), rows.len())
+            let count = prepared.len();
+            check_append(frames, frame, prepared.schema(), prepared.first(), count)
         }
         FrameChange::Delete(numbers) => check_delete(alloc, frames, frame, numbers),
         FrameChange::Replace(rows) => check_replace(alloc, frames, frame, rows),

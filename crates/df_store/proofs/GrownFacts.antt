@@ -25,6 +25,7 @@ use Rattle.df_jobs.specs.Expected.{rows_at}
 use Rattle.df_jobs.specs.Jobs.{AreOutcomes, IsOutcome, job_of}
 use Rattle.df_jobs.specs.Joined.{IsJoined}
 use Rattle.df_jobs.specs.Loaded.{chunk_rows, job_rows, made_rows}
+use Rattle.df_jobs.proofs.JoinedFacts.{joined-frame, joined-rows}
 use Rattle.df_jobs.proofs.JoinedRows.{rows-of-own}
 use Rattle.df_versions.specs.Answered.{AnswersChange, ChangesHistory}
 use Rattle.df_versions.specs.declared.fault.ChangeFault.{ChangeFault}
@@ -199,5 +200,5 @@ module _ (chunks : List (List (ℕ × Piece))) where
   }
 
   -- so is the run of several
-  pub whole-joined : (os : List Outcome) (j : Joined) → AreOutcomes chunks os → IsJoined os j → IsWhole chunks j.frame j.run
-  whole-joined os j are is = record { outcomes = os; made = are; of_frame = λ k d h. (is.parts k d h).of_frame; rows = is.rows }
+  pub whole-joined : (j : Joined) → AreOutcomes chunks j.outcomes.items → IsJoined j → IsWhole chunks j.frame j.run
+  whole-joined j are is = record { outcomes = j.outcomes.items; made = are; of_frame = joined-frame j is; rows = joined-rows j is }

@@ -1,5 +1,5 @@
 //! The commits of a worker: chunks enter their frames through its desks, and the outcomes that stand are kept.
-ghost use Rattle.std.specs.Prelude.{◌≡◌, ◌<◌, ◌≤◌, ◌+◌, ◌++◌, ◌∷◌, [], ℕ, All, List, IfOk, IfSome, OnErr, if◌then◌else◌, length, slice_index_or, vec_capacity};
+ghost use Rattle.std.specs.Prelude.{◌≡◌, Ok, false, ◌<◌, ◌≤◌, ◌+◌, ◌++◌, ◌∷◌, [], ℕ, All, List, IfOk, IfSome, OnErr, if◌then◌else◌, length, slice_index_or, vec_capacity};
 ghost use Rattle.df_state.specs.declared.change.Change.TheVariants.{Append};
 ghost use Rattle.df_state.specs.Desks.{DeskParts};
 ghost use Rattle.df_state.specs.FrameChanges.{change_of};
@@ -15,8 +15,8 @@ use crate::loading::{Beginning, LoadingCatalogue};
 use crate::waiting::Batch;
 use core::mem;
 use df_catalogue::{Desk, FrameChange, PreparedRun};
-use df_jobs::{Joined, Outcome, Stop};
-use df_value::Chunk;
+use df_jobs::{Joined, KeptPiece, Outcome, Stop};
+use df_value::{Chunk, Piece};
 use df_versions::{ChangeFault, Naming, Told};
 use std::alloc::Global;
 use std::sync::Wait;
@@ -78,55 +78,44 @@ fn enter_batch<Acc: Ledger, Del: Ledger, J: Naming, B: Beginning, R: Wait>(
     ensures counted { AreCounted desks.old.items done.old.items desks.new.items done.new.items }
     ensures done { AreOutcomes B.chunks done.old.items → AreOutcomes B.chunks done.new.items }
 {
-    done.reserve(batch.made.len())?;
-    enter_all(
-        rt,
-        alloc,
-        catalogue,
-        desks,
-        &mut batch.made,
-        &mut batch.joined,
-        done,
-        told,
-    )
+    done.reserve(batch.len())?;
+    let outcomes = match batch {
+        Batch::Run(run) => {
+            if enter_run(rt, alloc, catalogue, desks, run, done, told)? {
+                return Ok(());
+            }
+            mem::replace(&mut run.outcomes, Vec::new(alloc))
+        }
+        Batch::Apart(outcomes) => mem::replace(outcomes, Vec::new(alloc)),
+    };
+    enter_each(rt, alloc, catalogue, desks, outcomes, done, told)
 }
 
-// Commits the good chunks of these outcomes, and keeps the outcomes that stand. The run that has the rows of all of
-// them, if there is one, enters in one change; where it is refused, each chunk enters by itself, as far as it can.
-fn enter_all<Acc: Ledger, Del: Ledger, J: Naming, B: Beginning, R: Wait>(
+// Commits a run in one change, and keeps its outcomes. Where it is refused, it tells so: then each chunk enters by itself, as
+// far as it can.
+fn enter_run<Acc: Ledger, Del: Ledger, J: Naming, B: Beginning, R: Wait>(
     rt: &R,
     alloc: Global,
     catalogue: &mut LoadingCatalogue<Acc, Del, J, B>,
     desks: &mut Vec<Desk<Acc, Del>>,
-    made: &mut Vec<Outcome>,
-    joined: &mut Option<Joined>,
+    run: &mut Joined,
     done: &mut Vec<Outcome>,
     told: &mut Option<Told<J>>,
-) -> Result<(), Stop>
-    requires room { length done.old.items + length made.old.items ≤ vec_capacity done.old }
-    requires joined { IfSome joined.old (IsJoined made.old.items) }
-    requires made { AreOutcomes B.chunks made.old.items }
+) -> Result<bool, Stop>
+    requires room { length done.old.items + length run.old.outcomes.items ≤ vec_capacity done.old }
+    requires joined { IsJoined run.old }
+    requires made { AreOutcomes B.chunks run.old.outcomes.items }
     ensures desks { all_without_accepted desks.new.items ≡ all_without_accepted desks.old.items }
     ensures counted { AreCounted desks.old.items done.old.items desks.new.items done.new.items }
-    ensures done { (chunks : List (List (ℕ × Piece))) → AreOutcomes chunks made.old.items →
-        AreOutcomes chunks done.old.items → AreOutcomes chunks done.new.items }
+    ensures done { AreOutcomes B.chunks done.old.items → AreOutcomes B.chunks done.new.items }
+    ensures apart { result ≡ Ok false → (run.new.outcomes ≡ run.old.outcomes) × (done.new ≡ done.old) }
 {
-    if let Some(joined) = joined {
-        let incoming = Incoming::Prepared(&joined.run);
-        if enter_chunk(rt, alloc, catalogue, desks, joined.frame, incoming, told)? {
-            keep_all(mem::replace(&mut joined.stored, Vec::new(alloc)), done);
-            return Ok(());
-        }
+    let incoming = Incoming::Prepared(&run.run);
+    let entered = enter_chunk(rt, alloc, catalogue, desks, run.frame, incoming, told)?;
+    if entered {
+        keep_all(mem::replace(&mut run.outcomes, Vec::new(alloc)), done);
     }
-    enter_each(
-        rt,
-        alloc,
-        catalogue,
-        desks,
-        mem::replace(made, Vec::new(alloc)),
-        done,
-        told,
-    )
+    Ok(entered)
 }
 
 // Adds outcomes to those that are done.
@@ -180,12 +169,19 @@ fn enter<Acc: Ledger, Del: Ledger, J: Naming, B: Beginning, R: Wait>(
         (if stands then outcome.now ∷ [] else [])) }
     ensures refused { OnErr result (desks.new.items ≡ desks.old.items) }
 {
-    if let Some(chunk) = outcome.made.typed_chunk() {
-        let incoming = Incoming::Chunk(chunk);
-        return enter_chunk(rt, alloc, catalogue, desks, outcome.frame, incoming, told);
+    let frame = outcome.frame;
+    match outcome.made.kept() {
+        KeptPiece::Typed(Piece::Good(chunk)) => {
+            let incoming = Incoming::Chunk(chunk);
+            enter_chunk(rt, alloc, catalogue, desks, frame, incoming, told)
+        }
+        KeptPiece::Typed(Piece::Bad(_)) => Ok(true),
+        KeptPiece::Stored(stored) => {
+            let chunk = stored.to_chunk(alloc)?;
+            let incoming = Incoming::Chunk(&chunk);
+            enter_chunk(rt, alloc, catalogue, desks, frame, incoming, told)
+        }
     }
-    // No stored chunk comes here: jobs make typed pieces.
-    Ok(outcome.made.bad_cell().is_some())
 }
 
 // Commits a chunk through a desk of a frame, and tells whether it entered. It does not where the catalogue refuses it, or

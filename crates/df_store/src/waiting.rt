@@ -1,10 +1,8 @@
 //! What waits to be committed: batches of outcomes. One worker commits what waits, and the others make more meanwhile. A batch
 //! joins one that waits already, where the runs of both follow one another, so that both enter in one change.
-ghost use Rattle.std.specs.Prelude.{◌++◌, ℕ, List as Seq, IfOk, IfSome, All};
-ghost use Rattle.df_value.specs.declared.chunk.Piece.{Piece};
-ghost use Rattle.df_jobs.specs.declared.jobs.Outcome.{Outcome as AnyOutcome};
+ghost use Rattle.std.specs.Prelude.{◌≡◌, ◌++◌, ◌⊎◌, IfOk, IfSome, All, length};
 ghost use Rattle.df_jobs.specs.Joined.{IsJoined};
-ghost use Rattle.df_store.specs.Batches.{IsBatch};
+ghost use Rattle.df_store.specs.Batches.{IsBatch, IsRunOfAll, outcomes_of};
 
 use crate::loading::Beginning;
 use core::mem;
@@ -12,39 +10,63 @@ use df_jobs::{Joined, Outcome};
 use std::alloc::{AllocError, Global};
 use std::marker::{Model, PhantomData};
 
-/// Outcomes that enter together, and their chunks as one run, if they are one.
-pub(crate) struct Batch {
-    pub(crate) made: Vec<Outcome>,
-    pub(crate) joined: Option<Joined>,
+/// Outcomes that enter together.
+pub(crate) enum Batch {
+    /// Those of a run, which enters in one change.
+    Run(Joined),
+    /// Outcomes whose chunks enter one by one.
+    Apart(Vec<Outcome>),
 }
 
 // A body that owns one drops it by a call.
 impl Drop for Batch {
     fn drop(self) {
-        let Batch { made, joined } = self;
-        drop(made);
-        drop(joined);
+        match self {
+            Batch::Run(run) => drop(run),
+            Batch::Apart(outcomes) => drop(outcomes),
+        }
     }
 }
 
 impl Batch {
-    // Whether the run of another batch goes on behind that of this one.
+    /// How many outcomes there are.
+    pub(crate) fn len(&self) -> usize
+        ensures { result ≡ length (outcomes_of self.now) }
+    {
+        match self {
+            Batch::Run(run) => run.outcomes.len(),
+            Batch::Apart(outcomes) => outcomes.len(),
+        }
+    }
+
+    // The outcomes.
+    fn into_outcomes(self) -> Vec<Outcome>
+        ensures { result.items ≡ outcomes_of self }
+    {
+        match self {
+            Batch::Run(run) => run.into_outcomes(),
+            Batch::Apart(outcomes) => outcomes,
+        }
+    }
+
+    // Whether it is a run that another one's goes on behind.
     fn goes_on(&self, next: &Batch) -> bool {
-        match (&self.joined, &next.joined) {
-            (Some(run), Some(behind)) => run.goes_on(behind),
+        match (self, next) {
+            (Batch::Run(run), Batch::Run(behind)) => run.goes_on(behind),
             _ => false,
         }
     }
 
-    // Whether the runs of two batches follow one another.
+    // Whether both are runs that follow one another.
     fn is_beside(&self, other: &Batch) -> bool {
         self.goes_on(other) || other.goes_on(self)
     }
 
-    /// The outcomes of two batches as one batch, with one run where the runs of both follow one another.
+    /// The outcomes of two batches as one batch: a run where both are runs that follow one another, else apart.
     pub(crate) fn with(self, alloc: Global, other: Batch) -> Result<Batch, AllocError>
-        ensures { IfOk result (λ both. (chunks : Seq (Seq (ℕ × Piece))) → IsBatch chunks self
-            → IsBatch chunks other → IsBatch chunks both) }
+        ensures all { IfOk result (λ both. (outcomes_of both ≡ outcomes_of self ++ outcomes_of other)
+            ⊎ (outcomes_of both ≡ outcomes_of other ++ outcomes_of self)) }
+        ensures run { IfOk result (λ both. IsRunOfAll self → IsRunOfAll other → IsRunOfAll both) }
     {
         if self.goes_on(&other) {
             Ok(self.before(alloc, other)?)
@@ -55,42 +77,47 @@ impl Batch {
 
     // The outcomes of this batch, and behind them those of another.
     fn before(self, alloc: Global, next: Batch) -> Result<Batch, AllocError>
-        ensures { IfOk result (λ both. (chunks : Seq (Seq (ℕ × Piece))) → IsBatch chunks self
-            → IsBatch chunks next → IsBatch chunks both) }
+        ensures all { IfOk result (λ both. outcomes_of both ≡ outcomes_of self ++ outcomes_of next) }
+        ensures run { IfOk result (λ both. IsRunOfAll self → IsRunOfAll next → IsRunOfAll both) }
     {
-        let Batch { made, joined } = self;
-        let Batch {
-            made: more,
-            joined: behind,
-        } = next;
-        let joined = joined_runs(alloc, joined, behind)?;
-        let mut made = made;
-        let mut more = more;
-        made.append(&mut more)?;
-        Ok(Batch { made, joined })
+        match self {
+            Batch::Run(run) => run_before(alloc, run, next),
+            Batch::Apart(outcomes) => apart(outcomes, next),
+        }
     }
 }
 
-// A run and another behind it as one, if both are there and the second goes on behind the first.
-fn joined_runs(
-    alloc: Global,
-    run: Option<Joined>,
-    next: Option<Joined>,
-) -> Result<Option<Joined>, AllocError>
-    ensures { IfOk result (λ r. IfSome r (λ both. (outcomes others : Seq AnyOutcome)
-        → IfSome run (IsJoined outcomes) → IfSome next (IsJoined others)
-        → IsJoined (outcomes ++ others) both)) }
+// The outcomes of a run, and behind them those of another batch.
+fn run_before(alloc: Global, run: Joined, next: Batch) -> Result<Batch, AllocError>
+    ensures all { IfOk result (λ both. outcomes_of both ≡ run.outcomes.items ++ outcomes_of next) }
+    ensures run { IfOk result (λ both. IsJoined run → IsRunOfAll next → IsRunOfAll both) }
 {
-    let Some(run) = run else {
-        return Ok(None);
-    };
-    let Some(next) = next else {
-        return Ok(None);
-    };
-    if !run.goes_on(&next) {
-        return Ok(None);
+    match next {
+        Batch::Run(behind) => joined(alloc, run, behind),
+        Batch::Apart(outcomes) => apart(run.into_outcomes(), Batch::Apart(outcomes)),
     }
-    Ok(Some(run.joined(alloc, next)?))
+}
+
+// A run and another behind it: as one, where the second goes on behind the first, else apart.
+fn joined(alloc: Global, run: Joined, next: Joined) -> Result<Batch, AllocError>
+    ensures all { IfOk result (λ both. outcomes_of both ≡ run.outcomes.items ++ next.outcomes.items) }
+    ensures run { IfOk result (λ both. IsJoined run → IsJoined next → IsRunOfAll both) }
+{
+    if run.goes_on(&next) {
+        return Ok(Batch::Run(run.joined(alloc, next)?));
+    }
+    apart(run.into_outcomes(), Batch::Run(next))
+}
+
+// These outcomes, and behind them those of a batch, apart.
+fn apart(outcomes: Vec<Outcome>, next: Batch) -> Result<Batch, AllocError>
+    ensures all { IfOk result (λ both. outcomes_of both ≡ outcomes.items ++ outcomes_of next) }
+    ensures run { IfOk result IsRunOfAll }
+{
+    let mut outcomes = outcomes;
+    let mut more = next.into_outcomes();
+    outcomes.append(&mut more)?;
+    Ok(Batch::Apart(outcomes))
 }
 
 /// What a worker is to do whose batch waits.

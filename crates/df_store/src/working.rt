@@ -124,8 +124,11 @@ fn commit<Acc: Ledger, Del: Ledger, J: Naming, B: Beginning, S: Source, G: Gate,
     ensures counted { AreCounted worker.old.desks.items worker.old.done.items
         worker.new.desks.items worker.new.done.items }
 {
-    let joined = join(work.alloc, made.as_slice())?;
-    match hall.put(rt, work.alloc, Batch { made, joined }, work.workers)? {
+    let batch = match join(work.alloc, made)? {
+        Ok(run) => Batch::Run(run),
+        Err(outcomes) => Batch::Apart(outcomes),
+    };
+    match hall.put(rt, work.alloc, batch, work.workers)? {
         Turn::Commit => commit_waiting(rt, hall, work, worker, told),
         Turn::Make => {
             drop(hall.swap_spent(rt, Vec::new(work.alloc)));
@@ -209,8 +212,8 @@ fn commit_next<Acc: Ledger, Del: Ledger, J: Naming, B: Beginning, S: Source, G: 
         told,
     );
     MutexGuard::unlock(catalogue);
-    // The typed rows of chunks that entered joined are freed once the lock is free, by other workers where there are any:
-    // that takes as long as a commit.
+    // The deltas of runs that entered are freed once the lock is free, by other workers where there are any: that takes as long
+    // as a commit.
     if work.workers > 1 {
         batches = hall.swap_spent(rt, batches);
     }

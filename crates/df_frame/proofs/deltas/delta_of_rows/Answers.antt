@@ -11,7 +11,7 @@ use Rattle.df_frame.proofs.deltas.delta_of_rows.Goals as goal
 
 pub from_entries-requires : goal.from_entries-requires
 from_entries-requires c =
-    let rows = c.args.rows.now in record {
+    let rows = c.args.rows.items in record {
       rising =
           subst (λ es. T (finite.is_sorted tag_cmp es)) (sym c.in_ok-entries.ensures.changes)
           (coming-rise (enumerate_from c.args.first rows) (ap is_rising (enumerated-numbers c.args.first rows) ∙ rising-block c.args.first (length rows)));

@@ -1,40 +1,69 @@
-use Rattle.std.proofs.Common.{◌≡◌, ◌∙◌, ap, map, subst, sym}
+use Rattle.std.proofs.Common.{◌≡◌, ◌++◌, ◌∙◌, ap, map, subst, sym}
+use Rattle.std.specs.Arc.{arc_value}
 use Rattle.std.specs.FinMap as finite
-use Rattle.std.specs.List.{enumerate_from}
 use Rattle.df_value.specs.Chunks.{ChunkParts}
+use Rattle.std.specs.Prelude.{T}
+use Rattle.std.specs.List.{list_all}
+use Rattle.std.proofs.lemmas.List.{map-append}
+use Rattle.std.proofs.lemmas.List.Folds.{list_all-append}
 use Rattle.df_column.specs.Changes.{applied}
-use Rattle.df_column.specs.Tables.{TableParts}
-use Rattle.df_delta.specs.Deltas.{RowsFit}
-use Rattle.df_frame.specs.FrameTables.{coming_row}
-use Rattle.df_frame.specs.Prepared.{delta_of_chunk}
-use Rattle.df_frame.specs.Runs.{GoesOn}
-use Rattle.df_frame.proofs.PreparedFacts.{both-rows, chunk-fits}
+use Rattle.df_column.specs.Tables.{TableParts, entry_change}
+use Rattle.df_delta.specs.Deltas.{has_row}
+use Rattle.df_delta.proofs.Collected.{T-both}
+use Rattle.df_frame.specs.Prepared.{delta_of_chunk, run_in}
+use Rattle.df_frame.specs.Runs.{GoesOn, run_of_both}
+use Rattle.df_frame.proofs.PreparedFacts.{both-delta, run-joined}
 use Rattle.df_frame.proofs.prepared.PreparedRun.joined.Goals as goal
+
+pub from_entries-requires : goal.from_entries-requires
+from_entries-requires c =
+    let run = run_in (arc_value c.self.inside.table) c.self.inside.first in
+    let next = run_in (arc_value c.next.inside.table) c.next.inside.first in
+    let goes : GoesOn run next = subst (λ (x : ChunkParts). GoesOn x next) (sym c.self.view_is) (subst (GoesOn c.args.self) (sym c.next.view_is) c.requires) in
+    let own = c.into_entries.result.items in
+    let more = c.into_entries-2.result.items in
+    let are = ap (map entry_change) c.in_ok-append.ensures.items ∙ (map-append entry_change own more
+    ∙ (ap (λ es. es ++ map entry_change more) (c.into_entries.ensures.all ∙ ap finite.entries c.self.invariant.delta_is)
+    ∙ ap (λ es. finite.entries (delta_of_chunk run) ++ es) (c.into_entries-2.ensures.all ∙ ap finite.entries c.next.invariant.delta_is))) in
+    let delta = both-delta run next goes _ are in
+    record {
+      rising = delta.0;
+      rows =
+          subst (λ es. T (list_all has_row es)) (sym c.in_ok-append.ensures.items)
+          (subst T (sym (list_all-append has_row own more)) (T-both (list_all has_row own) (list_all has_row more) c.into_entries.ensures.sound.rows c.into_entries-2.ensures.sound.rows));
+    }
 
 pub invariant_of-result : goal.invariant_of-result
 invariant_of-result c =
-    let run = c.self.inside.run in
-    let next = c.next.inside.run in
-    let made = c.in_ok-run.run' in
+    let run = run_in (arc_value c.self.inside.table) c.self.inside.first in
+    let next = run_in (arc_value c.next.inside.table) c.next.inside.first in
     let goes : GoesOn run next = subst (λ (x : ChunkParts). GoesOn x next) (sym c.self.view_is) (subst (GoesOn c.args.self) (sym c.next.view_is) c.requires) in
-    let is = c.in_ok-run.ensures in
-    let t = c.deref.result.now in
-    let d = c.next.inside.delta in
-    let rows : applied t.rows d ≡ applied finite.empty (delta_of_chunk made) =
-    both-rows run next goes t.rows d
+    let own = c.into_entries.result.items in
+    let more = c.into_entries-2.result.items in
+    let are = ap (map entry_change) c.in_ok-append.ensures.items ∙ (map-append entry_change own more
+    ∙ (ap (λ es. es ++ map entry_change more) (c.into_entries.ensures.all ∙ ap finite.entries c.self.invariant.delta_is)
+    ∙ ap (λ es. finite.entries (delta_of_chunk run) ++ es) (c.into_entries-2.ensures.all ∙ ap finite.entries c.next.invariant.delta_is))) in
+    let delta = both-delta run next goes _ are in
+    (run-joined run next c.self.invariant.sound c.next.invariant.sound goes c.deref.result.now (arc_value c.in_ok-table.table) c.next.inside.delta c.from_entries.result
+    (ap (λ (u : TableParts). u.schema) c.deref.ensures)
     (ap (λ (u : TableParts). u.rows) c.deref.ensures ∙ (c.self.invariant.rows_are ∙ ap (applied finite.empty) c.self.invariant.delta_is)) c.next.invariant.delta_is
-    ∙ ap (λ (x : ChunkParts). applied finite.empty (delta_of_chunk x)) (sym is) in
-    let schema : t.schema ≡ made.schema =
-    ap (λ (u : TableParts). u.schema) c.deref.ensures ∙ (c.self.invariant.schema_is ∙ ap (λ (x : ChunkParts). x.schema) (sym is)) in
-    let fits =
-    subst (λ s. RowsFit s (applied t.rows d)) (sym schema) (subst (RowsFit made.schema) (sym rows) (chunk-fits made c.rows.ensures.sound)) in
-    let delta =
-    c.in_ok-delta.ensures
-    ∙ ap (λ first. finite.from_sorted (map coming_row (enumerate_from first c.as_slice.result.now))) c.first.ensures
-    ∙ ap (λ cells. finite.from_sorted (map coming_row (enumerate_from made.first cells))) (c.as_slice.ensures ∙ c.rows.ensures.value) in
-    record {
-      sound = c.rows.ensures.sound;
-      delta_is = delta;
-      schema_is = ap (λ (u : TableParts). u.schema) c.in_ok-table.ensures.ok ∙ (c.in_ok-apply_with.ensures.schema ∙ schema);
-      rows_are = ap (λ (u : TableParts). u.rows) c.in_ok-table.ensures.ok ∙ (c.in_ok-apply_with.ensures.rows fits ∙ (rows ∙ ap (applied finite.empty) (sym delta)));
-    }
+    (c.from_entries.ensures ∙ delta.1) (ap (λ (u : TableParts). u.schema) c.in_ok-table.ensures.ok ∙ c.in_ok-apply_with.ensures.schema)
+    (λ fits. ap (λ (u : TableParts). u.rows) c.in_ok-table.ensures.ok ∙ c.in_ok-apply_with.ensures.rows fits)).0
+
+pub returns : goal.returns
+returns c =
+    let run = run_in (arc_value c.self.inside.table) c.self.inside.first in
+    let next = run_in (arc_value c.next.inside.table) c.next.inside.first in
+    let goes : GoesOn run next = subst (λ (x : ChunkParts). GoesOn x next) (sym c.self.view_is) (subst (GoesOn c.args.self) (sym c.next.view_is) c.requires) in
+    let own = c.into_entries.result.items in
+    let more = c.into_entries-2.result.items in
+    let are = ap (map entry_change) c.in_ok-append.ensures.items ∙ (map-append entry_change own more
+    ∙ (ap (λ es. es ++ map entry_change more) (c.into_entries.ensures.all ∙ ap finite.entries c.self.invariant.delta_is)
+    ∙ ap (λ es. finite.entries (delta_of_chunk run) ++ es) (c.into_entries-2.ensures.all ∙ ap finite.entries c.next.invariant.delta_is))) in
+    let delta = both-delta run next goes _ are in
+    (run-joined run next c.self.invariant.sound c.next.invariant.sound goes c.deref.result.now (arc_value c.in_ok-table.table) c.next.inside.delta c.from_entries.result
+    (ap (λ (u : TableParts). u.schema) c.deref.ensures)
+    (ap (λ (u : TableParts). u.rows) c.deref.ensures ∙ (c.self.invariant.rows_are ∙ ap (applied finite.empty) c.self.invariant.delta_is)) c.next.invariant.delta_is
+    (c.from_entries.ensures ∙ delta.1) (ap (λ (u : TableParts). u.schema) c.in_ok-table.ensures.ok ∙ c.in_ok-apply_with.ensures.schema)
+    (λ fits. ap (λ (u : TableParts). u.rows) c.in_ok-table.ensures.ok ∙ c.in_ok-apply_with.ensures.rows fits)).1
+    ∙ λ i. run_of_both (c.self.view_is i) (c.next.view_is i)
