@@ -149,8 +149,12 @@ part-stored c sound t schema is low first len within few number =
     let entries : finite.entries t.rows ≡ map at_tag (enumerate_from c.first c.rows) = ap finite.entries is ∙ chunk-entries c sound in
     let many = length-map (enumerate_from c.first c.rows) at_tag in
     let long = length-enumerate_from c.first c.rows in
+    let all = finite.len-entries t.rows in
+    let as_many = ap length entries in
+    let bound = sound.few in
     record {
-      within = omega (arith, within, finite.len-entries t.rows, ap length entries, many, long);
+      few = omega (arith, bound, all, as_many, many, long);
+      within = omega (arith, within, all, as_many, many, long);
       sound =
           subst (λ s. IsChunk s first (rows_from t low len)) (sym schema)
           (subst (IsChunk c.schema first) (sym (part-rows c sound t is low len)) (part-chunk c sound low first len within few number));

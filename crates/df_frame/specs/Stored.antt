@@ -2,6 +2,7 @@
 use Rattle.std.specs.Prelude.{◌≡◌, ◌+◌, ◌<◌, ◌≤◌, ℕ, List, drop, slice_index_or, take}
 use Rattle.std.specs.FinMap as finite
 use Rattle.df_value.specs.Chunks.{ChunkParts, IsChunk}
+use Rattle.df_value.specs.Limits.{most_rows_of_frame}
 use Rattle.df_value.specs.declared.cell.Cell.{Cell}
 use Rattle.df_column.specs.RowRuns.{StandFrom}
 use Rattle.df_column.specs.Tables.{TableParts}
@@ -16,8 +17,9 @@ rows_from t low len = take len (drop low (finite.values t.rows))
 abbrev pub chunk_in : TableParts → ℕ → ℕ → ℕ → ChunkParts
 chunk_in t first low len = record { schema = t.schema; first = first; rows = rows_from t low len }
 
--- the rows are there, each at the tag of its number, and they are a chunk
+-- the rows are there, each at the tag of its number, and they are a chunk; the table has no more rows than a frame
 pub record IsStored (t : TableParts) (first low len : ℕ) : Type 0 where
+  pub few : finite.len t.rows ≤ most_rows_of_frame
   pub within : low + len ≤ finite.len t.rows
   pub sound : IsChunk t.schema first (rows_from t low len)
   pub stand : StandFrom (finite.entries t.rows) low (first + 1) (rows_from t low len)

@@ -181,6 +181,8 @@ impl PreparedRun {
         ensures value { delta_in result ≡ delta_of_chunk self.now }
         ensures sound { IsRun self.now.schema self.now.first self.now.rows }
     {
+        // The clause `sound` is a fact of the run's type, which a proof has where the run is read.
+        let _ = &self.delta;
         FrameDelta::Lent(self)
     }
 

@@ -15,8 +15,8 @@ returns-in_ok-delta_of_rows-in-Append c =
     let chunk = c.in-Append.chunk.now in
     let takes = rw c.in-Append.is at c.requires.free in
     let same =
-    ap (λ first. finite.from_sorted (map coming_row (enumerate_from first c.as_slice-rows.result.now))) c.first.ensures
-    ∙ ap (λ rows. finite.from_sorted (map coming_row (enumerate_from chunk.first rows))) (c.as_slice-rows.ensures ∙ c.rows.ensures.value) in
+    ap (λ first. finite.from_sorted (map coming_row (enumerate_from first c.in_ok-rows-in-Append.rows.items))) c.first.ensures
+    ∙ ap (λ rows. finite.from_sorted (map coming_row (enumerate_from chunk.first rows))) (c.in_ok-rows-in-Append.ensures ∙ (c.as_slice.ensures ∙ c.rows.ensures.value)) in
     rw c.in-Append.is
     (subst (IsDiff (tagged_rows_of f) (tagged_rows_of (with_chunk chunk f))) (sym (c.in_ok-delta_of_rows-in-Append.ensures ∙ same))
     (prepared-diff chunk f (run-of-chunk chunk c.rows.ensures.sound) c.requires.sound takes))

@@ -20,17 +20,17 @@ from_entries-requires c =
     let run = run_in (arc_value c.self.inside.table) c.self.inside.first in
     let next = run_in (arc_value c.next.inside.table) c.next.inside.first in
     let goes : GoesOn run next = subst (λ (x : ChunkParts). GoesOn x next) (sym c.self.view_is) (subst (GoesOn c.args.self) (sym c.next.view_is) c.requires) in
-    let own = c.into_entries.result.items in
-    let more = c.into_entries-2.result.items in
+    let own = c.into_entries-entries.result.items in
+    let more = c.into_entries-more.result.items in
     let are = ap (map entry_change) c.in_ok-append.ensures.items ∙ (map-append entry_change own more
-    ∙ (ap (λ es. es ++ map entry_change more) (c.into_entries.ensures.all ∙ ap finite.entries c.self.invariant.delta_is)
-    ∙ ap (λ es. finite.entries (delta_of_chunk run) ++ es) (c.into_entries-2.ensures.all ∙ ap finite.entries c.next.invariant.delta_is))) in
+    ∙ (ap (λ es. es ++ map entry_change more) (c.into_entries-entries.ensures.all ∙ ap finite.entries c.self.invariant.delta_is)
+    ∙ ap (λ es. finite.entries (delta_of_chunk run) ++ es) (c.into_entries-more.ensures.all ∙ ap finite.entries c.next.invariant.delta_is))) in
     let delta = both-delta run next goes _ are in
     record {
       rising = delta.0;
       rows =
           subst (λ es. T (list_all has_row es)) (sym c.in_ok-append.ensures.items)
-          (subst T (sym (list_all-append has_row own more)) (T-both (list_all has_row own) (list_all has_row more) c.into_entries.ensures.sound.rows c.into_entries-2.ensures.sound.rows));
+          (subst T (sym (list_all-append has_row own more)) (T-both (list_all has_row own) (list_all has_row more) c.into_entries-entries.ensures.sound.rows c.into_entries-more.ensures.sound.rows));
     }
 
 pub invariant_of-result : goal.invariant_of-result
@@ -38,11 +38,11 @@ invariant_of-result c =
     let run = run_in (arc_value c.self.inside.table) c.self.inside.first in
     let next = run_in (arc_value c.next.inside.table) c.next.inside.first in
     let goes : GoesOn run next = subst (λ (x : ChunkParts). GoesOn x next) (sym c.self.view_is) (subst (GoesOn c.args.self) (sym c.next.view_is) c.requires) in
-    let own = c.into_entries.result.items in
-    let more = c.into_entries-2.result.items in
+    let own = c.into_entries-entries.result.items in
+    let more = c.into_entries-more.result.items in
     let are = ap (map entry_change) c.in_ok-append.ensures.items ∙ (map-append entry_change own more
-    ∙ (ap (λ es. es ++ map entry_change more) (c.into_entries.ensures.all ∙ ap finite.entries c.self.invariant.delta_is)
-    ∙ ap (λ es. finite.entries (delta_of_chunk run) ++ es) (c.into_entries-2.ensures.all ∙ ap finite.entries c.next.invariant.delta_is))) in
+    ∙ (ap (λ es. es ++ map entry_change more) (c.into_entries-entries.ensures.all ∙ ap finite.entries c.self.invariant.delta_is)
+    ∙ ap (λ es. finite.entries (delta_of_chunk run) ++ es) (c.into_entries-more.ensures.all ∙ ap finite.entries c.next.invariant.delta_is))) in
     let delta = both-delta run next goes _ are in
     (run-joined run next c.self.invariant.sound c.next.invariant.sound goes c.deref.result.now (arc_value c.in_ok-table.table) c.next.inside.delta c.from_entries.result
     (ap (λ (u : TableParts). u.schema) c.deref.ensures)
@@ -55,11 +55,11 @@ returns c =
     let run = run_in (arc_value c.self.inside.table) c.self.inside.first in
     let next = run_in (arc_value c.next.inside.table) c.next.inside.first in
     let goes : GoesOn run next = subst (λ (x : ChunkParts). GoesOn x next) (sym c.self.view_is) (subst (GoesOn c.args.self) (sym c.next.view_is) c.requires) in
-    let own = c.into_entries.result.items in
-    let more = c.into_entries-2.result.items in
+    let own = c.into_entries-entries.result.items in
+    let more = c.into_entries-more.result.items in
     let are = ap (map entry_change) c.in_ok-append.ensures.items ∙ (map-append entry_change own more
-    ∙ (ap (λ es. es ++ map entry_change more) (c.into_entries.ensures.all ∙ ap finite.entries c.self.invariant.delta_is)
-    ∙ ap (λ es. finite.entries (delta_of_chunk run) ++ es) (c.into_entries-2.ensures.all ∙ ap finite.entries c.next.invariant.delta_is))) in
+    ∙ (ap (λ es. es ++ map entry_change more) (c.into_entries-entries.ensures.all ∙ ap finite.entries c.self.invariant.delta_is)
+    ∙ ap (λ es. finite.entries (delta_of_chunk run) ++ es) (c.into_entries-more.ensures.all ∙ ap finite.entries c.next.invariant.delta_is))) in
     let delta = both-delta run next goes _ are in
     (run-joined run next c.self.invariant.sound c.next.invariant.sound goes c.deref.result.now (arc_value c.in_ok-table.table) c.next.inside.delta c.from_entries.result
     (ap (λ (u : TableParts). u.schema) c.deref.ensures)
