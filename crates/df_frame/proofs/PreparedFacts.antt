@@ -106,12 +106,14 @@ pub run-made :
     (c : ChunkParts) → IsRun c.schema c.first c.rows → (t : TableParts) (d : Changes) → t.schema ≡ c.schema → d ≡ delta_of_chunk c → t.rows ≡ applied finite.empty d →
     IsPrepared (run_in t c.first) d t × (run_in t c.first ≡ c)
 run-made c sound t d schema delta rows =
-    let is = run-is c sound t schema (rows ∙ ap (applied finite.empty) delta) in
-    (record {
-      sound = subst (λ (x : ChunkParts). IsRun x.schema x.first x.rows) (sym is) sound;
-      delta_is = delta ∙ ap delta_of_chunk (sym is);
-      rows_are = rows;
-    }, is)
+    let is = run-is c sound t schema (rows ∙ ap (applied finite.empty) delta) in (
+      record {
+        sound = subst (λ (x : ChunkParts). IsRun x.schema x.first x.rows) (sym is) sound;
+        delta_is = delta ∙ ap delta_of_chunk (sym is);
+        rows_are = rows;
+      },
+      is,
+    )
 
 -- what stands in the table of a chunk from an index on are rows of the chunk
 pub part-rows :
@@ -218,10 +220,11 @@ pub both-delta :
     T (finite.is_sorted tag_cmp es) × (finite.from_sorted es ≡ delta_of_chunk (run_of_both run next))
 both-delta run next goes es are =
     let both = run_of_both run next in
-    let is : es ≡ map coming_row (enumerate_from both.first both.rows) = are ∙ (sym (both-entries run next goes) ∙ coming-entries both) in
-    (subst (λ fs. T (finite.is_sorted tag_cmp fs)) (sym is)
-    (coming-rise (enumerate_from both.first both.rows) (ap is_rising (enumerated-numbers both.first both.rows) ∙ rising-block both.first (length both.rows))),
-    ap finite.from_sorted is)
+    let is : es ≡ map coming_row (enumerate_from both.first both.rows) = are ∙ (sym (both-entries run next goes) ∙ coming-entries both) in (
+      subst (λ fs. T (finite.is_sorted tag_cmp fs)) (sym is)
+          (coming-rise (enumerate_from both.first both.rows) (ap is_rising (enumerated-numbers both.first both.rows) ∙ rising-block both.first (length both.rows))),
+      ap finite.from_sorted is,
+    )
 
 -- the rows of both stand where those of the one do and then those of the other come
 pub both-rows :

@@ -74,7 +74,9 @@ impl StoredChunk {
     pub fn to_chunk(&self, alloc: Global) -> Result<Chunk, AllocError>
         ensures { IfOk result (λ chunk. chunk ≡ self.now) }
     {
-        let rows = self.table.rows_between(alloc, self.low, self.low + self.len)?;
+        let rows = self
+            .table
+            .rows_between(alloc, self.low, self.low + self.len)?;
         let rows = List::from_vec(rows);
         match Chunk::new(alloc, self.table.schema(), self.first, rows) {
             Ok(chunk) => Ok(chunk),

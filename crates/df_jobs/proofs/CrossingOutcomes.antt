@@ -4,7 +4,6 @@ use Rattle.std.proofs.Crossing.{crosses}
 use Rattle.df_value.proofs.chunk.Piece.TheSendSync as piece
 use Rattle.df_column.proofs.Crossing.{table_send, table_sync}
 use Rattle.df_delta.proofs.delta.Delta.TheSendSync as delta
-use Rattle.df_frame.proofs.run.Run.TheSendSync as run
 use Rattle.df_frame.specs.contracts.prepared.PreparedRun as PreparedRun
 use Rattle.df_frame.specs.contracts.prepared.PreparedRun.TheInside as PreparedInside
 use Rattle.df_frame.specs.contracts.stored.StoredChunk as StoredChunk
@@ -34,7 +33,7 @@ pub outcome_send : IsSend (Outcome.the_field).row
 outcome_send = let m = made_send in search (sendable, crosses) depth 40
 
 prepared_inside_send : IsSend PreparedInside.the_row
-prepared_inside_send = search (sendable, crosses, delta.the_send, run.the_send, table_send, table_sync) depth 40
+prepared_inside_send = search (sendable, crosses, delta.the_send, table_send, table_sync) depth 40
 
 prepared_send : IsSend PreparedRun.the_row
 prepared_send = let i = prepared_inside_send in search sendable depth 20

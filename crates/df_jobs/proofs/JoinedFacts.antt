@@ -1,5 +1,5 @@
 -- Outcomes whose chunks follow one another.
-use Rattle.std.proofs.Common.{◌≡◌, true, false, Bool, ℕ, zero, suc, ◌+◌, ◌≤◌, ◌∙◌, List, [], ◌∷◌, ◌++◌, length, length-append, refl, ap, sym, subst, arith, sum_by}
+use Rattle.std.proofs.Common.{◌≡◌, true, false, Bool, ℕ, zero, suc, ◌+◌, ◌≤◌, ◌∙◌, List, [], ◌∷◌, ◌++◌, length, length-append, take, get_or, ◌<◌, refl, ap, sym, subst, arith, sum_by}
 use Rattle.std.specs.Prelude.{◌==◌, All, IsTrue, if◌then◌else◌}
 use Rattle.std.specs.List.{enumerate_from}
 use Rattle.std.proofs.lemmas.Bool.{and_from}
@@ -8,6 +8,7 @@ use Rattle.std.proofs.lemmas.List.Elements.{All-cons, All-nil}
 use Rattle.std.proofs.lemmas.List.Folds.{list_all-append}
 use Rattle.std.proofs.lemmas.List.Sums.{sum_by-append, sum_by-cons}
 use Rattle.df_state.specs.Desks.{DeskParts}
+use Rattle.df_state.proofs.ListFacts.{take-more}
 use Rattle.df_value.specs.Chunks.{ChunkParts, IsChunk}
 use Rattle.df_value.specs.Limits as limits
 use Rattle.df_value.specs.Rows.{row_fits, rows_fit}
@@ -26,11 +27,22 @@ use Rattle.df_jobs.specs.Made.{rows_in}
 use Rattle.df_jobs.specs.Counted.{AreCounted, HaveAccepted, entered_at, rows_of}
 use Rattle.df_jobs.specs.Expected.{rows_at}
 use Rattle.df_jobs.proofs.JoinedRows.{rows-of-own}
-use Rattle.df_jobs.proofs.RowFacts.{length-enumerate}
+use Rattle.df_jobs.proofs.RowFacts.{flat-more, length-enumerate}
 
 many-made : (p : Piece) → length (made_rows p) ≡ rows_of p
 many-made (Good c) = length-enumerate c.first c.rows
 many-made (Bad b) = refl
+
+taken-more : (os : List Outcome) (i : ℕ) (o : Outcome) → i < length os → o ≡ get_or os i o → take (i + 1) os ≡ take i os ++ o ∷ []
+taken-more os i o low is = take-more os i o low ∙ ap (λ d. take i os ++ d ∷ []) (sym is)
+
+-- how many rows there are with those of one more outcome
+pub count-more :
+    (os : List Outcome) (i : ℕ) (o : Outcome) → i < length os → o ≡ get_or os i o →
+    length (all_rows (take (i + 1) os)) ≡ length (all_rows (take i os)) + length (rows_in o.made)
+count-more os i o low is =
+    ap (λ l. length (all_rows l)) (taken-more os i o low is)
+    ∙ (ap length (flat-more (λ (x : Outcome). rows_in x.made) (take i os) o) ∙ length-append (all_rows (take i os)) (rows_in o.made))
 
 module _ (frame : ℕ) (schema : List (List ℕ × CellType)) where
   -- outcomes that follow others
@@ -45,6 +57,12 @@ module _ (frame : ℕ) (schema : List (List ℕ × CellType)) where
   -- one more
   pub follow-more : (n : ℕ) (os : List Outcome) (o : Outcome) → FollowFrom frame schema n os → IsGoodAt frame schema (n + length (all_rows os)) o → FollowFrom frame schema n (os ++ o ∷ [])
   follow-more n os o one part = follow-append n os (o ∷ []) one (part, tt)
+
+  pub followed-more :
+      (n : ℕ) (os : List Outcome) (i : ℕ) (o : Outcome) → i < length os → o ≡ get_or os i o → FollowFrom frame schema n (take i os) →
+      IsGoodAt frame schema (n + length (all_rows (take i os))) o → FollowFrom frame schema n (take (i + 1) os)
+  followed-more n os i o low is one part =
+      subst (FollowFrom frame schema n) (sym (taken-more os i o low is)) (follow-more n (take i os) o one part)
 
   follow-numbered : (n : ℕ) (os : List Outcome) → FollowFrom frame schema n os → n ≤ limits.row_numbers → n + length (all_rows os) ≤ limits.row_numbers
   follow-numbered n [] follow low = omega (arith, low)

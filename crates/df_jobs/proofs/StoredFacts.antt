@@ -28,9 +28,12 @@ module _ (frame : ℕ) (schema : List (List ℕ × CellType)) (run : ChunkParts)
       let part = follow.0 in
       let many = length-append (rows_in o.made) (all_rows os) in
       let own : length (rows_in o.made) ≡ length part.chunk.rows = ap (λ p. length (rows_in p)) part.good in
-      let short = part.sound.short in
-      (omega (arith, within, many), omega (arith, own, short), ap number_in part.good ∙ (part.of_number ∙ number),
-      parts-stand (n + length (rows_in o.made)) (low + length (rows_in o.made)) os follow.1 (omega (arith, number)) (omega (arith, within, many)))
+      let short = part.sound.short in (
+        omega (arith, within, many),
+        omega (arith, own, short),
+        ap number_in part.good ∙ (part.of_number ∙ number),
+        parts-stand (n + length (rows_in o.made)) (low + length (rows_in o.made)) os follow.1 (omega (arith, number)) (omega (arith, within, many)),
+      )
 
   -- and the outcomes are those that stand there
   outcome-again : (n low : ℕ) (o : Outcome) (later : List (List Cell)) → IsGoodAt frame schema n o → run.schema ≡ schema → drop low run.rows ≡ rows_in o.made ++ later → outcome_in run low (part_of o) ≡ o
@@ -50,6 +53,31 @@ module _ (frame : ℕ) (schema : List (List ℕ × CellType)) (run : ChunkParts)
       sym (drop-drop len low run.rows) ∙ (ap (drop len) rows ∙ drop-append_seam (rows_in o.made) (all_rows os)) in
       ap (λ p. p ∷ outcomes_in run (low + len) (map part_of os)) (outcome-again n low o (all_rows os) follow.0 columns rows)
       ∙ ap (λ ps. o ∷ ps) (outcomes-again (n + len) (low + len) os follow.1 columns rest)
+
+-- a run that is made of the rows that were taken out of outcomes, and the outcomes that are made again of the parts that are left
+module _
+    (frame : ℕ) (schema : List (List ℕ × CellType)) (first : ℕ) (os : List Outcome) (run : ChunkParts) (rows : List (List Cell)) (parts : List Part)
+    (follow : FollowFrom frame schema first os) (rows-are : rows ≡ all_rows os) (parts-are : parts ≡ map part_of os)
+    (run-is : run ≡ record { schema = schema; first = first; rows = rows }) where
+  all-in : run.rows ≡ all_rows os
+  all-in = ap (λ (x : ChunkParts). x.rows) run-is ∙ rows-are
+
+  pub run-stands : StandIn run 0 parts
+  run-stands =
+      let number : first ≡ run.first + 0 = let e = ap (λ (x : ChunkParts). x.first) run-is in omega (arith, e) in
+      let many = ap length all-in in
+      subst (StandIn run 0) (sym parts-are) (parts-stand frame schema run first 0 os follow number (omega (arith, many)))
+
+  pub same-outcomes : (made : List Outcome) → made ≡ outcomes_in run 0 parts → made ≡ os
+  same-outcomes made is =
+      is ∙ (ap (outcomes_in run 0) parts-are ∙ outcomes-again frame schema run first 0 os follow (ap (λ (x : ChunkParts). x.schema) run-is) all-in)
+
+  pub run-follows : (made : List Outcome) → made ≡ outcomes_in run 0 parts → FollowFrom frame run.schema run.first made × (run.rows ≡ all_rows made)
+  run-follows made is =
+      let same = same-outcomes made is in (
+        subst (FollowFrom frame run.schema run.first) (sym same) (subst (λ (x : ChunkParts). FollowFrom frame x.schema x.first os) (sym run-is) follow),
+        all-in ∙ ap all_rows (sym same),
+      )
 
 -- the first of the parts from a place on
 module _ (run : ChunkParts) (ps : List Part) (i : ℕ) (p : Part) (h : i < length ps) (is : p ≡ get_or ps i p) where

@@ -15,7 +15,7 @@ use Rattle.df_state.specs.Pictures.{IsPictureOfLegal, PictureParts, picture_of}
 use Rattle.df_frame.specs.declared.state.FrameState.{FrameState}
 use Rattle.df_state.specs.declared.state.State.{State}
 use Rattle.df_frame.proofs.Rising.{rising-filter}
-use Rattle.df_nodes.proofs.Filters.{filter_length}
+use Rattle.std.proofs.lemmas.List.Filters.{length-filter_both}
 use Rattle.df_state.proofs.ListFacts.{found}
 use Rattle.df_jobs.specs.declared.expected.Expected.{Expected}
 use Rattle.df_jobs.specs.declared.jobs.Outcome.{Outcome}
@@ -55,7 +55,7 @@ numbered-rows f numbered =
     let left = numbered.left in
     let many = length-mapped (λ (r : ℕ × List Cell). r.0) f.rows in
     let same = ap length left in
-    let short = filter_length (λ n. not (has_number f.deleted n)) f.accepted in
+    let short = length-filter_both (λ n. not (has_number f.deleted n)) (λ n. not (not (has_number f.deleted n))) (λ n. refl) f.accepted in
     let few = numbered.few in
     (rises f.rows (ap is_rising left ∙ rising-filter (λ n. not (has_number f.deleted n)) f.accepted numbered.rising), omega (arith, many, same, short, few))
 

@@ -31,6 +31,21 @@ impl Drop for Outcome {
     }
 }
 
+impl Outcome {
+    /// What it made.
+    pub(crate) fn into_made(self) -> Made
+        ensures { result ≡ self.made }
+    {
+        let Outcome {
+            job: _,
+            frame: _,
+            first: _,
+            made,
+        } = self;
+        made
+    }
+}
+
 /// Where the chunk of a job stands.
 #[derive(Clone, Copy, Drop)]
 pub(crate) struct Place {

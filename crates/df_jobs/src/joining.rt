@@ -227,13 +227,8 @@ fn take_rows(alloc: Global, outcome: Outcome, rows: &mut Vec<Row>) -> Result<Par
     ensures part { IfOk result (λ part. part ≡ part_of outcome) }
     ensures rows { IfOk result (λ _. rows.new.items ≡ rows.old.items ++ rows_in outcome.made) }
 {
-    let Outcome {
-        job,
-        frame,
-        first,
-        made,
-    } = outcome;
-    let Some(chunk) = made.into_chunk(alloc)? else {
+    let (job, frame, first) = (outcome.job, outcome.frame, outcome.first);
+    let Some(chunk) = outcome.into_made().into_chunk(alloc)? else {
         return Ok(Part {
             job,
             frame,
@@ -256,11 +251,7 @@ fn take_rows(alloc: Global, outcome: Outcome, rows: &mut Vec<Row>) -> Result<Par
 }
 
 // The outcomes of which these parts are left, with their rows in the blocks of a run.
-fn stored_in(
-    alloc: Global,
-    run: &PreparedRun,
-    parts: &[Part],
-) -> Result<Vec<Outcome>, AllocError>
+fn stored_in(alloc: Global, run: &PreparedRun, parts: &[Part]) -> Result<Vec<Outcome>, AllocError>
     requires { StandIn run.now 0 parts.now }
     ensures { IfOk result (λ outcomes. outcomes.items ≡ outcomes_in run.now 0 parts.now) }
 {

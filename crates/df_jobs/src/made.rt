@@ -27,6 +27,19 @@ impl Drop for KeptPiece {
     }
 }
 
+impl KeptPiece {
+    // The chunk, if it is one. That of a source is moved, and copies are made of rows that stand in blocks.
+    fn into_chunk(self, alloc: Global) -> Result<Option<Chunk>, AllocError>
+        ensures { IfOk result (λ chunk. chunk ≡ chunk_of (piece_in self)) }
+    {
+        match self {
+            KeptPiece::Typed(Piece::Good(chunk)) => Ok(Some(chunk)),
+            KeptPiece::Typed(Piece::Bad(_)) => Ok(None),
+            KeptPiece::Stored(stored) => Ok(Some(stored.to_chunk(alloc)?)),
+        }
+    }
+}
+
 /// What a job made. Contracts see the piece.
 pub struct Made {
     kept: KeptPiece,
@@ -90,11 +103,7 @@ impl Made {
         ensures { IfOk result (λ chunk. chunk ≡ chunk_of self) }
     {
         let Made { kept } = self;
-        match kept {
-            KeptPiece::Typed(Piece::Good(chunk)) => Ok(Some(chunk)),
-            KeptPiece::Typed(Piece::Bad(_)) => Ok(None),
-            KeptPiece::Stored(stored) => Ok(Some(stored.to_chunk(alloc)?)),
-        }
+        kept.into_chunk(alloc)
     }
 
     /// The first bad cell, if there is one.
