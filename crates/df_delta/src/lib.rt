@@ -19,4 +19,5 @@ pub use entries::push_change;
 pub use keyed::{KeyChanges, keyed_changes};
 pub use node::LiveNode;
 pub use notes::Notes;
+pub use row_key::RowKey;
 pub use two_sided::TwoSidedNode;

@@ -163,6 +163,20 @@ impl Notes {
         self.put(tag, then(noted, move_of(goes, row)))
     }
 
+    /// Notes that a row takes the place of another at the tag, behind what is noted: what stood there stays as it was
+    /// first noted.
+    pub fn note_both(&mut self, tag: Tag, old: Row, new: Row) -> Result<(), AllocError>
+        ensures { OnOk result (self.new ≡ finite.insert self.old tag
+            (then_change (finite.get self.old tag) (record { old = Some old; new = Some new }))) }
+    {
+        let noted = self.take(tag);
+        let both = Note {
+            old: Some(old),
+            new: Some(new),
+        };
+        self.put(tag, then(noted, both))
+    }
+
     /// The changes that are noted.
     pub fn into_delta(self) -> Result<Delta, AllocError>
         ensures { IfOk result (λ d. d ≡ leaned same_row self) }

@@ -1,11 +1,14 @@
 -- Counting look-ups over a loop.
-use Rattle.std.proofs.Common.{◌≡◌, ◌<◌, ◌≤◌, ◌+◌, ℕ, Bool, List, ◌∷◌, map, length, drop, get_or, Option, sym, ap, subst, ◌∙◌, drop-cons, add-one, arith}
+use Rattle.std.proofs.Common.{◌≡◌, ◌<◌, ◌≤◌, ◌+◌, ℕ, Bool, List, ◌∷◌, map, length, drop, get_or, Option, Some, sym, ap, subst, ◌∙◌, drop-cons, add-one, arith}
+use Rattle.std.specs.Prelude.{◌||◌}
 use Rattle.std.proofs.Math.ListN.{drop_of_length-le}
 use Rattle.std.specs.FinMap as finite
 use Rattle.df_column.specs.Tables.{entry_change}
 use Rattle.df_column.specs.declared.entry.Entry.{Entry}
 use Rattle.df_delta.specs.Deltas.{Changes}
-use Rattle.df_join.specs.Probes.{is_staged, nothing_staged, with_key, with_keys, stage_probes, note_probes, right_probes, change_probes, all_probes, probes_made}
+use Rattle.df_ops.specs.Groups.{key_of}
+use Rattle.df_value.specs.Rows.{row_eq}
+use Rattle.df_join.specs.Probes.{is_staged, nothing_staged, with_key, with_keys, stage_probes, note_probes, right_probes, change_probes, all_probes, probes_left, probes_made, probes_over}
 use Rattle.df_join.specs.Rules.{Cells}
 use Rattle.df_join.specs.declared.keyed.KeyedTables.{KeyedTables}
 use Rattle.df_join.specs.declared.rule.JoinRule.{JoinRule}
@@ -59,6 +62,26 @@ right_more rule u v s t items i d m n p lt is same grown keys before =
     probes_more rule.indices.right (right_probes rule (is_staged u)) s t items i d m n p lt is
     (grown ∙ ap (λ (w : KeyedTables). m + change_probes rule.indices.right (right_probes rule (is_staged w)) s d.old d.new) same)
     keys before
+
+-- the look-ups of a right row that takes the place of another of its key
+pub replaced_probes : (rule : JoinRule) (left s t : Cells → Bool) (key y z : Cells) (p a b c n : ℕ) → key ≡ key_of rule.indices.right y → key_of rule.indices.right y ≡ key_of rule.indices.right z
+    → ((k : Cells) → t k ≡ (row_eq key k || s k))
+    → a ≡ p + probes_over (s key) → b ≡ a + probes_left rule key (left key) → c ≡ b + probes_over (t key) → n ≡ c + probes_left rule key (left key)
+    → n ≡ p + change_probes rule.indices.right (right_probes rule left) s (Some y) (Some z)
+replaced_probes rule left s t key y z p a b c n is same touched first second third fourth =
+    add p a b c n (probes_over (s key)) (probes_left rule key (left key)) (probes_over (t key)) (probes_left rule key (left key))
+    (probes_over (s old)) (probes_left rule old (left old)) (probes_over (row_eq old new || s new)) (probes_left rule new (left new)) first second third fourth
+    (ap (λ k. probes_over (s k)) is) (ap (λ k. probes_left rule k (left k)) is)
+    (ap probes_over (touched key) ∙ (λ i. probes_over (row_eq (is i) ((is ∙ same) i) || s ((is ∙ same) i)))) (ap (λ k. probes_left rule k (left k)) (is ∙ same))
+  where
+    old : Cells
+    old = key_of rule.indices.right y
+
+    new : Cells
+    new = key_of rule.indices.right z
+
+    add : (p a b c n w x y z e f g h : ℕ) → a ≡ p + w → b ≡ a + x → c ≡ b + y → n ≡ c + z → w ≡ e → x ≡ f → y ≡ g → z ≡ h → n ≡ p + ((e + f) + (g + h))
+    add p a b c n w x y z e f g h k l m o q r s t = omega (arith, k, l, m, o, q, r, s, t)
 
 -- the counts of both phases
 pub counts_made : (rule : JoinRule) (l r : KeyedTables) (d e : Changes) (m a b n : ℕ) → is_staged l ≡ with_keys rule.indices.left nothing_staged (finite.entries d) → is_staged r ≡ nothing_staged

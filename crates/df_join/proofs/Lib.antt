@@ -12,6 +12,7 @@ pub mod Index
 pub mod Staging
 pub mod LeftSide
 pub mod RightSide
+pub mod Replaced
 pub mod Both
 pub mod JoinRows
 pub mod Counted

@@ -98,7 +98,7 @@ module _ (one : Bool) (rule : JoinRule) where
   lone_side goes false true z = no_sides goes
   lone_side goes false false z = no_sides goes
 
-  or_true : (a b : Bool) → b ≡ true → (a || b) ≡ true
+  pub or_true : (a b : Bool) → b ≡ true → (a || b) ≡ true
   or_true true b e = refl
   or_true false b e = e
 
@@ -106,7 +106,7 @@ module _ (one : Bool) (rule : JoinRule) where
     apart : eq_by_cmp tag_cmp no_tag s ≡ false
     apart = ap is_eq after
 
-    not_both : (v : Tag) → eq_by_cmp tag_cmp v no_tag ≡ true → eq_by_cmp tag_cmp v s ≡ false
+    pub not_both : (v : Tag) → eq_by_cmp tag_cmp v no_tag ≡ true → eq_by_cmp tag_cmp v s ≡ false
     not_both v e = ap (λ v. eq_by_cmp tag_cmp v s) (tied v no_tag e) ∙ apart
 
     record IsFullAndRest (full rest : TaggedRows) : Type 0 where
@@ -115,7 +115,7 @@ module _ (one : Bool) (rule : JoinRule) where
       full_none : get full no_tag ≡ None
       rest_none : get rest no_tag ≡ None
 
-    some_len : (full : TaggedRows) → get full s ≡ Some y → (len full == 0) ≡ false
+    pub some_len : (full : TaggedRows) → get full s ≡ Some y → (len full == 0) ≡ false
     some_len full e = elim (len full == 0) as (λ b. (len full == 0) ≡ b → b ≡ false) [
       | true ↦ λ b. let none : get full s ≡ None = ap (λ m. get m s) (empty_of_len full (eqb-true (len full) 0 b)) ∙ get-empty tag_cmp s in cc (e, none)
       | false ↦ λ b. refl
@@ -159,7 +159,7 @@ module _ (one : Bool) (rule : JoinRule) where
     itself : is_null_key rule (key_of rule.indices.right y) ≡ false → matches row_eq (key_or_null rule (key_of rule.indices.right y)) (key_or_null rule (key_of rule.indices.right y)) ≡ true
     itself known = ap (λ b. matches row_eq (cond b None (Some (key_of rule.indices.right y))) (cond b None (Some (key_of rule.indices.right y)))) known ∙ row_itself (key_of rule.indices.right y)
 
-    at_key : is_null_key rule (key_of rule.indices.right y) ≡ false → (t : TaggedRows) (there : Bool) → get t s ≡ cond there (Some y) None → get (right_rows j (key_or_null rule (key_of rule.indices.right y)) t) s ≡ cond there (Some y) None
+    pub at_key : is_null_key rule (key_of rule.indices.right y) ≡ false → (t : TaggedRows) (there : Bool) → get t s ≡ cond there (Some y) None → get (right_rows j (key_or_null rule (key_of rule.indices.right y)) t) s ≡ cond there (Some y) None
     at_key known t there e =
         get-kept (λ (z : Cells). matches row_eq (key_or_null rule (key_of rule.indices.right y)) (key_or_null rule (key_of rule.indices.right z))) t s
         ∙ ap (option_and_then (λ (z : Cells). cond (matches row_eq (key_or_null rule (key_of rule.indices.right y)) (key_or_null rule (key_of rule.indices.right z))) (Some z) None)) e
@@ -168,7 +168,7 @@ module _ (one : Bool) (rule : JoinRule) where
           | false ↦ refl
         ]
 
-    none_at : (t : TaggedRows) → get t no_tag ≡ None → get (right_rows j (key_or_null rule (key_of rule.indices.right y)) t) no_tag ≡ None
+    pub none_at : (t : TaggedRows) → get t no_tag ≡ None → get (right_rows j (key_or_null rule (key_of rule.indices.right y)) t) no_tag ≡ None
     none_at t e = get-kept (λ (z : Cells). matches row_eq (key_or_null rule (key_of rule.indices.right y)) (key_or_null rule (key_of rule.indices.right z))) t no_tag ∙ ap (option_and_then (λ (z : Cells). cond (matches row_eq (key_or_null rule (key_of rule.indices.right y)) (key_or_null rule (key_of rule.indices.right z))) (Some z) None)) e
 
     module _ (l r : TaggedRows) (left : HasKeys (IsLeftTag one) l) (right : HasKeys (IsRightTag one) r) (is : IsRightTag one s) (none : get r no_tag ≡ None) where

@@ -19,7 +19,7 @@ use Rattle.df_join.specs.Spread.{combine, no_tag}
 use Rattle.df_delta.specs.Deltas.{Changes}
 use Rattle.df_delta.specs.Notes.{moved, then_change}
 use Rattle.df_join.specs.Rules.{joined_row}
-use Rattle.df_join.specs.RowNotes.{Note, Leads, Noted, left_list, pair_notes, lone_notes, right_list}
+use Rattle.df_join.specs.RowNotes.{Note, Leads, Noted, left_list, pair_notes, lone_notes, replaced_list, replaced_pair, right_list}
 use Rattle.df_join.specs.declared.rule.JoinRule.{JoinRule}
 use Rattle.df_join.proofs.Spread.{tied}
 use Rattle.df_join.proofs.Fits.{fits_append, applied_append}
@@ -83,6 +83,14 @@ rights_more rule one lone goes tag right items i e a b c n lt is p q r =
     let notes_of = λ (e : Tag × Cells). lone_notes rule one lone (not goes) e.0 e.1 ++ (combine one e.0 tag, moved goes (joined_row rule e.1 (Some right))) ∷ [] in
     subst (Noted a n) (sym (ap (right_list rule one lone goes tag right) (take_more items i e lt ∙ ap (λ x. take i items ++ x ∷ []) (sym is)) ∙ flat_map-append notes_of (take i items) (e ∷ []) ∙ ap (λ ns. flat_map notes_of (take i items) ++ ns) (append-nil (notes_of e))))
     (noted_append a b n _ _ p (noted_append b c n _ _ q r))
+
+pub replaced_more : (rule : JoinRule) (one : Bool) (tag : Tag) (y z : Cells) (items : List (Tag × Cells)) (i : ℕ) (e : Tag × Cells) (a b c : Changes) → i < length items → e ≡ get_or items i e
+    → Noted a b (replaced_list rule one tag y z (take i items))
+    → Noted b c ((combine one e.0 tag, replaced_pair rule e.1 y z) ∷ [])
+    → Noted a c (replaced_list rule one tag y z (take (i + 1) items))
+replaced_more rule one tag y z items i e a b c lt is p q =
+    subst (Noted a c) (sym (ap (replaced_list rule one tag y z) (take_more items i e lt ∙ ap (λ x. take i items ++ x ∷ []) (sym is)) ∙ map-append (λ (f : Tag × Cells). (combine one f.0 tag, replaced_pair rule f.1 y z)) (take i items) (e ∷ [])))
+    (noted_append a b c _ _ p q)
 
 module _ (rule : JoinRule) (one : Bool) (a b : Changes) (goes : Bool) (tag : Tag) (left : Cells) where
   pub alone_stays : (stays : Bool) → stays ≡ true → Noted a b ((combine one tag no_tag, moved goes (joined_row rule left None)) ∷ []) → Noted a b (lone_notes rule one stays goes tag left)

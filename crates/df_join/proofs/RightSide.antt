@@ -42,7 +42,7 @@ swapped_keys None (Some b) = refl
 swapped_keys (Some a) None = refl
 swapped_keys (Some a) (Some b) = swap a b
 
-left_is : (rule : JoinRule) (k : Cells) (l : TaggedRows) → left_rows (by_key rule) (key_or_null rule k) l ≡ keyed_rows rule rule.indices.left k l
+pub left_is : (rule : JoinRule) (k : Cells) (l : TaggedRows) → left_rows (by_key rule) (key_or_null rule k) l ≡ keyed_rows rule rule.indices.left k l
 left_is rule k l = λ i. kept (λ (x : Cells). swapped_keys (key_or_null rule (key_of rule.indices.left x)) (key_or_null rule k) i) l
 
 module _ (one : Bool) (rule : JoinRule) (a b : Changes) (from l r : TaggedRows) (left : HasKeys (IsLeftTag one) l) (right : HasKeys (IsRightTag one) r) (s : Tag) (y : Cells) (after : tag_cmp no_tag s ≡ Less) (is : IsRightTag one s) (none : finite.get r no_tag ≡ None) where

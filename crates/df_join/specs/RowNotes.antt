@@ -64,6 +64,10 @@ keyed_rows rule indices k t = kept (λ y. matches row_eq (key_or_null rule k) (k
 abbrev pub joined_by_key : Bool → JoinRule → TaggedRows → TaggedRows → TaggedRows
 joined_by_key one rule l r = joined (by_key rule) one l r
 
+-- the pair of a left row with one right row, in the place of that with another
+abbrev pub replaced_pair : JoinRule → Cells → Cells → Cells → Change Cells
+replaced_pair rule x y z = record { old = Some (joined_row rule x (Some y)); new = Some (joined_row rule x (Some z)) }
+
 module _ (rule : JoinRule) (one : Bool) where
   -- the pairs of a left row that goes or comes
   abbrev pub pair_notes : Bool → Tag → Cells → List (Tag × Cells) → List Note
@@ -81,6 +85,10 @@ module _ (rule : JoinRule) (one : Bool) where
   abbrev pub right_list : Bool → Bool → Tag → Cells → List (Tag × Cells) → List Note
   right_list lone goes s y es =
       flat_map (λ e. lone_notes lone (not goes) e.0 e.1 ++ (combine one e.0 s, moved goes (joined_row rule e.1 (Some y))) ∷ []) es
+
+  -- the pairs of a right row that takes the place of another of its key, beside these left rows
+  abbrev pub replaced_list : Tag → Cells → Cells → List (Tag × Cells) → List Note
+  replaced_list s y z es = map (λ e. (combine one e.0 s, replaced_pair rule e.1 y z)) es
 
 -- the tables of both sides, and the members of the right one
 pub record AreSides (one : Bool) (rule : JoinRule) (right : Members) (l r : TaggedRows) : Type 0 where

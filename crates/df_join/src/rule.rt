@@ -1,8 +1,10 @@
 //! How a join matches rows, and what it makes of them.
 ghost use Rattle.std.specs.Prelude.{◌≡◌, ◌&&◌, IfOk, None, Some};
+ghost use Rattle.df_value.specs.Rows.{row_eq};
 ghost use Rattle.df_ops.specs.Groups.{key_of as key_cells};
 ghost use Rattle.df_join.specs.Rules as rules;
 
+use df_delta::RowKey;
 use df_ops::{How, JoinIndices, has_null, key_of, nulls, row_beside};
 use df_value::Row;
 use std::alloc::{AllocError, Global};
@@ -58,6 +60,15 @@ impl JoinRule {
         ensures { IfOk result (λ key. key ≡ key_cells self.now.indices.right row.now) }
     {
         key_of(alloc, self.indices.right.as_slice(), row)
+    }
+
+    /// Whether two right rows have the same key.
+    pub fn is_same_right_key(&self, a: &Row, b: &Row) -> bool
+        ensures { result ≡ row_eq (key_cells self.now.indices.right a.now)
+            (key_cells self.now.indices.right b.now) }
+    {
+        let indices = self.indices.right.as_slice();
+        RowKey { indices, row: a } == RowKey { indices, row: b }
     }
 
     /// A left row beside a match.

@@ -4,7 +4,7 @@ ghost use Rattle.std.specs.Option.{option_copied};
 ghost use Rattle.std.specs.FinMap as finite;
 ghost use Rattle.df_delta.specs.Notes.{moved};
 ghost use Rattle.df_join.specs.Keyed.{rows_or_empty};
-ghost use Rattle.df_join.specs.RowNotes.{Noted, left_list, lone_notes, right_list};
+ghost use Rattle.df_join.specs.RowNotes.{Noted, left_list, lone_notes, replaced_list, replaced_pair, right_list};
 ghost use Rattle.df_join.specs.Rules.{joined_row, keeps_left};
 ghost use Rattle.df_join.specs.Sides.{is_one};
 ghost use Rattle.df_join.specs.Spread as spread;
@@ -126,6 +126,42 @@ impl LiveJoin {
         for left in matching {
             self.note_alone(notes, lone, !goes, left.0, &left.1)?;
             self.note_pair(notes, goes, self.pair_tag(left.0, tag), &left.1, right)?;
+        }
+        Ok(())
+    }
+
+    /// Notes that the pair of a left row with one right row takes the place of that with another.
+    fn note_both_pairs(
+        &self,
+        notes: &mut Notes,
+        tag: Tag,
+        left: &Row,
+        old: &Row,
+        new: &Row,
+    ) -> Result<(), AllocError>
+        ensures { OnOk result (Noted notes.old notes.new
+            ((tag, replaced_pair self.now.rule left.now old.now new.now) ∷ [])) }
+    {
+        let before = self.rule.pair(self.alloc, left, old)?;
+        let after = self.rule.pair(self.alloc, left, new)?;
+        notes.note_both(tag, before, after)
+    }
+
+    /// Notes the pairs of a right row that takes the place of another of its key, beside these left rows. None of them
+    /// stands alone before or afterwards.
+    pub fn note_replaced(
+        &self,
+        notes: &mut Notes,
+        tag: Tag,
+        old: &Row,
+        new: &Row,
+        matching: &[(Tag, Row)],
+    ) -> Result<(), AllocError>
+        ensures { OnOk result (Noted notes.old notes.new
+            (replaced_list self.now.rule (is_one self.now.left_scans) tag old.now new.now matching.now)) }
+    {
+        for left in matching {
+            self.note_both_pairs(notes, self.pair_tag(left.0, tag), &left.1, old, new)?;
         }
         Ok(())
     }

@@ -1,11 +1,12 @@
 //! Notes of changed right rows, over the left side as it will be.
-ghost use Rattle.std.specs.Prelude.{◌≡◌, ◌+◌, ◌*◌, ◌≤◌, ◌<◌, ◌^◌, ◌||◌, T, OnOk, IfOk, None, cond};
+ghost use Rattle.std.specs.Prelude.{◌≡◌, ◌+◌, ◌*◌, ◌≤◌, ◌<◌, ◌^◌, ◌||◌, T, OnOk, None, Some, cond, true};
+ghost use Rattle.std.specs.Option.{option_copied};
 ghost use Rattle.std.specs.FinMap as finite;
 ghost use Rattle.df_column.specs.Changes.{set_at, applied};
 ghost use Rattle.df_column.specs.Tables.{TaggedRows, new_row_fits};
 ghost use Rattle.df_delta.specs.Differences.{Fits};
 ghost use Rattle.df_ops.specs.Groups.{key_of as key_cells};
-ghost use Rattle.df_join.specs.Keyed.{LeadsTo};
+ghost use Rattle.df_join.specs.Keyed.{LeadsTo, rows_or_empty};
 ghost use Rattle.df_join.specs.Probes.{Grows, all_probes, change_probes, is_staged, probes_left, probes_over, right_probes, with_key};
 ghost use Rattle.df_join.specs.RowNotes.{NewFit, keyed_rows, row_after, row_before};
 ghost use Rattle.df_join.specs.Rules.{Cells};
@@ -16,6 +17,7 @@ ghost use Rattle.df_join.specs.Spread.{HasKeys};
 use super::pairs::tagged_rows;
 use super::{LiveJoin, StagedJoin};
 use crate::keyed::KeyedTables;
+use crate::tree_table::TreeTable;
 use df_column::{Entry, Tag};
 use df_delta::{Delta, Notes};
 use df_expr::Counter;
@@ -23,27 +25,27 @@ use df_value::Row;
 use std::alloc::AllocError;
 
 impl LiveJoin {
-    /// The left rows of the key as they will be, where it is not null: as staged, else as they are. Makes at most two
-    /// probes.
-    fn left_rows(
-        &self,
-        staged: &KeyedTables,
+    /// The table of the left rows of the key as they will be, where it is not null: as staged, else as it is. Makes at most
+    /// two probes.
+    fn left_table<'a>(
+        &'a self,
+        staged: &'a KeyedTables,
         key: &Row,
         probes: &mut Counter,
-    ) -> Result<Vec<(Tag, Row)>, AllocError>
+    ) -> Option<&'a TreeTable>
         requires { probes.old + 2 < 2 ^ 128 }
-        ensures rows { IfOk result (λ rows. (l : TaggedRows) → LeadsTo self.now.rule.indices.left self.now.left staged.now l
-            → rows.items ≡ finite.entries (keyed_rows self.now.rule self.now.rule.indices.left key.now l)) }
+        ensures rows { (l : TaggedRows) → LeadsTo self.now.rule.indices.left self.now.left staged.now l
+            → rows_or_empty (option_copied result) ≡ keyed_rows self.now.rule self.now.rule.indices.left key.now l }
         ensures exact { probes.new ≡ probes.old
             + probes_left self.now.rule key.now (is_staged staged.now key.now) }
         ensures counted { Grows probes.old probes.new 2 }
     {
         if self.rule.is_null_key(key) {
-            return Ok(Vec::new(self.alloc));
+            return None;
         }
         match staged.look(key, probes) {
-            Some(table) => table.tagged_rows(self.alloc),
-            None => tagged_rows(self.alloc, self.left.look(key, probes)),
+            Some(table) => Some(table),
+            None => self.left.look(key, probes),
         }
     }
 
@@ -76,9 +78,49 @@ impl LiveJoin {
         let alone = self
             .right
             .stage_row(&mut staged.right, goes, tag, right, &key, probes)?;
-        let matching = self.left_rows(&staged.left, &key, probes)?;
+        let left = self.left_table(&staged.left, &key, probes);
+        let matching = tagged_rows(self.alloc, left)?;
         let lone = self.rule.keeps_alone(alone);
         self.note_right(notes, lone, goes, tag, right, &matching)
+    }
+
+    /// Stages a right row in the place of another of its key, and notes their pairs. Makes at most eight probes.
+    fn note_in_place(
+        &self,
+        staged: &mut StagedJoin,
+        notes: &mut Notes,
+        tag: Tag,
+        old: &Row,
+        new: &Row,
+        probes: &mut Counter,
+    ) -> Result<(), AllocError>
+        requires few { probes.old + 8 < 2 ^ 128 }
+        requires same { row_eq (key_cells self.now.rule.indices.right old.now)
+            (key_cells self.now.rule.indices.right new.now) ≡ true }
+        ensures leads { OnOk result ((from l r : TaggedRows) → IsRowTag (is_one self.now.left_scans) tag
+            → finite.get r tag ≡ Some old.now
+            → T (new_row_fits self.now.right.empty.schema (Some new.now))
+            → LeadsOver self.now staged.old notes.old from l r
+            → LeadsOver self.now staged.new notes.new from l (set_at r tag (Some new.now))) }
+        ensures left { OnOk result (staged.new.left ≡ staged.old.left) }
+        ensures touched { OnOk result (is_staged staged.new.right
+            ≡ with_key self.now.rule.indices.right (Some new.now)
+            (with_key self.now.rule.indices.right (Some old.now) (is_staged staged.old.right))) }
+        ensures exact { OnOk result (probes.new ≡ probes.old
+            + change_probes self.now.rule.indices.right (right_probes self.now.rule (is_staged staged.old.left))
+            (is_staged staged.old.right) (Some old.now) (Some new.now)) }
+        ensures counted { Grows probes.old probes.new 8 }
+    {
+        let key = self.rule.right_key(self.alloc, old)?;
+        self.right
+            .stage_row(&mut staged.right, true, tag, old, &key, probes)?;
+        // The work of a change is that of a row that goes and of one that comes, whatever their keys are.
+        let _before = self.left_table(&staged.left, &key, probes);
+        self.right
+            .stage_row(&mut staged.right, false, tag, new, &key, probes)?;
+        let table = self.left_table(&staged.left, &key, probes);
+        let matching = tagged_rows(self.alloc, table)?;
+        self.note_replaced(notes, tag, old, new, &matching)
     }
 
     /// Stages and notes a right row that goes or comes, where there is one.
@@ -133,8 +175,15 @@ impl LiveJoin {
             (is_staged staged.old.right) entry.now.old entry.now.new) }
         ensures counted { Grows probes.old probes.new 8 }
     {
-        self.note_right_option(staged, notes, true, entry.tag, &entry.old, probes)?;
-        self.note_right_option(staged, notes, false, entry.tag, &entry.new, probes)
+        match (&entry.old, &entry.new) {
+            (Some(old), Some(new)) if self.rule.is_same_right_key(old, new) => {
+                self.note_in_place(staged, notes, entry.tag, old, new, probes)
+            }
+            _ => {
+                self.note_right_option(staged, notes, true, entry.tag, &entry.old, probes)?;
+                self.note_right_option(staged, notes, false, entry.tag, &entry.new, probes)
+            }
+        }
     }
 
     /// Stages and notes all changes of the right side. Makes at most eight probes for each.
