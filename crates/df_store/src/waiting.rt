@@ -81,20 +81,20 @@ impl Batch {
         ensures run { IfOk result (λ both. IsRunOfAll self → IsRunOfAll next → IsRunOfAll both) }
     {
         match self {
-            Batch::Run(run) => run_before(alloc, run, next),
+            Batch::Run(run) => next.behind(alloc, run),
             Batch::Apart(outcomes) => apart(outcomes, next),
         }
     }
-}
 
-// The outcomes of a run, and behind them those of another batch.
-fn run_before(alloc: Global, run: Joined, next: Batch) -> Result<Batch, AllocError>
-    ensures all { IfOk result (λ both. outcomes_of both ≡ run.outcomes.items ++ outcomes_of next) }
-    ensures run { IfOk result (λ both. IsJoined run → IsRunOfAll next → IsRunOfAll both) }
-{
-    match next {
-        Batch::Run(behind) => joined(alloc, run, behind),
-        Batch::Apart(outcomes) => apart(run.into_outcomes(), Batch::Apart(outcomes)),
+    // The outcomes of a run, and behind them those of this batch.
+    fn behind(self, alloc: Global, run: Joined) -> Result<Batch, AllocError>
+        ensures all { IfOk result (λ both. outcomes_of both ≡ run.outcomes.items ++ outcomes_of self) }
+        ensures run { IfOk result (λ both. IsJoined run → IsRunOfAll self → IsRunOfAll both) }
+    {
+        match self {
+            Batch::Run(next) => joined(alloc, run, next),
+            Batch::Apart(outcomes) => apart(run.into_outcomes(), Batch::Apart(outcomes)),
+        }
     }
 }
 
