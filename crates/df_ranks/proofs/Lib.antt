@@ -5,6 +5,7 @@ pub mod RiseSteps
 pub mod CountChanges
 pub mod Outputs
 pub mod WeightSums
+pub mod KnownNumbers
 pub mod MinRanks
 pub mod ChangedValues
 pub mod OutputSteps

@@ -1,5 +1,6 @@
 pub mod Ranked
 pub mod Counts
+pub mod Known
 pub mod Rises
 pub mod Reach
 pub mod Staged

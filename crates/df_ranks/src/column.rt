@@ -1,5 +1,5 @@
 //! Which column is ranked, how, and where its ranks stand in a row.
-ghost use Rattle.std.specs.Prelude.{◌≡◌, ◌+◌, ◌%◌, ◌^◌, ◌<◌, ◌∷◌, [], IfOk, pos};
+ghost use Rattle.std.specs.Prelude.{◌≡◌, ◌+◌, ◌^◌, ◌<◌, ◌∷◌, [], IfOk, OnOk, pos};
 ghost use Rattle.df_value.specs.Rows.{cell_at};
 ghost use Rattle.df_value.specs.Schemas as schemas;
 ghost use Rattle.df_value.specs.Schemas.{IsSchema};
@@ -8,8 +8,10 @@ ghost use Rattle.df_value.specs.declared.cell.CellType.TheVariants as dtype;
 ghost use Rattle.df_ops.specs.NamedColumns.{with_columns as columns_with_new};
 ghost use Rattle.df_ops.specs.Places as places_spec;
 ghost use Rattle.df_ops.specs.RowWise as row_wise;
-ghost use Rattle.df_ranks.specs.Counts.{counted_rank, weight_below};
+ghost use Rattle.df_ranks.specs.Counts.{counted_rank};
+ghost use Rattle.df_ranks.specs.Known.{AreNumbers};
 
+use crate::known::KnownRanks;
 use crate::rises::value_at;
 use df_counts::Counts;
 use df_ops::{Place, RankKind, columns_with, places_with, with_column_row};
@@ -84,12 +86,20 @@ impl RankColumn {
         self.kind
     }
 
-    /// The row with its rank by these counts.
-    pub fn ranked_row(&self, alloc: Global, counts: &Counts, row: &Row) -> Result<Row, AllocError>
-        ensures { IfOk result (λ r. r ≡ row_wise.with_column_row self.now.schema self.now.name row.now
+    /// The row with its rank by these counts, of which some numbers are known.
+    pub fn ranked_row(
+        &self,
+        alloc: Global,
+        counts: &Counts,
+        known: &mut KnownRanks,
+        row: &Row,
+    ) -> Result<Row, AllocError>
+        requires { AreNumbers self.now.kind counts.now known.old }
+        ensures row { IfOk result (λ r. r ≡ row_wise.with_column_row self.now.schema self.now.name row.now
             (counted_rank self.now.kind counts.now (cell_at self.now.index row.now))) }
+        ensures known { OnOk result (AreNumbers self.now.kind counts.now known.new) }
     {
-        let rank = rank_at(self.kind, self.index, counts, row);
+        let rank = rank_at(alloc, self.kind, self.index, counts, known, row)?;
         let row = with_column_row(alloc, &self.places, row, &rank)?;
         Ok(row)
     }
@@ -108,23 +118,23 @@ pub fn schema_with_ranks(alloc: Global, schema: &Schema, name: &Text) -> Result<
 }
 
 /// The rank by these counts of the row's cell at an index.
-fn rank_at(kind: RankKind, index: Option<usize>, counts: &Counts, row: &Row) -> Cell
-    ensures { result ≡ counted_rank kind counts.now (cell_at index row.now) }
+fn rank_at(
+    alloc: Global,
+    kind: RankKind,
+    index: Option<usize>,
+    counts: &Counts,
+    known: &mut KnownRanks,
+    row: &Row,
+) -> Result<Cell, AllocError>
+    requires { AreNumbers kind counts.now known.old }
+    ensures rank { IfOk result (λ c. c ≡ counted_rank kind counts.now (cell_at index row.now)) }
+    ensures known { OnOk result (AreNumbers kind counts.now known.new) }
 {
-    match value_at(index, row) {
-        Some(value) => rank_of_number(counted_below(kind, counts, value) % TOO_MANY),
-        None => Cell::Null,
-    }
-}
-
-/// What is counted below a value, modulo 2^64: the values, or the rows that have them.
-fn counted_below(kind: RankKind, counts: &Counts, value: &Cell) -> u64
-    ensures { result ≡ weight_below kind counts.now value.now % 2 ^ 64 }
-{
-    match kind {
-        RankKind::Dense => counts.values_below(value),
-        RankKind::Min => counts.rows_below(value),
-    }
+    let Some(value) = value_at(index, row) else {
+        return Ok(Cell::Null);
+    };
+    let number = known.number(alloc, kind, counts, value)?;
+    Ok(rank_of_number(number % TOO_MANY))
 }
 
 /// The rank behind so much.

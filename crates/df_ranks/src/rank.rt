@@ -1,5 +1,5 @@
 //! The live rank.
-ghost use Rattle.std.specs.Prelude.{◌≡◌, ◌∷◌, [], T, IfOk};
+ghost use Rattle.std.specs.Prelude.{◌≡◌, ◌∷◌, [], T, IfOk, OnOk};
 ghost use Rattle.std.specs.FinMap as finite;
 ghost use Rattle.df_value.specs.Schemas.{IsSchema, column_index as index_of};
 ghost use Rattle.df_value.specs.declared.cell.CellType.TheVariants as dtype;
@@ -10,11 +10,13 @@ ghost use Rattle.df_delta.specs.Work.{no_work};
 ghost use Rattle.df_ops.specs.NamedColumns.{with_columns as columns_with};
 ghost use Rattle.df_ops.specs.Tables.{rank_table};
 ghost use Rattle.df_ranks.specs.Counts.{counted_rank};
+ghost use Rattle.df_ranks.specs.Known.{AreNumbers};
 ghost use Rattle.df_ranks.specs.Nodes.{IsRanked, RanksFit};
 ghost use Rattle.df_ranks.specs.Ranked.{ranked, with_ranks};
 ghost use Rattle.df_ranks.specs.Staged.{IsStage};
 
 use crate::column::{RankColumn, schema_with_ranks};
+use crate::known::KnownRanks;
 use crate::reach::{least_change, reached_tags};
 use crate::rises::rises_of;
 use df_column::{Table, Tag};
@@ -103,13 +105,21 @@ impl LiveRank {
     }
 
     /// The new row at the tag, if there is one, with its rank.
-    fn new_row(&self, input: &Table, counts: &Counts, tag: Tag) -> Result<Option<Row>, AllocError>
-        ensures { IfOk result (λ r. r ≡ finite.get (with_ranks self.now.column.schema
+    fn new_row(
+        &self,
+        input: &Table,
+        counts: &Counts,
+        known: &mut KnownRanks,
+        tag: Tag,
+    ) -> Result<Option<Row>, AllocError>
+        requires { AreNumbers self.now.column.kind counts.now known.old }
+        ensures row { IfOk result (λ r. r ≡ finite.get (with_ranks self.now.column.schema
             self.now.column.name self.now.column.index
             (counted_rank self.now.column.kind counts.now) input.now.rows) tag) }
+        ensures known { OnOk result (AreNumbers self.now.column.kind counts.now known.new) }
     {
         match input.get(self.alloc, tag)? {
-            Some(row) => Ok(Some(self.column.ranked_row(self.alloc, counts, &row)?)),
+            Some(row) => Ok(Some(self.column.ranked_row(self.alloc, counts, known, &row)?)),
             None => Ok(None),
         }
     }
@@ -121,10 +131,11 @@ impl LiveRank {
             (with_ranks self.now.column.schema self.now.column.name self.now.column.index
             (counted_rank self.now.column.kind counts.now) input.now.rows) tags.now)) }
     {
+        let mut known = KnownRanks::new(self.alloc, counts, tags.len());
         let mut entries = Vec::new(self.alloc);
         for tag in tags {
             let old = self.output.get(self.alloc, *tag)?;
-            let new = self.new_row(input, counts, *tag)?;
+            let new = self.new_row(input, counts, &mut known, *tag)?;
             push_change(&mut entries, *tag, old, new)?;
         }
         Ok(Delta::from_entries(entries))

@@ -26,8 +26,9 @@ loop-tag-preserved c =
     let t = s.output.rows in
     let u = with_ranks s.column.schema s.column.name s.column.index (counted_rank s.column.kind c.args.counts.now) c.args.input.now.rows in
     record {
-      done = change_step t u c.args.tags.now c.loop-tag.tag-index _ _ (map entry_change c.loop-tag.entries.items) _ _ c.in_ok-old.old c.in_ok-new.new c.loop-tag-test.true refl c.in_ok-old.ensures c.in_ok-new.ensures c.in_ok-push_change.ensures.added c.loop-tag.invariant.done;
+      done = change_step t u c.args.tags.now c.loop-tag.tag-index _ _ (map entry_change c.loop-tag.entries.items) _ _ c.in_ok-old.old c.in_ok-new.new c.loop-tag-test.true refl c.in_ok-old.ensures c.in_ok-new.ensures.row c.in_ok-push_change.ensures.added c.loop-tag.invariant.done;
       rows = c.in_ok-push_change.ensures.rows c.loop-tag.invariant.rows;
+      known = c.in_ok-new.ensures.known;
     }
 
 pub returns : goal.returns

@@ -5,6 +5,7 @@ use Rattle.df_column.specs.Tables.{entry_change}
 use Rattle.df_delta.specs.Deltas.{has_row}
 use Rattle.df_delta.specs.Reached.{changes_at}
 use Rattle.df_ranks.specs.Counts.{counted_rank}
+use Rattle.df_ranks.specs.Known.{AreNumbers}
 use Rattle.df_ranks.specs.Ranked.{with_ranks}
 use Rattle.df_ranks.proofs.rank.LiveRank.changes.Given as goal
 
@@ -14,4 +15,5 @@ invariant-loop-tag l =
     record {
       done : map entry_change l.entries.items ++ changes (drop l.tag-index l.tags) ≡ changes l.tags;
       rows : T (list_all has_row l.entries.items);
+      known : AreNumbers l.self.column.kind l.counts l.known;
     }

@@ -8,13 +8,21 @@ pub returns-in_ok-ranked_row-in-Some : goal.returns-in_ok-ranked_row-in-Some
 returns-in_ok-ranked_row-in-Some c =
     let column = c.args.self.now.column in
     let number = counted_rank column.kind c.args.counts.now in
-    ap Some c.in_ok-ranked_row-in-Some.ensures
-    ∙ ap (option_and_then (rank_row column.schema column.name column.index number)) (sym c.in-Some.is ∙ c.in_ok-row.ensures)
-    ∙ sym (get_ranked column.schema column.name column.index number c.args.input.now.rows c.args.tag)
+    record {
+      row =
+          ap Some c.in_ok-ranked_row-in-Some.ensures.row
+          ∙ ap (option_and_then (rank_row column.schema column.name column.index number)) (sym c.in-Some.is ∙ c.in_ok-row.ensures)
+          ∙ sym (get_ranked column.schema column.name column.index number c.args.input.now.rows c.args.tag);
+      known = c.in_ok-ranked_row-in-Some.ensures.known;
+    }
 
 pub returns-in-None : goal.returns-in-None
 returns-in-None c =
     let column = c.args.self.now.column in
     let number = counted_rank column.kind c.args.counts.now in
-    ap (option_and_then (rank_row column.schema column.name column.index number)) (sym c.in-None.is ∙ c.in_ok-row.ensures)
-    ∙ sym (get_ranked column.schema column.name column.index number c.args.input.now.rows c.args.tag)
+    record {
+      row =
+          ap (option_and_then (rank_row column.schema column.name column.index number)) (sym c.in-None.is ∙ c.in_ok-row.ensures)
+          ∙ sym (get_ranked column.schema column.name column.index number c.args.input.now.rows c.args.tag);
+      known = c.requires;
+    }
