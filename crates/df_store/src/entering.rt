@@ -1,5 +1,5 @@
 //! The commits of a worker: chunks enter their frames through its desks, and the outcomes that stand are kept.
-ghost use Rattle.std.specs.Prelude.{◌≡◌, Ok, false, ◌<◌, ◌≤◌, ◌+◌, ◌++◌, ◌∷◌, [], ℕ, All, List, IfOk, IfSome, OnErr, if◌then◌else◌, length, slice_index_or, vec_capacity};
+ghost use Rattle.std.specs.Prelude.{◌≡◌, ◌<◌, ◌≤◌, ◌+◌, ◌++◌, ◌∷◌, [], ℕ, All, List, IfOk, IfSome, OnErr, if◌then◌else◌, length, slice_index_or, vec_capacity};
 ghost use Rattle.df_state.specs.declared.change.Change.TheVariants.{Append};
 ghost use Rattle.df_state.specs.Desks.{DeskParts};
 ghost use Rattle.df_state.specs.FrameChanges.{change_of};
@@ -79,20 +79,17 @@ fn enter_batch<Acc: Ledger, Del: Ledger, J: Naming, B: Beginning, R: Wait>(
     ensures done { AreOutcomes B.chunks done.old.items → AreOutcomes B.chunks done.new.items }
 {
     done.reserve(batch.len())?;
-    let outcomes = match batch {
-        Batch::Run(run) => {
-            if enter_run(rt, alloc, catalogue, desks, run, done, told)? {
-                return Ok(());
-            }
-            mem::replace(&mut run.outcomes, Vec::new(alloc))
+    match batch {
+        Batch::Run(run) => enter_run(rt, alloc, catalogue, desks, run, done, told),
+        Batch::Apart(outcomes) => {
+            let outcomes = mem::replace(outcomes, Vec::new(alloc));
+            enter_each(rt, alloc, catalogue, desks, outcomes, done, told)
         }
-        Batch::Apart(outcomes) => mem::replace(outcomes, Vec::new(alloc)),
-    };
-    enter_each(rt, alloc, catalogue, desks, outcomes, done, told)
+    }
 }
 
-// Commits a run in one change, and keeps its outcomes. Where it is refused, it tells so: then each chunk enters by itself, as
-// far as it can.
+// Commits a run in one change, and keeps its outcomes; where it is refused, each of its chunks enters by itself, as far as it
+// can.
 fn enter_run<Acc: Ledger, Del: Ledger, J: Naming, B: Beginning, R: Wait>(
     rt: &R,
     alloc: Global,
@@ -101,21 +98,22 @@ fn enter_run<Acc: Ledger, Del: Ledger, J: Naming, B: Beginning, R: Wait>(
     run: &mut Joined,
     done: &mut Vec<Outcome>,
     told: &mut Option<Told<J>>,
-) -> Result<bool, Stop>
+) -> Result<(), Stop>
     requires room { length done.old.items + length run.old.outcomes.items ≤ vec_capacity done.old }
     requires joined { IsJoined run.old }
     requires made { AreOutcomes B.chunks run.old.outcomes.items }
     ensures desks { all_without_accepted desks.new.items ≡ all_without_accepted desks.old.items }
     ensures counted { AreCounted desks.old.items done.old.items desks.new.items done.new.items }
     ensures done { AreOutcomes B.chunks done.old.items → AreOutcomes B.chunks done.new.items }
-    ensures apart { result ≡ Ok false → (run.new.outcomes ≡ run.old.outcomes) × (done.new ≡ done.old) }
 {
     let incoming = Incoming::Prepared(&run.run);
     let entered = enter_chunk(rt, alloc, catalogue, desks, run.frame, incoming, told)?;
+    let outcomes = mem::replace(&mut run.outcomes, Vec::new(alloc));
     if entered {
-        keep_all(mem::replace(&mut run.outcomes, Vec::new(alloc)), done);
+        keep_all(outcomes, done);
+        return Ok(());
     }
-    Ok(entered)
+    enter_each(rt, alloc, catalogue, desks, outcomes, done, told)
 }
 
 // Adds outcomes to those that are done.
