@@ -16,14 +16,30 @@ FILES = ["report.toml", "sales.csv", "customers.csv"]
 def planted(folder, mistake):
     """Lays the document and its files into a folder, with a mistake in one of them."""
     for name in FILES:
-        shutil.copy(HERE / name, folder / name)
-    if mistake:
-        path = folder / mistake.get("file", "report.toml")
-        text = path.read_text()
-        count = text.count(mistake["old"])
-        if count != 1:
-            sys.exit(f"{mistake['old']!r} stands {count} times in {path.name}")
-        path.write_text(text.replace(mistake["old"], mistake["new"]))
+        laid = folder / name
+        if laid.is_dir():
+            laid.rmdir()
+        shutil.copy(HERE / name, laid)
+    if not mistake:
+        return
+    path = folder / mistake.get("file", "report.toml")
+    if "stands" in mistake:
+        path.unlink()
+        if mistake["stands"] == "folder":
+            path.mkdir()
+        return
+    text = path.read_text()
+    count = text.count(mistake["old"])
+    if count != 1:
+        sys.exit(f"{mistake['old']!r} stands {count} times in {path.name}")
+    new = mistake["new"].replace("<repeat>", repeated(mistake))
+    path.write_text(text.replace(mistake["old"], new), encoding=mistake.get("encoding", "utf-8"))
+
+
+def repeated(mistake):
+    """What stands for <repeat>."""
+    repeat = mistake.get("repeat", {"text": "", "times": 0})
+    return repeat.get("between", "").join(repeat["text"].replace("#", str(at + 1)) for at in range(repeat["times"]))
 
 
 def answer(program, folder, words):

@@ -4,7 +4,7 @@
 Random commands, also wrong ones, empty lines and comments, without and with --hall: with --framed the bodies one behind
 another are what the plain session prints, each frame has as many lines as its head says, an `error` has one line and begins as a
 refusal does, an `ok` does not, and each command has its own frame, one of `source` one for each command of its file. Then
-the client of the guide, which stands in examples/shell/client.py, asks and is refused. Last a session runs with each tenth allocation refused: it
+the clients of the guide, which stand in examples/shell, in Python and in POSIX sh, ask and are refused. Last a session runs with each tenth allocation refused: it
 has as many frames, of which one says `error 1` and `memory`, or fewer where a file was not read to its end. Prints what went otherwise, and ends with a
 count.
 """
@@ -12,6 +12,7 @@ import os
 import pathlib
 import random
 import re
+import shutil
 import subprocess
 import sys
 import tempfile
@@ -124,6 +125,53 @@ def client_fault(program, folder):
     return None if asked == wanted else f"the client: {asked}"
 
 
+# What a script asks that reads the client in sh, and the statuses.
+SCRIPT = """
+. "$1"
+shell_open "$2" d.toml; echo "status $?"
+shell_ask 'append t' x,1 '"x\\",2' .; echo "status $?"
+table=$(shell_ask 'show by_k'); echo "status $?"
+printf '%s\\n' "$table"
+shell_ask '# nothing' views
+shell_ask 'delete t 7'; echo "status $?"
+shell_ask 'define indented t [["select", ["k", ["col", "k"]]]]'
+shell_ask 'rows t csv'
+shell_close; echo "status $?"
+shell_ask views; echo "status $?"
+"""
+SAID = """refused t 0: record 2, column v
+status 0
+ok 0..1
+status 0
+status 0
+by_k (2 x 2)
+k    s
+x    1
+x\\\\  2
+by_k
+C5 7: the frame has no row 7
+status 1
+ok
+number,k,v
+0,x,1
+1,x\\,2
+status 0
+status 2
+"""
+
+
+def script_fault(program, folder, shell):
+    """What a script is answered otherwise than wanted."""
+    client = HERE / "examples/shell/client.sh"
+    if client.read_text() not in (HERE / "docs/GUIDE.md").read_text():
+        return "the guide has another client in sh"
+    words = [shell, "-u", "-c", SCRIPT, shell, str(client), program]
+    run = subprocess.run(words, capture_output=True, text=True, cwd=folder, timeout=120, check=False)
+    if (run.stdout, run.returncode) != (SAID, 0):
+        return f"{shell}: {run.stdout}{run.stderr}"
+    return None
+
+
 SHORT = "views\nappend t\nx,1\ny,2\n.\nshow by_k\nplan by_k\nload t more.csv\nload t bad.csv\nnosuch\nbooks t\ncheck\n"
 
 
@@ -174,10 +222,11 @@ def main(program, seed="1", commands="1000"):
             if fault:
                 print(f"otherwise: {words}: {fault[:2000]}")
                 wrong += 1
-        fault = client_fault(program, folder)
-        if fault:
-            print(f"otherwise: {fault}")
-            wrong += 1
+        scripts = [script_fault(program, folder, name) for name in ("sh", "dash", "bash") if shutil.which(name)]
+        for fault in [client_fault(program, folder), *scripts]:
+            if fault:
+                print(f"otherwise: {fault}")
+                wrong += 1
         faults, answered = memory_faults(program, folder)
         if answered < 10:
             faults.append(f"memory was answered {answered} times")

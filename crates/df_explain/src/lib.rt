@@ -1,6 +1,7 @@
 //! Faults of a document in words: where in the document, what is wrong there, and what would do.
 //!
-//! [`explain`] reads the document once more and tells of a fault that `df_document` answered. A fault of the document's shape
+//! [`explain`] reads the document once more and tells of a fault that `df_document` answered, and [`next_view_words`] of a
+//! fault of one more view. A fault of the document's shape
 //! names its place itself, a [`Location`](df_text::Location); the step of a plan that does not check is found by
 //! [`faulty_step`].
 #![tactic(auto)]
@@ -10,12 +11,16 @@ mod explaining;
 mod forms;
 mod names;
 mod near;
+mod next_view;
 mod part;
 mod place;
 mod plan_place;
 mod plan_words;
+mod step_words;
 mod unknown_words;
 mod views_words;
+mod written_view;
 
 pub use explaining::{explain, explanation};
+pub use next_view::next_view_words;
 pub use plan_place::faulty_step;

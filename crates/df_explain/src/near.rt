@@ -10,8 +10,8 @@ struct Near<'a> {
     edits: usize,
 }
 
-/// That there is no such thing of this name, then a name that is nearly the same if there is one, and all that there are:
-/// ``no column `amonut`; did you mean `amount`? the columns there are region, amount``.
+/// That there is no such thing of this name, then a name that is nearly the same if there is one, and all that there are, or that
+/// there is none: ``no column `amonut`; did you mean `amount`? the columns there are region, amount``.
 pub fn unknown(
     alloc: Global,
     kind: &str,
@@ -21,6 +21,9 @@ pub fn unknown(
 ) -> Result<String, AllocError> {
     let said = quoted(alloc, word)?;
     let said = said.as_str();
+    if names.is_empty() {
+        return format!(in alloc; "no {kind} {said}; there is none");
+    }
     let near = did_you_mean(alloc, word, names)?;
     let near = near.as_str();
     let names = listed(alloc, names)?;

@@ -39,17 +39,6 @@ pub fn text_of(value: &Value) -> Option<&str> {
     }
 }
 
-/// The items of a step of a view.
-pub fn step_items(tree: &Table, view: usize, step: usize) -> &[Value] {
-    match table_in(tree, "view", view) {
-        Some(table) => match array_at(table, "steps").get(step) {
-            Some(value) => items_of(value),
-            None => &[],
-        },
-        None => &[],
-    }
-}
-
 /// The text that the first of these items is.
 pub fn head_of(items: &[Value]) -> Option<&str> {
     text_of(items.first()?)

@@ -8,6 +8,13 @@ use df_text::{FrameSpec, Views, escape};
 use df_value::{CellType, Duplicate, Schema, Text};
 use std::alloc::{AllocError, Global};
 
+/// What is wrong in a plan, and the step where, if it is one.
+#[derive(Drop)]
+struct PlanWords {
+    step: Option<String>,
+    what: String,
+}
+
 /// What is wrong in the plan of the view of this name, with the step: the text behind the document's name.
 pub fn plan_words(
     alloc: Global,
@@ -18,18 +25,41 @@ pub fn plan_words(
     let place = view_place(alloc, document, view)?;
     match plan_of(document, view) {
         Some(plan) => {
-            let frames = schemas(alloc, document.frames.as_slice())?;
-            let what = step_words(alloc, plan, frames.as_slice(), fault)?;
-            joined(alloc, &place, &what)
+            let words = words_of(alloc, document, plan, fault)?;
+            behind_view(alloc, &place, &words)
         }
         None => Ok(place),
     }
 }
 
-fn joined(alloc: Global, place: &String, what: &String) -> Result<String, AllocError> {
-    let place = place.as_str();
-    let what = what.as_str();
-    format!(in alloc; "{place}{what}")
+fn behind_view(alloc: Global, view: &String, words: &PlanWords) -> Result<String, AllocError> {
+    let view = view.as_str();
+    let what = words.what.as_str();
+    match &words.step {
+        Some(step) => {
+            let step = step.as_str();
+            format!(in alloc; "{view}, {step}: {what}")
+        }
+        None => format!(in alloc; "{view}: {what}"),
+    }
+}
+
+/// What is wrong in a plan over a document's frames, behind the step: ``step 2 `filter`: no column `amonut`; ..``.
+pub fn words_in_plan(
+    alloc: Global,
+    document: &Views,
+    plan: &Plan,
+    fault: &PlanFault,
+) -> Result<String, AllocError> {
+    let words = words_of(alloc, document, plan, fault)?;
+    let what = words.what.as_str();
+    match &words.step {
+        Some(step) => {
+            let step = step.as_str();
+            format!(in alloc; "{step}: {what}")
+        }
+        None => String::from_str(alloc, what),
+    }
 }
 
 // A view by its number, from 1, and its name.
@@ -68,41 +98,46 @@ fn schemas(alloc: Global, frames: &[FrameSpec]) -> Result<Vec<Schema>, AllocErro
     Ok(schemas)
 }
 
-// The step and what is wrong there, behind the view. How large the plan is is no matter of a step.
-fn step_words(
+// How large the plan is is no matter of a step.
+fn words_of(
     alloc: Global,
+    document: &Views,
     plan: &Plan,
-    frames: &[Schema],
     fault: &PlanFault,
-) -> Result<String, AllocError> {
+) -> Result<PlanWords, AllocError> {
     match fault {
-        PlanFault::TooManyScans => String::from_str(
+        PlanFault::TooManyScans => of_whole_plan(
             alloc,
-            ": it reads frames more than 3 times, those of right sides too",
+            "it reads frames more than 3 times, those of right sides too",
         ),
-        PlanFault::TooDeep => {
-            String::from_str(
-                alloc,
-                ": more than 11 steps follow one another on the way from a frame",
-            )
-        }
+        PlanFault::TooDeep => of_whole_plan(
+            alloc,
+            "more than 11 steps follow one another on the way from a frame",
+        ),
         _ => {
-            let step = faulty_step(alloc, plan, frames)?;
-            words_at(alloc, &step, frames, fault)
+            let frames = schemas(alloc, document.frames.as_slice())?;
+            words_at_step(alloc, plan, frames.as_slice(), fault)
         }
     }
 }
 
-fn words_at(
+fn of_whole_plan(alloc: Global, what: &str) -> Result<PlanWords, AllocError> {
+    let what = String::from_str(alloc, what)?;
+    Ok(PlanWords { step: None, what })
+}
+
+fn words_at_step(
     alloc: Global,
-    step: &FaultyStep<'_>,
+    plan: &Plan,
     frames: &[Schema],
     fault: &PlanFault,
-) -> Result<String, AllocError> {
-    let place = step.place.as_str();
-    let what = what_is_wrong(alloc, step.part, frames, fault)?;
-    let what = what.as_str();
-    format!(in alloc; ", {place}: {what}")
+) -> Result<PlanWords, AllocError> {
+    let FaultyStep { place, part } = faulty_step(alloc, plan, frames)?;
+    let what = what_is_wrong(alloc, part, frames, fault)?;
+    Ok(PlanWords {
+        step: Some(place),
+        what,
+    })
 }
 
 fn what_is_wrong(

@@ -1,0 +1,34 @@
+//! A view as it is written.
+use crate::part::{array_at, items_of, table_in, text_at};
+use toml::{Table, Value};
+
+/// The name of the frame that a view begins with, if it has one, and its steps.
+#[derive(Clone, Copy)]
+pub struct WrittenView<'a> {
+    pub source: Option<&'a str>,
+    pub steps: &'a [Value],
+}
+
+impl<'a> WrittenView<'a> {
+    /// The view of this index in a document's tree.
+    pub fn in_tree(tree: &'a Table, index: usize) -> WrittenView<'a> {
+        match table_in(tree, "view", index) {
+            Some(table) => WrittenView {
+                source: text_at(table, "from"),
+                steps: array_at(table, "steps"),
+            },
+            None => WrittenView {
+                source: None,
+                steps: &[],
+            },
+        }
+    }
+
+    /// The items of a step.
+    pub fn items_of_step(&self, step: usize) -> &'a [Value] {
+        match self.steps.get(step) {
+            Some(value) => items_of(value),
+            None => &[],
+        }
+    }
+}
