@@ -57,10 +57,10 @@ PLAIN = [
     ("append nosuch\nx\n.", 1), ("replace t 0\nz,5", 1), ("replace t 0 0\nz,5\nz,6", 1), ("delete t 0", 1), ("delete u 0 1", 1),
     ("define few t [[\"filter\", [\">\", [\"col\", \"v\"], 1]]]", 1), ("define bad t [[\"filtre\"]]", 1), ("drop few", 1), ("register few", 1),
     ("load t more.csv", 1), ("load t bad.csv", 1), ("load t wrong.csv", 1), ("load t none.csv", 1), ("source few.commands", 4),
-    ("source none.commands", 0), ("source ends.commands", 1), ("source nosuch", 1), ("nosuch", 1), ("show", 1), ("show by_k x y z", 1), ("frame f x Int", 1),
+    ("export by_k out.csv", 1), ("export nosuch out.csv", 1), ("export by_k nosuch/out.csv", 1), ("source none.commands", 0), ("source ends.commands", 1), ("source nosuch", 1), ("nosuch", 1), ("show", 1), ("show by_k x y z", 1), ("frame f x Int", 1),
     ("", 0), ("   ", 0), ("# a comment", 0), ("  # one more", 0), ("\"no end", 1), ("x" * 1048577, 1),
 ]
-REFUSAL = re.compile(r"(\? |[VPCFSH]\d|record |memory$)")
+REFUSAL = re.compile(r"(\? |[VPCFSHW]\d|record |memory$)")
 
 
 def frames_of(text):

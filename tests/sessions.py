@@ -6,7 +6,7 @@
                                                        NAME.args and the answers as NAME.stdout, as `rt try --cases`
                                                        reads them
 
-NAME.session is a transcript over the document NAME.toml; where there is none, of a session without a document. A line `> COMMAND` is what is typed, `| LINE` a line of CSV
+Each session runs in a folder of its own, with copies of the files that it reads. NAME.session is a transcript over the document NAME.toml; where there is none, of a session without a document. A line `> COMMAND` is what is typed, `| LINE` a line of CSV
 behind an append, and `N| LINE` the same line N times; the lines below are the answer, and those above the first
 command are what the shell writes at its start. A command is sent only when the answer to the one before it is there.
 
@@ -90,10 +90,10 @@ class Session:
 class Runner:
     """Runs one session, and keeps what differs."""
 
-    def __init__(self, program, words, session):
+    def __init__(self, program, words, session, folder=None):
         document = document_of(session.path)
         self.command = [os.path.abspath(program), *words, *document]
-        self.folder = os.path.dirname(os.path.abspath(session.path))
+        self.folder = folder or os.path.dirname(os.path.abspath(session.path))
         self.session = session
         self.frames, self.views = session.names()
         # What a start without enough memory tells: by itself, or of the document.
@@ -275,13 +275,23 @@ def failing_library(folder):
 
 def run(program, words, path, library, folder):
     session = Session(path, "--hall" in words)
-    runner = Runner(program, words, session)
+    runner = Runner(program, words, session, own_folder(path, folder))
     runner.converse()
     refused = 0
     if library and not runner.wrong and not session.runs_once():
         counts = os.path.join(folder, path.replace("/", "_") + ".counts")
         refused = runner.refuse_each(library, counts)
     return runner.wrong, refused
+
+
+def own_folder(path, folder):
+    """A folder with the document of a session and the files that it may read, in which it may write others."""
+    own, beside = os.path.join(folder, path.replace("/", "_")), os.path.dirname(os.path.abspath(path))
+    os.mkdir(own)
+    for name in os.listdir(beside):
+        if name in document_of(path) or name.endswith((".csv", ".commands")):
+            shutil.copy(os.path.join(beside, name), own)
+    return own
 
 
 def export(folder, hall, paths):

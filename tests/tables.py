@@ -2,14 +2,19 @@
 """tables.py PROGRAM [SEED]: what dfshell writes as CSV and as JSON, read by Python's readers and by dfshell itself.
 
 Random rows with commas, quotes, line ends, empty texts and nulls stand in a frame. A view of them is shown as CSV, which Python's
-csv reads as the same texts, and as JSON, whose lines Python's json reads as the same values. The rows of the frame, written as CSV
-and loaded by a session without a document, are written as the same bytes again."""
+csv reads as the same texts, and as JSON, whose lines Python's json reads as the same values. The rows of the frame, exported as CSV
+and loaded by a session without a document, are written as the same bytes again.
+
+An export that is refused leaves what stands under its path, and nothing beside it: where there is no folder, a folder stands there, a
+file of another stands beside it, or the disk takes only a part of it."""
 
 import csv
 import io
 import json
 import pathlib
 import random
+import resource
+import signal
 import subprocess
 import sys
 import tempfile
@@ -97,12 +102,38 @@ def one(program, folder, random):
         check("empty texts", count_empty(shown("show t csv")), 0)
 
     # What is written is loaded again.
-    table = shown("show t csv")
-    (folder / "again.csv").write_text(table, newline="")
+    (folder / "again.csv").write_text("an older file")
+    rows_told = f"{len(rows)} row{'' if len(rows) == 1 else 's'}"
+    check("exported", shown("export t again.csv"), f"ok {rows_told}\n")
+    check("the file", (folder / "again.csv").read_bytes(), shown("show t csv").encode())
+    check("files", sorted(file.name for file in folder.iterdir()), ["again.csv", "t.csv", "t.toml"])
     declared = " ".join(f'"{name.replace(chr(34), chr(34) * 2)}" {dtype}' for name, dtype in columns)
     again = answers(program, folder, [], f"frame t {declared}\nload t again.csv\nrows t csv\n")
-    loaded = f"ok {len(rows)} row{'' if len(rows) == 1 else 's'}" + (f", 0..{len(rows) - 1}" if rows else "")
+    loaded = f"ok {rows_told}" + (f", 0..{len(rows) - 1}" if rows else "")
     check("loaded", again, f"ok\n{loaded}\n{numbered}")
+
+
+def small_files():
+    """No file may have more than 100 bytes, and a write beyond fails."""
+    signal.signal(signal.SIGXFSZ, signal.SIG_IGN)
+    resource.setrlimit(resource.RLIMIT_FSIZE, (100, 100))
+
+
+def refused(program, folder):
+    """Exports that are refused, with all that the folder has afterwards."""
+    files = {"d.toml": document(COLUMNS[:1]), "t.csv": "who\n" + "a name of some length\n" * 10, "old.csv": "older", "held.csv": "older", "held.csv.part": "theirs"}
+    for name, text in files.items():
+        (folder / name).write_text(text)
+    (folder / "folder").mkdir()
+    for path, code in [("old.csv", "W2"), ("new.csv", "W2"), ("held.csv", "W1"), ("none/new.csv", "W1"), ("folder", "W3")]:
+        limit = small_files if code == "W2" else None
+        run = subprocess.run([program, "d.toml"], cwd=folder, input=f"export t {path}\nviews\n".encode(), capture_output=True, preexec_fn=limit, check=True)
+        lines = run.stdout.decode().split("\n")
+        check(path, (lines[0].split(":")[0], lines[1:]), (code, ["filled", "t", ""]))
+        check(path, {file.name: file.read_text() for file in folder.iterdir() if file.is_file()}, files)
+        check(path, list((folder / "folder").iterdir()), [])
+    check("written", answers(program, folder, ["d.toml"], "export t old.csv\n"), "ok 10 rows\n")
+    check("written", (folder / "old.csv").read_text(), files["t.csv"])
 
 
 def count_empty(table):
@@ -123,7 +154,9 @@ def main():
     with tempfile.TemporaryDirectory() as name:
         for at in range(50):
             one(program, pathlib.Path(name), random.Random(seed * 1000 + at))
-    print("50 tables, written and read")
+    with tempfile.TemporaryDirectory() as name:
+        refused(program, pathlib.Path(name))
+    print("50 tables, written and read; 5 exports refused")
 
 
 if __name__ == "__main__":

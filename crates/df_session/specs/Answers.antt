@@ -11,7 +11,10 @@ use Rattle.df_session.specs.declared.answering.Answer.{Answer}
 use Rattle.df_session.specs.declared.answering.Answer.TheVariants as answer
 use Rattle.df_session.specs.declared.command.Command.{Command}
 use Rattle.df_session.specs.declared.command.Command.TheVariants as command
+use Rattle.df_session.specs.declared.command.Format.TheVariants as format
+use Rattle.df_session.specs.declared.command.Part.TheVariants as part
 use Rattle.df_session.specs.declared.command.Question.{Question}
+use Rattle.df_session.specs.declared.command.Question.TheVariants as question
 use Rattle.df_session.specs.declared.definitions.Definitions.{Definitions}
 use Rattle.df_session.specs.declared.refusal.Mistake.TheVariants as mistake
 use Rattle.df_session.specs.declared.refusal.Refusal.{Refusal}
@@ -22,6 +25,7 @@ abbrev pub answer_text : Answer → List ℕ
 answer_text answer.Accepted = codes "ok\n"
 answer_text (answer.Told text) = text.items
 answer_text (answer.Load frame path) = []
+answer_text (answer.Export path table) = []
 answer_text (answer.Source path) = []
 answer_text answer.Ended = []
 
@@ -34,6 +38,13 @@ IsWordFault r = ⊥
 -- A refusal to tell of a command: there is none of the name, or memory was refused.
 abbrev pub IsRefusalOfHelp : Option (List ℕ) → Refusal → Type 0
 IsRefusalOfHelp want r = (r ≡ refusal.Memory) ⊎ ((r ≡ refusal.Mistake mistake.NoCommand) × (want ≡ None))
+
+-- What is answered with a table for the file under a path, by what a store keeps and by its answer to the question for the table.
+-- Memory may be refused before the question.
+abbrev pub IsTableFor : Type 0 → (Result (Vec ℕ) Refusal → Type 0) → List ℕ → Result Answer Refusal → Type 0
+IsTableFor Keeps Answered path (Ok (answer.Export file table)) = (file ≡ path) × Answered (Ok table)
+IsTableFor Keeps Answered path (Err r) = ((r ≡ refusal.Memory) × Keeps) ⊎ Answered (Err r)
+IsTableFor Keeps Answered path result = ⊥
 
 -- only a view that was defined alters the definitions
 abbrev pub LeavesDefinitions : Definitions → Definitions → Command → Result Answer Refusal → Type 0
@@ -65,6 +76,7 @@ module _
     IsAnswer d after (command.Define view source) steps (Err r) = IsRefusalOfDefine Refuses d view.now source.now steps r × Keeps
     IsAnswer d after (command.Load frame path) lines (Ok (answer.Load f p)) = (f ≡ frame.now) × (p ≡ path.now) × Keeps
     IsAnswer d after (command.Load frame path) lines (Err r) = (r ≡ refusal.Memory) × Keeps
+    IsAnswer d after (command.Export view path) lines result = IsTableFor Keeps (Answers (question.Show view part.Whole format.Csv)) path.now result
     IsAnswer d after (command.Source path) lines (Ok (answer.Source file)) = (file ≡ path.now) × Keeps
     IsAnswer d after (command.Source path) lines (Err r) = (r ≡ refusal.Memory) × Keeps
     IsAnswer d after command.Help lines (Ok (answer.Told text)) = (text.items ≡ help_list commands) × Keeps

@@ -65,8 +65,10 @@ abbrev pub IsLineFault : Refusal → Type 0
 IsLineFault (refusal.Mistake m) = ⊥
 IsLineFault (refusal.Store f) = ⊥
 IsLineFault (refusal.File f) = ⊥
-IsLineFault (refusal.Definition f) = ⊥
+IsLineFault (refusal.Frame f) = ⊥
+IsLineFault (refusal.Definition f words) = ⊥
 IsLineFault (refusal.Version f) = ⊥
+IsLineFault (refusal.Write f) = ⊥
 IsLineFault r = ⊤
 
 -- What may be wrong with lines that were read, when they are to be rows behind numbers: what may be wrong with a chunk of

@@ -72,6 +72,7 @@ IsCommandOf words (command.Change change) = IsChangeOf words change
 IsCommandOf words (command.Question question) = IsQuestionOf words question
 IsCommandOf words (command.AppendNext frame) = words ≡ codes "append" ∷ frame.now ∷ []
 IsCommandOf words (command.Load frame path) = words ≡ codes "load" ∷ frame.now ∷ path.now ∷ []
+IsCommandOf words (command.Export view path) = words ≡ codes "export" ∷ view.now ∷ path.now ∷ []
 IsCommandOf words (command.Define view source) =
     (word : List ℕ) × (rest : List (List ℕ)) × (words ≡ codes "define" ∷ view.now ∷ source.now ∷ word ∷ rest)
 IsCommandOf words (command.Source path) = words ≡ codes "source" ∷ path.now ∷ []

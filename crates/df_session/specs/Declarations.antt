@@ -3,7 +3,6 @@
 use Rattle.std.specs.Prelude.{◌≡◌, ◌⊎◌, ⊤, ◌++◌, ℕ, List, [], ◌∷◌, codes, flat_map, Err, IsOk, Result, Ok, Some}
 use Rattle.df_text.specs.Document.{document_of}
 use Rattle.df_text.specs.declared.fault.ViewsFault.{ViewsFault}
-use Rattle.df_document.specs.declared.fault.DocumentFault.TheVariants.{Views}
 use Rattle.df_writing.specs.FrameTables.{frame_table}
 use Rattle.df_session.specs.Answers.{IsRefusalOfHelp, IsWordFault}
 use Rattle.df_session.specs.Commands.{IsCommandOf, IsQuestionOf}
@@ -23,7 +22,7 @@ IsDeclared document after name columns = (after ≡ document ++ frame_table name
 
 -- A refusal of frames, by what is wanted of their document: the fault that it has, or that memory was refused.
 abbrev pub IsFaultOfFrames : {A : Type 0} → Result A ViewsFault → Refusal → Type 0
-IsFaultOfFrames want r = (r ≡ refusal.Memory) ⊎ ((f : ViewsFault) × (r ≡ refusal.Definition (Views f)) × (want ≡ Err f))
+IsFaultOfFrames want r = (r ≡ refusal.Memory) ⊎ ((f : ViewsFault) × (r ≡ refusal.Frame f) × (want ≡ Err f))
 
 -- A refusal to declare a frame: that of the document with it.
 abbrev pub IsRefusalOfFrame : List ℕ → List ℕ → List (List ℕ × List ℕ) → Refusal → Type 0
@@ -59,11 +58,12 @@ abbrev pub IsRefusalToHelp : List (List ℕ × List ℕ × List ℕ) → List (L
 IsRefusalToHelp commands words r =
     (name : List ℕ) × (words ≡ codes "help" ∷ name ∷ []) × IsRefusalOfHelp (help_on name commands) r
 
--- the commands that may change a store, or read a file
+-- the commands that may change a store, or open a file
 abbrev pub IsOpening : Command → Type 0
 IsOpening (command.Change change) = ⊤
 IsOpening (command.AppendNext frame) = ⊤
 IsOpening (command.Load frame path) = ⊤
+IsOpening (command.Export view path) = ⊤
 IsOpening (command.Define view source) = ⊤
 IsOpening (command.Source path) = ⊤
 IsOpening c = ⊥

@@ -7,6 +7,7 @@ use Rattle.df_plan.specs.CheckedParts.{CheckedParts}
 use Rattle.df_text.specs.declared.document.ViewSpec.{ViewSpec}
 use Rattle.df_document.specs.Opening.{next_view_in}
 use Rattle.df_document.specs.declared.fault.DocumentFault.{DocumentFault}
+use Rattle.df_explain.specs.Explanations.{IsOneLine}
 use Rattle.df_session.specs.declared.definitions.Definitions.{Definitions}
 use Rattle.df_session.specs.declared.refusal.Refusal.{Refusal}
 use Rattle.df_session.specs.declared.refusal.Refusal.TheVariants as refusal
@@ -22,9 +23,12 @@ with_view d view plan = record {
   plans = d.plans ++ plan ∷ [];
 }
 
--- A refusal of a view, by what is wanted of its words: the fault that they have, or that memory was refused.
+-- A refusal of a view, by what is wanted of its words: the fault that they have, with what is wrong in one line, or that memory was
+-- refused.
 abbrev pub IsFaultOfView : {A : Type 0} → Result A DocumentFault → Refusal → Type 0
-IsFaultOfView want r = (r ≡ refusal.Memory) ⊎ ((f : DocumentFault) × (r ≡ refusal.Definition f) × (want ≡ Err f))
+IsFaultOfView want r =
+    (r ≡ refusal.Memory)
+    ⊎ ((f : DocumentFault) × (words : List ℕ) × (r ≡ refusal.Definition f words) × (want ≡ Err f) × IsOneLine words)
 
 -- the view was defined: it checks, it was registered under its name, and it is kept behind all others
 module _ (Makes : Change → Type 0) where

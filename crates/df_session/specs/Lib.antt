@@ -15,3 +15,4 @@ pub mod Described
 pub mod Numbers
 pub mod Filling
 pub mod Loading
+pub mod Exported

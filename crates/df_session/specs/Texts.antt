@@ -10,13 +10,15 @@ use Rattle.df_csv.specs.declared.fault.CsvFault.TheVariants as csv
 use Rattle.df_print.specs.Printed.{escaped_text}
 use Rattle.df_value.specs.declared.chunk.ChunkFault.{ChunkFault}
 use Rattle.df_value.specs.declared.chunk.ChunkFault.TheVariants as chunk
-use Rattle.df_session.specs.DefinitionTexts.{definition_text}
+use Rattle.df_session.specs.DefinitionTexts.{definition_text, frame_text}
 use Rattle.df_session.specs.declared.refusal.Refusal.{Refusal}
 use Rattle.df_session.specs.declared.refusal.Refusal.TheVariants as refusal
 use Rattle.df_session.specs.declared.refusal.Mistake.{Mistake}
 use Rattle.df_session.specs.declared.refusal.Mistake.TheVariants as mistake
 use Rattle.df_session.specs.declared.refusal.VersionFault.{VersionFault}
 use Rattle.df_session.specs.declared.refusal.VersionFault.TheVariants as version
+use Rattle.df_session.specs.declared.refusal.WriteFault.{WriteFault}
+use Rattle.df_session.specs.declared.refusal.WriteFault.TheVariants as write
 
 -- what is wrong with a line
 abbrev pub mistake_text : Mistake → List ℕ
@@ -100,6 +102,13 @@ version_text version.Spent = codes "H1: 2^64 - 1 versions were published; there 
 version_text version.Ahead = codes "H2: the hall knows fewer changes than this session was told of"
 version_text version.Missing = codes "H3: there is no version to answer from"
 
+-- why a table is not written to a file
+abbrev pub write_text : WriteFault → List ℕ
+write_text write.NotMade = codes "W1: PATH.part cannot be made: no such folder, no right to write there, or a file of that name stands there"
+write_text write.NotWritten = codes "W2: the file cannot be written whole, as on a full disk"
+write_text write.NotPlaced = codes "W3: the file cannot be put there: a folder stands there, or there is no right to write"
+write_text write.Memory = codes "memory"
+
 -- a bad cell, by its record's number and its column's name
 abbrev pub text_of_cell : ℕ → List ℕ → List ℕ
 text_of_cell number column =
@@ -109,10 +118,12 @@ text_of_cell number column =
 abbrev pub text_of : Refusal → List ℕ
 text_of (refusal.Mistake m) = codes "? " ++ mistake_text m
 text_of (refusal.Store f) = catalogue_text f
-text_of (refusal.Definition f) = definition_text f
+text_of (refusal.Frame f) = frame_text f
+text_of (refusal.Definition f words) = definition_text f words
 text_of (refusal.Version f) = version_text f
 text_of (refusal.Csv f) = lines_text f
 text_of (refusal.File f) = file_text f
 text_of (refusal.Cell number column) = text_of_cell number column
 text_of (refusal.Chunk f) = chunk_text f
+text_of (refusal.Write f) = write_text f
 text_of refusal.Memory = codes "memory"

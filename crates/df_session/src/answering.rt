@@ -1,12 +1,12 @@
 //! The answers to commands.
 ghost use Rattle.std.specs.Prelude.{◌≡◌, IfErr, IfOk, OnErr, OnOk, Some, map};
 ghost use Rattle.csv.specs.Records.{fields_of};
-ghost use Rattle.df_session.specs.Answers.{IsAnswer, IsAnswerToLine, IsRefusalOfHelp, LeavesDefinitions, answer_text};
+ghost use Rattle.df_session.specs.Answers.{IsAnswer, IsAnswerToLine, IsRefusalOfHelp, IsTableFor, LeavesDefinitions, answer_text};
 ghost use Rattle.df_session.specs.Asked.{IsMadeAsAsked, IsRefusalOfAsked};
 ghost use Rattle.df_session.specs.Help.{help_on};
 
 use crate::changing::{append, append_next, delete, drop_view, register, replace};
-use crate::command::{AskedChange, Command, read_command};
+use crate::command::{AskedChange, Command, Format, Part, Question, read_command};
 use crate::defining::define;
 use crate::definitions::Definitions;
 use crate::help::{CommandHelp, explain_command, list_commands};
@@ -25,6 +25,8 @@ pub enum Answer {
     Told(Vec<u8>),
     /// Nothing: the rows of a file enter a frame, named first, whose path this is.
     Load(Text, Text),
+    /// Nothing: a file under this path is to have this table.
+    Export(Text, Vec<u8>),
     /// Nothing: the commands in the file under this path come next.
     Source(Text),
     /// Nothing: the session ends.
@@ -39,7 +41,7 @@ impl Answer {
         match self {
             Answer::Accepted => b"ok\n",
             Answer::Told(text) => text.as_slice(),
-            Answer::Load(..) | Answer::Source(_) | Answer::Ended => b"",
+            Answer::Load(..) | Answer::Export(..) | Answer::Source(_) | Answer::Ended => b"",
         }
     }
 }
@@ -107,6 +109,10 @@ fn answer_command<S: ViewStore>(
             drop(lines);
             Ok(load_of(alloc, frame, path)?)
         }
+        Command::Export(view, path) => {
+            drop(lines);
+            export_of(alloc, definitions, store, view, path)
+        }
         Command::Source(path) => {
             drop(lines);
             Ok(Answer::Source(Text::from_str(alloc, path)?))
@@ -132,6 +138,29 @@ fn load_of(alloc: Global, frame: &str, path: &str) -> Result<Answer, AllocError>
     let frame = Text::from_str(alloc, frame)?;
     let path = Text::from_str(alloc, path)?;
     Ok(Answer::Load(frame, path))
+}
+
+// The table of a view as `show VIEW csv` writes it, for a file.
+fn export_of<S: ViewStore>(
+    alloc: Global,
+    definitions: &Definitions,
+    store: &mut S,
+    view: &str,
+    path: &str,
+) -> Result<Answer, Refusal>
+    ensures { IsTableFor (S.Keeps store.old store.new)
+        (S.Answers store.old store.new definitions.now (Question.Show view.entry Part.Whole Format.Csv))
+        path.now result }
+{
+    let path = Text::from_str(alloc, path)?;
+    let question = Question::Show(view, Part::Whole, Format::Csv);
+    match store.answer(alloc, definitions, question) {
+        Ok(table) => Ok(Answer::Export(path, table)),
+        Err(refusal) => {
+            drop(path);
+            Err(refusal)
+        }
+    }
 }
 
 /// The forms of the command of this name.

@@ -17,6 +17,8 @@ pub enum Command<'a> {
     Question(Question<'a>),
     /// Adds the rows of a file to a frame, behind all numbers that it ever accepted: the frame, and the path.
     Load(&'a str, &'a str),
+    /// Writes the table of a view, as CSV, to a file: the view, and the path.
+    Export(&'a str, &'a str),
     /// Adds a view behind all views so far: its name, and that of the frame that it begins with. Its steps stand behind
     /// these.
     Define(&'a str, &'a str),
@@ -113,6 +115,7 @@ fn command_of<'a>(alloc: Global, name: &str, arguments: &[&'a str]) -> Result<Co
         "register" => Ok(Command::Change(AskedChange::Register(only(arguments)?))),
         "drop" => Ok(Command::Change(AskedChange::DropView(only(arguments)?))),
         "load" => Ok(read_load(arguments)?),
+        "export" => Ok(read_export(arguments)?),
         "define" => Ok(read_define(arguments)?),
         "source" => Ok(Command::Source(only(arguments)?)),
         "help" => Ok(read_help(arguments)?),
@@ -161,6 +164,16 @@ fn read_load<'a>(arguments: &[&'a str]) -> Result<Command<'a>, Mistake>
 {
     match arguments {
         [frame, path] => Ok(Command::Load(frame, path)),
+        [_, _, ..] => Err(Mistake::ExtraWord),
+        _ => Err(Mistake::MissingWord),
+    }
+}
+
+fn read_export<'a>(arguments: &[&'a str]) -> Result<Command<'a>, Mistake>
+    ensures { IfOk result (IsCommandOf (codes "export" ∷ map (λ w. w.now) arguments.now)) }
+{
+    match arguments {
+        [view, path] => Ok(Command::Export(view, path)),
         [_, _, ..] => Err(Mistake::ExtraWord),
         _ => Err(Mistake::MissingWord),
     }

@@ -10,7 +10,6 @@ use crate::answering::{Answer, explain};
 use crate::command::{Command, read_command};
 use crate::help::{CommandHelp, list_commands};
 use crate::refusal::{Mistake, Refusal};
-use df_document::DocumentFault;
 use df_text::{Views, ViewsFault, read_views};
 use df_writing::push_frame_table;
 use std::alloc::{AllocError, Global};
@@ -102,7 +101,7 @@ fn check_frames(alloc: Global, document: &[u8]) -> Result<(), Refusal>
             Ok(())
         }
         Err(ViewsFault::Memory) => Err(Refusal::Memory),
-        Err(fault) => Err(Refusal::Definition(DocumentFault::Views(fault))),
+        Err(fault) => Err(Refusal::Frame(fault)),
     }
 }
 
@@ -184,6 +183,7 @@ fn answer_other(
         Command::Change(_)
         | Command::AppendNext(_)
         | Command::Load(..)
+        | Command::Export(..)
         | Command::Define(..)
         | Command::Source(_) => Ok(Declaration::Opens),
     }

@@ -4,6 +4,7 @@ ghost use Rattle.df_text.specs.Document.{document_of};
 
 use crate::answering::{Answer, words_of};
 use crate::behind::read_behind;
+use crate::buffers::Buffers;
 use crate::declared_frames::{Declaration, DeclaredFrames, answer_declaring};
 use crate::definitions::Definitions;
 use crate::fault::ShellFault;
@@ -13,7 +14,7 @@ use crate::options::{SessionEnd, SessionOptions};
 use crate::prepared::Prepared;
 use crate::prompts::{COMMAND_PROMPT, Prompts, greeting};
 use crate::refusal::{Mistake, Refusal};
-use crate::session::{Beginning, Buffers, is_passed_over};
+use crate::session::{Beginning, is_passed_over};
 use crate::words::{lines_behind, read_words};
 use crate::writing::{Status, write_all, write_answer, write_prompt, write_refusal};
 use df_document::DocumentFault;

@@ -8,6 +8,7 @@ use crate::definitions::Definitions;
 use crate::refusal::Refusal;
 use crate::view_store::ViewStore;
 use df_document::{DocumentFault, open_next_view};
+use df_explain::next_view_words;
 use df_plan::CheckedPlan;
 use df_state::Change;
 use df_text::ViewSpec;
@@ -52,10 +53,17 @@ fn checked_view(
     ensures refused { IfErr result
         (IsFaultOfView (view_defined definitions.now view.now source.now steps.now)) }
 {
-    match open_next_view(alloc, &definitions.document, view, source, steps) {
+    let document = &definitions.document;
+    match open_next_view(alloc, document, view, source, steps) {
         Ok(checked) => Ok(checked),
         Err(DocumentFault::Memory) => Err(Refusal::Memory),
-        Err(fault) => Err(Refusal::Definition(fault)),
+        Err(fault) => match next_view_words(alloc, document, view, source, steps, &fault) {
+            Ok(words) => Err(Refusal::Definition(fault, Text::from_string(words))),
+            Err(_) => {
+                drop(fault);
+                Err(Refusal::Memory)
+            }
+        },
     }
 }
 

@@ -8,7 +8,7 @@ use std::alloc::{AllocError, Global};
 pub type CommandHelp = (&'static str, &'static str, &'static str);
 
 /// The commands, in the order in which `help` lists them. A command of several forms has an entry for each.
-pub const COMMANDS: [CommandHelp; 26] = [
+pub const COMMANDS: [CommandHelp; 27] = [
     (
         "frame",
         "frame NAME COLUMN TYPE ..    declares a frame of these columns; without a document, before all changes\n",
@@ -93,6 +93,11 @@ pub const COMMANDS: [CommandHelp; 26] = [
         "show",
         "show VIEW .. csv             these rows as CSV; with json as lines of JSON\n",
         "    > show by_region csv\n    region,n,total\n    north,2,2\n    south,1,0\n    > show by_region 1 json\n    {\"region\":\"north\",\"n\":2,\"total\":2}\n",
+    ),
+    (
+        "export",
+        "export VIEW PATH             writes the table of a view to a file, as CSV, whole or not at all\n",
+        "    > export by_region totals.csv\n    ok 2 rows\n",
     ),
     (
         "rows",

@@ -1,7 +1,8 @@
 //! What a shell reads before its session begins.
+use crate::buffers::Buffers;
 use crate::definitions::Definitions;
 use crate::fault::ShellFault;
-use crate::session::{Beginning, Buffers};
+use crate::session::Beginning;
 use df_document::{Files, OpenedDocument, open_document, refused_lines};
 use df_value::{List, Piece};
 use std::alloc::Global;

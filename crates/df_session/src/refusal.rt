@@ -4,7 +4,7 @@ ghost use Rattle.df_session.specs.declared.refusal.Refusal.TheVariants as refusa
 
 use df_document::DocumentFault;
 use df_state::CatalogueFault;
-use df_text::CsvFault;
+use df_text::{CsvFault, ViewsFault};
 use df_value::{ChunkFault, Text};
 use std::alloc::{AllocError, AllocFailed};
 use thiserror::Error;
@@ -28,15 +28,21 @@ pub enum Refusal {
     /// column.
     #[error("record {0}, column {1:?}")]
     Cell(u64, Text),
-    /// The view of a definition is none that a document may have.
+    /// The frame of a declaration is none that a document may have.
     #[error("{0}")]
-    Definition(DocumentFault),
+    Frame(ViewsFault),
+    /// The view of a definition is none that a document may have; and why, in words, which are one line.
+    #[error("{0}: {1:?}")]
+    Definition(DocumentFault, Text),
     /// The rows of a command are no chunk.
     #[error("{0}")]
     Chunk(ChunkFault),
     /// A hall has no version for it.
     #[error("{0}")]
     Version(VersionFault),
+    /// A table is not written to a file.
+    #[error("{0}")]
+    Write(WriteFault),
     /// Memory was refused.
     #[error("out of memory")]
     Memory,
@@ -104,6 +110,23 @@ pub enum VersionFault {
     Missing,
 }
 
+/// Why a file is not written.
+#[derive(Clone, Copy, Debug, PartialEq, Eq, Drop, Error)]
+pub enum WriteFault {
+    /// The file beside it, which is to take its place, cannot be made.
+    #[error("no file beside it can be made")]
+    NotMade,
+    /// A write to that file fails.
+    #[error("a write fails")]
+    NotWritten,
+    /// That file cannot take its place.
+    #[error("the file cannot take its place")]
+    NotPlaced,
+    /// Memory was refused.
+    #[error("out of memory")]
+    Memory,
+}
+
 impl From<Mistake> for Refusal {
     ghost from_gives = { λ m e. e ≡ refusal.Mistake m };
 
@@ -117,6 +140,14 @@ impl From<CatalogueFault> for Refusal {
 
     fn from(fault: CatalogueFault) -> Refusal {
         Refusal::Store(fault)
+    }
+}
+
+impl From<WriteFault> for Refusal {
+    ghost from_gives = { λ f e. e ≡ refusal.Write f };
+
+    fn from(fault: WriteFault) -> Refusal {
+        Refusal::Write(fault)
     }
 }
 

@@ -3,8 +3,8 @@ ghost use Rattle.std.specs.Prelude.{◌≡◌, IfOk, string_bytes};
 ghost use Rattle.df_session.specs.Texts as texts;
 ghost use Rattle.df_session.specs.Texts.{text_of, text_of_cell};
 
-use crate::definition_texts::definition_text;
-use crate::refusal::{Mistake, Refusal, VersionFault};
+use crate::definition_texts::{definition_text, frame_text};
+use crate::refusal::{Mistake, Refusal, VersionFault, WriteFault};
 use df_document::csv_text;
 use df_state::{CatalogueFault, NewFault};
 use df_text::{CsvFault, escape};
@@ -26,8 +26,10 @@ pub fn refusal_text(alloc: Global, refusal: &Refusal) -> Result<String, AllocErr
         Refusal::File(fault) => file_text(alloc, fault),
         Refusal::Cell(number, column) => cell_text(alloc, *number, column),
         Refusal::Chunk(fault) => String::from_str(alloc, chunk_text(fault)),
-        Refusal::Definition(fault) => definition_text(alloc, fault),
+        Refusal::Frame(fault) => frame_text(alloc, fault),
+        Refusal::Definition(fault, words) => definition_text(alloc, fault, words),
         Refusal::Version(fault) => String::from_str(alloc, version_text(*fault)),
+        Refusal::Write(fault) => String::from_str(alloc, write_text(*fault)),
         Refusal::Memory => String::from_str(alloc, "memory"),
     }
 }
@@ -197,5 +199,18 @@ fn version_text(fault: VersionFault) -> &'static str
             "H1: 2^64 - 1 versions were published; there is no change behind them",
         VersionFault::Ahead => "H2: the hall knows fewer changes than this session was told of",
         VersionFault::Missing => "H3: there is no version to answer from",
+    }
+}
+
+fn write_text(fault: WriteFault) -> &'static str
+    ensures { result.now ≡ texts.write_text fault }
+{
+    match fault {
+        WriteFault::NotMade =>
+            "W1: PATH.part cannot be made: no such folder, no right to write there, or a file of that name stands there",
+        WriteFault::NotWritten => "W2: the file cannot be written whole, as on a full disk",
+        WriteFault::NotPlaced =>
+            "W3: the file cannot be put there: a folder stands there, or there is no right to write",
+        WriteFault::Memory => "memory",
     }
 }

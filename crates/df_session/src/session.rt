@@ -1,20 +1,22 @@
 //! A session: the commands of an input and their answers, one after another.
 use crate::answering::{Answer, answer_line};
 use crate::behind::read_behind;
+use crate::buffers::Buffers;
 use crate::definitions::Definitions;
+use crate::exporting::{WriteFiles, export};
 use crate::fault::ShellFault;
 use crate::help::COMMANDS;
-use crate::lines::{Line, line_buffer, read_line, without_end};
+use crate::lines::{Line, read_line, without_end};
 use crate::loading::load;
 use crate::options::{SessionEnd, SessionOptions};
 use crate::prompts::{COMMAND_PROMPT, Prompts, greeting};
 use crate::refusal::{Mistake, Refusal};
 use crate::view_store::ViewStore;
 use crate::words::{lines_behind, read_words};
-use crate::writing::{Status, write_all, write_answer, write_loaded, write_prompt, write_refusal};
+use crate::writing::{Status, refuse, write_all, write_answer, write_loaded, write_prompt};
 use df_document::Files;
 use df_value::{List, Text};
-use std::alloc::{AllocError, Global};
+use std::alloc::Global;
 use std::io::{BufRead, BufReader, Read, Write};
 use std::thread::Threads;
 
@@ -24,36 +26,6 @@ pub struct Session<S> {
     pub store: S,
     pub buffers: Buffers,
     pub options: SessionOptions,
-}
-
-/// Room for the line of a command, and for a line of CSV behind it.
-pub struct Buffers {
-    command: Vec<u8>,
-    record: Vec<u8>,
-}
-
-// A body that owns one drops it by a call.
-impl Drop for Buffers {
-    fn drop(self) {
-        let Buffers { command, record } = self;
-        drop(command);
-        drop(record);
-    }
-}
-
-impl Buffers {
-    pub fn new(alloc: Global) -> Result<Buffers, AllocError> {
-        let command = line_buffer(alloc)?;
-        let record = line_buffer(alloc)?;
-        Ok(Buffers { command, record })
-    }
-
-    /// Room for lines, with the line of a command.
-    pub fn with_command(alloc: Global, line: &[u8]) -> Result<Buffers, AllocError> {
-        let mut buffers = Buffers::new(alloc)?;
-        buffers.command.extend_from_slice(line)?;
-        Ok(buffers)
-    }
 }
 
 /// What a session begins with.
@@ -74,6 +46,8 @@ enum Turn {
     Next,
     /// The rows of a file, which enter a frame, named first, whose path this is.
     Load(Text, Text),
+    /// A file under this path, of this table.
+    Export(Text, Vec<u8>),
     /// The commands in the file under this path.
     Source(Text),
     /// Nothing: the input has ended.
@@ -86,7 +60,7 @@ enum Turn {
 
 /// Writes the first lines, those of the refused chunks among them, and answers the commands. A session that begins with a
 /// command in its buffers answers it in place of the first lines. None: it goes on, behind the question that it began with.
-pub fn answer_from<R: Threads + Sync, S: ViewStore, F: Files, I: BufRead, W: Write>(
+pub fn answer_from<R: Threads + Sync, S: ViewStore, F: Files + WriteFiles, I: BufRead, W: Write>(
     rt: &R,
     alloc: Global,
     session: &mut Session<S>,
@@ -124,7 +98,7 @@ fn greet<S, W: Write>(
     }
 }
 
-fn answer_all<R: Threads + Sync, S: ViewStore, F: Files, I: BufRead, W: Write>(
+fn answer_all<R: Threads + Sync, S: ViewStore, F: Files + WriteFiles, I: BufRead, W: Write>(
     rt: &R,
     alloc: Global,
     session: &mut Session<S>,
@@ -143,7 +117,7 @@ fn answer_all<R: Threads + Sync, S: ViewStore, F: Files, I: BufRead, W: Write>(
 }
 
 // Does what comes behind a command. Some: so the session has ended.
-fn follow<R: Threads + Sync, S: ViewStore, F: Files, W: Write>(
+fn follow<R: Threads + Sync, S: ViewStore, F: Files + WriteFiles, W: Write>(
     rt: &R,
     alloc: Global,
     session: &mut Session<S>,
@@ -154,29 +128,17 @@ fn follow<R: Threads + Sync, S: ViewStore, F: Files, W: Write>(
     match turn {
         Turn::Next => Ok(None),
         Turn::Load(frame, path) => load_file(rt, alloc, session, files, frame, path, output),
+        Turn::Export(path, table) => {
+            export_table(alloc, session.options, files, path, table, output)
+        }
         Turn::Source(path) => source(rt, alloc, session, files, &path, output),
         Turn::End | Turn::Quit => Ok(Some(SessionEnd::Whole)),
         Turn::Refused => Ok(Some(SessionEnd::Refused)),
     }
 }
 
-// Writes why a command is refused. Some: that ends the session.
-fn refuse<W: Write>(
-    alloc: Global,
-    output: &mut W,
-    options: SessionOptions,
-    refusal: &Refusal,
-) -> Result<Option<SessionEnd>, ShellFault> {
-    write_refusal(alloc, output, options, refusal)?;
-    if options.bail {
-        Ok(Some(SessionEnd::Refused))
-    } else {
-        Ok(None)
-    }
-}
-
 // Answers the commands in a file, without prompts. Some: one of them ends the session.
-fn source<R: Threads + Sync, S: ViewStore, F: Files, W: Write>(
+fn source<R: Threads + Sync, S: ViewStore, F: Files + WriteFiles, W: Write>(
     rt: &R,
     alloc: Global,
     session: &mut Session<S>,
@@ -195,7 +157,7 @@ fn source<R: Threads + Sync, S: ViewStore, F: Files, W: Write>(
     end
 }
 
-fn answer_file<R: Threads + Sync, S: ViewStore, F: Files, W: Write>(
+fn answer_file<R: Threads + Sync, S: ViewStore, F: Files + WriteFiles, W: Write>(
     rt: &R,
     alloc: Global,
     session: &mut Session<S>,
@@ -210,7 +172,7 @@ fn answer_file<R: Threads + Sync, S: ViewStore, F: Files, W: Write>(
 }
 
 // The commands of a file name no further file.
-fn answer_sourced<R: Threads + Sync, S: ViewStore, F: Files, I: BufRead, W: Write>(
+fn answer_sourced<R: Threads + Sync, S: ViewStore, F: Files + WriteFiles, I: BufRead, W: Write>(
     rt: &R,
     alloc: Global,
     session: &mut Session<S>,
@@ -238,7 +200,7 @@ fn answer_sourced<R: Threads + Sync, S: ViewStore, F: Files, I: BufRead, W: Writ
 }
 
 // Does what comes behind a command of a file.
-fn take_sourced<R: Threads + Sync, S: ViewStore, F: Files, W: Write>(
+fn take_sourced<R: Threads + Sync, S: ViewStore, F: Files + WriteFiles, W: Write>(
     rt: &R,
     alloc: Global,
     session: &mut Session<S>,
@@ -249,6 +211,9 @@ fn take_sourced<R: Threads + Sync, S: ViewStore, F: Files, W: Write>(
     match turn {
         Turn::Next | Turn::End => Ok(None),
         Turn::Load(frame, path) => load_file(rt, alloc, session, files, frame, path, output),
+        Turn::Export(path, table) => {
+            export_table(alloc, session.options, files, path, table, output)
+        }
         Turn::Source(_) => {
             let nested = Refusal::Mistake(Mistake::NestedSource);
             refuse(alloc, output, session.options, &nested)
@@ -286,6 +251,33 @@ fn load_file<R: Threads + Sync, S: ViewStore, F: Files, W: Write>(
         Ok(loaded) => {
             let written = write_loaded(output, options, &loaded);
             drop(loaded);
+            written?;
+            Ok(None)
+        }
+        Err(refusal) => {
+            let written = refuse(alloc, output, options, &refusal);
+            drop(refusal);
+            written
+        }
+    }
+}
+
+// Writes a table to a file, and what came of it.
+fn export_table<F: WriteFiles, W: Write>(
+    alloc: Global,
+    options: SessionOptions,
+    files: &mut F,
+    path: Text,
+    table: Vec<u8>,
+    output: &mut W,
+) -> Result<Option<SessionEnd>, ShellFault> {
+    let exported = export(alloc, files, path.as_str(), table.as_slice());
+    drop(path);
+    drop(table);
+    match exported {
+        Ok(told) => {
+            let written = write_answer(output, options.framed, Status::Ok, &[told.as_bytes()]);
+            drop(told);
             written?;
             Ok(None)
         }
@@ -365,6 +357,7 @@ fn tell<W: Write>(
     match answer {
         Ok(Answer::Ended) => Ok(Turn::Quit),
         Ok(Answer::Load(frame, path)) => Ok(Turn::Load(frame, path)),
+        Ok(Answer::Export(path, table)) => Ok(Turn::Export(path, table)),
         Ok(Answer::Source(path)) => Ok(Turn::Source(path)),
         Ok(answer) => {
             let written = write_answer(output, options.framed, Status::Ok, &[answer.bytes()]);

@@ -6,7 +6,7 @@ ghost use Rattle.df_session.specs.Framed.{answer_written, ends_lines, frame_head
 
 use crate::fault::ShellFault;
 use crate::loading::Loaded;
-use crate::options::SessionOptions;
+use crate::options::{SessionEnd, SessionOptions};
 use crate::prompts::Prompts;
 use crate::refusal::Refusal;
 use crate::refusal_texts::refusal_text;
@@ -65,6 +65,21 @@ pub fn write_refusal<W: Write>(
             write_answer(output, options.framed, Status::Error, &line)
         }
         Err(_) => write_answer(output, options.framed, Status::Error, &[b"memory\n"]),
+    }
+}
+
+/// Writes why a command is refused. Some: that ends the session.
+pub fn refuse<W: Write>(
+    alloc: Global,
+    output: &mut W,
+    options: SessionOptions,
+    refusal: &Refusal,
+) -> Result<Option<SessionEnd>, ShellFault> {
+    write_refusal(alloc, output, options, refusal)?;
+    if options.bail {
+        Ok(Some(SessionEnd::Refused))
+    } else {
+        Ok(None)
     }
 }
 

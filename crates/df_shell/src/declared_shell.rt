@@ -2,7 +2,9 @@
 use crate::hall_shell::answer_prepared_in_hall;
 use crate::shell::answer_prepared;
 use df_document::Files;
-use df_session::{Beginning, Declared, Declaring, Refusal, SessionEnd, SessionOptions, ShellFault};
+use df_session::{
+    Beginning, Declared, Declaring, Refusal, SessionEnd, SessionOptions, ShellFault, WriteFiles,
+};
 use std::alloc::Global;
 use std::io::{BufRead, Write};
 use std::sync::Wait;
@@ -11,7 +13,7 @@ use std::thread::Threads;
 /// Answers the commands of `input` as [`run_shell`](crate::run_shell) does, or with a hall as
 /// [`run_hall_shell`](crate::run_hall_shell), over no document: the session begins without frames, and declares them up to the
 /// first command that may change them. A question before it is answered from a store of its own.
-pub fn run_declared_shell<R: Threads + Wait + Sync, F: Files, I: BufRead, W: Write>(
+pub fn run_declared_shell<R: Threads + Wait + Sync, F: Files + WriteFiles, I: BufRead, W: Write>(
     rt: &R,
     alloc: Global,
     hall: bool,
@@ -35,7 +37,7 @@ pub fn run_declared_shell<R: Threads + Wait + Sync, F: Files, I: BufRead, W: Wri
     answered
 }
 
-fn answer_declaring<R: Threads + Wait + Sync, F: Files, I: BufRead, W: Write>(
+fn answer_declaring<R: Threads + Wait + Sync, F: Files + WriteFiles, I: BufRead, W: Write>(
     rt: &R,
     alloc: Global,
     hall: bool,
@@ -70,7 +72,7 @@ fn answer_declaring<R: Threads + Wait + Sync, F: Files, I: BufRead, W: Write>(
     Ok(None)
 }
 
-fn open_and_answer<R: Threads + Wait + Sync, F: Files, I: BufRead, W: Write>(
+fn open_and_answer<R: Threads + Wait + Sync, F: Files + WriteFiles, I: BufRead, W: Write>(
     rt: &R,
     alloc: Global,
     hall: bool,

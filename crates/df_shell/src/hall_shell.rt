@@ -10,7 +10,7 @@ use df_document::{Files, copy_schemas};
 use df_hall::{Hall, OpenedHall};
 use df_session::{
     Beginning, Numbers, Prepared, Refusal, Session, SessionEnd, SessionOptions, ShellFault,
-    VersionFault, answer_from, fill, prepare,
+    VersionFault, WriteFiles, answer_from, fill, prepare,
 };
 use df_value::{List, Piece};
 use df_versions::{Naming, OpenFault, Reader};
@@ -24,7 +24,13 @@ use std::thread::Threads;
 /// Does what [`run_shell`](crate::run_shell) does, through a hall with one reader: each change publishes a version, and
 /// questions are answered from the newest one, which has at least all changes that were answered before. At the end the
 /// hall is closed.
-pub fn run_hall_shell<R: Threads + Wait + Sync, V: Read, F: Files, I: BufRead, W: Write>(
+pub fn run_hall_shell<
+    R: Threads + Wait + Sync,
+    V: Read,
+    F: Files + WriteFiles,
+    I: BufRead,
+    W: Write,
+>(
     rt: &R,
     alloc: Global,
     document: &mut V,
@@ -38,7 +44,12 @@ pub fn run_hall_shell<R: Threads + Wait + Sync, V: Read, F: Files, I: BufRead, W
 }
 
 /// Opens a hall of what is prepared, answers the commands, and closes the hall.
-pub fn answer_prepared_in_hall<R: Threads + Wait + Sync, F: Files, I: BufRead, W: Write>(
+pub fn answer_prepared_in_hall<
+    R: Threads + Wait + Sync,
+    F: Files + WriteFiles,
+    I: BufRead,
+    W: Write,
+>(
     rt: &R,
     alloc: Global,
     prepared: Prepared,
@@ -61,7 +72,14 @@ pub fn answer_prepared_in_hall<R: Threads + Wait + Sync, F: Files, I: BufRead, W
 }
 
 // Opens the hall, and answers the commands.
-fn open<Acc: Ledger, Del: Ledger, R: Threads + Wait + Sync, F: Files, I: BufRead, W: Write>(
+fn open<
+    Acc: Ledger,
+    Del: Ledger,
+    R: Threads + Wait + Sync,
+    F: Files + WriteFiles,
+    I: BufRead,
+    W: Write,
+>(
     rt: &R,
     alloc: Global,
     accepted: Blank,
@@ -111,7 +129,7 @@ fn serve<
     Del: Ledger,
     J: Naming,
     R: Threads + Wait + Sync,
-    F: Files,
+    F: Files + WriteFiles,
     I: BufRead,
     W: Write,
 >(
@@ -156,7 +174,7 @@ fn answer_and_close<
     Acc: Ledger,
     Del: Ledger,
     J: Naming,
-    F: Files,
+    F: Files + WriteFiles,
     I: BufRead,
     W: Write,
 >(
@@ -214,7 +232,7 @@ fn fill_and_answer<
     Acc: Ledger,
     Del: Ledger,
     J: Naming,
-    F: Files,
+    F: Files + WriteFiles,
     I: BufRead,
     W: Write,
 >(

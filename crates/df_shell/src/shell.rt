@@ -7,7 +7,8 @@ use crate::store::Store;
 use df_catalogue::PARTS_OF_LEDGER;
 use df_document::Files;
 use df_session::{
-    Beginning, Prepared, Session, SessionEnd, SessionOptions, ShellFault, answer_from, prepare,
+    Beginning, Prepared, Session, SessionEnd, SessionOptions, ShellFault, WriteFiles, answer_from,
+    prepare,
 };
 use df_value::List;
 use std::alloc::Global;
@@ -22,7 +23,7 @@ use std::thread::Threads;
 /// Of the document the frames enter with their first rows, in chunks of 1,000 records, and a line
 /// is written for each chunk that is refused; then all views are registered. At most 4 threads read the records of a
 /// file. Where memory is refused to a command, its answer is `memory`, the store is as before it, and the shell goes on.
-pub fn run_shell<R: Threads + Sync, V: Read, F: Files, I: BufRead, W: Write>(
+pub fn run_shell<R: Threads + Sync, V: Read, F: Files + WriteFiles, I: BufRead, W: Write>(
     rt: &R,
     alloc: Global,
     document: &mut V,
@@ -36,7 +37,7 @@ pub fn run_shell<R: Threads + Sync, V: Read, F: Files, I: BufRead, W: Write>(
 }
 
 /// Opens a store of what is prepared, and answers the commands.
-pub fn answer_prepared<R: Threads + Sync, F: Files, I: BufRead, W: Write>(
+pub fn answer_prepared<R: Threads + Sync, F: Files + WriteFiles, I: BufRead, W: Write>(
     rt: &R,
     alloc: Global,
     prepared: Prepared,
@@ -59,7 +60,7 @@ pub fn answer_prepared<R: Threads + Sync, F: Files, I: BufRead, W: Write>(
 }
 
 // Opens the store, and answers the commands.
-fn serve<Acc: Ledger, Del: Ledger, R: Threads + Sync, F: Files, I: BufRead, W: Write>(
+fn serve<Acc: Ledger, Del: Ledger, R: Threads + Sync, F: Files + WriteFiles, I: BufRead, W: Write>(
     rt: &R,
     alloc: Global,
     accepted: Blank,
@@ -105,7 +106,14 @@ fn serve<Acc: Ledger, Del: Ledger, R: Threads + Sync, F: Files, I: BufRead, W: W
 
 // Answers the commands, and ends the session: in calls and at one place, since each drop of a store, and one at the end
 // of a block above all, costs the proof anew.
-fn answer_session<Acc: Ledger, Del: Ledger, R: Threads + Sync, F: Files, I: BufRead, W: Write>(
+fn answer_session<
+    Acc: Ledger,
+    Del: Ledger,
+    R: Threads + Sync,
+    F: Files + WriteFiles,
+    I: BufRead,
+    W: Write,
+>(
     rt: &R,
     alloc: Global,
     session: Session<Store<Acc, Del>>,

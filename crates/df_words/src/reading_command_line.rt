@@ -33,6 +33,7 @@ const AFTER_HELP: &str = r#"Commands, one a line of standard input:
   show VIEW COUNT              its first COUNT rows, and how many more there are
   show VIEW from ROW COUNT     COUNT rows from row ROW on, the first being 0, and how many lie around them
   show VIEW .. csv             these rows as CSV; with json as lines of JSON
+  export VIEW PATH             writes the table of a view to a file, as CSV, whole or not at all
   rows FRAME                   the table of a frame, and the numbers of its rows
   rows FRAME csv               the rows with their numbers as CSV; with json as lines of JSON
   books FRAME                  how many rows were accepted and deleted, and how many there are

@@ -4,3 +4,4 @@ pub mod StepFacts
 pub mod PlanFacts
 pub mod ReadExpressions
 pub mod ReadPlans
+pub mod SaidFacts

@@ -1,6 +1,7 @@
 -- The plans that a view document can say, and that what is written of one is read as this plan.
 use Rattle.std.specs.Prelude.{◌≡◌, ◌+◌, ◌==◌, ◌&&◌, ℕ, Bool, true, false, List, Option, Some, None, Ok, is_ok, nat_le}
 use Rattle.std.specs.List.{list_all}
+use Rattle.toml.specs.Data.{Data}
 use Rattle.toml.specs.View.{items_of}
 use Rattle.df_value.specs.Names.{index_of_name}
 use Rattle.df_expr.specs.Typing.{literal_dtype}
@@ -9,10 +10,12 @@ use Rattle.df_expr.specs.declared.expr.Expr.TheOpen.{Expr-F}
 use Rattle.df_plan.specs.declared.plan.Plan.{Plan, fold-Plan}
 use Rattle.df_plan.specs.declared.plan.Plan.TheOpen.{Plan-F}
 use Rattle.df_plan.specs.declared.plan.Plan.TheVariants.{Scan}
+use Rattle.df_text.specs.Document.{view_of}
 use Rattle.df_text.specs.Sources.{most_steps}
 use Rattle.df_text.specs.Steps.{steps_after}
 use Rattle.df_text.specs.declared.document.FrameSpec.{FrameSpec}
 use Rattle.df_text.specs.declared.document.Location.{Location}
+use Rattle.df_text.specs.declared.document.ViewSpec.{ViewSpec}
 use Rattle.df_writing.specs.StepData.{frame_name, written}
 
 abbrev pub is_said_step : Expr-F Bool → Bool
@@ -73,3 +76,7 @@ can_be_said frames p = (sayable frames p).said
 unfoldable pub IsReadBack : List FrameSpec → Plan → Type 0
 IsReadBack frames p =
     (at : Location) → steps_after at 0 frames (Scan (written frames p).source) (items_of (written frames p).steps) ≡ Ok p
+
+-- a document can say the plan of each view that is read over these frames, whichever stand before it
+unfoldable pub AreSaid : List FrameSpec → Type 0
+AreSaid frames = (before : List ViewSpec) (d : Data) (v : ViewSpec) → view_of frames before d ≡ Ok v → can_be_said frames v.plan ≡ true

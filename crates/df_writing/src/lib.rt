@@ -13,4 +13,4 @@ mod toml_text;
 mod view_tables;
 
 pub use frame_tables::{dtype_word, push_frame_table};
-pub use view_tables::push_view_table;
+pub use view_tables::{push_view_table, tell_sayable};

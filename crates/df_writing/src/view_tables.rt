@@ -1,6 +1,6 @@
 //! Views as a view document writes them.
 ghost use Rattle.std.specs.Prelude.{◌≡◌, ◌++◌, OnOk, true};
-ghost use Rattle.df_writing.specs.Sayable.{IsReadBack, can_be_said};
+ghost use Rattle.df_writing.specs.Sayable.{AreSaid, IsReadBack, can_be_said};
 ghost use Rattle.df_writing.specs.StepData.{written};
 ghost use Rattle.df_writing.specs.ViewTables.{step_lines, view_head, view_table};
 
@@ -26,6 +26,15 @@ pub fn push_view_table(
 {
     push_head(text, name, first_frame(frames, plan))?;
     push_lines(alloc, text, frames, plan)
+}
+
+/// Tells that a document can say the plan of each view that is read over these frames, so that [`push_view_table`] writes what is
+/// read as this plan.
+#[tactic(auto, using(crate::proofs::SaidFacts::views_said))]
+pub fn tell_sayable(frames: &[FrameSpec])
+    ensures { AreSaid frames.now }
+{
+    let _frames = frames;
 }
 
 fn push_head(text: &mut Vec<u8>, name: &str, source: &str) -> Result<(), AllocError>
