@@ -1,5 +1,5 @@
 -- What is read of a view document, a document can say.
-use Rattle.std.proofs.Common.{◌≡◌, ◌≤◌, ◌+◌, ◌∙◌, ℕ, Bool, true, false, cond, List, [], ◌∷◌, Option, Some, None, Result, Ok, Err, IfOk, Ordering, Less, Equal, Greater, ap, arith, codes, length, nat_lt, refl, rules, subst, sym}
+use Rattle.std.proofs.Common.{◌≡◌, ◌≤◌, ◌+◌, ◌∙◌, ℕ, suc, Bool, true, false, cond, List, [], ◌∷◌, Option, Some, None, Result, Ok, Err, IfOk, Ordering, Less, Equal, Greater, ap, arith, codes, length, nat_lt, refl, rules, subst, sym}
 use Rattle.std.specs.Prelude.{ℤ, ◌&&◌, nat_le, position, slice_get}
 use Rattle.std.specs.List.{All, list_all}
 use Rattle.std.specs.Cmp.Lexicographic.{slice_cmp}
@@ -239,7 +239,7 @@ module _ (fs : List FrameSpec) where
   found_name (f ∷ xs) name i is =
       let at = position-Some (λ f. bytes_eq f.name name) (f ∷ xs) i f is in
       let got = slice_get-get_or (f ∷ xs) i f at.0 in
-      rw got ((bytes_eq-Decides _ name).0 at.1.0)
+      rw got ((bytes_eq-Decides _ name).0 at.1)
 
   same_index : (i j : ℕ) → i ≡ j → is_index (Some i) j ≡ true
   same_index i j e = grind (arith, nat_tests, e)
@@ -277,12 +277,15 @@ module _ (fs : List FrameSpec) where
   either Greater r s n m g h = g
 
   mutual
+    unfolding list_of
+
     steps_said : (at : Location) (n m : ℕ) (input : Plan) (ds : Items) → Says m input → IfOk (steps_after at n fs input ds) (Says (m + length (list_of ds)))
-    steps_said at n m input no_items h = subst (λ k. Says k input) (omega arith) h
+    steps_said at n m input no_items h = let none : length (list_of no_items) ≡ 0 = refl in subst (λ k. Says k input) (omega (arith, none)) h
     steps_said at n m input (item d ds) h =
+        let one : length (list_of (item d ds)) ≡ suc (length (list_of ds)) = refl in
         then_gives _ (step_of (step_at at n) fs input d) _
         (λ next is.
-        subst (λ k. IfOk (steps_after at (n + 1) fs next ds) (Says k)) (omega arith)
+        subst (λ k. IfOk (steps_after at (n + 1) fs next ds) (Says k)) (omega (arith, one))
         (steps_said at (n + 1) (m + 1) next ds (given (Says (m + 1)) (step_of (step_at at n) fs input d) next (step_said (step_at at n) m input d h) is)))
 
     step_said : (at : Location) (m : ℕ) (input : Plan) (d : Data) → Says m input → IfOk (step_of at fs input d) (Says (m + 1))
@@ -346,7 +349,9 @@ module _ (fs : List FrameSpec) where
         either (slice_cmp nat_cmp (codes "steps") k) _ _ (count_of ms) (count_in d) (table_said at input ms h) (array_said at input d h)
 
     array_said : (at : Location) (input : Plan) (d : Data) → Says 0 input → IfOk (all_steps at fs input d) (Says (count_in d))
-    array_said at input (array ds) h = steps_said at 0 0 input ds h
+    array_said at input (array ds) h =
+        let e : 0 + length (list_of ds) ≡ length (list_of ds) = omega arith in
+        subst (λ k. IfOk (steps_after at 0 fs input ds) (Says k)) e (steps_said at 0 0 input ds h)
     array_said at input (string s) h = tt
     array_said at input (integer n) h = tt
     array_said at input (float x) h = tt
