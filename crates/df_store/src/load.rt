@@ -62,8 +62,7 @@ impl<Acc: Ledger, Del: Ledger> Drop for Loaded<Acc, Del> {
 /// A load that was refused.
 pub struct LoadFault<Acc: Ledger, Del: Ledger> {
     pub cause: LoadCause,
-    /// What the load left, with its totals; none exactly where the gathered shares of the desks are not the
-    /// books, whatever the cause is. Each chunk that entered has entered whole.
+    /// What the load left, whole chunks, with its totals; none exactly where the gathered shares of the desks are not the books.
     pub left: Option<(Catalogue<Acc, Del>, Totals)>,
 }
 
@@ -215,8 +214,7 @@ fn run_load<
     )
 }
 
-// How many jobs each of so many workers draws at once, at the least: one worker all, and several so few that a free one finds
-// jobs where there are few; and no more than it may.
+// How many jobs each worker draws at once, at the least: several so few that a free one finds some; no more than it may.
 fn jobs_at_once(jobs: u64, workers: usize) -> usize {
     let parts = if workers <= 1 { 1 } else { workers.max(4) };
     jobs.div_ceil(parts as u64).clamp(1, most_at_once(workers)) as usize
