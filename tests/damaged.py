@@ -78,7 +78,9 @@ class Damage:
 
 def main(kind, *words):
     damage = Damage(kind)
-    program = subprocess.Popen(words, stdout=subprocess.PIPE, stderr=subprocess.PIPE if kind == "fault" else None)
+    # The program has the signals that this one ignores: a test may ignore one.
+    faults = subprocess.PIPE if kind == "fault" else None
+    program = subprocess.Popen(words, stdout=subprocess.PIPE, stderr=faults, restore_signals=False)
     for line in program.stdout:
         sys.stdout.buffer.write(b"".join(damage.lines(line)))
         sys.stdout.buffer.flush()
