@@ -1,19 +1,17 @@
 //! The value of an expression in a row.
 ghost use Rattle.std.specs.Prelude.{◌≡◌, ◌+◌, ◌<◌, ◌^◌, IfOk, IsOk, IsTrue, Ok, not};
 ghost use Rattle.df_value.specs.declared.cell.CellType.{CellType};
+ghost use Rattle.df_value.specs.CellRefs.{cell_of_ref};
 ghost use Rattle.df_value.specs.Cells.{fits_dtype, is_text};
-ghost use Rattle.df_value.specs.Rows as rows;
 ghost use Rattle.df_value.specs.Rows.{row_fits};
 ghost use Rattle.df_expr.specs.Typing.{dtype_of};
 ghost use Rattle.df_expr.specs.Operators.{binary_value, unary_value};
 ghost use Rattle.df_expr.specs.Value.{value_of};
-ghost use Rattle.df_expr.specs.Lent.{cell_of_value};
 
 use crate::expr::Expr;
-use crate::lent::Value;
 use crate::meter::Meter;
 use crate::operators::{Binary, Unary};
-use df_value::{Boxed, Cell, CellType, Row, Schema, Text, column_index};
+use df_value::{Boxed, Cell, CellRef, CellType, Row, Schema, Text, column_index};
 use std::alloc::{AllocError, Global};
 
 /// The value of an expression in a row of a table with this schema. Counts one evaluation.
@@ -40,17 +38,17 @@ pub fn eval(
     ensures free { IsTrue (not (is_text (value_of expr.now schema.now row.now))) → IsOk result }
 {
     meter.evals.raise();
-    value_in(expr, schema.columns().as_slice(), row).into_cell(alloc)
+    value_in(expr, schema.columns().as_slice(), row).to_cell(alloc)
 }
 
 // The value, lent where a row or a literal has it.
 #[cycle(values)]
-fn value_in<'a>(expr: &'a Expr, columns: &[(Text, CellType)], row: &'a Row) -> Value<'a>
-    ensures { cell_of_value result ≡ value_of expr.now columns.now row.now }
+fn value_in<'a>(expr: &'a Expr, columns: &[(Text, CellType)], row: &'a Row) -> CellRef<'a>
+    ensures { cell_of_ref result ≡ value_of expr.now columns.now row.now }
 {
     match expr {
-        Expr::Column(name) => cell_at(column_index(name, columns), row),
-        Expr::Literal(cell, _) => Value::Lent(cell),
+        Expr::Column(name) => row.cell_at(column_index(name, columns)),
+        Expr::Literal(cell, _) => CellRef::of(cell),
         Expr::Arith(op, a, b) => {
             let a = value_in(a.get(), columns, row);
             apply_binary(b, columns, row, Binary::Arith(*op), a)
@@ -74,13 +72,10 @@ fn value_in<'a>(expr: &'a Expr, columns: &[(Text, CellType)], row: &'a Row) -> V
         Expr::Not(a) => apply_unary(a, columns, row, Unary::Not),
         Expr::IsNull(a) => apply_unary(a, columns, row, Unary::IsNull),
         Expr::IsNotNull(a) => apply_unary(a, columns, row, Unary::IsNotNull),
-        Expr::FillNull(a, b) => {
-            let a = value_in(a.get(), columns, row);
-            match a.cell() {
-                Cell::Null => value_in(b.get(), columns, row),
-                _ => a,
-            }
-        }
+        Expr::FillNull(a, b) => match value_in(a.get(), columns, row) {
+            CellRef::Null => value_in(b.get(), columns, row),
+            value => value,
+        },
     }
 }
 
@@ -91,12 +86,11 @@ fn apply_unary<'a>(
     columns: &[(Text, CellType)],
     row: &'a Row,
     operator: Unary,
-) -> Value<'a>
-    ensures { cell_of_value result
+) -> CellRef<'a>
+    ensures { cell_of_ref result
         ≡ unary_value operator (value_of a.now columns.now row.now) }
 {
-    let a = value_in(a.get(), columns, row);
-    Value::Made(operator.apply(a.cell()))
+    operator.apply(value_in(a.get(), columns, row))
 }
 
 // The value of an operator over its left operand's value and the value of its right operand. The
@@ -107,24 +101,11 @@ fn apply_binary<'a>(
     columns: &[(Text, CellType)],
     row: &'a Row,
     operator: Binary,
-    a: Value<'a>,
-) -> Value<'a>
-    ensures { cell_of_value result
-        ≡ binary_value operator (cell_of_value a.entry) (value_of b.now columns.now row.now) }
+    a: CellRef<'a>,
+) -> CellRef<'a>
+    ensures { cell_of_ref result
+        ≡ binary_value operator (cell_of_ref a.entry) (value_of b.now columns.now row.now) }
 {
     let b = value_in(b.get(), columns, row);
-    Value::Made(operator.apply(a.cell(), b.cell()))
-}
-
-/// The cell at an index, null where there is none.
-pub fn cell_at(index: Option<usize>, row: &Row) -> Value<'_>
-    ensures { cell_of_value result ≡ rows.cell_at index row.now }
-{
-    let Some(index) = index else {
-        return Value::Made(Cell::Null);
-    };
-    match row.get(index) {
-        Some(cell) => Value::Lent(cell),
-        None => Value::Made(Cell::Null),
-    }
+    operator.apply(a, b)
 }

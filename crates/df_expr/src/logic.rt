@@ -1,9 +1,10 @@
 //! Truth with null: Kleene's three values, `None` being null.
 ghost use Rattle.std.specs.Prelude.{◌≡◌};
+ghost use Rattle.df_value.specs.CellRefs.{cell_of_ref};
 ghost use Rattle.df_expr.specs.Logic as logic;
 ghost use Rattle.df_expr.specs.Value as value_spec;
 
-use df_value::Cell;
+use df_value::CellRef;
 
 /// Kleene's "and": false where one is false, else null where one is null.
 pub fn kleene_and(a: Option<bool>, b: Option<bool>) -> Option<bool>
@@ -42,21 +43,21 @@ pub fn kleene_not(a: Option<bool>) -> Option<bool>
 }
 
 // What a cell says as a truth: none for null, and for a cell that is no Bool.
-pub fn truth_of(cell: &Cell) -> Option<bool>
-    ensures { result ≡ value_spec.truth_of cell.now }
+pub fn truth_of(cell: CellRef<'_>) -> Option<bool>
+    ensures { result ≡ value_spec.truth_of (cell_of_ref cell.entry) }
 {
     match cell {
-        Cell::Bool(truth) => Some(*truth),
+        CellRef::Bool(truth) => Some(truth),
         _ => None,
     }
 }
 
 // The cell of a truth.
-pub fn cell_of(truth: Option<bool>) -> Cell
-    ensures { result ≡ value_spec.cell_of truth }
+pub fn cell_of<'r>(truth: Option<bool>) -> CellRef<'r>
+    ensures { cell_of_ref result ≡ value_spec.cell_of truth }
 {
     match truth {
-        Some(truth) => Cell::Bool(truth),
-        None => Cell::Null,
+        Some(truth) => CellRef::Bool(truth),
+        None => CellRef::Null,
     }
 }

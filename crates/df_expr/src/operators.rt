@@ -3,6 +3,7 @@ ghost use Rattle.std.specs.Prelude.{◌≡◌, ◌↔◌, IsTrue, Option};
 ghost use Rattle.df_value.specs.declared.cell.Cell.{Cell as AnyCell};
 ghost use Rattle.df_value.specs.declared.cell.Cell.TheVariants as cell;
 ghost use Rattle.df_value.specs.CellEq.{cell_eq};
+ghost use Rattle.df_value.specs.CellRefs.{cell_of_ref};
 ghost use Rattle.df_value.specs.Order.{order_of};
 ghost use Rattle.df_expr.specs.Operators.{binary_expr, binary_value, unary_expr, unary_value};
 ghost use Rattle.df_expr.specs.Value as value_spec;
@@ -10,30 +11,31 @@ ghost use Rattle.df_expr.specs.Value.{arith_of, compare_of, holds};
 
 use crate::expr::{ArithOp, CompareOp, Expr};
 use crate::logic::{cell_of, kleene_and, kleene_not, kleene_or, truth_of};
-use df_value::{Boxed, Cell, compare};
+use df_value::{Boxed, CellRef};
 use std::cmp::Ordering;
 
 /// The result of two Int cells, wrapped at 64 bits; null where a cell is null or no Int.
-pub fn arith(op: ArithOp, a: &Cell, b: &Cell) -> Cell
-    ensures value { result ≡ arith_of op a.now b.now }
-    ensures null_spreads { (arith_of op cell.Null b.now ≡ cell.Null)
-        × (arith_of op a.now cell.Null ≡ cell.Null) }
+pub fn arith<'r>(op: ArithOp, a: CellRef<'_>, b: CellRef<'_>) -> CellRef<'r>
+    ensures value { cell_of_ref result ≡ arith_of op (cell_of_ref a.entry) (cell_of_ref b.entry) }
+    ensures null_spreads { (arith_of op cell.Null (cell_of_ref b.entry) ≡ cell.Null)
+        × (arith_of op (cell_of_ref a.entry) cell.Null ≡ cell.Null) }
 {
     match (a, b) {
-        (Cell::Int(a), Cell::Int(b)) => Cell::Int(op.apply(*a, *b)),
-        _ => Cell::Null,
+        (CellRef::Int(a), CellRef::Int(b)) => CellRef::Int(op.apply(a, b)),
+        _ => CellRef::Null,
     }
 }
 
 /// Whether the comparison holds, a Bool; null where a cell is null or the two do not compare.
-pub fn comparison(op: CompareOp, a: &Cell, b: &Cell) -> Cell
-    ensures value { result ≡ compare_of op (order_of a.now b.now) }
-    ensures null_spreads { (compare_of op (order_of cell.Null b.now) ≡ cell.Null)
-        × (compare_of op (order_of a.now cell.Null) ≡ cell.Null) }
+pub fn comparison<'r>(op: CompareOp, a: CellRef<'_>, b: CellRef<'_>) -> CellRef<'r>
+    ensures value { cell_of_ref result
+        ≡ compare_of op (order_of (cell_of_ref a.entry) (cell_of_ref b.entry)) }
+    ensures null_spreads { (compare_of op (order_of cell.Null (cell_of_ref b.entry)) ≡ cell.Null)
+        × (compare_of op (order_of (cell_of_ref a.entry) cell.Null) ≡ cell.Null) }
 {
-    match compare(a, b) {
-        Some(order) => Cell::Bool(is_met(op, order)),
-        None => Cell::Null,
+    match a.compare(b) {
+        Some(order) => CellRef::Bool(is_met(op, order)),
+        None => CellRef::Null,
     }
 }
 
@@ -51,15 +53,17 @@ fn is_met(op: CompareOp, order: Ordering) -> bool
 }
 
 /// Whether two cells are one and the same, null like any other.
-pub fn eq_missing(a: &Cell, b: &Cell) -> bool
-    ensures value { result ≡ cell_eq a.now b.now }
-    ensures exact { IsTrue result ↔ (a.now ≡ b.now) }
-    ensures reflexive { IsTrue (cell_eq a.now a.now) }
-    ensures symmetric { cell_eq a.now b.now ≡ cell_eq b.now a.now }
-    ensures transitive { (c : AnyCell) → IsTrue (cell_eq a.now b.now) → IsTrue (cell_eq b.now c)
-        → IsTrue (cell_eq a.now c) }
+pub fn eq_missing(a: CellRef<'_>, b: CellRef<'_>) -> bool
+    ensures value { result ≡ cell_eq (cell_of_ref a.entry) (cell_of_ref b.entry) }
+    ensures exact { IsTrue result ↔ (cell_of_ref a.entry ≡ cell_of_ref b.entry) }
+    ensures reflexive { IsTrue (cell_eq (cell_of_ref a.entry) (cell_of_ref a.entry)) }
+    ensures symmetric { cell_eq (cell_of_ref a.entry) (cell_of_ref b.entry)
+        ≡ cell_eq (cell_of_ref b.entry) (cell_of_ref a.entry) }
+    ensures transitive { (c : AnyCell)
+        → IsTrue (cell_eq (cell_of_ref a.entry) (cell_of_ref b.entry))
+        → IsTrue (cell_eq (cell_of_ref b.entry) c) → IsTrue (cell_eq (cell_of_ref a.entry) c) }
 {
-    *a == *b
+    a == b
 }
 
 /// An operator of one operand.
@@ -86,21 +90,21 @@ impl Unary {
     }
 
     /// Its value over a cell.
-    pub fn apply(self, a: &Cell) -> Cell
-        ensures { result ≡ unary_value self a.now }
+    pub fn apply<'r>(self, a: CellRef<'_>) -> CellRef<'r>
+        ensures { cell_of_ref result ≡ unary_value self (cell_of_ref a.entry) }
     {
         match self {
             Unary::Not => cell_of(kleene_not(truth_of(a))),
-            Unary::IsNull => Cell::Bool(is_null(a)),
-            Unary::IsNotNull => Cell::Bool(!is_null(a)),
+            Unary::IsNull => CellRef::Bool(is_null(a)),
+            Unary::IsNotNull => CellRef::Bool(!is_null(a)),
         }
     }
 }
 
-fn is_null(cell: &Cell) -> bool
-    ensures { result ≡ value_spec.is_null cell.now }
+fn is_null(cell: CellRef<'_>) -> bool
+    ensures { result ≡ value_spec.is_null (cell_of_ref cell.entry) }
 {
-    matches!(cell, Cell::Null)
+    matches!(cell, CellRef::Null)
 }
 
 /// An operator of two operands, both of which are evaluated.
@@ -133,13 +137,14 @@ impl Binary {
     }
 
     /// Its value over two cells.
-    pub fn apply(self, a: &Cell, b: &Cell) -> Cell
-        ensures { result ≡ binary_value self a.now b.now }
+    pub fn apply<'r>(self, a: CellRef<'_>, b: CellRef<'_>) -> CellRef<'r>
+        ensures { cell_of_ref result
+            ≡ binary_value self (cell_of_ref a.entry) (cell_of_ref b.entry) }
     {
         match self {
             Binary::Arith(op) => arith(op, a, b),
             Binary::Compare(op) => comparison(op, a, b),
-            Binary::EqMissing => Cell::Bool(eq_missing(a, b)),
+            Binary::EqMissing => CellRef::Bool(eq_missing(a, b)),
             Binary::And => cell_of(kleene_and(truth_of(a), truth_of(b))),
             Binary::Or => cell_of(kleene_or(truth_of(a), truth_of(b))),
         }

@@ -1,17 +1,15 @@
 //! Expressions over the rows of one table, with indices in place of the names of its columns.
 ghost use Rattle.std.specs.Prelude.{◌≡◌, ◌+◌, ◌<◌, ◌^◌, IfOk};
-ghost use Rattle.df_expr.specs.Lent.{cell_of_value};
+ghost use Rattle.df_value.specs.CellRefs.{cell_of_ref};
 ghost use Rattle.df_expr.specs.Meters.{with_evals};
 ghost use Rattle.df_expr.specs.Physical as physical;
 ghost use Rattle.df_expr.specs.Physical.{physical_value, IsPhysical};
 ghost use Rattle.df_expr.specs.declared.physical.PhysicalExpr.TheVariants as form;
 
-use crate::evaluation::cell_at;
 use crate::expr::Expr;
-use crate::lent::Value;
 use crate::meter::Meter;
 use crate::operators::{Binary, Unary};
-use df_value::{Boxed, Cell, CellType, Duplicate, Row, Text, column_index};
+use df_value::{Boxed, Cell, CellRef, CellType, Duplicate, Row, Text, column_index};
 use std::alloc::{AllocError, Global};
 
 /// An expression over the rows of a table, made once for all of them: its evaluation looks up no
@@ -57,9 +55,9 @@ impl PhysicalExpr {
     }
 
     /// The value in a row, lent where the row or a literal has it. Counts one evaluation.
-    pub fn eval<'a>(&'a self, row: &'a Row, meter: &mut Meter) -> Value<'a>
+    pub fn eval<'a>(&'a self, row: &'a Row, meter: &mut Meter) -> CellRef<'a>
         requires { meter.old.evals + 1 < 2 ^ 128 }
-        ensures value { cell_of_value result ≡ physical_value self.now row.now }
+        ensures value { cell_of_ref result ≡ physical_value self.now row.now }
         ensures counted { meter.new ≡ with_evals 1 meter.old }
     {
         meter.evals.raise();
@@ -160,27 +158,21 @@ fn boxed(
     Ok(Boxed::new(alloc, physical_of(alloc, expr.get(), columns)?)?)
 }
 
-fn value_in<'a>(expr: &'a PhysicalExpr, row: &'a Row) -> Value<'a>
-    ensures { cell_of_value result ≡ physical_value expr.now row.now }
+fn value_in<'a>(expr: &'a PhysicalExpr, row: &'a Row) -> CellRef<'a>
+    ensures { cell_of_ref result ≡ physical_value expr.now row.now }
 {
     match expr {
-        PhysicalExpr::Column(index) => cell_at(*index, row),
-        PhysicalExpr::Literal(cell) => Value::Lent(cell),
-        PhysicalExpr::Unary(operator, a) => {
-            let a = value_in(a.get(), row);
-            Value::Made(operator.apply(a.cell()))
-        }
+        PhysicalExpr::Column(index) => row.cell_at(*index),
+        PhysicalExpr::Literal(cell) => CellRef::of(cell),
+        PhysicalExpr::Unary(operator, a) => operator.apply(value_in(a.get(), row)),
         PhysicalExpr::Binary(operator, a, b) => {
             let a = value_in(a.get(), row);
             let b = value_in(b.get(), row);
-            Value::Made(operator.apply(a.cell(), b.cell()))
+            operator.apply(a, b)
         }
-        PhysicalExpr::FillNull(a, b) => {
-            let a = value_in(a.get(), row);
-            match a.cell() {
-                Cell::Null => value_in(b.get(), row),
-                _ => a,
-            }
-        }
+        PhysicalExpr::FillNull(a, b) => match value_in(a.get(), row) {
+            CellRef::Null => value_in(b.get(), row),
+            value => value,
+        },
     }
 }

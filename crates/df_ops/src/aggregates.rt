@@ -9,9 +9,9 @@ ghost use Rattle.df_ops.specs.AggregateDtypes.{input_column, output_dtype};
 ghost use Rattle.df_ops.specs.Tables.{aggregate_cell};
 
 use crate::agg::Agg;
-use crate::groups::{copy_at, keys_of};
+use crate::groups::keys_of;
 use crate::min_max::{MinMax, min_or_max_of, non_null_at};
-use df_value::{Cell, CellType, Duplicate, Frac, Row, Text, column_index};
+use df_value::{Cell, CellRef, CellType, Duplicate, Frac, Row, Text, column_index};
 use std::alloc::{AllocError, Global};
 
 /// An aggregate of the rows of a group, which have these columns.
@@ -100,9 +100,9 @@ pub fn next_sum(sum: i128, n: Option<i64>) -> i128
 pub fn number_at(index: Option<usize>, row: &Row) -> Option<i64>
     ensures { result ≡ number_of (cell_at index row.now) }
 {
-    match row.get(index?)? {
-        Cell::Int(n) => Some(*n),
-        Cell::Bool(truth) => Some(i64::from(*truth)),
+    match row.cell_at(index) {
+        CellRef::Int(n) => Some(n),
+        CellRef::Bool(truth) => Some(i64::from(truth)),
         _ => None,
     }
 }
@@ -145,7 +145,7 @@ fn cell_of(alloc: Global, index: Option<usize>, row: Option<&Row>) -> Result<Cel
         (λ c. c ≡ unwrap_or (option_map (λ r. cell_at index r.now) row.entry) cell.Null) }
 {
     match row {
-        Some(row) => copy_at(alloc, index, row),
+        Some(row) => row.cell_at(index).to_cell(alloc),
         None => Ok(Cell::Null),
     }
 }

@@ -6,7 +6,7 @@ ghost use Rattle.df_value.specs.Rows.{cell_at, row_eq};
 ghost use Rattle.df_ops.specs.Groups as groups;
 ghost use Rattle.df_ops.specs.Groups.{KeysStandFirst};
 
-use df_value::{Cell, Duplicate, Row, push_made};
+use df_value::{Cell, CellRef, Duplicate, Row, push_made};
 use std::alloc::{AllocError, Global};
 
 /// The distinct keys of the rows, by first appearance: the cells at `indices`, null where an index
@@ -59,22 +59,9 @@ pub fn key_of(alloc: Global, indices: &[Option<usize>], row: &Row) -> Result<Row
 {
     let mut key = Vec::with_capacity(alloc, indices.len())?;
     for index in indices {
-        push_made(&mut key, copy_at(alloc, *index, row))?;
+        push_made(&mut key, row.cell_at(*index).to_cell(alloc))?;
     }
     Row::new(alloc, key)
-}
-
-/// A copy of the cell at an index, null where there is none.
-pub fn copy_at(alloc: Global, index: Option<usize>, row: &Row) -> Result<Cell, AllocError>
-    ensures { IfOk result (λ c. c ≡ cell_at index row.now) }
-{
-    let Some(index) = index else {
-        return Ok(Cell::Null);
-    };
-    match row.get(index) {
-        Some(cell) => cell.copy(alloc),
-        None => Ok(Cell::Null),
-    }
 }
 
 /// Copies of the rows that have this key, in their order.
@@ -130,13 +117,7 @@ pub fn is_in_group(indices: &[Option<usize>], row: &Row, key: &Row) -> bool
 fn is_at(index: Option<usize>, row: &Row, cell: &Cell) -> bool
     ensures { result ≡ cell_eq (cell_at index row.now) cell.now }
 {
-    let Some(index) = index else {
-        return Cell::Null == *cell;
-    };
-    match row.get(index) {
-        Some(own) => *own == *cell,
-        None => Cell::Null == *cell,
-    }
+    row.cell_at(index) == CellRef::of(cell)
 }
 
 /// How many rows the group of each key has, in the order of the keys. Together they are all rows.

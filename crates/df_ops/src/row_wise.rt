@@ -1,6 +1,7 @@
 //! Operators that look at one row at a time: filter, select, with_columns.
 ghost use Rattle.std.specs.Prelude.{ℕ, List, ◌≡◌, ◌+◌, ◌<◌, ◌^◌, ◌++◌, ◌∷◌, [], true, IfOk, IsTrue, OnErr, OnOk, length, map};
 ghost use Rattle.df_value.specs.declared.cell.Cell.TheVariants as cell;
+ghost use Rattle.df_value.specs.CellRefs.{cell_of_ref};
 ghost use Rattle.df_value.specs.Rows.{row_fits, rows_fit};
 ghost use Rattle.df_value.specs.Schemas.{Columns};
 ghost use Rattle.df_expr.specs.declared.expr.Expr.{Expr as AnyExpr};
@@ -19,7 +20,7 @@ use crate::named_columns::with_columns;
 use crate::places::{Place, placed_row, places_of};
 use crate::plain_table::{PlainTable, table_from};
 use df_expr::{Expr, Meter, PhysicalExpr};
-use df_value::{Cell, CellType, Duplicate, List, Row, Text, column_dtype, push_made, then_drop};
+use df_value::{CellRef, CellType, Duplicate, List, Row, Text, column_dtype, push_made, then_drop};
 use std::alloc::{AllocError, Global};
 
 /// The table with the rows whose predicate is true.
@@ -112,14 +113,14 @@ pub fn keeps(predicate: &PhysicalExpr, row: &Row, meter: &mut Meter) -> bool
         → result ≡ row_wise.keeps columns of row.now }
     ensures counted { meter.new ≡ with_evals 1 meter.old }
 {
-    is_true(predicate.eval(row, meter).cell())
+    is_true(predicate.eval(row, meter))
 }
 
-fn is_true(cell: &Cell) -> bool
-    ensures { result ≡ row_wise.is_true cell.now }
+fn is_true(cell: CellRef<'_>) -> bool
+    ensures { result ≡ row_wise.is_true (cell_of_ref cell.entry) }
 {
     match cell {
-        Cell::Bool(truth) => *truth,
+        CellRef::Bool(truth) => truth,
         _ => false,
     }
 }
@@ -215,7 +216,7 @@ fn item_values(
 {
     let mut cells = Vec::with_capacity(alloc, items.len())?;
     for item in items {
-        push_made(&mut cells, item.eval(row, meter).into_cell(alloc))?;
+        push_made(&mut cells, item.eval(row, meter).to_cell(alloc))?;
     }
     Row::new(alloc, cells)
 }

@@ -1,6 +1,7 @@
 pub mod Exactly
 pub mod Cells
 pub mod CellEq
+pub mod CellRefs
 pub mod Order
 pub mod CellOrder
 pub mod Rows

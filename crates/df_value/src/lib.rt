@@ -1,11 +1,12 @@
 //! Cells, rows, schemas and chunks: what a table is made of.
 //!
-//! A [`Cell`] is null or a value of one of five types, a [`Row`] a list of cells, a [`Schema`] the names and
-//! types of a table's columns, and a [`Chunk`] some rows of a frame with the number of the first. Contracts see
-//! a [`Text`] as the list of its bytes, and a [`List`] as the list of its items.
+//! A [`Cell`] is null or a value of one of five types, and a [`CellRef`] such a cell that is lent. A [`Row`] is a list
+//! of cells, a [`Schema`] the names and types of a table's columns, and a [`Chunk`] some rows of a frame with the
+//! number of the first. Contracts see a [`Text`] as the list of its bytes, and a [`List`] as the list of its items.
 #![tactic(auto)]
 
 mod cell;
+mod cell_ref;
 mod chunk;
 mod frac;
 mod limits;
@@ -21,6 +22,7 @@ mod text;
 mod traits;
 
 pub use cell::{Cell, CellType};
+pub use cell_ref::CellRef;
 pub use chunk::{BadCell, Chunk, ChunkFault, Piece, RefusedRows};
 pub use frac::Frac;
 pub use limits::{

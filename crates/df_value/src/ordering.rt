@@ -4,6 +4,7 @@ ghost use Rattle.df_value.specs.CellOrder.{cell_cmp};
 ghost use Rattle.df_value.specs.Order.{order_of};
 
 use crate::cell::Cell;
+use crate::cell_ref::CellRef;
 use std::cmp::Ordering;
 
 /// How two cells compare that have one type, are not null and not of type Frac: numbers by size,
@@ -21,11 +22,5 @@ pub fn order(a: &Cell, b: &Cell) -> Ordering
 pub fn compare(a: &Cell, b: &Cell) -> Option<Ordering>
     ensures { result ≡ order_of a.now b.now }
 {
-    match (a, b) {
-        (Cell::Int(a), Cell::Int(b)) => Some(a.cmp(b)),
-        (Cell::Wide(a), Cell::Wide(b)) => Some(a.cmp(b)),
-        (Cell::Text(a), Cell::Text(b)) => Some(a.as_str().cmp(b.as_str())),
-        (Cell::Bool(a), Cell::Bool(b)) => Some(a.cmp(b)),
-        _ => None,
-    }
+    CellRef::of(a).compare(CellRef::of(b))
 }

@@ -1,8 +1,11 @@
 //! Rows of a table.
 ghost use Rattle.std.specs.Prelude.{◌≡◌, ◌↔◌, IfOk, IsTrue, length, slice_get};
 ghost use Rattle.std.specs.Option.{option_copied};
+ghost use Rattle.df_value.specs.CellRefs.{cell_of_ref};
+ghost use Rattle.df_value.specs.Rows as rows;
 
 use crate::cell::Cell;
+use crate::cell_ref::CellRef;
 use crate::list::List;
 use crate::shared::Shared;
 use crate::traits::{Duplicate, Exact};
@@ -73,6 +76,19 @@ impl Row {
         ensures { option_copied result ≡ slice_get self.now index }
     {
         self.cells.get().get(index)
+    }
+
+    /// The cell at this index, lent; null where there is none.
+    pub fn cell_at(&self, index: Option<usize>) -> CellRef<'_>
+        ensures { cell_of_ref result ≡ rows.cell_at index self.now }
+    {
+        let Some(index) = index else {
+            return CellRef::Null;
+        };
+        match self.get(index) {
+            Some(cell) => CellRef::of(cell),
+            None => CellRef::Null,
+        }
     }
 }
 

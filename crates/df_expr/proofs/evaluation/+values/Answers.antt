@@ -35,6 +35,3 @@ value_in-returns-in-IsNotNull t c = grind (arith, common_steps, the_lemmas)
 
 pub value_in-returns-in-Null : goal.value_in-returns-in-Null
 value_in-returns-in-Null t c = grind (arith, common_steps, the_lemmas)
-
-pub value_in-returns : goal.value_in-returns
-value_in-returns t c = grind (arith, common_steps, the_lemmas)

@@ -1,4 +1,4 @@
-use Rattle.std.proofs.Common.{refl}
+use Rattle.std.proofs.Common.{◌∙◌, refl}
 use Rattle.df_value.specs.Rows.{cell_at}
 use Rattle.df_ops.specs.Groups.{key_of}
 use Rattle.df_ops.proofs.Steps.{answered, made_is, mapped_at, all_done}
@@ -8,7 +8,7 @@ pub loop-index-preserved : goal.loop-index-preserved
 loop-index-preserved c =
     let pushed = c.in_ok-push_made.ensures in
     mapped_at (λ p. cell_at p c.args.row.now) c.args.indices.now _ _ _ _ pushed.0 c.loop-index-test.true c.loop-index.invariant
-    (made_is _ _ _ c.copy_at.ensures pushed.1) pushed.2
+    (made_is _ _ _ c.to_cell.ensures.value pushed.1 ∙ c.cell_at.ensures) pushed.2
 
 pub returns : goal.returns
 returns c =

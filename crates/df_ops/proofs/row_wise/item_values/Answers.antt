@@ -9,7 +9,7 @@ pub loop-item-preserved : goal.loop-item-preserved
 loop-item-preserved c = record {
   cells =
       mapped_more _ _ _ _ _ _ _ (omega arith) c.item-item.is c.loop-item.invariant.cells
-      (made_is _ _ _ c.into_cell.ensures.value c.in_ok-push_made.ensures.1 ∙ c.eval.ensures.value) c.in_ok-push_made.ensures.2;
+      (made_is _ _ _ c.to_cell.ensures.value c.in_ok-push_made.ensures.1 ∙ c.eval.ensures.value) c.in_ok-push_made.ensures.2;
   counted = one_more _ _ _ _ c.loop-item.invariant.counted c.eval.ensures.counted;
 }
 
