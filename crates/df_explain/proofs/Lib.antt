@@ -1,1 +1,2 @@
 mod LineFacts
+mod PlaceFacts

@@ -1,2 +1,3 @@
 pub mod Explanations
+pub mod Places
 pub mod PlanPlaces

@@ -1,10 +1,108 @@
--- Where a plan does not check.
-use Rattle.std.specs.Prelude.{◌≡◌, List, Err}
+-- Where a plan does not check: the step, and how it is told.
+use Rattle.std.specs.Prelude.{◌≡◌, ◌++◌, ◌+◌, ◌-◌, ◌^◌, ℕ, zero, suc, List, [], ◌∷◌, Option, Some, None, Err, codes, min}
+use Rattle.df_explain.specs.Places.{step_text}
+use Rattle.df_ops.specs.declared.windows.RollKind.TheVariants as roll
 use Rattle.df_plan.specs.Checks.{columns_of}
+use Rattle.df_plan.specs.Inputs.{Inputs, none, one, two, inputs_of, from_inputs}
 use Rattle.df_plan.specs.declared.fault.PlanFault.{PlanFault}
-use Rattle.df_plan.specs.declared.plan.Plan.{Plan}
+use Rattle.df_plan.specs.declared.fault.PlanFault.TheVariants as fault
+use Rattle.df_plan.specs.declared.plan.Plan.{Plan, fold-Plan, out-Plan}
+use Rattle.df_plan.specs.declared.plan.Plan.TheOpen.{Plan-F}
+use Rattle.df_plan.specs.declared.plan.Plan.TheVariants as plan
 use Rattle.df_value.specs.Schemas.{Columns}
 
 -- the fault of a plan is the fault of this part of it
 abbrev pub IsFaultOf : List Columns → Plan → Plan → Type 0
 IsFaultOf frames whole part = (f : PlanFault) → columns_of whole frames ≡ Err f → columns_of part frames ≡ Err f
+
+-- the plan without its last step; of a join the left side
+abbrev pub input_of : Plan → Plan
+input_of p = from_inputs p (λ left right. left) (inputs_of (out-Plan p))
+
+abbrev pub right_among : Inputs Plan → Option Plan
+right_among none = None
+right_among (one input) = None
+right_among (two left right) = Some right
+
+-- the right side of a join
+abbrev pub right_of : Plan → Option Plan
+right_of p = right_among (inputs_of (out-Plan p))
+
+-- the plan without so many of its last steps
+abbrev pub without_last : ℕ → Plan → Plan
+without_last zero p = p
+without_last (suc n) p = without_last n (input_of p)
+
+-- a part of a plan that is the plan up to one of its steps, right sides of its joins aside
+abbrev pub IsUpTo : Plan → Plan → Type 0
+IsUpTo whole part = (n : ℕ) × (part ≡ without_last n whole)
+
+-- one more, up to the greatest number of 64 bits
+abbrev pub one_more : ℕ → ℕ
+one_more n = min (n + 1) (2 ^ 64 - 1)
+
+abbrev pub count_step : Plan-F ℕ → ℕ
+count_step (Plan-F.Scan frame) = 0
+count_step p = one_more (from_inputs 0 (λ left right. left) (inputs_of p))
+
+-- how many steps lead from a frame's own rows to those of a plan
+abbrev pub steps_of : Plan → ℕ
+steps_of p = fold-Plan ℕ count_step p
+
+-- the word of a plan's last step
+abbrev pub word_of : Plan → List ℕ
+word_of (plan.Scan frame) = codes "from"
+word_of (plan.Filter' q input e) = codes "filter"
+word_of (plan.Select' q input items) = codes "select"
+word_of (plan.WithColumns' q input items) = codes "with_columns"
+word_of (plan.GroupBy' q input keys aggs) = codes "group_by"
+word_of (plan.Join' q left r right h keys nulls_equal) = codes "join"
+word_of (plan.Rolling' q input output roll.Sum column w m) = codes "rolling_sum"
+word_of (plan.Rolling' q input output roll.Min column w m) = codes "rolling_min"
+word_of (plan.Rolling' q input output roll.Max column w m) = codes "rolling_max"
+word_of (plan.CumSum' q input output column) = codes "cum_sum"
+word_of (plan.Rank' q input output k column) = codes "rank"
+
+abbrev pub numbered : ℕ → List ℕ → List ℕ
+numbered zero word = word
+numbered (suc n) word = step_text (suc n) (Some word)
+
+-- a plan's last step by its number, from 1, and its word; a frame's own rows by the word alone
+abbrev pub last_step_text : Plan → List ℕ
+last_step_text p = numbered (steps_of p) (word_of p)
+
+-- a way from a join through its right side: the plan up to a step of that side, which is a join if the way goes on
+abbrev pub IsWithin : Plan → List Plan → Plan → Type 0
+IsWithin p [] part = p ≡ part
+IsWithin p (inner ∷ sides) part = (right : Plan) × (right_of p ≡ Some right) × IsUpTo right inner × IsWithin inner sides part
+
+abbrev pub sides_text : List Plan → List ℕ
+sides_text [] = []
+sides_text (inner ∷ sides) = codes ", right side, " ++ (last_step_text inner ++ sides_text sides)
+
+-- the text tells the way from a view's plan to this part of it
+abbrev pub IsPlaceOf : Plan → Plan → List ℕ → Type 0
+IsPlaceOf whole part text =
+    (outer : Plan) × (sides : List Plan) × IsUpTo whole outer × IsWithin outer sides part
+    × (text ≡ last_step_text outer ++ sides_text sides)
+
+-- the place of a part of a plan whose fault is the plan's
+abbrev pub IsFaultyStep : List Columns → Plan → Option (List ℕ) → Type 0
+IsFaultyStep frames whole None = ⊥
+IsFaultyStep frames whole (Some place) = (part : Plan) × IsFaultOf frames whole part × IsPlaceOf whole part place
+
+-- the place of a plan's fault; how many frames are read and how many steps follow one another is a matter of the whole plan
+abbrev pub IsStepOf : List Columns → Plan → PlanFault → Option (List ℕ) → Type 0
+IsStepOf frames whole fault.TooManyScans step = step ≡ None
+IsStepOf frames whole fault.TooDeep step = step ≡ None
+IsStepOf frames whole f step = IsFaultyStep frames whole step
+
+-- what is wrong, behind its place if there is one
+abbrev pub text_at : Option (List ℕ) → List ℕ → List ℕ
+text_at None what = what
+text_at (Some place) what = place ++ (codes ": " ++ what)
+
+-- words that begin with the place of a plan's fault
+abbrev pub IsPlanText : List Columns → Plan → PlanFault → List ℕ → Type 0
+IsPlanText frames whole f words =
+    (step : Option (List ℕ)) × (what : List ℕ) × IsStepOf frames whole f step × (words ≡ text_at step what)

@@ -1,16 +1,22 @@
 //! Why a document does not open, for a person.
-ghost use Rattle.std.specs.Prelude.{IfOk, string_bytes};
-ghost use Rattle.df_explain.specs.Explanations.{EndsInCode};
+ghost use Rattle.std.specs.Prelude.{◌≡◌, ◌++◌, ℕ, IfOk, List, Ok, codes, string_bytes};
+ghost use Rattle.df_document.specs.Texts.{fault_text_of};
+ghost use Rattle.df_explain.specs.Explanations.{IsExplanation, TellPlace, TellsStep};
+ghost use Rattle.df_explain.specs.Places.{TellsPlace};
+ghost use Rattle.df_text.specs.Document.{document_of};
+ghost use Rattle.df_text.specs.declared.document.Views.{Views as AnyViews};
 
 use crate::csv_words::csv_words;
+use crate::names::joined;
 use crate::plan_words::plan_words;
-use crate::views_words::{quoted_name, views_words};
+use crate::views_words::{behind_place, quoted_name, views_words};
 use df_document::{DocumentFault, Files, MOST_BYTES_OF_DOCUMENT, document_fault_text};
 use df_plan::PlanFault;
-use df_text::{CsvFault, ViewsFault, read_limited, read_views};
+use df_text::{CsvFault, Views, ViewsFault, read_limited, read_views};
 use df_value::Text;
 use std::alloc::{AllocError, Global};
 use std::io::Read;
+use toml::Table;
 
 /// Reads the document at a path once more, and explains a fault of its opening as [`explanation`] does. Where it cannot be
 /// read any more, the explanation has no place.
@@ -20,7 +26,7 @@ pub fn explain<F: Files>(
     path: &str,
     fault: &DocumentFault,
 ) -> Result<String, AllocError>
-    ensures { IfOk result (λ text. EndsInCode fault.now (string_bytes text)) }
+    ensures { IfOk result (λ text. (bytes : List ℕ) × IsExplanation bytes fault.now (string_bytes text)) }
 {
     let bytes = bytes_at(alloc, files, path);
     explanation(alloc, path, bytes.as_slice(), fault)
@@ -49,14 +55,15 @@ pub fn explanation(
     bytes: &[u8],
     fault: &DocumentFault,
 ) -> Result<String, AllocError>
-    ensures { IfOk result (λ text. EndsInCode fault.now (string_bytes text)) }
+    ensures { IfOk result (λ text. IsExplanation bytes.now fault.now (string_bytes text)) }
 {
     let words = words_of(alloc, name, bytes, fault)?;
     with_code(alloc, &words, fault)
 }
 
 fn with_code(alloc: Global, words: &String, fault: &DocumentFault) -> Result<String, AllocError>
-    ensures { IfOk result (λ text. EndsInCode fault.now (string_bytes text)) }
+    ensures { IfOk result (λ text. string_bytes text
+        ≡ string_bytes words.now ++ (codes " [" ++ (fault_text_of fault.now ++ codes "]"))) }
 {
     let code = document_fault_text(alloc, fault)?;
     let code = code.as_str();
@@ -69,7 +76,9 @@ fn words_of(
     name: &str,
     bytes: &[u8],
     fault: &DocumentFault,
-) -> Result<String, AllocError> {
+) -> Result<String, AllocError>
+    ensures { IfOk result (λ words. TellPlace bytes.now fault.now (string_bytes words)) }
+{
     match fault {
         DocumentFault::ReadFault => behind_name(alloc, name, "cannot be opened, or cannot be read"),
         DocumentFault::TooLarge => behind_name(alloc, name, "has more than 1048576 bytes"),
@@ -92,31 +101,48 @@ fn shape_words(
     name: &str,
     bytes: &[u8],
     fault: &ViewsFault,
-) -> Result<String, AllocError> {
+) -> Result<String, AllocError>
+    ensures { IfOk result (λ words. TellsPlace fault.now (string_bytes words)) }
+{
     let Ok(text) = str::from_utf8(bytes) else {
-        return behind_name(alloc, name, "is not UTF-8");
+        let name = quoted_name(alloc, name)?;
+        return without_tree(alloc, name.as_str(), fault, "is not UTF-8");
     };
     match toml::table_from_str(alloc, text) {
         Ok(tree) => views_words(alloc, name, &tree, fault),
-        Err(error) => toml_words(alloc, name, bytes, &error),
+        Err(error) => toml_words(alloc, name, bytes, fault, &error),
     }
+}
+
+fn without_tree(
+    alloc: Global,
+    named: &str,
+    fault: &ViewsFault,
+    what: &str,
+) -> Result<String, AllocError>
+    ensures { IfOk result (λ words. TellsPlace fault.now (string_bytes words)) }
+{
+    behind_place(alloc, named, &Table::new(alloc), fault, what)
 }
 
 fn toml_words(
     alloc: Global,
     name: &str,
     bytes: &[u8],
+    fault: &ViewsFault,
     error: &toml::de::Error,
-) -> Result<String, AllocError> {
+) -> Result<String, AllocError>
+    ensures { IfOk result (λ words. TellsPlace fault.now (string_bytes words)) }
+{
     let name = quoted_name(alloc, name)?;
-    let name = name.as_str();
-    let what = error.message();
     match error.span() {
         Some(span) => {
+            let name = name.as_str();
             let line = line_at(bytes, span.start);
-            format!(in alloc; "{name}, line {line}: {what}")
+            let named = format!(in alloc; "{name}, line {line}")?;
+            without_tree(alloc, named.as_str(), fault, error.message())
         }
-        None => format!(in alloc; "{name}: {what}"),
+        None => without_tree(alloc, name.as_str(), fault, error.message()),
     }
 }
 
@@ -139,17 +165,29 @@ fn view_words(
     bytes: &[u8],
     view: &Text,
     fault: &PlanFault,
-) -> Result<String, AllocError> {
+) -> Result<String, AllocError>
+    ensures { IfOk result (λ words. (document : AnyViews) → document_of bytes.now ≡ Ok document
+        → TellsStep document view.now fault.now (string_bytes words)) }
+{
     let name = quoted_name(alloc, name)?;
-    let name = name.as_str();
     match read_views(alloc, bytes) {
-        Ok(document) => {
-            let words = plan_words(alloc, &document, view, fault)?;
-            let words = words.as_str();
-            format!(in alloc; "{name}: {words}")
-        }
-        Err(_) => format!(in alloc; "{name}: a plan does not check"),
+        Ok(document) => step_words(alloc, name.as_str(), &document, view, fault),
+        Err(ViewsFault::Memory) => Err(AllocError),
+        Err(_) => joined(alloc, name.as_str(), ": ", "a plan does not check"),
     }
+}
+
+fn step_words(
+    alloc: Global,
+    name: &str,
+    document: &Views,
+    view: &Text,
+    fault: &PlanFault,
+) -> Result<String, AllocError>
+    ensures { IfOk result (λ words. TellsStep document.now view.now fault.now (string_bytes words)) }
+{
+    let words = plan_words(alloc, document, view, fault)?;
+    joined(alloc, name, ": ", words.as_str())
 }
 
 fn frame_words(

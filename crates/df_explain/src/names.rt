@@ -1,4 +1,6 @@
-//! Names in a sentence.
+//! Names and texts in a sentence.
+ghost use Rattle.std.specs.Prelude.{◌≡◌, ◌++◌, IfOk, string_bytes};
+
 use df_text::escape;
 use df_value::Schema;
 use std::alloc::{AllocError, Global};
@@ -34,4 +36,18 @@ pub fn column_names<'a>(alloc: Global, schema: &'a Schema) -> Result<Vec<&'a str
         names.push(column.0.as_str())?;
     }
     Ok(names)
+}
+
+/// Two texts with a third between them.
+pub fn joined(alloc: Global, a: &str, between: &str, b: &str) -> Result<String, AllocError>
+    ensures { IfOk result (λ text. string_bytes text ≡ a.now ++ (between.now ++ b.now)) }
+{
+    format!(in alloc; "{a}{between}{b}")
+}
+
+/// A text and one behind it.
+pub fn appended(alloc: Global, a: &str, b: &str) -> Result<String, AllocError>
+    ensures { IfOk result (λ text. string_bytes text ≡ a.now ++ b.now) }
+{
+    format!(in alloc; "{a}{b}")
 }

@@ -1,7 +1,13 @@
 //! Faults of one more view of a document in words.
-ghost use Rattle.std.specs.Prelude.{IfOk, string_bytes};
-ghost use Rattle.df_explain.specs.Explanations.{IsOneLine};
+ghost use Rattle.std.specs.Prelude.{◌≡◌, IfOk, Ok, string_bytes};
+ghost use Rattle.df_document.specs.Opening.{schemas_of};
+ghost use Rattle.df_explain.specs.Explanations.{AreWordsOf};
+ghost use Rattle.df_explain.specs.Places.{IsAt, IsOneLine, location_of as spec_location_of};
+ghost use Rattle.df_explain.specs.PlanPlaces.{IsPlanText};
+ghost use Rattle.df_text.specs.Document.{next_view_of};
+ghost use Rattle.df_text.specs.declared.document.ViewSpec.{ViewSpec};
 
+use crate::names::appended;
 use crate::part::array_at;
 use crate::place::place_in_view;
 use crate::plan_words::words_in_plan;
@@ -9,9 +15,10 @@ use crate::step_words::step_words;
 use crate::views_words::location_of;
 use crate::written_view::WrittenView;
 use df_document::DocumentFault;
-use df_plan::PlanFault;
+use df_plan::{Plan, PlanFault};
 use df_text::{FrameSpec, Location, Views, ViewsFault, read_next_view};
 use std::alloc::{AllocError, Global};
+use toml::Table;
 
 /// What stands before the steps of a view in its table.
 const KEY: &[u8] = b"steps = ";
@@ -26,10 +33,16 @@ pub fn next_view_words(
     steps: &[u8],
     fault: &DocumentFault,
 ) -> Result<String, AllocError>
-    ensures { IfOk result (λ words. IsOneLine (string_bytes words)) }
+    ensures place { IfOk result (λ words.
+        AreWordsOf document.now name.now source.now steps.now fault.now (string_bytes words)) }
+    ensures line { IfOk result (λ words. IsOneLine (string_bytes words)) }
 {
-    let words = words_of(alloc, document, name, source, steps, fault)?;
-    String::from_str(alloc, first_line(words.as_str()))
+    match fault {
+        DocumentFault::Views(fault) => shape_words(alloc, document, source, steps, fault),
+        DocumentFault::Plan(_, fault) => plan_words(alloc, document, name, source, steps, fault),
+        // Others do not come of a view.
+        _ => String::from_str(alloc, "a fault of a document"),
+    }
 }
 
 fn first_line(words: &str) -> &str
@@ -41,22 +54,6 @@ fn first_line(words: &str) -> &str
     }
 }
 
-fn words_of(
-    alloc: Global,
-    document: &Views,
-    name: &str,
-    source: &str,
-    steps: &[u8],
-    fault: &DocumentFault,
-) -> Result<String, AllocError> {
-    match fault {
-        DocumentFault::Views(fault) => shape_words(alloc, document, source, steps, fault),
-        DocumentFault::Plan(_, fault) => plan_words(alloc, document, name, source, steps, fault),
-        // Others do not come of a view.
-        _ => String::from_str(alloc, "a fault of a document"),
-    }
-}
-
 // A fault of the view's shape; of steps that are no TOML where they are none.
 fn shape_words(
     alloc: Global,
@@ -64,22 +61,52 @@ fn shape_words(
     source: &str,
     steps: &[u8],
     fault: &ViewsFault,
-) -> Result<String, AllocError> {
+) -> Result<String, AllocError>
+    ensures place { IfOk result (λ words. IsAt (spec_location_of fault.now) (string_bytes words)) }
+    ensures line { IfOk result (λ words. IsOneLine (string_bytes words)) }
+{
     let bytes = with_key(alloc, steps)?;
-    let Ok(text) = str::from_utf8(bytes.as_slice()) else {
-        return String::from_str(alloc, "the steps are not UTF-8");
-    };
-    match toml::table_from_str(alloc, text) {
+    match table_of(alloc, bytes.as_slice()) {
         Ok(table) => {
             let view = WrittenView {
                 source: Some(source),
                 steps: array_at(&table, "steps"),
             };
-            words_in_view(alloc, document, &view, fault)
+            let what = what_is_wrong(alloc, document, &view, fault)?;
+            behind_place(alloc, &view, fault, what.as_str())
         }
-        Err(error) if error.is_memory() => Err(AllocError),
-        Err(error) => toml_words(alloc, bytes.as_slice(), &error),
+        Err(what) => behind_place(
+            alloc,
+            &WrittenView::without_steps(source),
+            fault,
+            what?.as_str(),
+        ),
     }
+}
+
+// The table that a text says, or why it says none.
+fn table_of(alloc: Global, bytes: &[u8]) -> Result<Table, Result<String, AllocError>> {
+    let Ok(text) = str::from_utf8(bytes) else {
+        return Err(String::from_str(alloc, "the steps are not UTF-8"));
+    };
+    match toml::table_from_str(alloc, text) {
+        Ok(table) => Ok(table),
+        Err(error) if error.is_memory() => Err(Err(AllocError)),
+        Err(error) => Err(toml_words(alloc, bytes, &error)),
+    }
+}
+
+fn behind_place(
+    alloc: Global,
+    view: &WrittenView<'_>,
+    fault: &ViewsFault,
+    what: &str,
+) -> Result<String, AllocError>
+    ensures place { IfOk result (λ words. IsAt (spec_location_of fault.now) (string_bytes words)) }
+    ensures line { IfOk result (λ words. IsOneLine (string_bytes words)) }
+{
+    let place = place_in_view(alloc, view, location_of(fault))?;
+    appended(alloc, place.as_str(), first_line(what))
 }
 
 fn with_key(alloc: Global, steps: &[u8]) -> Result<Vec<u8>, AllocError> {
@@ -111,19 +138,6 @@ fn characters(bytes: &[u8], from: usize, to: usize) -> u64 {
 
 fn begun(byte: u8) -> u64 {
     if byte & 0xC0 == 0x80 { 0 } else { 1 }
-}
-
-fn words_in_view(
-    alloc: Global,
-    document: &Views,
-    view: &WrittenView<'_>,
-    fault: &ViewsFault,
-) -> Result<String, AllocError> {
-    let place = place_in_view(alloc, view, location_of(fault))?;
-    let place = place.as_str();
-    let what = what_is_wrong(alloc, document, view, fault)?;
-    let what = what.as_str();
-    format!(in alloc; "{place}{what}")
 }
 
 fn what_is_wrong(
@@ -165,12 +179,31 @@ fn plan_words(
     source: &str,
     steps: &[u8],
     fault: &PlanFault,
-) -> Result<String, AllocError> {
+) -> Result<String, AllocError>
+    ensures place { IfOk result (λ words. (view : ViewSpec)
+        → next_view_of document.now.frames document.now.views name.now source.now steps.now ≡ Ok view
+        → IsPlanText (schemas_of document.now.frames) view.plan fault.now (string_bytes words)) }
+    ensures line { IfOk result (λ words. IsOneLine (string_bytes words)) }
+{
     let frames = document.frames.as_slice();
     let before = document.views.as_slice();
     match read_next_view(alloc, frames, before, name, source, steps) {
-        Ok(view) => words_in_plan(alloc, document, &view.plan, fault),
+        Ok(view) => line_in_plan(alloc, document, &view.plan, fault),
         Err(ViewsFault::Memory) => Err(AllocError),
         Err(_) => String::from_str(alloc, "a plan does not check"),
     }
+}
+
+fn line_in_plan(
+    alloc: Global,
+    document: &Views,
+    plan: &Plan,
+    fault: &PlanFault,
+) -> Result<String, AllocError>
+    ensures place { IfOk result (λ words.
+        IsPlanText (schemas_of document.now.frames) plan.now fault.now (string_bytes words)) }
+    ensures line { IfOk result (λ words. IsOneLine (string_bytes words)) }
+{
+    let words = words_in_plan(alloc, document, plan, fault)?;
+    words.text(alloc, first_line(words.what.as_str()))
 }

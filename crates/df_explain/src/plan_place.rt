@@ -1,9 +1,12 @@
 //! The step of a plan that does not check.
-ghost use Rattle.std.specs.Prelude.{◌≡◌, IfOk, IfSome, is_ok};
+ghost use Rattle.std.specs.Prelude.{◌≡◌, ◌++◌, IfOk, IfSome, List, Some, codes, is_ok, string_bytes};
 ghost use Rattle.df_plan.specs.Checks.{columns_of};
-ghost use Rattle.df_explain.specs.PlanPlaces.{IsFaultOf};
+ghost use Rattle.df_plan.specs.declared.plan.Plan.{Plan as AnyPlan};
+ghost use Rattle.df_explain.specs.PlanPlaces as places;
+ghost use Rattle.df_explain.specs.PlanPlaces.{IsFaultOf, IsPlaceOf, IsUpTo, IsWithin, right_of};
 
-use crate::names::quoted;
+use crate::names::joined;
+use crate::place::step_text;
 use df_plan::{Plan, PlanFault, RollKind, schema_of};
 use df_value::Schema;
 use std::alloc::{AllocError, Global};
@@ -26,10 +29,11 @@ pub fn faulty_step<'a>(
     plan: &'a Plan,
     frames: &[Schema],
 ) -> Result<FaultyStep<'a>, AllocError>
-    ensures { IfOk result (λ step. IsFaultOf frames.now plan.now step.part.now) }
+    ensures fault { IfOk result (λ step. IsFaultOf frames.now plan.now step.part.now) }
+    ensures place { IfOk result (λ step. IsPlaceOf plan.now step.part.now (string_bytes step.place)) }
 {
     let part = faulty_part(alloc, plan, frames)?;
-    let place = step_text(alloc, part)?;
+    let place = last_step_text(alloc, part)?;
     within_sides(alloc, FaultyStep { place, part }, frames, MOST_SIDES)
 }
 
@@ -40,7 +44,10 @@ fn within_sides<'a>(
     frames: &[Schema],
     most: u32,
 ) -> Result<FaultyStep<'a>, AllocError>
-    ensures { IfOk result (λ inner. IsFaultOf frames.now step.entry.part.now inner.part.now) }
+    ensures fault { IfOk result (λ inner. IsFaultOf frames.now step.entry.part.now inner.part.now) }
+    ensures place { IfOk result (λ inner. (sides : List AnyPlan)
+        × IsWithin step.entry.part.now sides inner.part.now
+        × (string_bytes inner.place ≡ string_bytes step.entry.place ++ places.sides_text sides)) }
 {
     if most == 0 {
         return Ok(step);
@@ -48,18 +55,19 @@ fn within_sides<'a>(
     match faulty_side(alloc, step.part, frames)? {
         Some(side) => {
             let part = faulty_part(alloc, side, frames)?;
-            let place = place_in_side(alloc, &step.place, part)?;
+            let place = place_in_side(alloc, step.place.as_str(), part)?;
             within_sides(alloc, FaultyStep { place, part }, frames, most - 1)
         }
         None => Ok(step),
     }
 }
 
-fn place_in_side(alloc: Global, place: &String, part: &Plan) -> Result<String, AllocError> {
-    let inner = step_text(alloc, part)?;
-    let inner = inner.as_str();
-    let place = place.as_str();
-    format!(in alloc; "{place}, right side, {inner}")
+fn place_in_side(alloc: Global, place: &str, part: &Plan) -> Result<String, AllocError>
+    ensures { IfOk result (λ text. string_bytes text
+        ≡ place.now ++ (codes ", right side, " ++ places.last_step_text part.now)) }
+{
+    let inner = last_step_text(alloc, part)?;
+    joined(alloc, place, ", right side, ", inner.as_str())
 }
 
 // The right side of a join whose left side checks, if it does not check.
@@ -68,7 +76,8 @@ fn faulty_side<'a>(
     plan: &'a Plan,
     frames: &[Schema],
 ) -> Result<Option<&'a Plan>, AllocError>
-    ensures { IfOk result (λ side. IfSome side (λ p. IsFaultOf frames.now plan.now p.now)) }
+    ensures fault { IfOk result (λ side. IfSome side (λ p. IsFaultOf frames.now plan.now p.now)) }
+    ensures side { IfOk result (λ side. IfSome side (λ p. right_of plan.now ≡ Some p.now)) }
 {
     match plan {
         Plan::Join(left, right, _, _, _) => {
@@ -84,7 +93,8 @@ fn faulty_side<'a>(
 
 /// The plan up to its first step that does not check, of the steps of the view itself.
 fn faulty_part<'a>(alloc: Global, plan: &'a Plan, frames: &[Schema]) -> Result<&'a Plan, AllocError>
-    ensures { IfOk result (λ part. IsFaultOf frames.now plan.now part.now) }
+    ensures fault { IfOk result (λ part. IsFaultOf frames.now plan.now part.now) }
+    ensures step { IfOk result (λ part. IsUpTo plan.now part.now) }
 {
     match plan {
         Plan::Scan(_) => Ok(plan),
@@ -125,18 +135,21 @@ fn checks(alloc: Global, plan: &Plan, frames: &[Schema]) -> Result<bool, AllocEr
     }
 }
 
-/// A step by its number, from 1, and its word; for a frame's own rows `from`.
-fn step_text(alloc: Global, part: &Plan) -> Result<String, AllocError> {
-    let word = quoted(alloc, word_of(part))?;
-    let word = word.as_str();
+/// The last step of a plan by its number, from 1, and its word; for a frame's own rows `from`.
+fn last_step_text(alloc: Global, part: &Plan) -> Result<String, AllocError>
+    ensures { IfOk result (λ text. string_bytes text ≡ places.last_step_text part.now) }
+{
+    let word = word_of(part);
     match steps_of(part) {
-        0 => String::from_str(alloc, "from"),
-        number => format!(in alloc; "step {number} {word}"),
+        0 => String::from_str(alloc, word),
+        number => step_text(alloc, u128::from(number), word),
     }
 }
 
 /// How many steps of a view lead to this part of its plan.
-fn steps_of(part: &Plan) -> u64 {
+fn steps_of(part: &Plan) -> u64
+    ensures { result ≡ places.steps_of part.now }
+{
     match part {
         Plan::Scan(_) => 0,
         Plan::Filter(input, _) | Plan::Select(input, _) | Plan::WithColumns(input, _) => {
@@ -153,7 +166,9 @@ fn steps_of(part: &Plan) -> u64 {
 }
 
 /// The word of the last step.
-pub fn word_of(part: &Plan) -> &'static str {
+pub fn word_of(part: &Plan) -> &'static str
+    ensures { result.now ≡ places.word_of part.now }
+{
     match part {
         Plan::Scan(_) => "from",
         Plan::Filter(_, _) => "filter",

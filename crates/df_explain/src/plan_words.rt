@@ -1,18 +1,40 @@
 //! Faults of a view's plan in words.
-use crate::names::{column_names, quoted};
+ghost use Rattle.std.specs.Prelude.{◌≡◌, ◌++◌, ℕ, IfOk, List, None, option_map, string_bytes};
+ghost use Rattle.std.specs.Option.{option_copied};
+ghost use Rattle.df_document.specs.Opening.{schemas_of};
+ghost use Rattle.df_explain.specs.Explanations.{view_named, TellsStep};
+ghost use Rattle.df_explain.specs.PlanPlaces.{IsFaultyStep, IsStepOf, text_at};
+
+use crate::names::{column_names, joined, quoted};
 use crate::near::unknown;
 use crate::plan_place::{FaultyStep, faulty_step, word_of};
 use df_expr::ExprFault;
 use df_plan::{Plan, PlanFault, schema_of};
-use df_text::{FrameSpec, Views, escape};
-use df_value::{CellType, Duplicate, Schema, Text};
+use df_text::{FrameSpec, ViewSpec, Views, escape};
+use df_value::{CellType, Duplicate, Schema, Text, index_of_name};
 use std::alloc::{AllocError, Global};
 
-/// What is wrong in a plan, and the step where, if it is one.
+/// What is wrong in a plan, and the place of the step where, if it is one: ``step 2 `filter` ``.
 #[derive(Drop)]
-struct PlanWords {
-    step: Option<String>,
-    what: String,
+pub struct PlanWords {
+    pub step: Option<String>,
+    pub what: String,
+}
+
+impl PlanWords {
+    /// Both, with a colon between them.
+    pub fn text(&self, alloc: Global, what: &str) -> Result<String, AllocError>
+        ensures { IfOk result (λ text. string_bytes text
+            ≡ text_at (option_map string_bytes self.now.step) what.now) }
+    {
+        match &self.step {
+            Some(step) => {
+                let step = step.as_str();
+                format!(in alloc; "{step}: {what}")
+            }
+            None => String::from_str(alloc, what),
+        }
+    }
 }
 
 /// What is wrong in the plan of the view of this name, with the step: the text behind the document's name.
@@ -21,52 +43,43 @@ pub fn plan_words(
     document: &Views,
     view: &Text,
     fault: &PlanFault,
-) -> Result<String, AllocError> {
+) -> Result<String, AllocError>
+    ensures { IfOk result (λ words. TellsStep document.now view.now fault.now (string_bytes words)) }
+{
     let place = view_place(alloc, document, view)?;
-    match plan_of(document, view) {
-        Some(plan) => {
-            let words = words_of(alloc, document, plan, fault)?;
+    match spec_named(document, view.as_str()) {
+        Some(spec) => {
+            let words = words_in_plan(alloc, document, &spec.plan, fault)?;
             behind_view(alloc, &place, &words)
         }
         None => Ok(place),
     }
 }
 
-fn behind_view(alloc: Global, view: &String, words: &PlanWords) -> Result<String, AllocError> {
-    let view = view.as_str();
-    let what = words.what.as_str();
-    match &words.step {
-        Some(step) => {
-            let step = step.as_str();
-            format!(in alloc; "{view}, {step}: {what}")
-        }
-        None => format!(in alloc; "{view}: {what}"),
-    }
+fn spec_named<'a>(document: &'a Views, name: &str) -> Option<&'a ViewSpec>
+    ensures { option_copied result ≡ view_named document.now name.now }
+{
+    let at = index_of_name(document.views.as_slice(), name)?;
+    document.views.get(at)
 }
 
-/// What is wrong in a plan over a document's frames, behind the step: ``step 2 `filter`: no column `amonut`; ..``.
-pub fn words_in_plan(
-    alloc: Global,
-    document: &Views,
-    plan: &Plan,
-    fault: &PlanFault,
-) -> Result<String, AllocError> {
-    let words = words_of(alloc, document, plan, fault)?;
-    let what = words.what.as_str();
-    match &words.step {
-        Some(step) => {
-            let step = step.as_str();
-            format!(in alloc; "{step}: {what}")
-        }
-        None => String::from_str(alloc, what),
-    }
+fn behind_view(alloc: Global, view: &String, words: &PlanWords) -> Result<String, AllocError>
+    ensures { IfOk result (λ text. (before : List ℕ) × (string_bytes text
+        ≡ before ++ text_at (option_map string_bytes words.now.step) (string_bytes words.now.what))) }
+{
+    let what = words.text(alloc, words.what.as_str())?;
+    let between = match &words.step {
+        Some(_) => ", ",
+        None => ": ",
+    };
+    joined(alloc, view.as_str(), between, what.as_str())
 }
 
 // A view by its number, from 1, and its name.
 fn view_place(alloc: Global, document: &Views, view: &Text) -> Result<String, AllocError> {
     let name = quoted(alloc, view.as_str())?;
     let name = name.as_str();
-    match index_of(document, view) {
+    match index_of_name(document.views.as_slice(), view.as_str()) {
         Some(index) => {
             let number = index as u128 + 1;
             format!(in alloc; "view {number} {name}")
@@ -75,22 +88,9 @@ fn view_place(alloc: Global, document: &Views, view: &Text) -> Result<String, Al
     }
 }
 
-fn index_of(document: &Views, view: &Text) -> Option<usize> {
-    let views = document.views.as_slice();
-    for at in 0..views.len() {
-        if views[at].name.as_str() == view.as_str() {
-            return Some(at);
-        }
-    }
-    None
-}
-
-fn plan_of<'a>(document: &'a Views, view: &Text) -> Option<&'a Plan> {
-    let at = index_of(document, view)?;
-    Some(&document.views.as_slice().get(at)?.plan)
-}
-
-fn schemas(alloc: Global, frames: &[FrameSpec]) -> Result<Vec<Schema>, AllocError> {
+fn schemas(alloc: Global, frames: &[FrameSpec]) -> Result<Vec<Schema>, AllocError>
+    ensures { IfOk result (λ schemas. schemas.items ≡ schemas_of frames.now) }
+{
     let mut schemas = Vec::with_capacity(alloc, frames.len())?;
     for frame in frames {
         schemas.push(frame.schema.copy(alloc)?)?;
@@ -98,13 +98,17 @@ fn schemas(alloc: Global, frames: &[FrameSpec]) -> Result<Vec<Schema>, AllocErro
     Ok(schemas)
 }
 
-// How large the plan is is no matter of a step.
-fn words_of(
+/// What is wrong in a plan over a document's frames. How large the plan is is no matter of a step.
+pub fn words_in_plan(
     alloc: Global,
     document: &Views,
     plan: &Plan,
     fault: &PlanFault,
-) -> Result<PlanWords, AllocError> {
+) -> Result<PlanWords, AllocError>
+    ensures { IfOk result (λ words.
+        IsStepOf (schemas_of document.now.frames) plan.now fault.now
+        (option_map string_bytes words.step)) }
+{
     match fault {
         PlanFault::TooManyScans => of_whole_plan(
             alloc,
@@ -121,7 +125,9 @@ fn words_of(
     }
 }
 
-fn of_whole_plan(alloc: Global, what: &str) -> Result<PlanWords, AllocError> {
+fn of_whole_plan(alloc: Global, what: &str) -> Result<PlanWords, AllocError>
+    ensures { IfOk result (λ words. words.step ≡ None) }
+{
     let what = String::from_str(alloc, what)?;
     Ok(PlanWords { step: None, what })
 }
@@ -131,7 +137,9 @@ fn words_at_step(
     plan: &Plan,
     frames: &[Schema],
     fault: &PlanFault,
-) -> Result<PlanWords, AllocError> {
+) -> Result<PlanWords, AllocError>
+    ensures { IfOk result (λ words. IsFaultyStep frames.now plan.now (option_map string_bytes words.step)) }
+{
     let FaultyStep { place, part } = faulty_step(alloc, plan, frames)?;
     let what = what_is_wrong(alloc, part, frames, fault)?;
     Ok(PlanWords {

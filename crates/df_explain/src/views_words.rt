@@ -1,5 +1,10 @@
 //! Faults of a document's shape in words.
+ghost use Rattle.std.specs.Prelude.{◌≡◌, IfOk, string_bytes};
+ghost use Rattle.df_explain.specs.Places as places;
+ghost use Rattle.df_explain.specs.Places.{TellsPlace};
+
 use crate::forms::{KEYS_OF_FRAME, KEYS_OF_TOP, KEYS_OF_VIEW, TYPES};
+use crate::names::{appended, joined};
 use crate::near::unknown;
 use crate::part::{array_at, frame_names, items_of, table_in, text_of};
 use crate::place::place_text;
@@ -17,14 +22,27 @@ pub fn views_words(
     name: &str,
     tree: &Table,
     fault: &ViewsFault,
-) -> Result<String, AllocError> {
-    let name = quoted_name(alloc, name)?;
-    let name = name.as_str();
-    let place = place_text(alloc, tree, location_of(fault))?;
-    let place = place.as_str();
+) -> Result<String, AllocError>
+    ensures { IfOk result (λ words. TellsPlace fault.now (string_bytes words)) }
+{
     let what = what_is_wrong(alloc, tree, fault)?;
-    let what = what.as_str();
-    format!(in alloc; "{name}: {place}{what}")
+    let name = quoted_name(alloc, name)?;
+    behind_place(alloc, name.as_str(), tree, fault, what.as_str())
+}
+
+/// What is wrong in the shape of what is named so, behind its place.
+pub fn behind_place(
+    alloc: Global,
+    named: &str,
+    tree: &Table,
+    fault: &ViewsFault,
+    what: &str,
+) -> Result<String, AllocError>
+    ensures { IfOk result (λ words. TellsPlace fault.now (string_bytes words)) }
+{
+    let place = place_text(alloc, tree, location_of(fault))?;
+    let there = appended(alloc, place.as_str(), what)?;
+    joined(alloc, named, ": ", there.as_str())
 }
 
 /// The name of a document or of a file, escaped as in a printed table.
@@ -33,7 +51,9 @@ pub fn quoted_name(alloc: Global, name: &str) -> Result<String, AllocError> {
 }
 
 /// Where a fault of a document's shape lies, as far as it says.
-pub fn location_of(fault: &ViewsFault) -> Location {
+pub fn location_of(fault: &ViewsFault) -> Location
+    ensures { result ≡ places.location_of fault.now }
+{
     match fault {
         ViewsFault::Shape(location)
         | ViewsFault::Word(location)

@@ -10,6 +10,14 @@ pub struct WrittenView<'a> {
 }
 
 impl<'a> WrittenView<'a> {
+    /// A view over the frame of this name.
+    pub fn without_steps(source: &'a str) -> WrittenView<'a> {
+        WrittenView {
+            source: Some(source),
+            steps: &[],
+        }
+    }
+
     /// The view of this index in a document's tree.
     pub fn in_tree(tree: &'a Table, index: usize) -> WrittenView<'a> {
         match table_in(tree, "view", index) {

@@ -7,7 +7,8 @@ use Rattle.df_plan.specs.CheckedParts.{CheckedParts}
 use Rattle.df_text.specs.declared.document.ViewSpec.{ViewSpec}
 use Rattle.df_document.specs.Opening.{next_view_in}
 use Rattle.df_document.specs.declared.fault.DocumentFault.{DocumentFault}
-use Rattle.df_explain.specs.Explanations.{IsOneLine}
+use Rattle.df_explain.specs.Explanations.{AreWordsOf}
+use Rattle.df_explain.specs.Places.{IsOneLine}
 use Rattle.df_session.specs.declared.definitions.Definitions.{Definitions}
 use Rattle.df_session.specs.declared.refusal.Refusal.{Refusal}
 use Rattle.df_session.specs.declared.refusal.Refusal.TheVariants as refusal
@@ -23,12 +24,12 @@ with_view d view plan = record {
   plans = d.plans ++ plan ∷ [];
 }
 
--- A refusal of a view, by what is wanted of its words: the fault that they have, with what is wrong in one line, or that memory was
--- refused.
-abbrev pub IsFaultOfView : {A : Type 0} → Result A DocumentFault → Refusal → Type 0
-IsFaultOfView want r =
+-- A refusal of a view: its fault, with what is wrong in one line that begins with the place in its steps, or that memory was refused.
+abbrev pub IsFaultOfView : Definitions → List ℕ → List ℕ → List ℕ → Refusal → Type 0
+IsFaultOfView d name source steps r =
     (r ≡ refusal.Memory)
-    ⊎ ((f : DocumentFault) × (words : List ℕ) × (r ≡ refusal.Definition f words) × (want ≡ Err f) × IsOneLine words)
+    ⊎ ((f : DocumentFault) × (words : List ℕ) × (r ≡ refusal.Definition f words) × (view_defined d name source steps ≡ Err f)
+    × IsOneLine words × AreWordsOf d.document name source steps f words)
 
 -- the view was defined: it checks, it was registered under its name, and it is kept behind all others
 module _ (Makes : Change → Type 0) where
@@ -48,5 +49,5 @@ module _ (Refuses : Change → Refusal → Type 0) where
   -- A refusal to define a view: why its steps were not had; its fault, or that memory was refused; or the store's.
   abbrev pub IsRefusalOfDefine : Definitions → List ℕ → List ℕ → Result (Vec ℕ) Refusal → Refusal → Type 0
   IsRefusalOfDefine d name source (Ok steps) r =
-      IsFaultOfView (view_defined d name source steps.items) r ⊎ IsRefusalOfChecked (view_defined d name source steps.items) name r
+      IsFaultOfView d name source steps.items r ⊎ IsRefusalOfChecked (view_defined d name source steps.items) name r
   IsRefusalOfDefine d name source (Err f) r = r ≡ f

@@ -50,8 +50,7 @@ fn checked_view(
     steps: &[u8],
 ) -> Result<(ViewSpec, CheckedPlan), Refusal>
     ensures said { IfOk result (λ v. view_defined definitions.now view.now source.now steps.now ≡ Ok v) }
-    ensures refused { IfErr result
-        (IsFaultOfView (view_defined definitions.now view.now source.now steps.now)) }
+    ensures refused { IfErr result (IsFaultOfView definitions.now view.now source.now steps.now) }
 {
     let document = &definitions.document;
     match open_next_view(alloc, document, view, source, steps) {

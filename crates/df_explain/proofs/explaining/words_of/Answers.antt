@@ -1,0 +1,4 @@
+use Rattle.df_explain.proofs.explaining.words_of.Goals as goal
+
+pub returns-in-Plan : goal.returns-in-Plan
+returns-in-Plan c = rw c.in-Plan.is c.view_words.ensures
