@@ -27,4 +27,4 @@ pub use outcomes::{first_lost, in_order};
 pub use pool::WorkerPool;
 pub use refused::{Refused, refused_in};
 pub use stop::Stop;
-pub use worker::{Work, Worker, make_all, most_at_once};
+pub use worker::{AtOnce, Work, Worker, make_all};

@@ -39,6 +39,14 @@ impl<Acc: Ledger, Del: Ledger> Drop for Worker<Acc, Del> {
     }
 }
 
+/// How many jobs a worker draws at once.
+#[derive(Clone, Copy)]
+pub struct AtOnce {
+    pub least: usize,
+    /// Where many were drawn before.
+    pub most: usize,
+}
+
 /// What the workers of a load share beside the hall.
 ///
 /// The closure that crosses threads captures this, the hall and the handle alone: with more captures
@@ -56,27 +64,15 @@ pub struct Work<'a, S, G> {
     pub workers: usize,
     /// The most desks that a worker may have.
     pub desks: usize,
-    /// How many jobs a worker draws at once, at the least.
-    pub at_once: usize,
-}
-
-/// The most jobs that each of so many workers draws at once: one worker many, and several together half as many, since as
-/// much may wait to be committed.
-pub fn most_at_once(workers: usize) -> u64
-    ensures { 0 < result }
-{
-    if workers <= 1 {
-        return 256;
-    }
-    (128 / workers as u64).max(1)
+    pub at_once: AtOnce,
 }
 
 impl<S, G> Work<'_, S, G> {
     // How many jobs a worker draws at once where so many were drawn before. A commit may change every row of a view: where
     // each brings half as many rows as stand, all commits together change three times as many as the last one.
     fn jobs_behind(&self, drawn: u64) -> usize {
-        let half = (drawn / 2).min(most_at_once(self.workers));
-        self.at_once.max(half as usize)
+        let half = (drawn / 2).min(self.at_once.most as u64);
+        self.at_once.least.max(half as usize)
     }
 }
 

@@ -4,6 +4,7 @@
 //! commits them under it. What came of them is compared with the sources once.
 #![tactic(auto)]
 
+mod drawing;
 mod entering;
 mod fault;
 mod findings;

@@ -16,6 +16,7 @@ ghost use Rattle.df_jobs.specs.Refused.{refusal};
 ghost use Rattle.df_jobs.specs.Counted.{entered_at};
 ghost use Rattle.df_versions.specs.Histories.{IsHistoryOver, IsLastState, last_state};
 
+use crate::drawing::jobs_at_once;
 use crate::fault::LoadCause;
 use crate::findings::compare;
 use crate::loading::{Beginning, LoadingHall};
@@ -23,7 +24,7 @@ use crate::pool::do_jobs;
 use df_catalogue::{Catalogue, Desk, ViewChange};
 use df_claims::{ClaimSeat, Claims};
 use df_hall::{Hall, Totals, TotalsRoom, Unsettled, VersionedCatalogue, settle};
-use df_jobs::{Gate, Outcome, Refused, Stop, Work, job_count, most_at_once};
+use df_jobs::{Gate, Outcome, Refused, Stop, Work, job_count};
 use df_plan::CheckedPlan;
 use df_value::{Duplicate, List, Source, Text};
 use df_versions::{Naming, Told};
@@ -145,7 +146,7 @@ pub fn load_all<
         claims: &claims,
         workers,
         desks: desks.len(),
-        at_once: jobs_at_once(jobs, workers),
+        at_once: jobs_at_once(jobs, workers, views),
     };
     run_load::<Acc, Del, J, Brand, S, G, R>(rt, catalogue, room, &work, seats, desks, views)
 }
@@ -212,12 +213,6 @@ fn run_load<
         views,
         outcomes,
     )
-}
-
-// How many jobs each worker draws at once, at the least: several so few that a free one finds some; no more than it may.
-fn jobs_at_once(jobs: u64, workers: usize) -> usize {
-    let parts = if workers <= 1 { 1 } else { workers.max(4) };
-    jobs.div_ceil(parts as u64).clamp(1, most_at_once(workers)) as usize
 }
 
 // Registers copies of the views, and numbers the jobs for so many workers.
