@@ -4,7 +4,8 @@ ghost use Rattle.df_versions.specs.Histories.{AllowsAll};
 
 use crate::clients::{ROUNDS, VERSIONS, change_at_once};
 use crate::given::{accepted, chunk, groups};
-use crate::hall_test::HallTest;
+use crate::hall_test::{HallTest, totals_of_close};
+use crate::watching::{WATCHERS, Watcher};
 use df_catalogue::Desk;
 use df_store::{Hall, Missing, Totals};
 use df_value::Text;
@@ -14,6 +15,7 @@ use std::process::Abort;
 use std::sync::Wait;
 use std::sync::ledger::Ledger;
 use std::test::Fail;
+use std::thread;
 use std::thread::Threads;
 
 // The numbers of the rows that come first, which no client has.
@@ -31,13 +33,36 @@ fn seen(alloc: Global, reader: &mut Reader) -> Option<(u64, Option<u64>, usize)>
     Some((version.number(), version.frame_len(0), views.len()))
 }
 
-// A view comes, three rows come, and the view goes. Of two Tolds the reader learns the second first.
+// A reader that is told of nothing, and the number of the version that it took last.
+#[derive(Drop)]
+struct Untold {
+    reader: Reader,
+    number: u64,
+}
+
+impl Untold {
+    // Whether the version that it takes now is not before the last one.
+    fn goes_on(&mut self) -> bool {
+        let before = self.number;
+        match self.reader.snapshot() {
+            Some(version) => {
+                self.number = version.number();
+                self.number >= before
+            }
+            None => false,
+        }
+    }
+}
+
+// A view comes, three rows come, and the view goes. Of two Tolds the reader learns the second first; the other one takes
+// versions all the while.
 fn learn_last_first<Acc: Ledger, Del: Ledger, J: Naming, R: Wait + Abort>(
     rt: &R,
     alloc: Global,
     hall: &Hall<Acc, Del, J>,
     desk: &mut Desk<Acc, Del>,
     reader: &mut Reader,
+    other: &mut Untold,
 ) -> Result<(), Fail>
     requires book { reader.old.0 ≡ J.book }
     requires allowed { AllowsAll J.allows }
@@ -47,58 +72,71 @@ fn learn_last_first<Acc: Ledger, Del: Ledger, J: Naming, R: Wait + Abort>(
     let name = Text::from_str(alloc, "v")?;
     let rows = chunk(alloc, FIRST, 3)?;
     let nothing: Option<Told<J>> = None;
+    let mut goes_on = other.goes_on() && other.number == 0;
     let zeroth = accepted(hall.register(rt, alloc, name, groups(alloc)?, nothing.as_ref()))?;
+    goes_on = goes_on && other.goes_on();
     let first = accepted(hall.commit_chunk(rt, alloc, desk, &rows, Some(&zeroth)))?;
+    goes_on = goes_on && other.goes_on();
     let second = accepted(hall.drop_view(rt, alloc, "v", Some(&first)))?;
     assert!(rt; zeroth.number() == 1 && first.number() == 2 && second.number() == 3);
     reader.learn(second);
     reader.learn(first);
     assert!(rt; seen(alloc, reader) == Some((3, Some(3), 0)));
+    assert!(rt; goes_on && other.goes_on() && other.goes_on());
     Ok(())
 }
 
-// A version that was taken before a row goes has it afterwards.
+// A version that was taken before a row goes has it afterwards. What this reader is told another one learns too.
 fn delete_behind<Acc: Ledger, Del: Ledger, J: Naming, R: Wait + Abort>(
     rt: &R,
     alloc: Global,
     hall: &Hall<Acc, Del, J>,
     desk: &mut Desk<Acc, Del>,
     reader: &mut Reader,
+    next: &mut Reader,
 ) -> Result<(), Fail>
     requires book { reader.old.0 ≡ J.book }
+    requires next_book { next.old.0 ≡ J.book }
     requires allowed { AllowsAll J.allows }
+    ensures { next.new.0 ≡ next.old.0 }
 {
     let before = reader.snapshot().ok_or("a version")?;
     let nothing: Option<Told<J>> = None;
     let told = accepted(hall.delete_rows(rt, alloc, desk, &[FIRST], nothing.as_ref()))?;
-    reader.learn(told);
+    reader.learn(told.again());
     assert!(rt; before.frame_len(0) == Some(3));
     assert!(rt; seen(alloc, reader) == Some((4, Some(2), 0)));
+    next.learn(told);
+    assert!(rt; seen(alloc, next) == Some((4, Some(2), 0)));
     Ok(())
 }
 
-// Changes that one reader is told of.
+// Changes that one reader is told of, and at last the next one.
 fn change_and_tell<Acc: Ledger, Del: Ledger, J: Naming, R: Wait + Abort>(
     rt: &R,
     alloc: Global,
     hall: &Hall<Acc, Del, J>,
     desks: &mut [Desk<Acc, Del>],
     readers: &mut [Reader],
+    next: &mut Reader,
+    other: &mut Untold,
 ) -> Result<(), Fail>
     requires books { All (λ r. r.0 ≡ J.book) readers.old }
+    requires next_book { next.old.0 ≡ J.book }
     requires allowed { AllowsAll J.allows }
+    ensures { next.new.0 ≡ next.old.0 }
 {
     let desk = desks.get_mut(0).ok_or("a desk")?;
     let reader = readers.get_mut(0).ok_or("a reader")?;
-    learn_last_first(rt, alloc, hall, desk, reader)?;
-    delete_behind(rt, alloc, hall, desk, reader)
+    learn_last_first(rt, alloc, hall, desk, reader, other)?;
+    delete_behind(rt, alloc, hall, desk, reader, next)
 }
 
-// What is left of a hall's desks: all but the last one, and that one; and a reader.
+// What is left of a hall's desks: all but the last one, and that one; and who watches the close.
 struct Left<Acc: Ledger, Del: Ledger> {
     desks: Vec<Desk<Acc, Del>>,
     last: Desk<Acc, Del>,
-    reader: Reader,
+    watcher: Watcher,
 }
 
 fn changed<
@@ -118,21 +156,20 @@ fn changed<
 {
     let mut desks = desks;
     let mut readers = readers;
-    change_and_tell(
-        rt,
-        alloc,
-        hall,
-        desks.as_mut_slice(),
-        readers.as_mut_slice(),
-    )?;
     let reader = readers.pop().ok_or("a reader")?;
+    let mut other = Untold { reader, number: 0 };
+    let mut next = readers.pop().ok_or("a reader")?;
+    let (some, all) = (desks.as_mut_slice(), readers.as_mut_slice());
+    change_and_tell(rt, alloc, hall, some, all, &mut next, &mut other)?;
+    readers.push(next)?;
+    let watcher = Watcher::new(alloc, WATCHERS, other.reader, groups(alloc)?);
     let mut split = change_at_once(rt, alloc, hall, desks.as_mut_slice(), readers, LAST)?;
     let last = split.pop().ok_or("a desk")?;
     split.append(&mut desks)?;
     Ok(Left {
         desks: split,
         last,
-        reader,
+        watcher,
     })
 }
 
@@ -161,18 +198,19 @@ pub fn change_and_close<
     }
 }
 
-fn close_without<Acc: Ledger, Del: Ledger, J: Naming, R: Wait + Abort>(
-    rt: &R,
-    hall: Hall<Acc, Del, J>,
-    left: Left<Acc, Del>,
-) -> Result<(), Fail> {
+fn close_without<
+    Acc: Ledger + Send + Sync,
+    Del: Ledger + Send + Sync,
+    J: Naming + Send + Sync,
+    R: Threads + Wait + Abort + Sync,
+>(rt: &R, hall: Hall<Acc, Del, J>, left: Left<Acc, Del>) -> Result<(), Fail> {
     let Left {
         desks,
         last,
-        reader,
+        watcher,
     } = left;
     match hall.close(rt, desks) {
-        Err(missing) => close_with(rt, missing, last, reader),
+        Err(missing) => close_with(rt, missing, last, watcher),
         Ok((catalogue, _)) => {
             drop(catalogue);
             Err("a desk is missing".into())
@@ -180,11 +218,29 @@ fn close_without<Acc: Ledger, Del: Ledger, J: Naming, R: Wait + Abort>(
     }
 }
 
-fn close_with<Acc: Ledger, Del: Ledger, J: Naming, R: Wait + Abort>(
+// Closes the hall that is there, after some turns in which a reader may begin to watch it.
+fn close_slot<Acc: Ledger, Del: Ledger, J: Naming, R: Wait>(
+    rt: &R,
+    slot: &mut Option<Hall<Acc, Del, J>>,
+    desks: Vec<Desk<Acc, Del>>,
+) -> Option<Totals> {
+    for _turn in 0..1000u32 {
+        thread::yield_now();
+    }
+    totals_of_close(rt, slot.take()?, desks)
+}
+
+// The hall closes beside a reader, which has a version of it afterwards.
+fn close_with<
+    Acc: Ledger + Send + Sync,
+    Del: Ledger + Send + Sync,
+    J: Naming + Send + Sync,
+    R: Threads + Wait + Abort + Sync,
+>(
     rt: &R,
     missing: Missing<Acc, Del, J>,
     last: Desk<Acc, Del>,
-    reader: Reader,
+    mut watcher: Watcher,
 ) -> Result<(), Fail> {
     let Missing {
         frame,
@@ -194,25 +250,23 @@ fn close_with<Acc: Ledger, Del: Ledger, J: Naming, R: Wait + Abort>(
     } = missing;
     assert!(rt; frame == 1 && desks.len() == 2 && told.number() == LAST);
     assert!(rt; desks.push(last).is_ok());
-    match hall.close(rt, desks) {
-        Ok((catalogue, totals)) => {
-            drop(catalogue);
-            assert!(rt; are_all(&totals));
-            let mut reader = reader;
-            assert!(rt; reader.snapshot().is_none());
-            Ok(())
-        }
-        Err(missing) => {
-            let Missing {
-                frame: _,
-                hall,
-                desks: _,
-                told: _,
-            } = missing;
-            hall.end(rt);
-            Err("all desks".into())
-        }
+    assert!(rt; watcher.look() == Some(true));
+    let held = watcher.newest();
+    let mut open = Some(hall);
+    let slot = &mut open;
+    let (watcher, totals) = thread::join(
+        rt,
+        move || watcher.watch_to_end(),
+        move || close_slot(rt, slot, desks),
+    );
+    if let Some(hall) = open {
+        hall.end(rt);
     }
+    let totals = totals.ok_or("all desks")?;
+    assert!(rt; are_all(&totals) && watcher.has_ended_with(LAST));
+    let held = held.ok_or("a version")?;
+    assert!(rt; held.number() == LAST && watcher.is_right(&held) == Some(true));
+    Ok(())
 }
 
 // Of the twelve rows that came in each round, in one of the two frames, a third went; and of the first three one went.

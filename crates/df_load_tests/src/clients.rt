@@ -2,7 +2,7 @@
 ghost use Rattle.df_versions.specs.Histories.{AllowsAll};
 
 use crate::given::{accepted, chunk, groups, row};
-use crate::watching::Watcher;
+use crate::watching::{LEAST_SEEN, Seen, WATCHERS, Watcher};
 use df_catalogue::{CatalogueFault, Desk};
 use df_store::Hall;
 use df_value::Text;
@@ -20,8 +20,9 @@ const CLIENTS: u32 = 4;
 /// 100,000 changes.
 pub const ROUNDS: u32 = 26;
 
-/// How many versions come: one of a view, and of the four changes of a round three are accepted.
-pub const VERSIONS: u64 = 1 + 3 * (CLIENTS * ROUNDS) as u64;
+/// How many versions come: one of a view, of the four changes of a round three are accepted, and in each round of the first
+/// client another view comes and goes.
+pub const VERSIONS: u64 = 1 + (3 * CLIENTS * ROUNDS + 2 * ROUNDS) as u64;
 
 // What one thread changes the hall with: a desk of each frame.
 #[derive(Drop)]
@@ -35,16 +36,36 @@ struct Client<Acc: Ledger, Del: Ledger> {
 }
 
 impl<Acc: Ledger, Del: Ledger> Client<Acc, Del> {
-    // Makes all rounds.
-    fn run<J: Naming, R: Wait>(&mut self, rt: &R, hall: &Hall<Acc, Del, J>)
+    // Makes all rounds. The first ones each wait for the watchers to see one more version.
+    fn run<J: Naming, R: Wait>(&mut self, rt: &R, hall: &Hall<Acc, Del, J>, seen: &Seen)
         requires { AllowsAll J.allows }
     {
         for round in 0..ROUNDS {
+            seen.wait(u64::from(round).min(LEAST_SEEN));
             // Three numbers for each client and round.
             let turn = round.wrapping_mul(CLIENTS).wrapping_add(self.number);
             let served = self.change(rt, hall, turn.wrapping_mul(3), (round % 2) as usize);
-            self.served = self.served && served == Some(true);
+            let is_first = self.number == 0;
+            let views = if is_first {
+                self.change_views(rt, hall)
+            } else {
+                Some(true)
+            };
+            self.served = self.served && served == Some(true) && views == Some(true);
         }
+    }
+
+    // A second view comes and goes.
+    fn change_views<J: Naming, R: Wait>(&self, rt: &R, hall: &Hall<Acc, Del, J>) -> Option<bool>
+        requires { AllowsAll J.allows }
+    {
+        let alloc = self.alloc;
+        let name = Text::from_str(alloc, "h").ok()?;
+        let plan = groups(alloc).ok()?;
+        let nothing: Option<Told<J>> = None;
+        let came = hall.register(rt, alloc, name, plan, nothing.as_ref()).ok()?;
+        let went = hall.drop_view(rt, alloc, "h", Some(&came)).ok()?;
+        Some(went.number() > came.number())
     }
 
     // Three rows come, one of them goes and another is replaced; the same chunk is refused from then on. Each call is told
@@ -89,12 +110,12 @@ enum Actor<Acc: Ledger, Del: Ledger> {
 }
 
 impl<Acc: Ledger, Del: Ledger> Actor<Acc, Del> {
-    fn run<J: Naming, R: Wait>(&mut self, rt: &R, hall: &Hall<Acc, Del, J>, last: u64)
+    fn run<J: Naming, R: Wait>(&mut self, rt: &R, hall: &Hall<Acc, Del, J>, seen: &Seen)
         requires { AllowsAll J.allows }
     {
         match self {
-            Actor::Changes(client) => client.run(rt, hall),
-            Actor::Watches(watcher) => watcher.run(last),
+            Actor::Changes(client) => client.run(rt, hall, seen),
+            Actor::Watches(watcher) => watcher.run(seen),
         }
     }
 }
@@ -133,8 +154,14 @@ fn add_watchers<Acc: Ledger, Del: Ledger>(
     actors: &mut Vec<Actor<Acc, Del>>,
     readers: Vec<Reader>,
 ) -> Result<(), Fail> {
+    if readers.len() != WATCHERS {
+        return Err("a reader for each watcher".into());
+    }
+    let mut place = 0usize;
     for reader in readers {
-        actors.push(Actor::Watches(Watcher::new(alloc, reader, groups(alloc)?)))?;
+        let watcher = Watcher::new(alloc, place, reader, groups(alloc)?);
+        actors.push(Actor::Watches(watcher))?;
+        place = place.wrapping_add(1);
     }
     Ok(())
 }
@@ -152,11 +179,13 @@ fn run_actors<
         return;
     }
     let threads = actors.len();
+    let counts = Seen::new(last);
+    let seen = &counts;
     thread::for_each_mut(
         rt,
         actors,
         threads,
-        &|_index, actor| { actor.run(rt, hall, last) },
+        &|_index, actor| { actor.run(rt, hall, seen) },
     );
 }
 
@@ -177,7 +206,7 @@ fn take_desks<Acc: Ledger, Del: Ledger>(
             Actor::Watches(watcher) => {
                 if !watcher.ends_with(last) {
                     return Err(
-                        "each version has the rows of its plan, and the last one comes".into(),
+                        "versions have the rows of their plans, and the last one comes".into(),
                     );
                 }
             }

@@ -23,4 +23,8 @@ mod pairs;
 #[cfg(test)]
 mod pairs_load;
 #[cfg(test)]
+mod refusals;
+#[cfg(test)]
+mod refused_loads;
+#[cfg(test)]
 mod watching;

@@ -101,6 +101,12 @@ fn is_same(a: &Entry, b: &Entry) -> bool {
     a.tag == b.tag && a.old == b.old && a.new == b.new
 }
 
+/// Whether the delta has these entries and no other.
+pub fn has_entries(delta: &Delta, want: &[Entry]) -> bool {
+    let found = delta.entries();
+    found.len() == want.len() && found.iter().zip(want).all(|(a, b)| is_same(a, b))
+}
+
 /// Whether the delta has these changes and no other.
 pub fn has_changes(
     alloc: Global,
@@ -109,9 +115,7 @@ pub fn has_changes(
     changes: &[PairChange],
 ) -> Result<bool, AllocError> {
     let want = entries(alloc, dtypes, changes)?;
-    let found = delta.entries();
-    let same = found.iter().zip(&want).all(|(a, b)| is_same(a, b));
-    Ok(found.len() == want.len() && same)
+    Ok(has_entries(delta, want.as_slice()))
 }
 
 /// What a node is given, what it is to tell, and the most that a counter of its work is then to show.
@@ -135,11 +139,26 @@ fn is_at_most(work: &WorkCounts, most: u128) -> bool {
     work.evals <= most && work.finishes <= most && work.probes <= most && work.windows <= most
 }
 
+/// The node after these entries, what it told of them, and its work.
+pub fn after_entries<N: LiveNode + Drop>(
+    mut node: N,
+    given: Vec<Entry>,
+) -> Result<(N, Delta, WorkCounts), AllocError>
+    requires { IsBelow (N.budget node) (2 ^ 128) }
+    ensures { IfOk result (λ r. N.budget r.0 ≡ N.budget node) }
+{
+    let given = Delta::new(given).map_err(|_| AllocError)?;
+    let mut meter = Meter::new();
+    let (staged, out) = node.prepare(&given, &mut meter)?;
+    node.commit(staged);
+    Ok((node, out, meter.counts()))
+}
+
 /// The node after a step, and whether it told what the step says. The cells that it is given and that it tells are of
 /// these types.
 fn after_step<N: LiveNode + Drop>(
     alloc: Global,
-    mut node: N,
+    node: N,
     given: &[CellType],
     told: &[CellType],
     step: Step<'_>,
@@ -147,12 +166,9 @@ fn after_step<N: LiveNode + Drop>(
     requires { IsBelow (N.budget node) (2 ^ 128) }
     ensures { IfOk result (λ r. N.budget r.0 ≡ N.budget node) }
 {
-    let given = delta(alloc, given, step.given)?;
-    let mut meter = Meter::new();
-    let (staged, out) = node.prepare(&given, &mut meter)?;
-    node.commit(staged);
+    let (node, out, work) = after_entries(node, entries(alloc, given, step.given)?)?;
     let same = has_changes(alloc, &out, told, step.told)?;
-    Ok((node, same && is_at_most(&meter.counts(), step.most)))
+    Ok((node, same && is_at_most(&work, step.most)))
 }
 
 /// Whether the node tells what the steps say, one after another.

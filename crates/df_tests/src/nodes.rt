@@ -219,19 +219,20 @@ fn a_value_that_comes_raises_the_ranks_above_it(rt: HostRuntime) -> Result<(), F
 fn a_row_that_comes_raises_the_min_ranks_above_it(rt: HostRuntime) -> Result<(), Fail> {
     let alloc = rt.alloc();
     let three_come = Step {
-        given: &[comes(1, of(3)), comes(2, of(6)), comes(3, of(3))],
+        given: &[comes(1, of(3)), comes(2, of(6)), comes(3, of(1))],
         told: &[
-            comes(1, (Some(3), Some(1))),
+            comes(1, (Some(3), Some(2))),
             comes(2, (Some(6), Some(3))),
-            comes(3, (Some(3), Some(1))),
+            comes(3, (Some(1), Some(1))),
         ],
         most: 0,
     };
     let an_equal_comes = Step {
-        given: &[comes(4, of(3))],
+        given: &[comes(4, of(1))],
         told: &[
+            gives_way(1, (Some(3), Some(2)), (Some(3), Some(3))),
             gives_way(2, (Some(6), Some(3)), (Some(6), Some(4))),
-            comes(4, (Some(3), Some(1))),
+            comes(4, (Some(1), Some(1))),
         ],
         most: 0,
     };

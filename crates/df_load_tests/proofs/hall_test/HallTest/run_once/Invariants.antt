@@ -1,4 +1,4 @@
-use Rattle.df_load_tests.proofs.hall_test.HallTest.run.Given as goal
+use Rattle.df_load_tests.proofs.hall_test.HallTest.run_once.Given as goal
 
 -- the ledgers are the blanks
 abbrev pub ghosts-open-Acc-Ledger : goal.ghosts-open-Acc-Ledger
