@@ -2,10 +2,12 @@
 use Rattle.std.specs.Prelude.{◌≡◌, ◌⊎◌, ⊤, ℕ, List, [], Option, Some, None, Result, Ok, Err, codes}
 use Rattle.csv.specs.Records.{Row, fields_of}
 use Rattle.std.specs.Global.{Vec}
+use Rattle.std.specs.Option.{IsSome}
+use Rattle.df_plan.specs.CheckedParts.{CheckedParts}
 use Rattle.df_session.specs.Defined.{IsDefined, IsRefusalOfDefine}
 use Rattle.df_state.specs.declared.change.Change.{Change}
 use Rattle.df_session.specs.Commands.{IsCommandOf}
-use Rattle.df_session.specs.Asked.{IsAppended, IsMadeAsAsked, IsRefusalOfAppendNext, IsRefusalOfAsked, frame_index_of}
+use Rattle.df_session.specs.Asked.{IsAppended, IsMadeAsAsked, IsRefusalOfAppendNext, IsRefusalOfAsked, frame_index_of, plan_named}
 use Rattle.df_session.specs.Help.{help_list, help_on}
 use Rattle.df_session.specs.declared.answering.Answer.{Answer}
 use Rattle.df_session.specs.declared.answering.Answer.TheVariants as answer
@@ -38,6 +40,11 @@ IsWordFault r = ⊥
 -- A refusal to tell of a command: there is none of the name, or memory was refused.
 abbrev pub IsRefusalOfHelp : Option (List ℕ) → Refusal → Type 0
 IsRefusalOfHelp want r = (r ≡ refusal.Memory) ⊎ ((r ≡ refusal.Mistake mistake.NoCommand) × (want ≡ None))
+
+-- A refusal to write a view as SQL: there is none of the name, or memory was refused.
+abbrev pub IsRefusalOfSql : Option CheckedParts → Refusal → Type 0
+IsRefusalOfSql None r = r ≡ refusal.Mistake mistake.NoView
+IsRefusalOfSql (Some plan) r = r ≡ refusal.Memory
 
 -- What is answered with a table for the file under a path, by what a store keeps and by its answer to the question for the table.
 -- Memory may be refused before the question.
@@ -77,6 +84,8 @@ module _
     IsAnswer d after (command.Load frame path) lines (Ok (answer.Load f p)) = (f ≡ frame.now) × (p ≡ path.now) × Keeps
     IsAnswer d after (command.Load frame path) lines (Err r) = (r ≡ refusal.Memory) × Keeps
     IsAnswer d after (command.Export view path) lines result = IsTableFor Keeps (Answers (question.Show view part.Whole format.Csv)) path.now result
+    IsAnswer d after (command.Sql view) lines (Ok (answer.Told text)) = IsSome (plan_named d view.now) × Keeps
+    IsAnswer d after (command.Sql view) lines (Err r) = IsRefusalOfSql (plan_named d view.now) r × Keeps
     IsAnswer d after (command.Source path) lines (Ok (answer.Source file)) = (file ≡ path.now) × Keeps
     IsAnswer d after (command.Source path) lines (Err r) = (r ≡ refusal.Memory) × Keeps
     IsAnswer d after command.Help lines (Ok (answer.Told text)) = (text.items ≡ help_list commands) × Keeps

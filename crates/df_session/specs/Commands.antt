@@ -75,6 +75,7 @@ IsCommandOf words (command.Load frame path) = words ≡ codes "load" ∷ frame.n
 IsCommandOf words (command.Export view path) = words ≡ codes "export" ∷ view.now ∷ path.now ∷ []
 IsCommandOf words (command.Define view source) =
     (word : List ℕ) × (rest : List (List ℕ)) × (words ≡ codes "define" ∷ view.now ∷ source.now ∷ word ∷ rest)
+IsCommandOf words (command.Sql view) = words ≡ codes "sql" ∷ view.now ∷ []
 IsCommandOf words (command.Source path) = words ≡ codes "source" ∷ path.now ∷ []
 IsCommandOf words command.Help = words ≡ codes "help" ∷ []
 IsCommandOf words (command.HelpOn name) = words ≡ codes "help" ∷ name.now ∷ []

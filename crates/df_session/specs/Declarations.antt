@@ -5,12 +5,11 @@ use Rattle.df_text.specs.Document.{document_of}
 use Rattle.df_text.specs.declared.fault.ViewsFault.{ViewsFault}
 use Rattle.df_writing.specs.FrameTables.{frame_table}
 use Rattle.df_session.specs.Answers.{IsRefusalOfHelp, IsWordFault}
-use Rattle.df_session.specs.Commands.{IsCommandOf, IsQuestionOf}
+use Rattle.df_session.specs.Commands.{IsCommandOf}
 use Rattle.df_session.specs.Help.{help_list, help_on}
 use Rattle.df_session.specs.declared.answering.Answer.TheVariants as answer
 use Rattle.df_session.specs.declared.command.Command.{Command}
 use Rattle.df_session.specs.declared.command.Command.TheVariants as command
-use Rattle.df_session.specs.declared.command.Question.{Question}
 use Rattle.df_session.specs.declared.declared_frames.Declaration.{Declaration}
 use Rattle.df_session.specs.declared.declared_frames.Declaration.TheVariants as declaration
 use Rattle.df_session.specs.declared.refusal.Refusal.{Refusal}
@@ -68,9 +67,15 @@ IsOpening (command.Define view source) = ⊤
 IsOpening (command.Source path) = ⊤
 IsOpening c = ⊥
 
+-- the commands that ask
+abbrev pub IsAsking : Command → Type 0
+IsAsking (command.Question question) = ⊤
+IsAsking (command.Sql view) = ⊤
+IsAsking c = ⊥
+
 -- What words come to that declare no frame: a question is left to a store of the declared frames, and so is what may change one.
 abbrev pub IsOtherDeclaration : List (List ℕ × List ℕ × List ℕ) → List (List ℕ) → Result Declaration Refusal → Type 0
-IsOtherDeclaration commands words (Ok declaration.Asked) = (q : Question) × IsQuestionOf words q
+IsOtherDeclaration commands words (Ok declaration.Asked) = (c : Command) × IsCommandOf words c × IsAsking c
 IsOtherDeclaration commands words (Ok declaration.Opens) = (c : Command) × IsCommandOf words c × IsOpening c
 IsOtherDeclaration commands words (Ok (declaration.Answered (answer.Told text))) = IsHelp commands words text.items
 IsOtherDeclaration commands words (Ok (declaration.Answered answer.Ended)) = words ≡ codes "quit" ∷ []

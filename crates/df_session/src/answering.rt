@@ -11,6 +11,7 @@ use crate::defining::define;
 use crate::definitions::Definitions;
 use crate::help::{CommandHelp, explain_command, list_commands};
 use crate::refusal::{Mistake, Refusal};
+use crate::sql_views::sql_of_view;
 use crate::view_store::ViewStore;
 use csv::StringRecord;
 use df_value::Text;
@@ -112,6 +113,10 @@ fn answer_command<S: ViewStore>(
         Command::Export(view, path) => {
             drop(lines);
             export_of(alloc, definitions, store, view, path)
+        }
+        Command::Sql(view) => {
+            drop(lines);
+            Ok(Answer::Told(sql_of_view(alloc, definitions, view)?))
         }
         Command::Source(path) => {
             drop(lines);

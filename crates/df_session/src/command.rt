@@ -22,6 +22,8 @@ pub enum Command<'a> {
     /// Adds a view behind all views so far: its name, and that of the frame that it begins with. Its steps stand behind
     /// these.
     Define(&'a str, &'a str),
+    /// The view of a name as SQL, behind the tables of the frames that it reads.
+    Sql(&'a str),
     /// The commands in the file under a path.
     Source(&'a str),
     /// The commands.
@@ -117,6 +119,7 @@ fn command_of<'a>(alloc: Global, name: &str, arguments: &[&'a str]) -> Result<Co
         "load" => Ok(read_load(arguments)?),
         "export" => Ok(read_export(arguments)?),
         "define" => Ok(read_define(arguments)?),
+        "sql" => Ok(Command::Sql(only(arguments)?)),
         "source" => Ok(Command::Source(only(arguments)?)),
         "help" => Ok(read_help(arguments)?),
         "quit" => bare(Command::Quit, arguments),

@@ -8,7 +8,7 @@ use std::alloc::{AllocError, Global};
 pub type CommandHelp = (&'static str, &'static str, &'static str);
 
 /// The commands, in the order in which `help` lists them. A command of several forms has an entry for each.
-pub const COMMANDS: [CommandHelp; 27] = [
+pub const COMMANDS: [CommandHelp; 28] = [
     (
         "frame",
         "frame NAME COLUMN TYPE ..    declares a frame of these columns; without a document, before all changes\n",
@@ -73,6 +73,11 @@ pub const COMMANDS: [CommandHelp; 27] = [
         "plan",
         "plan VIEW                    the view as a document writes it, registered or not\n",
         "    > plan by_region\n    [[view]]\n    name = \"by_region\"\n    from = \"sales\"\n    steps = [\n      [\"group_by\", [\"region\"], [\"n\", \"len\"], [\"total\", \"sum\", \"qty\"]],\n    ]\n",
+    ),
+    (
+        "sql",
+        "sql VIEW                     the view as SQL for PostgreSQL, behind the tables of the frames that it reads\n",
+        "    > sql large\n    CREATE SCHEMA IF NOT EXISTS frames;\n    ..\n    CREATE VIEW views.\"large\" AS\n    ..\n",
     ),
     (
         "show",

@@ -20,7 +20,7 @@ pub use df_session::{
     Answer, AskedChange, COMMANDS, Command, CommandHelp, Definitions, DocumentCheck,
     MOST_BYTES_OF_LINE, Mistake, Part, Prompts, Question, Refusal, SessionEnd, SessionOptions,
     ShellFault, VersionFault, ViewStore, WriteFault, WriteFiles, answer_line, check_document,
-    read_command, refusal_text, shell_fault_text,
+    read_command, refusal_text, shell_fault_text, write_document_sql,
 };
 pub use hall_shell::run_hall_shell;
 pub use hall_store::HallStore;

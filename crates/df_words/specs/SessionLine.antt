@@ -1,5 +1,5 @@
 -- What the words of `dfshell` say, over `clap`'s own words.
-use Rattle.std.specs.Prelude.{◌≡◌, ◌⊎◌, ℕ, Bool, true, false, List, [], Option, Some, None, Result, MatchResult, codes, option_map}
+use Rattle.std.specs.Prelude.{◌≡◌, ◌⊎◌, ◌||◌, ℕ, Bool, true, false, List, [], Option, Some, None, Result, MatchResult, codes, option_map}
 use Rattle.clap.specs.Kinds.{HasKind}
 use Rattle.clap.specs.Values.{kind_of}
 use Rattle.clap.specs.declared.error.Error.{Error}
@@ -25,9 +25,9 @@ flag_rule name = record (new_rule name) { long = Some name; action = Some SetTru
 abbrev pub document_line : App
 document_line = with_rule (with_rule (with_rule program_app views_rule) (flag_rule (codes "hall"))) (flag_rule (codes "check"))
 
--- the command line: [--hall] [--check] [--bail] [--framed] [VIEWS]
+-- the command line: [--hall] [--check] [--bail] [--framed] [--sql] [VIEWS]
 unfoldable pub command_line : App
-command_line = with_rule (with_rule document_line (flag_rule (codes "bail"))) (flag_rule (codes "framed"))
+command_line = with_rule (with_rule (with_rule document_line (flag_rule (codes "bail"))) (flag_rule (codes "framed"))) (flag_rule (codes "sql"))
 
 -- whether a flag stands, by its text: none where it is no flag of the command
 abbrev pub IsFlagOf : Option (List ℕ) → Bool → Type 0
@@ -41,17 +41,18 @@ pub record Says (words : List (List ℕ)) (line : CommandLine) : Type 0 where
   pub check : IsFlagOf (one_of (codes "check") (matches_of command_line words)) line.check
   pub bail : IsFlagOf (one_of (codes "bail") (matches_of command_line words)) line.bail
   pub framed : IsFlagOf (one_of (codes "framed") (matches_of command_line words)) line.framed
+  pub sql : IsFlagOf (one_of (codes "sql") (matches_of command_line words)) line.sql
 
--- a check of no document
-abbrev pub IsBareCheck : CommandLine → Type 0
-IsBareCheck line = (line.check ≡ true) × (line.views ≡ None)
+-- a check of no document, or the SQL of none
+abbrev pub LacksDocument : CommandLine → Type 0
+LacksDocument line = ((line.check || line.sql) ≡ true) × (line.views ≡ None)
 
--- Why the words are refused: by clap's own rules; or, where these refuse nothing, for a check of no document.
+-- Why the words are refused: by clap's own rules; or, where these refuse nothing, for a check or the SQL of no document.
 abbrev pub IsRefusalOfWords : List (List ℕ) → Error → Type 0
 IsRefusalOfWords words e =
     HasKind (fault_of command_line words) e
-    ⊎ ((kind_of e ≡ MissingRequiredArgument) × (line : CommandLine) × Says words line × IsBareCheck line)
+    ⊎ ((kind_of e ≡ MissingRequiredArgument) × (line : CommandLine) × Says words line × LacksDocument line)
 
 -- the words are refused just where there is a reason for it
 abbrev pub IsRead : List (List ℕ) → Result CommandLine Error → Type 0
-IsRead words result = MatchResult result (λ line. (fault_of command_line words ≡ []) × ¬ IsBareCheck line) (IsRefusalOfWords words)
+IsRead words result = MatchResult result (λ line. (fault_of command_line words ≡ []) × ¬ LacksDocument line) (IsRefusalOfWords words)

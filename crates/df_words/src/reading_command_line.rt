@@ -4,7 +4,7 @@ ghost use Rattle.clap.specs.Words.{FailsBy, app_of, fault_of, first_value, found
 ghost use Rattle.clap.specs.Values.{kind_of};
 ghost use Rattle.clap.specs.declared.error.kind.ErrorKind.TheVariants.{MissingRequiredArgument};
 ghost use Rattle.df_words.specs.SessionLine as command_line_spec;
-ghost use Rattle.df_words.specs.SessionLine.{IsBareCheck, IsFlagOf, IsRead, Says, document_line, flag_rule, program_app, views_rule};
+ghost use Rattle.df_words.specs.SessionLine.{LacksDocument, IsFlagOf, IsRead, Says, document_line, flag_rule, program_app, views_rule};
 
 use crate::session_line::CommandLine;
 use clap::error::ErrorKind;
@@ -29,6 +29,7 @@ const AFTER_HELP: &str = r#"Commands, one a line of standard input:
   views                        the names of the views
   schema NAME                  the columns of a frame, or else of a view, with their types
   plan VIEW                    the view as a document writes it, registered or not
+  sql VIEW                     the view as SQL for PostgreSQL, behind the tables of the frames that it reads
   show VIEW                    the table of a view
   show VIEW COUNT              its first COUNT rows, and how many more there are
   show VIEW from ROW COUNT     COUNT rows from row ROW on, the first being 0, and how many lie around them
@@ -49,9 +50,9 @@ Exit status:
   1  with --check: the document opens without the chunks that have a bad cell, which the output names; with --bail: a command was refused
   2  a fault, or a refused word: standard error says which"#;
 
-/// Reads the words behind the program's name: `[--hall] [--check] [--bail] [--framed] [VIEWS]`.
+/// Reads the words behind the program's name: `[--hall] [--check] [--bail] [--framed] [--sql] [VIEWS]`.
 ///
-/// Refused are other words, a second VIEWS, a flag twice, and `--check` without VIEWS. `-h`, `--help` and `--version` are an error too,
+/// Refused are other words, a second VIEWS, a flag twice, and `--check` or `--sql` without VIEWS. `-h`, `--help` and `--version` are an error too,
 /// whose text is the help or the version: its `use_stderr` is false and its `exit_code` 0, where those of a refusal are
 /// true and 2.
 pub fn read_command_line<'a>(alloc: Global, words: &'a [&'a str]) -> Result<CommandLine<'a>, Error>
@@ -59,7 +60,7 @@ pub fn read_command_line<'a>(alloc: Global, words: &'a [&'a str]) -> Result<Comm
     ensures read { IsRead (map (λ word. word.now) words.entry.now) result }
 {
     let line = parse(alloc, words)?;
-    if is_bare_check(line) {
+    if lacks_document(line) {
         return Err(no_views(alloc)?);
     }
     Ok(line)
@@ -76,20 +77,20 @@ fn parse<'a>(alloc: Global, words: &'a [&'a str]) -> Result<CommandLine<'a>, Err
     Ok(said_in(&matches))
 }
 
-fn is_bare_check(line: CommandLine<'_>) -> bool
-    ensures { IsTrue result ↔ IsBareCheck line.entry }
+fn lacks_document(line: CommandLine<'_>) -> bool
+    ensures { IsTrue result ↔ LacksDocument line.entry }
 {
-    line.check && line.views.is_none()
+    (line.check || line.sql) && line.views.is_none()
 }
 
-// A check without a document.
+// A check without a document, or the SQL of none.
 fn no_views(alloc: Global) -> Result<Error, AllocError>
     ensures { IfOk result (λ error. kind_of error ≡ MissingRequiredArgument) }
 {
     let mut command = command(alloc)?;
     command.error(
         ErrorKind::MissingRequiredArgument,
-        "--check wants a view document: dfshell --check VIEWS",
+        "--check and --sql want a view document: dfshell --check VIEWS",
     )
 }
 
@@ -100,9 +101,11 @@ fn command<'a>(alloc: Global) -> Result<Command<'a>, AllocError>
     let bail = "Ends the session at the first refusal, with status 1";
     let framed =
         "For programs: before each answer a line says how many lines it has, as `ok 3`; no prompts";
+    let sql = "Writes the document as SQL for PostgreSQL, and ends";
     document_command(alloc)?
         .arg(flag(alloc, "bail", bail))?
-        .arg(flag(alloc, "framed", framed))
+        .arg(flag(alloc, "framed", framed))?
+        .arg(flag(alloc, "sql", sql))
 }
 
 // The command with the document and its first flags.
@@ -155,6 +158,7 @@ fn said_in<'a>(matches: &ArgMatches<'a>) -> CommandLine<'a>
     ensures check { IsFlagOf (one_text (found_of matches.now) (codes "check")) result.check }
     ensures bail { IsFlagOf (one_text (found_of matches.now) (codes "bail")) result.bail }
     ensures framed { IsFlagOf (one_text (found_of matches.now) (codes "framed")) result.framed }
+    ensures sql { IsFlagOf (one_text (found_of matches.now) (codes "sql")) result.sql }
 {
     CommandLine {
         views: matches.get_str("views"),
@@ -162,6 +166,7 @@ fn said_in<'a>(matches: &ArgMatches<'a>) -> CommandLine<'a>
         check: is_set(matches, "check"),
         bail: is_set(matches, "bail"),
         framed: is_set(matches, "framed"),
+        sql: is_set(matches, "sql"),
     }
 }
 

@@ -13,4 +13,6 @@ pub struct CommandLine<'a> {
     pub bail: bool,
     /// Whether each answer says before it how many lines it has.
     pub framed: bool,
+    /// Whether the document is only written as SQL.
+    pub sql: bool,
 }

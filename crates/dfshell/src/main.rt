@@ -9,7 +9,7 @@ use df_document::DocumentFault;
 use df_explain::explain;
 use df_shell::{
     DocumentCheck, Prompts, SessionEnd, SessionOptions, ShellFault, check_document,
-    run_declared_shell, run_hall_shell, run_shell, shell_fault_text,
+    run_declared_shell, run_hall_shell, run_shell, shell_fault_text, write_document_sql,
 };
 use df_words::{CommandLine, read_command_line};
 use std::alloc::AllocError;
@@ -71,6 +71,11 @@ fn run_line<R: Threads + Wait + Sync>(
                 DocumentCheck::Clean => Ok(ExitCode::from(0)),
                 DocumentCheck::Refused => Ok(ExitCode::from(1)),
             }
+        }
+        Some(document) if line.sql => {
+            let mut output = rt.stdout();
+            write_document_sql(waiting, rt.alloc(), document, &mut files, &mut output)?;
+            Ok(ExitCode::from(0))
         }
         document => match answer_commands(rt, waiting, document.as_mut(), &mut files, line)? {
             Some(SessionEnd::Refused) => Ok(ExitCode::from(1)),

@@ -16,6 +16,7 @@ returns-clause-says c =
       check = subst (λ text. IsFlagOf text c.said_in.result.check) (one_text-rows found (codes "check") ∙ ap (one_of (codes "check")) same) c.said_in.ensures.check;
       bail = subst (λ text. IsFlagOf text c.said_in.result.bail) (one_text-rows found (codes "bail") ∙ ap (one_of (codes "bail")) same) c.said_in.ensures.bail;
       framed = subst (λ text. IsFlagOf text c.said_in.result.framed) (one_text-rows found (codes "framed") ∙ ap (one_of (codes "framed")) same) c.said_in.ensures.framed;
+      sql = subst (λ text. IsFlagOf text c.said_in.result.sql) (one_text-rows found (codes "sql") ∙ ap (one_of (codes "sql")) same) c.said_in.ensures.sql;
     }
 
 pub returns-clause-refused : goal.returns-clause-refused

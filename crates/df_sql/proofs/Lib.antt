@@ -1,0 +1,2 @@
+pub mod QuoteFacts
+pub mod PartFacts
