@@ -69,5 +69,7 @@ module _ {J : Type 0} where
       IsAppendedChunk {J = J} schemas old frame chunk result new → Appends {J = J} schemas old frame rows result new
   appended schemas old new frame rows chunk (Ok a) n h = record { chunk = chunk; next = n; answer = h }
   appended schemas old new frame rows chunk (Err fault.NoFrame) n h = h
+  appended schemas old new frame rows chunk (Err (fault.Lines f)) n h = absurd h
   appended schemas old new frame rows chunk (Err (fault.Rows f)) n h = absurd h
+  appended schemas old new frame rows chunk (Err fault.FixedView) n h = absurd h
   appended schemas old new frame rows chunk (Err (fault.Refused f)) n h = record { chunk = chunk; next = n; answer = h }

@@ -1,3 +1,7 @@
 pub mod DesksFacts
 pub mod BooksFacts
+pub mod LinesFacts
+pub mod ClosingFacts
 pub mod Crosses
+pub mod CrossesTables
+pub mod CrossesService

@@ -15,7 +15,7 @@ use Rattle.df_state.specs.declared.state.State.{State}
 use Rattle.df_hall.specs.Halls.{AnswersOverHistory}
 use Rattle.df_versions.specs.declared.fault.ChangeFault.{ChangeFault}
 use Rattle.dataframes.specs.declared.fault.ServiceFault.{ServiceFault}
-use Rattle.dataframes.specs.declared.fault.ServiceFault.TheVariants.{NoFrame, Rows, Refused}
+use Rattle.dataframes.specs.declared.fault.ServiceFault.TheVariants.{FixedView, Lines, NoFrame, Rows, Refused}
 
 -- the states that were told of the last change, and the desks, which count the rows of each frame
 pub record BooksParts : Type 0 where
@@ -83,5 +83,7 @@ module _ {J : Type 0} where
   IsAnswered schemas old c (Ok told) new =
       AnswersOverHistory {J = J} schemas (length old.told) c (Ok told) × (new ≡ record { told = told; desks = desks_after old.desks c })
   IsAnswered schemas old c (Err NoFrame) new = HasNoFrame (length schemas) c × (new ≡ old)
+  IsAnswered schemas old c (Err (Lines f)) new = ⊥
   IsAnswered schemas old c (Err (Rows f)) new = ⊥
+  IsAnswered schemas old c (Err FixedView) new = ⊥
   IsAnswered schemas old c (Err (Refused f)) new = AnswersOverHistory {J = J} schemas (length old.told) c (Err f) × (new ≡ old)

@@ -1,16 +1,25 @@
 -- The closing of a service.
-use Rattle.std.specs.Prelude.{◌≡◌, ◌⊎◌, ⊤, ℕ, List, None, Some}
+use Rattle.std.specs.Prelude.{◌≡◌, ◌<◌, ◌⊎◌, ⊤, ℕ, List, None, Some, length, slice_get}
+use Rattle.df_plan.specs.CheckedParts.{CheckedParts}
 use Rattle.df_value.specs.declared.cell.CellType.{CellType}
 use Rattle.df_state.specs.Desks.{AgreeWithBooks, DeskParts}
 use Rattle.df_state.specs.States.{IsLegal}
+use Rattle.df_state.specs.declared.change.Change.TheVariants.{Register}
 use Rattle.df_state.specs.declared.state.State.{State}
 use Rattle.df_hall.specs.Closing.{IsMissingAfter, missing_frame, totals_of}
 use Rattle.df_hall.specs.declared.totals.Totals.{Totals}
-use Rattle.df_versions.specs.Histories.{IsLastState}
+use Rattle.df_versions.specs.Answered.{IsAccepted, IsRefusedAt}
+use Rattle.df_versions.specs.Histories.{IsHistoryOver, IsLastState}
 use Rattle.df_versions.specs.Openings.{open_fault}
+use Rattle.df_versions.specs.declared.fault.OpenFault.{OpenFault}
 use Rattle.df_versions.specs.declared.fault.OpenFault.TheVariants as open_fault_of
+use Rattle.df_versions.specs.declared.fault.ChangeFault.TheVariants as change_fault
+use Rattle.dataframes.specs.Books.{BooksParts}
+use Rattle.dataframes.specs.Builders.{BuilderParts}
+use Rattle.dataframes.specs.declared.fault.ServiceFault.{ServiceFault}
+use Rattle.dataframes.specs.declared.fault.ServiceFault.TheVariants.{Refused}
 use Rattle.dataframes.specs.declared.fault.FinishFault.{FinishFault}
-use Rattle.dataframes.specs.declared.fault.FinishFault.TheVariants.{Open, Missing, NoReader}
+use Rattle.dataframes.specs.declared.fault.FinishFault.TheVariants.{Open, View, Unready, Missing}
 
 -- The totals of a legal state that a hall over frames of these schemas may come to, of which the desks that counted the
 -- service's rows are the books of every frame.
@@ -23,9 +32,46 @@ pub record IsClosed (schemas : List (List (List ℕ × CellType))) (totals : Tot
   pub agree : AgreeWithBooks desks state
   pub is : totals ≡ totals_of state
 
--- why there are no totals: what the opening refuses, with one reader; that there is no reader, of which nothing is said; or
 -- the least frame of which the desks are not the books
-abbrev pub IsUnfinished : List (List (List ℕ × CellType)) → FinishFault → Type 0
-IsUnfinished schemas (Open fault) = (fault ≡ open_fault_of.Memory) ⊎ (open_fault schemas 1 ≡ Some fault)
-IsUnfinished schemas NoReader = ⊤
-IsUnfinished schemas (Missing frame) = (desks : List DeskParts) × (history : List State) × IsMissingAfter schemas desks history frame
+abbrev pub IsMissed : List (List (List ℕ × CellType)) → FinishFault → Type 0
+IsMissed schemas (Missing frame) = (desks : List DeskParts) × (history : List State) × IsMissingAfter schemas desks history frame
+IsMissed schemas fault = ⊥
+
+-- why a view was not added: a state refuses it; there is no version for it, of which nothing is said; or memory was refused
+abbrev pub IsViewNotAdded : List (List (List ℕ × CellType)) → List ℕ × CheckedParts → FinishFault → Type 0
+IsViewNotAdded schemas view (View fault) = (told : List State) × IsHistoryOver schemas told × IsRefusedAt told (Register view.0 view.1) fault
+IsViewNotAdded schemas view Unready = ⊤
+IsViewNotAdded schemas view (Open fault) = fault ≡ open_fault_of.Memory
+IsViewNotAdded schemas view fault = ⊥
+
+-- the same of one of these views
+abbrev pub IsNotAdded : List (List (List ℕ × CellType)) → List (List ℕ × CheckedParts) → FinishFault → Type 0
+IsNotAdded schemas views fault =
+    (fault ≡ Open open_fault_of.Memory)
+    ⊎ ((at : ℕ) × (view : List ℕ × CheckedParts) × (slice_get views at ≡ Some view) × IsViewNotAdded schemas view fault)
+
+-- why there are no totals of a service that was opened: a view was not added, or its books are not the desks
+abbrev pub IsServed : List (List (List ℕ × CellType)) → List (List ℕ × CheckedParts) → FinishFault → Type 0
+IsServed schemas views fault = IsNotAdded schemas views fault ⊎ IsMissed schemas fault
+
+-- why a hall with so many readers was not opened
+abbrev pub IsNotOpened : List (List (List ℕ × CellType)) → ℕ → OpenFault → Type 0
+IsNotOpened schemas readers fault = (fault ≡ open_fault_of.Memory) ⊎ (open_fault schemas readers ≡ Some fault)
+
+-- why there are no totals of what was to be opened
+abbrev pub IsUnfinished : BuilderParts → ℕ → FinishFault → Type 0
+IsUnfinished opened readers fault =
+    ((f : OpenFault) × IsNotOpened opened.schemas readers f × (fault ≡ Open f)) ⊎ IsServed opened.schemas opened.views fault
+
+module _ {J : Type 0} where
+  -- what is answered of a view to whose change this was answered
+  abbrev pub IsFaultOfView : ServiceFault J → FinishFault → Type 0
+  IsFaultOfView (Refused (change_fault.Refused fault told)) result = result ≡ View fault
+  IsFaultOfView (Refused change_fault.Memory) result = result ≡ Open open_fault_of.Memory
+  IsFaultOfView other result = result ≡ Unready
+
+-- a view was added: a history that is longer than what the books were told before ends with it, and they are told of it
+pub record IsViewAdded (old : BooksParts) (view : List ℕ × CheckedParts) (new : BooksParts) : Type 0 where
+  pub accepted : IsAccepted new.told (Register view.0 view.1)
+  pub later : length old.told < length new.told
+  pub desks : new.desks ≡ old.desks

@@ -1,4 +1,8 @@
 pub mod Books
 pub mod Appends
+pub mod Builders
+pub mod Cells
 pub mod Closing
+pub mod Dashboards
+pub mod Lines
 pub mod ViewRows

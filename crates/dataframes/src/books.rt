@@ -18,38 +18,38 @@ use std::marker::Model;
 use std::sync::Wait;
 use std::sync::ledger::Ledger;
 
-/// What was appended: the number of its first row, the others have the numbers after it; and what is told of the change.
+/// What was appended: the number of its first row, the others have the numbers after it; how many rows it has; and what is
+/// told of the change.
 pub struct Appended<J: Naming> {
     pub first: u32,
+    pub rows: usize,
     pub told: Told<J>,
 }
 
 // A body that owns one drops it by a call.
 impl<J: Naming> Drop for Appended<J> {
     fn drop(self) {
-        let Appended { first: _, told } = self;
+        let Appended {
+            first: _,
+            rows: _,
+            told,
+        } = self;
         drop(told);
     }
 }
 
-/// The desks of all frames, in their order, with the frames' schemas, and what was told of the last change that was made
-/// through them. Contracts see the desks and the states that were told.
+/// The desks of all frames, in their order, and what was told of the last change that was made through them. Contracts see
+/// the desks and the states that were told.
 pub struct Books<Acc: Ledger, Del: Ledger, J: Naming> {
     desks: Vec<Desk<Acc, Del>>,
-    schemas: List<Schema>,
     told: Option<Told<J>>,
 }
 
 // A body that owns one drops it by a call.
 impl<Acc: Ledger, Del: Ledger, J: Naming> Drop for Books<Acc, Del, J> {
     fn drop(self) {
-        let Books {
-            desks,
-            schemas,
-            told,
-        } = self;
+        let Books { desks, told } = self;
         drop(desks);
-        drop(schemas);
         drop(told);
     }
 }
@@ -66,7 +66,7 @@ impl<Acc: Ledger, Del: Ledger, J: Naming> Model for Books<Acc, Del, J> {
 
     ghost view = { λ b. record { told = states_told b.told; desks = b.desks.items } };
 
-    ghost invariant = { λ b. InOrder b.desks.items × (b.schemas ≡ J.schemas)
+    ghost invariant = { λ b. InOrder b.desks.items
         × (length b.desks.items ≡ length J.schemas) };
 }
 
@@ -75,21 +75,16 @@ type Answer<J> = Result<Told<J>, ChangeFault<J>>;
 
 impl<Acc: Ledger, Del: Ledger, J: Naming> Books<Acc, Del, J> {
     /// The books of a hall with its first desks.
-    pub fn new(desks: Vec<Desk<Acc, Del>>, schemas: List<Schema>) -> Books<Acc, Del, J>
+    pub fn new(desks: Vec<Desk<Acc, Del>>) -> Books<Acc, Del, J>
         requires desks { InOrder desks.items }
-        requires schemas { schemas ≡ J.schemas }
         requires count { length desks.items ≡ length J.schemas }
         ensures desks { result.desks ≡ desks.items }
     {
-        Books {
-            desks,
-            schemas,
-            told: None,
-        }
+        Books { desks, told: None }
     }
 
     /// Appends rows to a frame. Their numbers begin with how many rows the frame accepted through these books, so no
-    /// number is left out.
+    /// number is left out. `schemas` are those of the frames.
     ///
     /// Refused are, in this order: an index of no frame; rows that are no chunk behind these numbers; what the hall refuses.
     pub fn append<R: Wait>(
@@ -97,13 +92,15 @@ impl<Acc: Ledger, Del: Ledger, J: Naming> Books<Acc, Del, J> {
         rt: &R,
         alloc: Global,
         hall: &Hall<Acc, Del, J>,
+        schemas: &List<Schema>,
         frame: usize,
         rows: List<Row>,
     ) -> Result<Appended<J>, ServiceFault<J>>
+        requires schemas { schemas.now ≡ J.schemas }
         requires allowed { (chunk : ChunkParts) → J.allows (Append frame chunk) }
         ensures { Appends J.schemas self.old frame rows result self.new }
     {
-        match self.next_chunk(alloc, frame, rows) {
+        match self.next_chunk(alloc, schemas, frame, rows) {
             Some(Ok(chunk)) => self.append_chunk(rt, alloc, hall, frame, &chunk),
             Some(Err(fault)) => Err(ServiceFault::Rows(fault)),
             None => Err(ServiceFault::NoFrame),
@@ -114,9 +111,11 @@ impl<Acc: Ledger, Del: Ledger, J: Naming> Books<Acc, Del, J> {
     fn next_chunk(
         &self,
         alloc: Global,
+        schemas: &List<Schema>,
         frame: usize,
         rows: List<Row>,
     ) -> Option<Result<Chunk, ChunkFault>>
+        requires { schemas.now ≡ J.schemas }
         ensures { IsNextOr J.schemas self.now frame rows result }
     {
         if frame >= self.desks.len() {
@@ -124,7 +123,7 @@ impl<Acc: Ledger, Del: Ledger, J: Naming> Books<Acc, Del, J> {
             return None;
         }
         let accepted = self.desks[frame].accepted();
-        let schema = &self.schemas.as_slice()[frame];
+        let schema = &schemas.as_slice()[frame];
         Some(numbered(alloc, schema, accepted, rows))
     }
 
@@ -143,6 +142,7 @@ impl<Acc: Ledger, Del: Ledger, J: Naming> Books<Acc, Del, J> {
         match self.change_rows(rt, alloc, hall, frame, FrameChange::Append(chunk)) {
             Ok(told) => Ok(Appended {
                 first: chunk.first(),
+                rows: chunk.rows().len(),
                 told,
             }),
             Err(fault) => Err(fault),
@@ -244,12 +244,7 @@ impl<Acc: Ledger, Del: Ledger, J: Naming> Books<Acc, Del, J> {
     pub fn into_desks(self) -> Vec<Desk<Acc, Del>>
         ensures { result.items ≡ self.desks }
     {
-        let Books {
-            desks,
-            schemas,
-            told,
-        } = self;
-        drop(schemas);
+        let Books { desks, told } = self;
         drop(told);
         desks
     }

@@ -1,32 +1,33 @@
 //! The closing of a service.
 ghost use Rattle.std.specs.Prelude.{IfErr, IfOk};
-ghost use Rattle.dataframes.specs.Closing.{IsClosed, IsUnfinished};
+ghost use Rattle.dataframes.specs.Closing.{IsClosed, IsMissed};
 
+use crate::books::Books;
 use crate::fault::FinishFault;
 use crate::opening::Finished;
-use crate::service::OpenService;
-use df_hall::Missing;
+use crate::threads::Workers;
+use df_hall::{Hall, Missing};
 use df_versions::Naming;
 use std::sync::Wait;
 use std::sync::ledger::Ledger;
 
-/// Closes the books behind a body.
+/// Closes the books behind the workers.
 pub(crate) fn close<R: Wait, Acc: Ledger, Del: Ledger, J: Naming, L: Drop, W: Drop>(
     rt: &R,
-    service: OpenService<'_, R, Acc, Del, J>,
-    loaders: Vec<L>,
-    watcher: W,
+    hall: Hall<Acc, Del, J>,
+    books: Books<Acc, Del, J>,
+    workers: Workers<L, W>,
 ) -> Result<Finished<L, W>, FinishFault>
     ensures totals { IfOk result (λ finished. IsClosed J.schemas finished.totals) }
-    ensures refused { IfErr result (IsUnfinished J.schemas) }
+    ensures refused { IfErr result (IsMissed J.schemas) }
 {
-    let (hall, books) = service.into_parts();
     match hall.close(rt, books.into_desks()) {
         Ok((catalogue, totals)) => {
             drop(catalogue);
+            let Workers { loaders, watchers } = workers;
             Ok(Finished {
                 loaders,
-                watcher,
+                watchers,
                 totals,
             })
         }
@@ -41,8 +42,7 @@ pub(crate) fn close<R: Wait, Acc: Ledger, Del: Ledger, J: Naming, L: Drop, W: Dr
             drop(told);
             drop(desks);
             hall.end(rt);
-            drop(loaders);
-            drop(watcher);
+            drop(workers);
             Err(FinishFault::Missing(frame))
         }
     }

@@ -1,53 +1,67 @@
 //! Dashboards: readers of a service that never wait.
-ghost use Rattle.std.specs.Prelude.{◌≡◌, ◌⊎◌, ◌<◌, IfNone, IfSome, length};
+ghost use Rattle.std.specs.Prelude.{◌≡◌, ◌⊎◌, ◌<◌, IfErr, IfNone, IfOk, IfSome, Err, None, Ok, Some};
 ghost use Rattle.std.specs.Arc.{arc_value};
+ghost use Rattle.std.specs.Option.{option_copied};
 ghost use mathlib.Core.List.{IsPrefix};
+ghost use Rattle.df_state.specs.Answers.{AnswersMemoryLast};
+ghost use Rattle.df_state.specs.Pictures as pictures;
+ghost use Rattle.df_state.specs.declared.fault.CatalogueFault.TheVariants as catalogue_fault;
 ghost use Rattle.df_versions.specs.Shown.{Shows};
+ghost use Rattle.dataframes.specs.Dashboards.{columns_of_view};
 
+use crate::service::ViewSchema;
+use crate::view_rows::ViewRows;
+use df_catalogue::CatalogueFault;
+use df_value::{List, Schema, index_of_name};
 use df_versions::{Naming, Reader, Told, Version};
 use std::alloc::Global;
 use std::marker::{Model, PhantomData};
 use std::sync::Arc;
 
-/// Takes the versions of a service. Contracts see the states up to the newest version that was taken, and the longest
-/// list of states that was learnt.
+/// Takes the versions of a service. Contracts see the states up to the newest version that was taken, the longest list of
+/// states that was learnt, and the views with which the service was opened.
 pub struct Dashboard<J: Naming> {
     reader: Reader,
+    views: List<ViewSchema>,
     of: PhantomData<J>,
 }
 
 // A body that owns one drops it by a call.
 impl<J: Naming> Drop for Dashboard<J> {
     fn drop(self) {
-        let Dashboard { reader, of } = self;
+        let Dashboard { reader, views, of } = self;
         drop(reader);
+        drop(views);
         drop(of);
     }
 }
 
 impl<J: Naming> Model for Dashboard<J> {
-    ghost use Rattle.std.specs.Prelude.{◌≡◌, List};
-    ghost use Rattle.std.specs.Coded.{coded×, coded_list};
+    ghost use Rattle.std.specs.Prelude.{◌≡◌};
+    ghost use Rattle.std.specs.Coded.{codes};
     ghost use Rattle.df_state.specs.contracts.state.State as state_type;
-    ghost use Rattle.df_state.specs.declared.state.State.{State};
+    ghost use Rattle.dataframes.specs.Dashboards.{DashboardParts};
 
-    ghost Value = { List State × List State };
+    ghost Value = { DashboardParts };
 
-    ghost coded = { coded× (coded_list state_type.the_row.coded) (coded_list state_type.the_row.coded) };
+    ghost coded = { Prim.hlevel (codes, state_type.the_row.coded) };
 
-    ghost view = { λ d. d.reader.1 };
+    ghost view = { λ d. record { taken = d.reader.1.0; learnt = d.reader.1.1; views = d.views } };
 
     ghost invariant = { λ d. d.reader.0 ≡ J.book };
 }
 
 impl<J: Naming> Dashboard<J> {
-    /// A dashboard over a reader of the service's history.
-    pub(crate) fn over(reader: Reader) -> Dashboard<J>
+    /// A dashboard over a reader of the service's history, with the views of the opened service.
+    pub(crate) fn over(reader: Reader, views: List<ViewSchema>) -> Dashboard<J>
         requires { reader.0 ≡ J.book }
-        ensures { result ≡ reader.1 }
+        ensures taken { result.taken ≡ reader.1.0 }
+        ensures learnt { result.learnt ≡ reader.1.1 }
+        ensures views { result.views ≡ views }
     {
         Dashboard {
             reader,
+            views,
             of: PhantomData,
         }
     }
@@ -55,10 +69,11 @@ impl<J: Naming> Dashboard<J> {
     /// The newest version. Its history begins with all that this dashboard took and learnt. None once the service has
     /// ended. It waits for nobody and takes no memory.
     pub fn newest(&mut self) -> Option<Arc<Version, Global>>
-        ensures learnt { self.new.1 ≡ self.old.1 }
-        ensures later { IfSome result (λ v.
-            IsPrefix self.old.0 self.new.0 × IsPrefix self.old.1 self.new.0) }
-        ensures shows { IfSome result (λ v. Shows self.new.0 (arc_value v)) }
+        ensures learnt { self.new.learnt ≡ self.old.learnt }
+        ensures views { self.new.views ≡ self.old.views }
+        ensures later { IfSome result (λ v. IsPrefix self.old.taken self.new.taken
+            × IsPrefix self.old.learnt self.new.taken) }
+        ensures shows { IfSome result (λ v. Shows self.new.taken (arc_value v)) }
         ensures none { IfNone result (self.new ≡ self.old) }
     {
         self.reader.snapshot()
@@ -66,10 +81,11 @@ impl<J: Naming> Dashboard<J> {
 
     /// The newest version, if it is a later one than that of this number.
     pub fn newer_than(&mut self, number: u64) -> Option<Arc<Version, Global>>
-        ensures learnt { self.new.1 ≡ self.old.1 }
-        ensures later { IfSome result (λ v.
-            IsPrefix self.old.0 self.new.0 × IsPrefix self.old.1 self.new.0) }
-        ensures shows { IfSome result (λ v. Shows self.new.0 (arc_value v)) }
+        ensures learnt { self.new.learnt ≡ self.old.learnt }
+        ensures views { self.new.views ≡ self.old.views }
+        ensures later { IfSome result (λ v. IsPrefix self.old.taken self.new.taken
+            × IsPrefix self.old.learnt self.new.taken) }
+        ensures shows { IfSome result (λ v. Shows self.new.taken (arc_value v)) }
         ensures newer { IfSome result (λ v. number < (arc_value v).0) }
     {
         let version = self.newest()?;
@@ -80,13 +96,50 @@ impl<J: Naming> Dashboard<J> {
         }
     }
 
+    /// The columns of a view with which the service was opened, by name, with their types; None of any other view.
+    pub fn view_schema(&self, name: &str) -> Option<&Schema>
+        ensures { option_copied result ≡ columns_of_view name.now self.now.views }
+    {
+        schema_named(self.views.as_slice(), name)
+    }
+
+    /// The rows of a view in a version, with the view's columns. Refused is a view with which the service was not opened.
+    pub fn view(
+        &self,
+        alloc: Global,
+        version: &Version,
+        name: &str,
+    ) -> Result<ViewRows<'_>, CatalogueFault>
+        ensures rows { IfOk result (λ view.
+            pictures.view_rows_in version.now.1 name.now ≡ Ok view.rows) }
+        ensures columns { IfOk result (λ view.
+            columns_of_view name.now self.now.views ≡ Some view.schema.now) }
+        ensures refused { IfErr result (λ fault.
+            ((columns_of_view name.now self.now.views ≡ None) × (fault ≡ catalogue_fault.NoView))
+            ⊎ AnswersMemoryLast (pictures.view_rows_in version.now.1 name.now) (Err fault)) }
+    {
+        match self.view_schema(name) {
+            Some(schema) => ViewRows::read(alloc, version, name, schema),
+            None => Err(CatalogueFault::NoView),
+        }
+    }
+
     /// From now on each version that is taken has at least the change that was told. It waits for nobody and takes no
     /// memory.
     pub fn learn(&mut self, told: Told<J>)
-        ensures same { self.new.0 ≡ self.old.0 }
-        ensures told { IsPrefix self.old.1 self.new.1 × IsPrefix told self.new.1 }
-        ensures longest { (self.new.1 ≡ self.old.1) ⊎ (self.new.1 ≡ told) }
+        ensures same { self.new.taken ≡ self.old.taken }
+        ensures views { self.new.views ≡ self.old.views }
+        ensures told { IsPrefix self.old.learnt self.new.learnt × IsPrefix told self.new.learnt }
+        ensures longest { (self.new.learnt ≡ self.old.learnt) ⊎ (self.new.learnt ≡ told) }
     {
         self.reader.learn(told);
     }
+}
+
+// The columns of the view of this name.
+fn schema_named<'a>(views: &'a [ViewSchema], name: &str) -> Option<&'a Schema>
+    ensures { option_copied result ≡ columns_of_view name.now views.now }
+{
+    let at = index_of_name(views, name)?;
+    Some(&views[at].1)
 }

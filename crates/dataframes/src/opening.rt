@@ -1,60 +1,60 @@
 //! The running of a service: its opening, its threads and its closing.
-ghost use Rattle.std.specs.Prelude.{◌≡◌, IfErr, IfOk, Ok, length};
+ghost use Rattle.std.specs.Prelude.{◌≡◌, All, IfErr, IfOk, Ok, OnOk, length, map};
 ghost use Rattle.df_state.specs.Ledgers as ledgers;
 ghost use Rattle.df_versions.specs.Histories.{AllowsAll, schemas_of};
 ghost use Rattle.dataframes.specs.Books.{InOrder};
-ghost use Rattle.dataframes.specs.Closing.{IsClosed, IsUnfinished};
+ghost use Rattle.dataframes.specs.Closing.{IsClosed, IsFaultOfView, IsNotAdded, IsNotOpened, IsServed, IsUnfinished, IsViewAdded, IsViewNotAdded};
 
 use crate::books::Books;
+use crate::builder::{NamedPlan, ServiceBuilder};
 use crate::closing::close;
 use crate::dashboard::Dashboard;
-use crate::fault::FinishFault;
-use crate::service::OpenService;
-use crate::threads::{Load, Watch, Watching, run_threads};
-use df_catalogue::PARTS_OF_LEDGER;
+use crate::fault::{FinishFault, ServiceFault};
+use crate::service::{OpenService, ViewSchema};
+use crate::threads::{Load, ServiceRuntime, Watch, Workers, run_threads};
+use df_catalogue::{PARTS_OF_LEDGER, ViewChange};
 use df_hall::{Hall, OpenedHall, Totals};
 use df_value::{Duplicate, List, Schema};
-use df_versions::{Naming, OpenFault, Reader};
+use df_versions::{ChangeFault, Naming, OpenFault, Reader};
 use std::alloc::{AllocError, Global};
 use std::marker::Brand;
 use std::rt::Clock;
-use std::sync::Wait;
+use std::sync::atomic::AtomicU64;
 use std::sync::ledger::{Blank, Ledger};
+use std::sync::{Mutex, Wait};
 use std::thread::Threads;
-use std::time::Duration;
 
-/// The loaders and the watcher of a service that has ended, and its totals.
+type Dashboards<J> = Vec<Mutex<Dashboard<J>>>;
+
+/// The loaders and the watchers of a service that has ended, and its totals.
 #[derive(Drop)]
 pub struct Finished<L, W> {
     pub loaders: Vec<L>,
-    pub watcher: W,
+    pub watchers: Vec<W>,
     pub totals: Totals,
 }
 
-/// Runs a service over empty frames with these schemas, and closes its books: each loader has a thread, and the watcher
-/// has one, with a dashboard, and pauses so long between two looks. It ends once all loaders are done and the watcher has
-/// looked at all that they changed.
-pub fn run_service<R: Threads + Wait + Clock + Sync, L: Load + Send, W: Watch + Send>(
-    rt: &R,
-    alloc: Global,
-    schemas: List<Schema>,
-    loaders: Vec<L>,
-    watcher: W,
-    pause: Duration,
-) -> Result<Finished<L, W>, FinishFault>
-    ensures totals { IfOk result (λ finished. IsClosed schemas finished.totals) }
-    ensures refused { IfErr result (IsUnfinished schemas) }
-{
-    open::<Brand, Brand, R, L, W>(
-        rt,
-        alloc,
-        Blank::new(PARTS_OF_LEDGER),
-        Blank::new(PARTS_OF_LEDGER),
-        schemas,
-        loaders,
-        watcher,
-        pause,
-    )
+impl ServiceBuilder {
+    /// Runs the service, and closes its books: each loader has a thread, and each of at most 16 watchers has one, with a
+    /// dashboard. It ends once all loaders are done and each watcher has looked at all that they changed.
+    pub fn run<R: ServiceRuntime, L: Load + Send, W: Watch + Send>(
+        self,
+        rt: &R,
+        loaders: Vec<L>,
+        watchers: Vec<W>,
+    ) -> Result<Finished<L, W>, FinishFault>
+        ensures totals { IfOk result (λ finished. IsClosed self.schemas finished.totals) }
+        ensures refused { IfErr result (IsUnfinished self (length watchers.items)) }
+    {
+        open::<Brand, Brand, R, L, W>(
+            rt,
+            rt.alloc(),
+            Blank::new(PARTS_OF_LEDGER),
+            Blank::new(PARTS_OF_LEDGER),
+            self,
+            Workers { loaders, watchers },
+        )
+    }
 }
 
 // Opens the hall.
@@ -69,10 +69,8 @@ fn open<
     alloc: Global,
     accepted: Blank,
     deleted: Blank,
-    schemas: List<Schema>,
-    loaders: Vec<L>,
-    watcher: W,
-    pause: Duration,
+    builder: ServiceBuilder,
+    workers: Workers<L, W>,
 ) -> Result<Finished<L, W>, FinishFault>
     requires accepted_name { accepted.name ≡ Acc.name }
     requires accepted_parts { (accepted.parts ≡ Acc.parts)
@@ -80,28 +78,32 @@ fn open<
     requires deleted_name { deleted.name ≡ Del.name }
     requires deleted_parts { (deleted.parts ≡ Del.parts)
         × (deleted.parts ≡ ledgers.parts_of_ledger) }
-    ensures totals { IfOk result (λ finished. IsClosed schemas finished.totals) }
-    ensures refused { IfErr result (IsUnfinished schemas) }
+    ensures totals { IfOk result (λ finished. IsClosed builder.schemas finished.totals) }
+    ensures refused { IfErr result (IsUnfinished builder (length workers.watchers.items)) }
 {
-    match open_hall::<Acc, Del, R>(rt, alloc, accepted, deleted, schemas) {
+    let (schemas, views) = builder.into_parts();
+    let readers = workers.watchers.len();
+    let schemas = List::from_vec(schemas);
+    match open_hall::<Acc, Del, R>(rt, alloc, accepted, deleted, schemas, readers) {
         Ok((opened, schemas)) => serve::<Acc, Del, Brand, R, L, W>(
-            rt, alloc, opened, schemas, loaders, watcher, pause,
+            rt, alloc, opened, schemas, views, workers,
         ),
         Err(fault) => {
-            drop(loaders);
-            drop(watcher);
+            drop(views);
+            drop(workers);
             Err(FinishFault::Open(fault))
         }
     }
 }
 
-// A hall with one reader, and the schemas of its frames.
+// A hall with so many readers, and the schemas of its frames.
 fn open_hall<Acc: Ledger, Del: Ledger, R: Wait>(
     rt: &R,
     alloc: Global,
     accepted: Blank,
     deleted: Blank,
     schemas: List<Schema>,
+    readers: usize,
 ) -> Result<(OpenedHall<Acc, Del>, List<Schema>), OpenFault>
     requires accepted_name { accepted.name ≡ Acc.name }
     requires accepted_parts { (accepted.parts ≡ Acc.parts)
@@ -113,10 +115,10 @@ fn open_hall<Acc: Ledger, Del: Ledger, R: Wait>(
     ensures desks { IfOk result (λ o. InOrder o.0.1.1) }
     ensures count { IfOk result (λ o. length o.0.1.1 ≡ length schemas) }
     ensures schemas { IfOk result (λ o. o.1 ≡ schemas) }
-    ensures refused { IfErr result (λ fault. IsUnfinished schemas (FinishFault.Open fault)) }
+    ensures refused { IfErr result (IsNotOpened schemas readers) }
 {
     let copied = schemas.copy(alloc);
-    match OpenedHall::<Acc, Del>::open(rt, alloc, accepted, deleted, schemas, 1) {
+    match OpenedHall::<Acc, Del>::open(rt, alloc, accepted, deleted, schemas, readers) {
         Ok(opened) => with_schemas(rt, opened, copied),
         Err(fault) => {
             drop(copied);
@@ -156,9 +158,8 @@ fn serve<
     alloc: Global,
     opened: OpenedHall<Acc, Del>,
     schemas: List<Schema>,
-    loaders: Vec<L>,
-    watcher: W,
-    pause: Duration,
+    views: Vec<NamedPlan>,
+    workers: Workers<L, W>,
 ) -> Result<Finished<L, W>, FinishFault>
     requires book { opened.0 ≡ J.book }
     requires history { schemas_of opened.1.0 ≡ J.schemas }
@@ -167,50 +168,148 @@ fn serve<
     requires desks { InOrder opened.1.1 }
     requires count { length opened.1.1 ≡ length J.schemas }
     ensures totals { IfOk result (λ finished. IsClosed J.schemas finished.totals) }
-    ensures refused { IfErr result (IsUnfinished J.schemas) }
+    ensures refused { IfErr result (IsServed J.schemas views.items) }
 {
-    let (hall, desks, mut readers) = opened.named::<J>();
-    let reader = readers.pop();
-    drop(readers);
-    let books = Books::new(desks, schemas);
-    match reader {
-        Some(reader) => run_all(rt, alloc, hall, books, reader, loaders, watcher, pause),
-        None => {
+    let (hall, desks, readers) = opened.named::<J>();
+    let mut books = Books::new(desks);
+    let prepared = prepare(rt, alloc, &hall, &mut books, views.as_slice(), readers);
+    drop(views);
+    match prepared {
+        Ok((views, dashboards)) => {
+            let books = Mutex::new(books);
+            let left = AtomicU64::new(1);
+            let service = OpenService {
+                rt,
+                alloc,
+                hall: &hall,
+                books: &books,
+                schemas: &schemas,
+                views: &views,
+                dashboards: dashboards.as_slice(),
+                left: &left,
+            };
+            let workers = run_threads(rt, &service, workers);
+            drop(service);
+            drop(dashboards);
+            drop(views);
+            drop(schemas);
+            close(rt, hall, books.into_inner(), workers)
+        }
+        Err(fault) => {
             drop(books);
-            drop(loaders);
-            drop(watcher);
+            drop(schemas);
+            drop(workers);
             hall.end(rt);
-            Err(FinishFault::NoReader)
+            Err(fault)
         }
     }
 }
 
-// Runs the threads, and closes the hall.
-fn run_all<
-    Acc: Ledger + Send + Sync,
-    Del: Ledger + Send + Sync,
-    J: Naming + Send + Sync,
-    R: Threads + Wait + Clock + Sync,
-    L: Load + Send,
-    W: Watch + Send,
->(
+// What a service is served with: the names and columns of its views, which are added, and its dashboards.
+fn prepare<Acc: Ledger, Del: Ledger, J: Naming, R: Wait>(
     rt: &R,
     alloc: Global,
-    hall: Hall<Acc, Del, J>,
-    books: Books<Acc, Del, J>,
-    reader: Reader,
-    loaders: Vec<L>,
-    watcher: W,
-    pause: Duration,
-) -> Result<Finished<L, W>, FinishFault>
-    requires book { reader.0 ≡ J.book }
+    hall: &Hall<Acc, Del, J>,
+    books: &mut Books<Acc, Del, J>,
+    views: &[NamedPlan],
+    readers: Vec<Reader>,
+) -> Result<(List<ViewSchema>, Dashboards<J>), FinishFault>
     requires allowed { AllowsAll J.allows }
-    ensures totals { IfOk result (λ finished. IsClosed J.schemas finished.totals) }
-    ensures refused { IfErr result (IsUnfinished J.schemas) }
+    requires readers { All (λ r. r.0 ≡ J.book) readers.items }
+    ensures views { IfOk result (λ made. made.0 ≡ map (λ v. (v.0, v.1.schema)) views.now) }
+    ensures refused { IfErr result (IsNotAdded J.schemas views.now) }
 {
-    let service = OpenService::new(rt, alloc, hall, books);
-    let watching = Watching::new(watcher, Dashboard::over(reader), pause);
-    let (loaders, watching) = run_threads(rt, &service, loaders, watching);
-    let watcher = watching.look_last(&service);
-    close(rt, service, loaders, watcher)
+    match add_views(rt, alloc, hall, books, views) {
+        Ok(views) => match dashboards::<J>(alloc, readers, &views) {
+            Ok(dashboards) => Ok((views, dashboards)),
+            Err(_) => {
+                drop(views);
+                Err(FinishFault::Open(OpenFault::Memory))
+            }
+        },
+        Err(fault) => {
+            drop(readers);
+            Err(fault)
+        }
+    }
+}
+
+// Adds the views in their order, and answers their names and columns.
+fn add_views<Acc: Ledger, Del: Ledger, J: Naming, R: Wait>(
+    rt: &R,
+    alloc: Global,
+    hall: &Hall<Acc, Del, J>,
+    books: &mut Books<Acc, Del, J>,
+    views: &[NamedPlan],
+) -> Result<List<ViewSchema>, FinishFault>
+    requires allowed { AllowsAll J.allows }
+    ensures added { IfOk result (λ added. added ≡ map (λ v. (v.0, v.1.schema)) views.now) }
+    ensures refused { IfErr result (IsNotAdded J.schemas views.now) }
+{
+    let mut added = Vec::with_capacity(alloc, views.len())?;
+    for view in views {
+        added.push(add_view(rt, alloc, hall, books, view)?)?;
+    }
+    Ok(List::from_vec(added))
+}
+
+// Adds a view, and answers its name and columns.
+fn add_view<Acc: Ledger, Del: Ledger, J: Naming, R: Wait>(
+    rt: &R,
+    alloc: Global,
+    hall: &Hall<Acc, Del, J>,
+    books: &mut Books<Acc, Del, J>,
+    view: &NamedPlan,
+) -> Result<ViewSchema, FinishFault>
+    requires allowed { AllowsAll J.allows }
+    ensures added { IfOk result (λ added. added ≡ (view.now.0, view.now.1.schema)) }
+    ensures registered { OnOk result (IsViewAdded books.old view.now books.new) }
+    ensures refused { IfErr result (IsViewNotAdded J.schemas view.now) }
+{
+    let (name, plan) = view.copy(alloc)?;
+    let answer = books.change_views(rt, alloc, hall, ViewChange::Register(name, plan));
+    match answer {
+        Ok(told) => {
+            drop(told);
+            Ok(schema_of(alloc, view)?)
+        }
+        Err(fault) => Err(view_fault(fault)),
+    }
+}
+
+fn schema_of(alloc: Global, view: &NamedPlan) -> Result<ViewSchema, AllocError>
+    ensures { IfOk result (λ added. added ≡ (view.now.0, view.now.1.schema)) }
+{
+    let name = view.0.copy(alloc)?;
+    let schema = view.1.schema().copy(alloc)?;
+    Ok((name, schema))
+}
+
+// Why a view was not added.
+fn view_fault<J: Naming>(fault: ServiceFault<J>) -> FinishFault
+    ensures { IsFaultOfView fault result }
+{
+    match fault {
+        ServiceFault::Refused(ChangeFault::Refused(fault, told)) => {
+            drop(told);
+            FinishFault::View(fault)
+        }
+        ServiceFault::Refused(ChangeFault::Memory) => FinishFault::Open(OpenFault::Memory),
+        _ => FinishFault::Unready,
+    }
+}
+
+// A dashboard over each reader.
+fn dashboards<J: Naming>(
+    alloc: Global,
+    readers: Vec<Reader>,
+    views: &List<ViewSchema>,
+) -> Result<Dashboards<J>, AllocError>
+    requires { All (λ r. r.0 ≡ J.book) readers.items }
+{
+    let mut dashboards = Vec::with_capacity(alloc, readers.len())?;
+    for reader in readers {
+        dashboards.push(Mutex::new(Dashboard::over(reader, views.copy(alloc)?)))?;
+    }
+    Ok(dashboards)
 }

@@ -1,20 +1,26 @@
 //! What loaders share.
-ghost use Rattle.std.specs.Prelude.{◌≡◌};
+ghost use Rattle.std.specs.Prelude.{◌≡◌, slice_get};
+ghost use Rattle.std.specs.Option.{option_copied};
 ghost use Rattle.df_state.specs.FrameChanges.{change_of};
 ghost use Rattle.df_state.specs.ViewChanges.{change_of_views};
 ghost use Rattle.df_state.specs.declared.change.Change.TheVariants.{Delete, DropView, Register, Replace};
-ghost use Rattle.dataframes.specs.Appends.{AnswersOfBooks, AppendsToBooks};
+ghost use Rattle.dataframes.specs.Appends.{AnswersDrop, AnswersOfBooks, AppendsLines, AppendsOne, AppendsToBooks, AreRowsOfLines};
+ghost use Rattle.dataframes.specs.Cells.{row_lent};
 ghost use Rattle.df_versions.specs.Histories.{AllowsAll};
 
 use crate::books::{Appended, Books};
+use crate::cells::row_of;
+use crate::csv_rows::read_rows;
+use crate::dashboard::Dashboard;
 use crate::fault::ServiceFault;
 use df_catalogue::{FrameChange, ViewChange};
 use df_hall::Hall;
 use df_plan::CheckedPlan;
-use df_value::{List, Row, Text};
+use df_value::{CellRef, List, Row, Schema, Text, has_name};
 use df_versions::{Naming, Told};
 use std::alloc::Global;
 use std::marker::Model;
+use std::sync::atomic::AtomicU64;
 use std::sync::ledger::Ledger;
 use std::sync::{Mutex, Wait};
 
@@ -23,11 +29,21 @@ use std::sync::{Mutex, Wait};
 /// Each change is made as a whole or refused, and then everything is as it was. A version follows each. What is told of a
 /// change is its history, which is longer than that of every change of the service before.
 pub trait Service {
+    ghost use Rattle.std.specs.Prelude.{ℕ, List as Seq};
+    ghost use Rattle.df_value.specs.declared.cell.CellType.{CellType};
+
     /// The name of the service's history, which ties what it tells to its dashboards.
     type History: Naming;
 
+    // The views with which it was opened, by name, and their columns.
+    ghost fixed: { Self → Seq (Seq ℕ × Seq (Seq ℕ × CellType)) };
+
     /// Where the service takes its memory.
     fn alloc(&self) -> Global;
+
+    /// The columns of a frame, if there is one of this index.
+    fn schema(&self, frame: usize) -> Option<&Schema>
+        ensures { option_copied result ≡ slice_get Self.History.schemas frame };
 
     /// What was told of the last change that a loader made, if any did. A dashboard that learns it shows from then on every
     /// change that was answered before this call.
@@ -43,6 +59,24 @@ pub trait Service {
         rows: List<Row>,
     ) -> Result<Appended<Self::History>, ServiceFault<Self::History>>
         ensures { AppendsToBooks Self.History.schemas frame rows result };
+
+    /// Appends a row of these cells. It is refused as rows are.
+    fn append_row(
+        &self,
+        frame: usize,
+        cells: &[CellRef<'_>],
+    ) -> Result<Appended<Self::History>, ServiceFault<Self::History>>
+        ensures { AppendsOne Self.History.schemas frame (row_lent cells.now) result };
+
+    /// Appends the rows of lines of CSV, the first of which is the header ([`read_rows`]).
+    ///
+    /// Refused are, in this order: an index of no frame; lines that are no rows of the frame; what `append` refuses.
+    fn append_csv(
+        &self,
+        frame: usize,
+        lines: &[u8],
+    ) -> Result<Appended<Self::History>, ServiceFault<Self::History>>
+        ensures { AppendsLines Self.History.schemas frame lines.now result };
 
     /// Takes the rows of these numbers out of a frame. Refused are a number that stands twice, and one of no row.
     fn delete(
@@ -70,79 +104,83 @@ pub trait Service {
     ) -> Result<Told<Self::History>, ServiceFault<Self::History>>
         ensures { AnswersOfBooks Self.History.schemas (Register name plan) result };
 
-    /// Takes the view of this name out, or refuses where there is none.
+    /// Takes the view of this name out. Refused are a view with which the service was opened, and a name of none.
     fn drop_view(&self, name: &str) -> Result<Told<Self::History>, ServiceFault<Self::History>>
-        ensures { AnswersOfBooks Self.History.schemas (DropView name.now) result };
+        ensures { AnswersDrop Self.History.schemas (fixed self.now) name.now result };
 }
 
-/// A hall with its books. [`run_service`](crate::run_service) makes it.
-pub struct OpenService<'r, R: Wait, Acc: Ledger, Del: Ledger, J: Naming> {
-    rt: &'r R,
-    alloc: Global,
-    hall: Hall<Acc, Del, J>,
-    books: Mutex<Books<Acc, Del, J>>,
+/// The name of a view, and its columns.
+pub type ViewSchema = (Text, Schema);
+
+/// What the threads of a service share: a hall with its books, the schemas of its frames, the views with which it was opened,
+/// the dashboards of its watchers, and the count of those who still load. [`ServiceBuilder::run`](crate::ServiceBuilder::run)
+/// makes it. Contracts see the views.
+#[derive(Drop)]
+pub struct OpenService<'s, R: Wait, Acc: Ledger, Del: Ledger, J: Naming> {
+    pub(crate) rt: &'s R,
+    pub(crate) alloc: Global,
+    pub(crate) hall: &'s Hall<Acc, Del, J>,
+    pub(crate) books: &'s Mutex<Books<Acc, Del, J>>,
+    pub(crate) schemas: &'s List<Schema>,
+    pub(crate) views: &'s List<ViewSchema>,
+    // Each watcher takes the lock of its own.
+    pub(crate) dashboards: &'s [Mutex<Dashboard<J>>],
+    pub(crate) left: &'s AtomicU64,
 }
 
-impl<'r, R: Wait, Acc: Ledger, Del: Ledger, J: Naming> Model for OpenService<'r, R, Acc, Del, J> {
+impl<'s, R: Wait, Acc: Ledger, Del: Ledger, J: Naming> Model for OpenService<'s, R, Acc, Del, J> {
+    ghost use Rattle.std.specs.Prelude.{◌≡◌, ℕ, List as Seq};
+    ghost use Rattle.df_value.specs.declared.cell.CellType.{CellType};
     ghost use Rattle.df_versions.specs.Histories.{AllowsAll};
 
-    ghost Value = { Unit {0} };
+    ghost Value = { Seq (Seq ℕ × Seq (Seq ℕ × CellType)) };
 
-    ghost view = { λ s. tt };
+    ghost view = { λ s. s.views.now };
 
     // Its history may have whatever a loader asks for.
-    ghost invariant = { λ s. AllowsAll J.allows };
+    ghost invariant = { λ s. AllowsAll J.allows × (s.schemas.now ≡ J.schemas) };
 }
 
-impl<'r, R: Wait, Acc: Ledger, Del: Ledger, J: Naming> OpenService<'r, R, Acc, Del, J> {
-    /// A hall with its books.
-    pub(crate) fn new(
-        rt: &'r R,
-        alloc: Global,
-        hall: Hall<Acc, Del, J>,
-        books: Books<Acc, Del, J>,
-    ) -> OpenService<'r, R, Acc, Del, J>
-        requires { AllowsAll J.allows }
+impl<'s, R: Wait, Acc: Ledger, Del: Ledger, J: Naming> OpenService<'s, R, Acc, Del, J> {
+    // The rows that lines of CSV say.
+    fn rows_of(&self, frame: usize, lines: &[u8]) -> Result<List<Row>, ServiceFault<J>>
+        ensures { AreRowsOfLines J.schemas frame lines.now result }
     {
-        OpenService {
-            rt,
-            alloc,
-            hall,
-            books: Mutex::new(books),
+        match self.schemas.get(frame) {
+            Some(schema) => match read_rows(self.alloc, schema, lines) {
+                Ok(rows) => Ok(rows),
+                Err(fault) => Err(ServiceFault::Lines(fault)),
+            },
+            None => Err(ServiceFault::NoFrame),
         }
-    }
-
-    /// What it was made of.
-    pub(crate) fn into_parts(self) -> (Hall<Acc, Del, J>, Books<Acc, Del, J>) {
-        let OpenService {
-            rt: _,
-            alloc: _,
-            hall,
-            books,
-        } = self;
-        (hall, books.into_inner())
     }
 
     fn change_rows(&self, frame: usize, change: FrameChange) -> Result<Told<J>, ServiceFault<J>>
         ensures { AnswersOfBooks J.schemas (change_of frame change.entry) result }
     {
         let mut books = self.books.lock(self.rt);
-        books.change_rows(self.rt, self.alloc, &self.hall, frame, change)
+        books.change_rows(self.rt, self.alloc, self.hall, frame, change)
     }
 
     fn change_views(&self, change: ViewChange) -> Result<Told<J>, ServiceFault<J>>
         ensures { AnswersOfBooks J.schemas (change_of_views change.entry) result }
     {
         let mut books = self.books.lock(self.rt);
-        books.change_views(self.rt, self.alloc, &self.hall, change)
+        books.change_views(self.rt, self.alloc, self.hall, change)
     }
 }
 
-impl<'r, R: Wait, Acc: Ledger, Del: Ledger, J: Naming> Service for OpenService<'r, R, Acc, Del, J> {
+impl<'s, R: Wait, Acc: Ledger, Del: Ledger, J: Naming> Service for OpenService<'s, R, Acc, Del, J> {
     type History = J;
+
+    ghost fixed = { λ s. s };
 
     fn alloc(&self) -> Global {
         self.alloc
+    }
+
+    fn schema(&self, frame: usize) -> Option<&Schema> {
+        self.schemas.get(frame)
     }
 
     fn told(&self) -> Option<Told<J>> {
@@ -152,7 +190,24 @@ impl<'r, R: Wait, Acc: Ledger, Del: Ledger, J: Naming> Service for OpenService<'
 
     fn append(&self, frame: usize, rows: List<Row>) -> Result<Appended<J>, ServiceFault<J>> {
         let mut books = self.books.lock(self.rt);
-        books.append(self.rt, self.alloc, &self.hall, frame, rows)
+        books.append(self.rt, self.alloc, self.hall, &self.schemas, frame, rows)
+    }
+
+    fn append_row(
+        &self,
+        frame: usize,
+        cells: &[CellRef<'_>],
+    ) -> Result<Appended<J>, ServiceFault<J>> {
+        let row = row_of(self.alloc, cells)?;
+        let rows = vec![in self.alloc; row]?;
+        self.append(frame, List::from_vec(rows))
+    }
+
+    fn append_csv(&self, frame: usize, lines: &[u8]) -> Result<Appended<J>, ServiceFault<J>> {
+        match self.rows_of(frame, lines) {
+            Ok(rows) => self.append(frame, rows),
+            Err(fault) => Err(fault),
+        }
     }
 
     fn delete(&self, frame: usize, numbers: &[u32]) -> Result<Told<J>, ServiceFault<J>> {
@@ -168,6 +223,9 @@ impl<'r, R: Wait, Acc: Ledger, Del: Ledger, J: Naming> Service for OpenService<'
     }
 
     fn drop_view(&self, name: &str) -> Result<Told<J>, ServiceFault<J>> {
+        if has_name(self.views.as_slice(), name) {
+            return Err(ServiceFault::FixedView);
+        }
         self.change_views(ViewChange::Drop(name))
     }
 }

@@ -1,14 +1,19 @@
-//! The threads of a service: one for each loader, and one for its watcher.
+//! The threads of a service: one for each loader, and one for each watcher.
 use crate::dashboard::Dashboard;
 use crate::service::{OpenService, Service};
 use df_versions::Naming;
 use std::rt::Clock;
 use std::sync::Wait;
-use std::sync::atomic::{AtomicU64, Ordering};
+use std::sync::atomic::Ordering;
 use std::sync::ledger::Ledger;
 use std::thread;
 use std::thread::Threads;
 use std::time::Duration;
+
+/// What a service runs on: what starts threads, waits for a lock, sleeps and gives memory. `main` has it as its `HostRuntime`.
+pub trait ServiceRuntime: Threads + Wait + Clock + AllocGlobal + Sync {}
+
+impl<R: Threads + Wait + Clock + AllocGlobal + Sync> ServiceRuntime for R {}
 
 /// What changes a service, in a thread of its own.
 pub trait Load: Drop {
@@ -21,89 +26,90 @@ pub trait Watch: Drop {
     /// Looks at the newest version. It is called again and again while loaders run, and once behind them, with a
     /// dashboard that has learnt all that they changed.
     fn look<J: Naming>(&mut self, dashboard: &mut Dashboard<J>);
+
+    /// How long it rests between two looks.
+    fn pause(&self) -> Duration {
+        Duration::from_millis(100)
+    }
 }
 
-/// A watcher at its dashboard.
+/// The loaders and the watchers of a service.
 #[derive(Drop)]
-pub(crate) struct Watching<W, J: Naming> {
-    watcher: W,
-    dashboard: Dashboard<J>,
-    pause: Duration,
+pub(crate) struct Workers<L, W> {
+    pub loaders: Vec<L>,
+    pub watchers: Vec<W>,
 }
 
-impl<W: Watch, J: Naming> Watching<W, J> {
-    pub(crate) fn new(watcher: W, dashboard: Dashboard<J>, pause: Duration) -> Watching<W, J> {
-        Watching {
-            watcher,
-            dashboard,
-            pause,
-        }
-    }
-
-    // Looks again and again, until no loader is left.
-    fn look_on<R: Clock>(self, rt: &R, left: &AtomicU64) -> Watching<W, J> {
-        let mut watching = self;
-        for _turn in 0..u64::MAX {
-            if left.load(Ordering::SeqCst) == 0 {
-                break;
-            }
-            watching.watcher.look(&mut watching.dashboard);
-            thread::sleep(rt, watching.pause);
-        }
-        watching
-    }
-
-    /// Looks once more, at all that the loaders changed.
-    pub(crate) fn look_last<S: Service<History = J>>(self, service: &S) -> W {
-        let Watching {
-            watcher,
-            dashboard,
-            pause: _,
-        } = self;
-        let mut watcher = watcher;
-        let mut dashboard = dashboard;
-        if let Some(told) = service.told() {
-            dashboard.learn(told);
-        }
-        watcher.look(&mut dashboard);
-        watcher
-    }
-}
-
-/// Runs the loaders and, until they are done, the watcher.
+/// Runs the loaders and, until they are done, the watchers, each at its dashboard.
 pub(crate) fn run_threads<
-    'r,
+    's,
     Acc: Ledger + Send + Sync,
     Del: Ledger + Send + Sync,
     J: Naming + Send + Sync,
     R: Threads + Wait + Clock + Sync,
     L: Load + Send,
     W: Watch + Send,
->(
-    rt: &R,
-    service: &OpenService<'r, R, Acc, Del, J>,
-    loaders: Vec<L>,
-    watching: Watching<W, J>,
-) -> (Vec<L>, Watching<W, J>) {
-    let loading = AtomicU64::new(1);
-    let left = &loading;
-    // Where no thread can be started for the watcher it comes last, and no loader waits for it.
-    let (watching, loaders) = thread::join(
+>(rt: &R, service: &OpenService<'s, R, Acc, Del, J>, workers: Workers<L, W>) -> Workers<L, W> {
+    let Workers { loaders, watchers } = workers;
+    // Where no thread can be started for the watchers they come last, and no loader waits for them.
+    let (watchers, loaders) = thread::join(
         rt,
-        move || watching.look_on(rt, left),
-        move || load_all(rt, service, loaders, left),
+        move || watch_all(rt, service, watchers),
+        move || load_all(rt, service, loaders),
     );
-    (loaders, watching)
+    Workers { loaders, watchers }
+}
+
+fn watch_all<
+    's,
+    Acc: Ledger + Send + Sync,
+    Del: Ledger + Send + Sync,
+    J: Naming + Send + Sync,
+    R: Threads + Wait + Clock + Sync,
+    W: Watch + Send,
+>(rt: &R, service: &OpenService<'s, R, Acc, Del, J>, watchers: Vec<W>) -> Vec<W> {
+    let mut watchers = watchers;
+    let threads = watchers.len().max(1);
+    thread::for_each_mut(
+        rt,
+        watchers.as_mut_slice(),
+        threads,
+        &|at, watcher| { keep_watch(service, at, watcher) },
+    );
+    watchers
+}
+
+// Looks again and again, until no loader is left, and then once at all that they changed.
+fn keep_watch<'s, R: Wait + Clock, Acc: Ledger, Del: Ledger, J: Naming, W: Watch>(
+    service: &OpenService<'s, R, Acc, Del, J>,
+    at: usize,
+    watcher: &mut W,
+) {
+    let Some(dashboard) = service.dashboards.get(at) else {
+        return;
+    };
+    let mut dashboard = dashboard.lock(service.rt);
+    for _turn in 0..u64::MAX {
+        if service.left.load(Ordering::SeqCst) == 0 {
+            break;
+        }
+        watcher.look(&mut dashboard);
+        thread::sleep(service.rt, watcher.pause());
+    }
+    if let Some(told) = service.told() {
+        dashboard.learn(told);
+    }
+    watcher.look(&mut dashboard);
 }
 
 fn load_all<
-    'r,
+    's,
     Acc: Ledger + Send + Sync,
     Del: Ledger + Send + Sync,
     J: Naming + Send + Sync,
     R: Threads + Wait + Clock + Sync,
     L: Load + Send,
->(rt: &R, service: &OpenService<'r, R, Acc, Del, J>, loaders: Vec<L>, left: &AtomicU64) -> Vec<L> {
+>(rt: &R, service: &OpenService<'s, R, Acc, Del, J>, loaders: Vec<L>) -> Vec<L> {
     let mut loaders = loaders;
     let threads = loaders.len().max(1);
     thread::for_each_mut(
@@ -112,6 +118,6 @@ fn load_all<
         threads,
         &|_at, loader| { loader.load(service) },
     );
-    left.store(0, Ordering::SeqCst);
+    service.left.store(0, Ordering::SeqCst);
     loaders
 }

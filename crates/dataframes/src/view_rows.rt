@@ -6,12 +6,11 @@ ghost use Rattle.df_state.specs.Pictures as pictures;
 ghost use Rattle.dataframes.specs.ViewRows.{cell_named, int_of, text_of};
 
 use df_catalogue::CatalogueFault;
-use df_plan::CheckedPlan;
 use df_value::{Cell, List, Row, Schema, index_of_name};
 use df_versions::Version;
 use std::alloc::Global;
 
-/// The rows of a view in one version, and the schema of its plan.
+/// The rows of a view in one version, and its columns.
 pub struct ViewRows<'p> {
     pub schema: &'p Schema,
     pub rows: List<Row>,
@@ -25,7 +24,7 @@ impl<'p> Drop for ViewRows<'p> {
     }
 }
 
-/// A row of a view, lent with the schema of its plan.
+/// A row of a view, lent with the view's columns.
 #[derive(Clone, Copy)]
 pub struct ViewRow<'a> {
     pub schema: &'a Schema,
@@ -33,25 +32,21 @@ pub struct ViewRow<'a> {
 }
 
 impl<'p> ViewRows<'p> {
-    /// The rows of the view of this name, whose plan is given for its columns, or that the version has no view of this
-    /// name.
+    /// The rows of the view of this name, whose columns are given, or that the version has no view of this name.
     pub fn read(
         alloc: Global,
         version: &Version,
         name: &str,
-        plan: &'p CheckedPlan,
+        schema: &'p Schema,
     ) -> Result<ViewRows<'p>, CatalogueFault>
         ensures rows { IfOk result (λ view.
             pictures.view_rows_in version.now.1 name.now ≡ Ok view.rows) }
-        ensures schema { IfOk result (λ view. view.schema.now ≡ plan.now.schema) }
+        ensures schema { IfOk result (λ view. view.schema.now ≡ schema.now) }
         ensures refused { IfErr result (λ fault.
             AnswersMemoryLast (pictures.view_rows_in version.now.1 name.now) (Err fault)) }
     {
         match version.view_rows(alloc, name) {
-            Ok(rows) => Ok(ViewRows {
-                schema: plan.schema(),
-                rows,
-            }),
+            Ok(rows) => Ok(ViewRows { schema, rows }),
             Err(fault) => Err(fault),
         }
     }

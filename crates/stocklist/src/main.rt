@@ -1,55 +1,62 @@
 //! `stocklist`: current totals of goods that loader threads change. docs/LIBRARY.md explains each part.
 #![tactic(auto)]
 
-use clap::{Arg, ArgMatches, Command, Error, value_parser};
+use clap::{Arg, ArgAction, ArgMatches, Command, Error, value_parser};
 use dataframes::{
-    Agg, Boxed, Cell, CellType, CheckedPlan, Dashboard, List, Load, Naming, Plan, Row, Schema,
-    Service, Text, ViewRows, Watch, run_service,
+    Agg, Boxed, CellRef, CellType, Dashboard, FinishFault, Finished, List, Load, Naming, Plan,
+    Service, ServiceBuilder, ServiceFault, ServiceRuntime, Text, Watch, row_of,
 };
 use rand_core::{Rng, SeedableRng};
 use rand_xoshiro::Xoshiro256PlusPlus;
 use std::alloc::{AllocError, Global};
 use std::process::ExitCode;
-use std::rt::Clock;
-use std::sync::Wait;
-use std::thread::Threads;
+use std::rt::Runtime;
+use std::sync::atomic::{AtomicU64, Ordering};
 use std::time::Duration;
-use std::{env, thread};
+use std::{env, fs, thread};
 
 // The frame of the moves: of which good, and how many came, or left where it is below 0.
 const MOVES: usize = 0;
 
 const GOODS: [&str; 4] = ["apples", "bread", "cheese", "dates"];
 
-fn schemas(alloc: Global) -> Result<List<Schema>, AllocError> {
-    let good = (Text::from_str(alloc, "good")?, CellType::Text);
-    let count = (Text::from_str(alloc, "count")?, CellType::Int);
-    let moves = Schema::new(List::from_vec(vec![in alloc; good, count]?));
-    Ok(List::from_vec(vec![in alloc; moves.map_err(|_| AllocError)?]?))
+fn stock(alloc: Global) -> Result<ServiceBuilder, FinishFault> {
+    ServiceBuilder::new(alloc)
+        .frame(&[("good", CellType::Text), ("count", CellType::Int)])?
+        .view("totals", totals(alloc)?)
 }
 
-fn totals(alloc: Global) -> Result<CheckedPlan, AllocError> {
+fn totals(alloc: Global) -> Result<Plan, AllocError> {
     let keys = List::from_vec(vec![in alloc; Text::from_str(alloc, "good")?]?);
     let sum = Agg::Sum(Text::from_str(alloc, "count")?);
     let sums = List::from_vec(vec![in alloc; (Text::from_str(alloc, "total")?, sum)]?);
-    let plan = Plan::GroupBy(Boxed::new(alloc, Plan::Scan(MOVES))?, keys, sums);
-    CheckedPlan::new(alloc, plan, schemas(alloc)?.as_slice()).map_err(|_| AllocError)
+    Ok(Plan::GroupBy(Boxed::new(alloc, Plan::Scan(MOVES))?, keys, sums))
 }
 
+// It loads files, of which each loader draws the next one, or makes moves where there are none.
 #[derive(Drop)]
-struct Loader<'r, R> {
-    rt: &'r R,
+struct Loader<'a, R> {
+    rt: &'a R,
+    files: &'a [&'a str],
+    drawn: &'a AtomicU64,
     random: Xoshiro256PlusPlus,
-    seconds: u64,
+    rounds: u64,
     accepted: u64,
     deleted: u64,
+    // Whether a file of it is left out.
+    is_short: bool,
 }
 
-impl<'r, R: Clock> Load for Loader<'r, R> {
+impl<'a, R: Runtime + AllocGlobal> Load for Loader<'a, R> {
     fn load<S: Service>(&mut self, service: &S) {
-        let _ = add_view(service);
-        for _round in 0..self.seconds.saturating_mul(20) {
-            if self.make_round(service).is_none() {
+        for _file in 0..self.files.len() {
+            let at = self.drawn.fetch_add(1, Ordering::SeqCst);
+            if let Some(path) = self.files.get(at as usize) {
+                self.load_file(service, path);
+            }
+        }
+        for _round in 0..self.rounds {
+            if self.make_round(service).is_err() {
                 return;
             }
             thread::sleep(self.rt, Duration::from_millis(50));
@@ -57,61 +64,82 @@ impl<'r, R: Clock> Load for Loader<'r, R> {
     }
 }
 
-// The first loader that comes adds the view; the others are refused, since it is there.
-fn add_view<S: Service>(service: &S) -> Option<()> {
-    let name = Text::from_str(service.alloc(), "totals").ok()?;
-    let added = service.register(name, totals(service.alloc()).ok()?);
-    added.ok().map(|_told| ())
-}
-
-impl<'r, R> Loader<'r, R> {
-    fn new(rt: &'r R, words: &ArgMatches<'_>, number: u64) -> Loader<'r, R> {
+impl<'a, R: Runtime + AllocGlobal> Loader<'a, R> {
+    fn new(
+        rt: &'a R,
+        words: &'a ArgMatches<'_>,
+        drawn: &'a AtomicU64,
+        number: u64,
+    ) -> Loader<'a, R> {
+        let files = words.get_raw("file").unwrap_or(&[]);
         let seed: u64 = words.get_one("seed").unwrap_or(1);
+        let seconds: u64 = words.get_one("seconds").unwrap_or(1);
         Loader {
             rt,
+            files,
+            drawn,
             random: Xoshiro256PlusPlus::seed_from_u64(seed.wrapping_add(number)),
-            seconds: words.get_one("seconds").unwrap_or(1),
+            rounds: if files.is_empty() {
+                seconds.saturating_mul(20)
+            } else {
+                0
+            },
             accepted: 0,
             deleted: 0,
+            is_short: false,
         }
     }
 
-    // Two moves come. The first is corrected, and the second, which was entered by mistake, is deleted.
-    fn make_round<S: Service>(&mut self, service: &S) -> Option<()> {
-        let alloc = service.alloc();
-        let (first, second) = (self.next_move(alloc).ok()?, self.next_move(alloc).ok()?);
-        let moves = vec![in alloc; first, second].ok()?;
-        let came = service.append(MOVES, List::from_vec(moves)).ok()?;
-        self.accepted = self.accepted.wrapping_add(2);
-        let corrected = [(came.first, self.next_move(alloc).ok()?)];
-        let _told = service.replace(MOVES, &corrected).ok()?;
-        let _told = service.delete(MOVES, &[came.first.wrapping_add(1)]).ok()?;
-        self.deleted = self.deleted.wrapping_add(1);
-        Some(())
+    fn load_file<S: Service>(&mut self, service: &S, path: &str) {
+        let told = match fs::read(self.rt, path) {
+            Ok(lines) => match service.append_csv(MOVES, lines.as_slice()) {
+                Ok(came) => {
+                    self.accepted = self.accepted.wrapping_add(came.rows as u64);
+                    return;
+                }
+                Err(ServiceFault::Lines(fault)) => eprintln!(self.rt; "{path}: {fault}"),
+                Err(_) => eprintln!(self.rt; "{path}: refused"),
+            },
+            Err(error) => eprintln!(self.rt; "{path}: {error}"),
+        };
+        drop(told);
+        self.is_short = true;
     }
 
-    fn next_move(&mut self, alloc: Global) -> Result<Row, AllocError> {
-        let good = Text::from_str(alloc, GOODS[(self.random.next_u64() % 4) as usize])?;
-        let count = (self.random.next_u64() % 20) as i64 - 5;
-        Row::new(alloc, vec![in alloc; Cell::Text(good), Cell::Int(count)]?)
+    // Two moves come. The first is corrected, and the second, which was entered by mistake, is deleted.
+    fn make_round<S: Service>(&mut self, service: &S) -> Result<(), ServiceFault<S::History>> {
+        let alloc = service.alloc();
+        let ((one, ones), (two, twos)) = (self.next_move(), self.next_move());
+        let lines = format!(in alloc; "good,count\n{one},{ones}\n{two},{twos}\n")?;
+        let came = service.append_csv(MOVES, lines.as_bytes())?;
+        self.accepted = self.accepted.wrapping_add(came.rows as u64);
+        let (good, count) = self.next_move();
+        let corrected = row_of(alloc, &[CellRef::Text(good), CellRef::Int(count)])?;
+        let _told = service.replace(MOVES, &[(came.first, corrected)])?;
+        let _told = service.delete(MOVES, &[came.first.wrapping_add(1)])?;
+        self.deleted = self.deleted.wrapping_add(1);
+        Ok(())
+    }
+
+    fn next_move(&mut self) -> (&'static str, i64) {
+        let good = GOODS[(self.random.next_u64() % 4) as usize];
+        (good, (self.random.next_u64() % 20) as i64 - 5)
     }
 }
 
 #[derive(Drop)]
-struct Watcher<'r, R> {
-    rt: &'r R,
-    alloc: Global,
+struct Watcher<'a, R> {
+    rt: &'a R,
     number: u64,
     shown: [i128; 4],
 }
 
-impl<'r, R: Eprint> Watch for Watcher<'r, R> {
+impl<'a, R: Runtime + AllocGlobal> Watch for Watcher<'a, R> {
     fn look<J: Naming>(&mut self, dashboard: &mut Dashboard<J>) {
-        let (Ok(plan), Some(version)) = (totals(self.alloc), dashboard.newer_than(self.number))
-        else {
+        let Some(version) = dashboard.newer_than(self.number) else {
             return;
         };
-        let Ok(rows) = ViewRows::read(self.alloc, version.as_ref(), "totals", &plan) else {
+        let Ok(rows) = dashboard.view(self.rt.alloc(), version.as_ref(), "totals") else {
             return;
         };
         self.number = version.number();
@@ -127,17 +155,13 @@ impl<'r, R: Eprint> Watch for Watcher<'r, R> {
 }
 
 fn main(rt: HostRuntime) -> ExitCode {
-    run(&rt, &rt).unwrap_or(ExitCode::from(2))
+    run(&rt).unwrap_or(ExitCode::from(2))
 }
 
-// `threads` is the runtime once more, which `main` alone can hand on as what starts threads.
-fn run<R: Threads + Wait + Clock + Eprint + Sync>(
-    rt: &HostRuntime,
-    threads: &R,
-) -> Option<ExitCode> {
+fn run<R: ServiceRuntime + Runtime>(rt: &R) -> Option<ExitCode> {
     let words: Vec<String> = env::args(rt).ok()?.skip(1).collect(rt.alloc()).ok()?;
     match read_words(rt.alloc(), words.as_slice()) {
-        Ok(words) => serve(rt, threads, &words),
+        Ok(words) => serve(rt, &words),
         Err(error) => {
             error.print(rt).ok()?;
             Some(ExitCode::from(if error.use_stderr() { 2 } else { 0 }))
@@ -149,50 +173,51 @@ fn read_words<'a>(alloc: Global, words: &'a [String]) -> Result<ArgMatches<'a>, 
     let command = Command::new(alloc, "stocklist")
         .about("Current totals of goods")
         .no_binary_name(true)
-        .arg(number(alloc, "loaders").value_parser(value_parser!(u64).range(1..=8)))?
-        .arg(number(alloc, "seconds").value_parser(value_parser!(u64).range(1..=600)))?
-        .arg(number(alloc, "seed").value_parser(value_parser!(u64)))?;
+        .arg(word(alloc, "file", "PATH").action(ArgAction::Append))?
+        .arg(word(alloc, "loaders", "NUMBER").value_parser(value_parser!(u64).range(1..=16)))?
+        .arg(word(alloc, "seconds", "NUMBER").value_parser(value_parser!(u64).range(1..=600)))?
+        .arg(word(alloc, "seed", "NUMBER").value_parser(value_parser!(u64)))?;
     command.try_get_matches_from(words)
 }
 
-fn number<'a>(alloc: Global, name: &'a str) -> Arg<'a> {
-    Arg::new(alloc, name).long(name).value_name("NUMBER")
+fn word<'a>(alloc: Global, name: &'a str, value: &'a str) -> Arg<'a> {
+    Arg::new(alloc, name).long(name).value_name(value)
 }
 
-fn serve<R: Threads + Wait + Clock + Eprint + Sync>(
-    rt: &HostRuntime,
-    threads: &R,
-    words: &ArgMatches<'_>,
-) -> Option<ExitCode> {
-    let alloc = rt.alloc();
+fn serve<R: ServiceRuntime + Runtime>(rt: &R, words: &ArgMatches<'_>) -> Option<ExitCode> {
+    let (alloc, drawn) = (rt.alloc(), AtomicU64::new(0));
     let mut loaders = Vec::new(alloc);
     for number in 0..words.get_one("loaders").unwrap_or(4) {
-        loaders.push(Loader::new(threads, words, number)).ok()?;
+        loaders.push(Loader::new(rt, words, &drawn, number)).ok()?;
     }
     let watcher = Watcher {
-        rt: threads,
-        alloc,
+        rt,
         number: 0,
         shown: [0; 4],
     };
-    let (schemas, pause) = (schemas(alloc).ok()?, Duration::from_millis(100));
-    let served = run_service(threads, alloc, schemas, loaders, watcher, pause).ok()?;
-    let (shown, totals) = (served.watcher.shown, &served.totals);
+    let watchers = vec![in alloc; watcher].ok()?;
+    let finished = stock(alloc).ok()?.run(rt, loaders, watchers).ok()?;
+    report(rt, &finished)
+}
+
+fn report<R: Print>(
+    rt: &R,
+    finished: &Finished<Loader<'_, R>, Watcher<'_, R>>,
+) -> Option<ExitCode> {
+    let totals = &finished.totals;
     let (accepted, deleted) = (*totals.accepted.get(MOVES)?, *totals.deleted.get(MOVES)?);
     let live = totals.live.get(MOVES)?;
     println!(rt; "accepted {accepted}, deleted {deleted}, live {live}").ok()?;
+    let watcher = finished.watchers.first()?;
     for good in 0..4 {
-        println!(rt; "{} {}", GOODS[good], shown[good]).ok()?;
+        println!(rt; "{} {}", GOODS[good], watcher.shown[good]).ok()?;
     }
-    let same = (accepted, deleted) == counted(served.loaders.as_slice());
+    let (mut counted, mut is_short) = ((0u64, 0u64), false);
+    for loader in &finished.loaders {
+        counted.0 = counted.0.wrapping_add(loader.accepted);
+        counted.1 = counted.1.wrapping_add(loader.deleted);
+        is_short = is_short || loader.is_short;
+    }
+    let same = (accepted, deleted) == counted && !is_short;
     Some(ExitCode::from(if same { 0 } else { 1 }))
-}
-
-fn counted<R>(loaders: &[Loader<'_, R>]) -> (u64, u64) {
-    let (mut accepted, mut deleted) = (0u64, 0u64);
-    for loader in loaders {
-        accepted = accepted.wrapping_add(loader.accepted);
-        deleted = deleted.wrapping_add(loader.deleted);
-    }
-    (accepted, deleted)
 }

@@ -40,15 +40,15 @@ change_rows-requires g c =
 pub returns-then-frame-len : goal.returns-then-frame-len
 returns-then-frame-len g c =
     let s = c.self.inside in
-    (no-frame (length g.J.Naming.schemas) c.args.frame c.args.change (omega (arith, c.if-frame-len.true, c.len.ensures, c.self.invariant.2)), refl)
+    (no-frame (length g.J.Naming.schemas) c.args.frame c.args.change (omega (arith, c.if-frame-len.true, c.len.ensures, c.self.invariant.1)), refl)
 
 pub invariant_of-self : goal.invariant_of-self
 invariant_of-self g c =
     let s = c.self.inside in
     let long = length-set c.as_mut_slice.result.now c.args.frame c.change_rows.new.desk ∙ c.as_mut_slice.ensures.len in
     let is = with_items_is s.desks (held g c) long in
-    let count : length (held g c) ≡ length g.J.Naming.schemas = omega (arith, long, s.desks.ok.0, c.self.invariant.2) in
-    (subst InOrder (sym is) (through g c).1, c.self.invariant.1, ap length is ∙ count)
+    let count : length (held g c) ≡ length g.J.Naming.schemas = omega (arith, long, s.desks.ok.0, c.self.invariant.1) in
+    (subst InOrder (sym is) (through g c).1, ap length is ∙ count)
 
 pub returns : goal.returns
 returns g c =

@@ -1,4 +1,4 @@
-use Rattle.dataframes.proofs.opening.run_service.Given as goal
+use Rattle.dataframes.proofs.builder.ServiceBuilder.run.Given as goal
 
 -- the ledgers are the blanks
 abbrev pub ghosts-open-Acc-Ledger : goal.ghosts-open-Acc-Ledger

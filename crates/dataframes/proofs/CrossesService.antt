@@ -1,0 +1,33 @@
+-- Threads may share a service.
+use denote.RattleType.{RattleType}
+use denote.Ref.{NamedLft}
+use denote.Param.Send.{IsSend, IsSync, sendable}
+use Rattle.std.specs.declared.sync.ledger.Ledger.{Ghosts}
+use Rattle.std.proofs.Crossing.{crosses}
+use Rattle.std.specs.contracts.sync.atomic.AtomicU64 as AtomicU64
+use Rattle.df_value.proofs.schema.Schema.TheSendSync as schema
+use Rattle.df_value.proofs.text.Text.TheSendSync as text
+use Rattle.df_versions.specs.declared.history.Naming.{Ghosts as Names}
+use Rattle.df_hall.proofs.Crosses.{hall_sync}
+use Rattle.dataframes.proofs.Crosses.{locked_books_sync, seat_sync}
+use Rattle.dataframes.proofs.CrossesTables.{schemas_sync}
+use Rattle.dataframes.specs.contracts.service.OpenService as Service
+use Rattle.dataframes.specs.contracts.service.OpenService.TheInside as ServiceInside
+
+number_sync : IsSync AtomicU64.the_row
+number_sync = search (sendable, crosses) depth 20
+
+module _ (l : NamedLft) (R A D J : RattleType) (a : Ghosts A.Denot) (d : Ghosts D.Denot) (j : Names J.Denot) where
+  service_inside_sync : IsSync R → IsSend J → IsSync (ServiceInside.the_row l R A D J j a d)
+  service_inside_sync r n =
+      let h = hall_sync A D J a d j in
+      let b = locked_books_sync A D J a d j in
+      let s = schemas_sync in
+      let w = seat_sync J j n in
+      let u = number_sync in
+      let c = schema.the_sync in
+      let t = text.the_sync in
+      search (sendable, crosses) depth 30
+
+  pub service_sync : IsSync R → IsSend J → IsSync (Service.the_row l R A D J j a d)
+  service_sync r n = let i = service_inside_sync r n in search sendable depth 20

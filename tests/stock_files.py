@@ -1,0 +1,98 @@
+#!/usr/bin/env python3
+"""Runs `stocklist` over CSV files that its loaders draw, by 1, 4 and 16 of them: stock_files.py PROGRAM [SEED]
+
+What it prints are the books and totals that Python's csv module reads in these files, whoever loads them. Of a file that is not
+there, that lacks a column, that has a bad cell or more than 65,536 records no row enters: the program names it, loads the others, and
+ends with status 1."""
+
+import csv
+import os
+import random
+import subprocess
+import sys
+import tempfile
+
+GOODS = ["apples", "bread", "cheese", "dates"]
+
+
+def write(path, rows, columns):
+    with open(path, "w", newline="") as file:
+        writer = csv.DictWriter(file, columns, quoting=random.choice([csv.QUOTE_MINIMAL, csv.QUOTE_ALL]))
+        writer.writeheader()
+        writer.writerows(rows)
+
+
+def moves(count):
+    return [
+        {"good": random.choice(GOODS), "count": random.randint(-50, 50), "note": random.choice(["", "a,b", 'say "x"'])}
+        for _ in range(count)
+    ]
+
+
+def make_good(folder):
+    """Files, with their columns in any order."""
+    paths = []
+    for number, count in enumerate([0, 1, 3, 200, 65_536] + [random.randint(1, 40) for _ in range(20)]):
+        columns = random.sample(["good", "count", "note"], 3)
+        paths.append(os.path.join(folder, f"{number}.csv"))
+        write(paths[-1], moves(count), columns)
+    return paths
+
+
+def make_bad(folder):
+    bad = {
+        "lacks.csv": "good,number\napples,1\n",
+        "doubled.csv": "good,count,good\napples,1,apples\n",
+        "cell.csv": "good,count\napples,1\nbread,two\n",
+        "short.csv": "good,count\napples,1\nbread\n",
+        "long.csv": "good,count\n" + "dates,1\n" * 65_537,
+        "text.csv": "good,count\n\udcff,1\n",
+    }
+    for name, text in bad.items():
+        with open(os.path.join(folder, name), "w", errors="surrogateescape") as file:
+            file.write(text)
+    return [os.path.join(folder, name) for name in [*bad, "absent.csv"]]
+
+
+def expected(paths):
+    count, totals = 0, dict.fromkeys(GOODS, 0)
+    for path in paths:
+        with open(path, newline="") as file:
+            for row in csv.DictReader(file):
+                count += 1
+                totals[row["good"]] += int(row["count"])
+    return f"accepted {count}, deleted 0, live {count}\n" + "".join(f"{good} {totals[good]}\n" for good in GOODS)
+
+
+def run(program, loaders, paths):
+    words = [word for path in paths for word in ("--file", path)]
+    return subprocess.run(
+        [program, "--loaders", str(loaders), *words], stdin=subprocess.DEVNULL, capture_output=True, text=True, timeout=120
+    )
+
+
+def main():
+    program = os.path.abspath(sys.argv[1])
+    random.seed(int(sys.argv[2]) if len(sys.argv) > 2 else 64)
+    faults = []
+    with tempfile.TemporaryDirectory() as folder:
+        good, bad = make_good(folder), make_bad(folder)
+        mixed = random.sample(good + bad, len(good + bad))
+        for loaders in (1, 4, 16):
+            ran = run(program, loaders, good)
+            if (ran.returncode, ran.stdout) != (0, expected(good)):
+                faults.append(f"{loaders} loaders: {ran.returncode} {ran.stdout}, and not {expected(good)}")
+            ran = run(program, loaders, mixed)
+            if (ran.returncode, ran.stdout) != (1, expected(good)):
+                faults.append(f"{loaders} loaders, bad files: {ran.returncode} {ran.stdout}, and not {expected(good)}")
+            named = {line.split(": ")[0] for line in ran.stderr.splitlines() if line.startswith(folder)}
+            if named != set(bad):
+                faults.append(f"{loaders} loaders: named are {sorted(named)}")
+    for fault in faults:
+        print(fault)
+    print(f"6 runs over files, {len(faults)} otherwise")
+    return 1 if faults else 0
+
+
+if __name__ == "__main__":
+    sys.exit(main())
