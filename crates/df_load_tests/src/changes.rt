@@ -33,7 +33,7 @@ fn seen(alloc: Global, reader: &mut Reader) -> Option<(u64, Option<u64>, usize)>
     Some((version.number(), version.frame_len(0), views.len()))
 }
 
-// A reader that is told of nothing, and the number of the version that it took last.
+// A reader that is told of nothing at first, and the number of the version that it took last.
 #[derive(Drop)]
 struct Untold {
     reader: Reader,
@@ -42,7 +42,9 @@ struct Untold {
 
 impl Untold {
     // Whether the version that it takes now is not before the last one.
-    fn goes_on(&mut self) -> bool {
+    fn goes_on(&mut self) -> bool
+        ensures { self.new.reader.0 ≡ self.old.reader.0 }
+    {
         let before = self.number;
         match self.reader.snapshot() {
             Some(version) => {
@@ -66,7 +68,8 @@ fn learn_last_first<Acc: Ledger, Del: Ledger, J: Naming, R: Wait + Abort>(
 ) -> Result<(), Fail>
     requires book { reader.old.0 ≡ J.book }
     requires allowed { AllowsAll J.allows }
-    ensures { reader.new.0 ≡ reader.old.0 }
+    ensures book { reader.new.0 ≡ reader.old.0 }
+    ensures other_book { other.new.reader.0 ≡ other.old.reader.0 }
 {
     assert!(rt; seen(alloc, reader) == Some((0, Some(0), 0)));
     let name = Text::from_str(alloc, "v")?;
@@ -98,7 +101,6 @@ fn delete_behind<Acc: Ledger, Del: Ledger, J: Naming, R: Wait + Abort>(
     requires book { reader.old.0 ≡ J.book }
     requires next_book { next.old.0 ≡ J.book }
     requires allowed { AllowsAll J.allows }
-    ensures { next.new.0 ≡ next.old.0 }
 {
     let before = reader.snapshot().ok_or("a version")?;
     let nothing: Option<Told<J>> = None;
@@ -111,25 +113,23 @@ fn delete_behind<Acc: Ledger, Del: Ledger, J: Naming, R: Wait + Abort>(
     Ok(())
 }
 
-// Changes that one reader is told of, and at last the next one.
+// Changes that one reader is told of, and at last another one.
 fn change_and_tell<Acc: Ledger, Del: Ledger, J: Naming, R: Wait + Abort>(
     rt: &R,
     alloc: Global,
     hall: &Hall<Acc, Del, J>,
     desks: &mut [Desk<Acc, Del>],
     readers: &mut [Reader],
-    next: &mut Reader,
     other: &mut Untold,
 ) -> Result<(), Fail>
     requires books { All (λ r. r.0 ≡ J.book) readers.old }
-    requires next_book { next.old.0 ≡ J.book }
+    requires other { other.old.reader.0 ≡ J.book }
     requires allowed { AllowsAll J.allows }
-    ensures { next.new.0 ≡ next.old.0 }
 {
     let desk = desks.get_mut(0).ok_or("a desk")?;
     let reader = readers.get_mut(0).ok_or("a reader")?;
     learn_last_first(rt, alloc, hall, desk, reader, other)?;
-    delete_behind(rt, alloc, hall, desk, reader, next)
+    delete_behind(rt, alloc, hall, desk, reader, &mut other.reader)
 }
 
 // What is left of a hall's desks: all but the last one, and that one; and who watches the close.
@@ -158,10 +158,8 @@ fn changed<
     let mut readers = readers;
     let reader = readers.pop().ok_or("a reader")?;
     let mut other = Untold { reader, number: 0 };
-    let mut next = readers.pop().ok_or("a reader")?;
     let (some, all) = (desks.as_mut_slice(), readers.as_mut_slice());
-    change_and_tell(rt, alloc, hall, some, all, &mut next, &mut other)?;
-    readers.push(next)?;
+    change_and_tell(rt, alloc, hall, some, all, &mut other)?;
     let watcher = Watcher::new(alloc, WATCHERS, other.reader, groups(alloc)?);
     let mut split = change_at_once(rt, alloc, hall, desks.as_mut_slice(), readers, LAST)?;
     let last = split.pop().ok_or("a desk")?;

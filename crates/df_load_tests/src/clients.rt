@@ -20,9 +20,12 @@ const CLIENTS: u32 = 4;
 /// 100,000 changes.
 pub const ROUNDS: u32 = 26;
 
-/// How many versions come: one of a view, of the four changes of a round three are accepted, and in each round of the first
-/// client another view comes and goes.
-pub const VERSIONS: u64 = 1 + (3 * CLIENTS * ROUNDS + 2 * ROUNDS) as u64;
+// In how many of its rounds the first client has another view come and go, which takes the longer the more rows there are.
+const ROUNDS_OF_VIEWS: u32 = 26;
+
+/// How many versions come: one of a view, of the four changes of a round three are accepted, and two of another view that
+/// comes and goes.
+pub const VERSIONS: u64 = 1 + (3 * CLIENTS * ROUNDS + 2 * ROUNDS_OF_VIEWS) as u64;
 
 // What one thread changes the hall with: a desk of each frame.
 #[derive(Drop)]
@@ -45,7 +48,7 @@ impl<Acc: Ledger, Del: Ledger> Client<Acc, Del> {
             // Three numbers for each client and round.
             let turn = round.wrapping_mul(CLIENTS).wrapping_add(self.number);
             let served = self.change(rt, hall, turn.wrapping_mul(3), (round % 2) as usize);
-            let is_first = self.number == 0;
+            let is_first = self.number == 0 && round < ROUNDS_OF_VIEWS;
             let views = if is_first {
                 self.change_views(rt, hall)
             } else {
