@@ -5,7 +5,7 @@ Starts a PostgreSQL of its own on a socket. There the script of `dfshell --sql` 
 tests/cases, of tests/sql_names.toml and of so many random documents, and fills the frames by what `rows FRAME csv` answers. Each
 view has to be what `show VIEW` prints: the same columns and rows in the same order. `sql VIEW` has to answer statements of the
 script. A script that says that it is not exact has to be of a document with a name or a text that PostgreSQL does not take, and
-the other way round; such ones are counted, and not tried. Where no PostgreSQL is installed, one line says so. Prints what went
+the other way round; such ones are counted, and not tried. Where no PostgreSQL from 15 on is installed, one line says so. Prints what went
 otherwise, and ends with counts.
 """
 
@@ -18,7 +18,6 @@ import pwd
 import queue
 import random
 import re
-import shutil
 import subprocess
 import sys
 import tempfile
@@ -40,11 +39,11 @@ ESCAPES = {"b": "\b", "f": "\f", "n": "\n", "r": "\r", "t": "\t", "v": "\v"}
 
 
 def tools():
-    """The folder of PostgreSQL's programs, of the newest that is installed, or None."""
-    folders = sorted(glob.glob("/usr/lib/postgresql/*/bin"), key=lambda path: float(path.split("/")[-2]), reverse=True)
-    folders += [os.path.dirname(os.path.realpath(found)) for found in [shutil.which("initdb")] if found]
+    """The folder of the programs of the newest PostgreSQL from 15 on, or None."""
+    folders = {float(path.split("/")[-2]): path for path in glob.glob("/usr/lib/postgresql/*/bin")}
     programs = ["initdb", "pg_ctl", "psql"]
-    return next((folder for folder in folders if all(os.path.exists(f"{folder}/{program}") for program in programs)), None)
+    whole = [number for number, path in folders.items() if number >= 15 and all(os.path.exists(f"{path}/{program}") for program in programs)]
+    return folders[max(whole)] if whole else None
 
 
 def as_server(words):
@@ -62,7 +61,9 @@ def server(bin_folder):
     with tempfile.TemporaryDirectory(dir="/tmp") as folder:
         os.chmod(folder, 0o777)
         data, quiet = f"{folder}/data", dict(cwd="/tmp", stdout=subprocess.DEVNULL, stdin=subprocess.DEVNULL)
-        made = [f"{bin_folder}/initdb", "-D", data, "--no-sync", "-E", "UTF8", "--locale=C.UTF-8", "-A", "trust", "-U", "tester"]
+        # Texts are in an order of words, where a statement does not say otherwise.
+        made = [f"{bin_folder}/initdb", "-D", data, "--no-sync", "-E", "UTF8", "--locale=C.UTF-8", "--locale-provider=icu", "--icu-locale=en"]
+        made += ["-A", "trust", "-U", "tester"]
         subprocess.run(as_server(made), check=True, **quiet)
         options = f"-c listen_addresses='' -c fsync=off -c autovacuum=off -k {folder}"
         control = [f"{bin_folder}/pg_ctl", "-D", data, "-w", "-l", f"{folder}/log"]
@@ -190,25 +191,32 @@ def otherwise(document, folder, dfshell, psql):
     if NOT_EXACT in script:
         return "not exact"
     commands = [f"rows {quoted(name)} csv\n" for name in names]
-    commands += [f"{word} {quoted(view)}\n" for view in views for word in ("schema", "show", "sql")]
+    commands += [f"{word} {quoted(view)}\n" for view in views for word in ("show", "sql")]
     told = answers(dfshell, folder, commands)
     for name in names:
         pathlib.Path(folder, f"{name}.csv").write_text(told.pop(0), newline="")
-    statements = [text for text in told[2::3] if not all(block in script for block in text.split("\n\n"))]
+    statements = [text for text in told[1::2] if not all(block in script for block in text.split("\n\n"))]
     if statements:
         return f"no statements of the script: {statements[0]}"
-    return differing(script, list(zip(views, told[0::3], told[1::3])), folder, psql)
+    return differing(script, list(zip(views, kinds_of(document), told[0::2])), folder, psql)
+
+
+def kinds_of(document):
+    """The types of the columns of each view, as the model has them over frames without rows."""
+    frames = {frame["name"]: {name: (kind, []) for name, kind in frame["columns"]} for frame in document.get("frame", [])}
+    tables = [model.viewed(view["from"], view.get("steps", []), frames) for view in document.get("view", [])]
+    return [[kind for kind, _ in table.values()] for table in tables]
 
 
 def differing(script, views, folder, psql):
-    """What differs between the views that a script makes and what the shell told of them: each a name, a schema and a table."""
+    """What differs between the views that a script makes and what the shell told of them: each a name, the types of its columns, and
+    a table."""
     asked = [f"COPY (SELECT * FROM views.{quoted(name)}) TO STDOUT WITH (HEADER);\n\\echo ====\n" for name, _, _ in views]
     begin = "SET client_min_messages = warning;\nDROP SCHEMA IF EXISTS frames, views CASCADE;\n"
     run = subprocess.run(psql, input=(begin + script + "".join(asked)).encode(), capture_output=True, cwd=folder, check=False, timeout=120)
     if (run.returncode, run.stderr) != (0, b""):
         return f"psql ended with {run.returncode}, {run.stderr.decode()}\n{script}"
-    for (name, schema, shown), copied in zip(views, run.stdout.decode().split("====\n")):
-        kinds = [line.rsplit(" ", 1)[1] for line in schema.split("\n")[:-1]]
+    for (name, kinds, shown), copied in zip(views, run.stdout.decode().split("====\n")):
         table = printed(name, kinds, copied)
         if table != shown:
             return f"view {name}:\n{table[:2000]}in place of\n{shown[:2000]}of\n{script}"
@@ -246,7 +254,7 @@ def of_seed(seed, folder):
 def main(dfshell, documents="100", seed="20261129"):
     dfshell, bin_folder = os.path.realpath(dfshell), tools()
     if bin_folder is None:
-        print("sql: no PostgreSQL is installed: skipped")
+        print("sql: no PostgreSQL from 15 on is installed: skipped")
         return 0
     wanted = [case for case in cases.cases_of_files([]) if case.wanted[0] != 2]
     named = (HERE / "sql_names.toml").read_bytes()
