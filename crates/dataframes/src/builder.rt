@@ -1,15 +1,20 @@
 //! The building of a service: its frames and its views.
-ghost use Rattle.std.specs.Prelude.{◌≡◌, ◌++◌, ◌∷◌, [], IfErr, IfOk};
+ghost use Rattle.std.specs.Prelude.{◌≡◌, ◌++◌, ◌∷◌, [], IfErr, IfOk, length};
 ghost use Rattle.dataframes.specs.Builders.{HasOneMore, IsNoFrame, IsNoPlan};
 ghost use Rattle.dataframes.specs.Cells.{columns_lent};
+ghost use Rattle.dataframes.specs.Closing.{IsClosed, IsUnfinished};
 
 use crate::cells::columns_of;
 use crate::fault::FinishFault;
+use crate::opening::{Finished, open};
+use crate::threads::{Load, ServiceRuntime, Watch, Workers};
+use df_catalogue::PARTS_OF_LEDGER;
 use df_plan::{CheckedPlan, Plan, PlanFault};
 use df_value::{CellType, Schema, Text};
 use df_versions::OpenFault;
 use std::alloc::Global;
-use std::marker::Model;
+use std::marker::{Brand, Model};
+use std::sync::ledger::Blank;
 
 /// A name, and the plan of its view.
 pub(crate) type NamedPlan = (Text, CheckedPlan);
@@ -123,6 +128,27 @@ impl ServiceBuilder {
                 Err(FinishFault::Open(OpenFault::Memory))
             }
         }
+    }
+
+    /// Runs the service, and closes its books: each loader has a thread, and each of at most 16 watchers has one, with a
+    /// dashboard. It ends once all loaders are done and each watcher has looked at all that they changed.
+    pub fn run<R: ServiceRuntime, L: Load + Send, W: Watch + Send>(
+        self,
+        rt: &R,
+        loaders: Vec<L>,
+        watchers: Vec<W>,
+    ) -> Result<Finished<L, W>, FinishFault>
+        ensures totals { IfOk result (λ finished. IsClosed self.schemas finished.totals) }
+        ensures refused { IfErr result (IsUnfinished self (length watchers.items)) }
+    {
+        open::<Brand, Brand, R, L, W>(
+            rt,
+            rt.alloc(),
+            Blank::new(PARTS_OF_LEDGER),
+            Blank::new(PARTS_OF_LEDGER),
+            self,
+            Workers { loaders, watchers },
+        )
     }
 
     /// The schemas of its frames, and its views.

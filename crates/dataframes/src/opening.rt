@@ -11,8 +11,8 @@ use crate::closing::close;
 use crate::dashboard::Dashboard;
 use crate::fault::{FinishFault, ServiceFault};
 use crate::service::{OpenService, ViewSchema};
-use crate::threads::{Load, ServiceRuntime, Watch, Workers, run_threads};
-use df_catalogue::{PARTS_OF_LEDGER, ViewChange};
+use crate::threads::{Load, Watch, Workers, run_threads};
+use df_catalogue::ViewChange;
 use df_hall::{Hall, OpenedHall, Totals};
 use df_value::{Duplicate, List, Schema};
 use df_versions::{ChangeFault, Naming, OpenFault, Reader};
@@ -34,31 +34,8 @@ pub struct Finished<L, W> {
     pub totals: Totals,
 }
 
-impl ServiceBuilder {
-    /// Runs the service, and closes its books: each loader has a thread, and each of at most 16 watchers has one, with a
-    /// dashboard. It ends once all loaders are done and each watcher has looked at all that they changed.
-    pub fn run<R: ServiceRuntime, L: Load + Send, W: Watch + Send>(
-        self,
-        rt: &R,
-        loaders: Vec<L>,
-        watchers: Vec<W>,
-    ) -> Result<Finished<L, W>, FinishFault>
-        ensures totals { IfOk result (λ finished. IsClosed self.schemas finished.totals) }
-        ensures refused { IfErr result (IsUnfinished self (length watchers.items)) }
-    {
-        open::<Brand, Brand, R, L, W>(
-            rt,
-            rt.alloc(),
-            Blank::new(PARTS_OF_LEDGER),
-            Blank::new(PARTS_OF_LEDGER),
-            self,
-            Workers { loaders, watchers },
-        )
-    }
-}
-
-// Opens the hall.
-fn open<
+/// Opens the hall, runs the service in it, and closes it.
+pub(crate) fn open<
     Acc: Ledger + Send + Sync,
     Del: Ledger + Send + Sync,
     R: Threads + Wait + Clock + Sync,

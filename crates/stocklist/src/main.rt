@@ -9,8 +9,9 @@ use dataframes::{
 use rand_core::{Rng, SeedableRng};
 use rand_xoshiro::Xoshiro256PlusPlus;
 use std::alloc::{AllocError, Global};
+use std::fmt::Display;
 use std::process::ExitCode;
-use std::rt::Runtime;
+use std::rt::{Clock, Runtime};
 use std::sync::atomic::{AtomicU64, Ordering};
 use std::time::Duration;
 use std::{env, fs, thread};
@@ -33,12 +34,32 @@ fn totals(alloc: Global) -> Result<Plan, AllocError> {
     Ok(Plan::GroupBy(Boxed::new(alloc, Plan::Scan(MOVES))?, keys, sums))
 }
 
-// It loads files, of which each loader draws the next one, or makes moves where there are none.
+// A CSV file, and its lines, if it can be read.
 #[derive(Drop)]
-struct Loader<'a, R> {
-    rt: &'a R,
-    files: &'a [&'a str],
-    drawn: &'a AtomicU64,
+struct Source {
+    path: String,
+    lines: Option<Vec<u8>>,
+}
+
+// Files of which each loader draws the next one.
+#[derive(Drop)]
+struct Sources {
+    files: Vec<Source>,
+    drawn: AtomicU64,
+}
+
+impl Sources {
+    fn draw(&self) -> Option<&Source> {
+        let at = self.drawn.fetch_add(1, Ordering::SeqCst);
+        self.files.get(at as usize)
+    }
+}
+
+// It loads files, or makes moves where there are none.
+#[derive(Drop)]
+struct Loader<'r, 's, R> {
+    rt: &'r R,
+    sources: &'s Sources,
     random: Xoshiro256PlusPlus,
     rounds: u64,
     accepted: u64,
@@ -47,12 +68,12 @@ struct Loader<'a, R> {
     is_short: bool,
 }
 
-impl<'a, R: Runtime + AllocGlobal> Load for Loader<'a, R> {
+impl<'r, 's, R: Clock + Eprint> Load for Loader<'r, 's, R> {
     fn load<S: Service>(&mut self, service: &S) {
-        for _file in 0..self.files.len() {
-            let at = self.drawn.fetch_add(1, Ordering::SeqCst);
-            if let Some(path) = self.files.get(at as usize) {
-                self.load_file(service, path);
+        let sources = self.sources;
+        for _file in 0..sources.files.len() {
+            if let Some(file) = sources.draw() {
+                self.load_file(service, file);
             }
         }
         for _round in 0..self.rounds {
@@ -64,45 +85,44 @@ impl<'a, R: Runtime + AllocGlobal> Load for Loader<'a, R> {
     }
 }
 
-impl<'a, R: Runtime + AllocGlobal> Loader<'a, R> {
+impl<'r, 's, R: Eprint> Loader<'r, 's, R> {
     fn new(
-        rt: &'a R,
-        words: &'a ArgMatches<'_>,
-        drawn: &'a AtomicU64,
+        rt: &'r R,
+        words: &ArgMatches<'_>,
+        sources: &'s Sources,
         number: u64,
-    ) -> Loader<'a, R> {
-        let files = words.get_raw("file").unwrap_or(&[]);
+    ) -> Loader<'r, 's, R> {
         let seed: u64 = words.get_one("seed").unwrap_or(1);
         let seconds: u64 = words.get_one("seconds").unwrap_or(1);
+        let rounds = seconds.saturating_mul(20);
         Loader {
             rt,
-            files,
-            drawn,
+            sources,
             random: Xoshiro256PlusPlus::seed_from_u64(seed.wrapping_add(number)),
-            rounds: if files.is_empty() {
-                seconds.saturating_mul(20)
-            } else {
-                0
-            },
+            rounds: if sources.files.is_empty() { rounds } else { 0 },
             accepted: 0,
             deleted: 0,
             is_short: false,
         }
     }
 
-    fn load_file<S: Service>(&mut self, service: &S, path: &str) {
-        let told = match fs::read(self.rt, path) {
-            Ok(lines) => match service.append_csv(MOVES, lines.as_slice()) {
-                Ok(came) => {
-                    self.accepted = self.accepted.wrapping_add(came.rows as u64);
-                    return;
-                }
-                Err(ServiceFault::Lines(fault)) => eprintln!(self.rt; "{path}: {fault}"),
-                Err(_) => eprintln!(self.rt; "{path}: refused"),
-            },
-            Err(error) => eprintln!(self.rt; "{path}: {error}"),
-        };
-        drop(told);
+    fn load_file<S: Service>(&mut self, service: &S, file: &Source) {
+        match &file.lines {
+            Some(lines) => self.append_lines(service, file.path.as_str(), lines.as_slice()),
+            None => self.leave_out(file.path.as_str(), &"it cannot be read"),
+        }
+    }
+
+    fn append_lines<S: Service>(&mut self, service: &S, path: &str, lines: &[u8]) {
+        match service.append_csv(MOVES, lines) {
+            Ok(came) => self.accepted = self.accepted.wrapping_add(came.rows as u64),
+            Err(ServiceFault::Lines(fault)) => self.leave_out(path, &fault),
+            Err(_) => self.leave_out(path, &"refused"),
+        }
+    }
+
+    fn leave_out<D: Display>(&mut self, path: &str, why: &D) {
+        let _ = eprintln!(self.rt; "{path}: {why}");
         self.is_short = true;
     }
 
@@ -130,16 +150,17 @@ impl<'a, R: Runtime + AllocGlobal> Loader<'a, R> {
 #[derive(Drop)]
 struct Watcher<'a, R> {
     rt: &'a R,
+    alloc: Global,
     number: u64,
     shown: [i128; 4],
 }
 
-impl<'a, R: Runtime + AllocGlobal> Watch for Watcher<'a, R> {
+impl<'a, R: Eprint> Watch for Watcher<'a, R> {
     fn look<J: Naming>(&mut self, dashboard: &mut Dashboard<J>) {
         let Some(version) = dashboard.newer_than(self.number) else {
             return;
         };
-        let Ok(rows) = dashboard.view(self.rt.alloc(), version.as_ref(), "totals") else {
+        let Ok(rows) = dashboard.view(self.alloc, version.as_ref(), "totals") else {
             return;
         };
         self.number = version.number();
@@ -185,13 +206,16 @@ fn word<'a>(alloc: Global, name: &'a str, value: &'a str) -> Arg<'a> {
 }
 
 fn serve<R: ServiceRuntime + Runtime>(rt: &R, words: &ArgMatches<'_>) -> Option<ExitCode> {
-    let (alloc, drawn) = (rt.alloc(), AtomicU64::new(0));
+    let alloc = rt.alloc();
+    let sources = read_sources(rt, words.get_raw("file").unwrap_or(&[]))?;
     let mut loaders = Vec::new(alloc);
     for number in 0..words.get_one("loaders").unwrap_or(4) {
-        loaders.push(Loader::new(rt, words, &drawn, number)).ok()?;
+        let loader = Loader::new(rt, words, &sources, number);
+        loaders.push(loader).ok()?;
     }
     let watcher = Watcher {
         rt,
+        alloc,
         number: 0,
         shown: [0; 4],
     };
@@ -200,24 +224,40 @@ fn serve<R: ServiceRuntime + Runtime>(rt: &R, words: &ArgMatches<'_>) -> Option<
     report(rt, &finished)
 }
 
+fn read_sources<R: Runtime + AllocGlobal>(rt: &R, paths: &[&str]) -> Option<Sources> {
+    let mut files = Vec::new(rt.alloc());
+    for path in paths {
+        let lines = fs::read(rt, *path).ok();
+        let path = String::from_str(rt.alloc(), path).ok()?;
+        files.push(Source { path, lines }).ok()?;
+    }
+    let drawn = AtomicU64::new(0);
+    Some(Sources { files, drawn })
+}
+
 fn report<R: Print>(
     rt: &R,
-    finished: &Finished<Loader<'_, R>, Watcher<'_, R>>,
+    finished: &Finished<Loader<'_, '_, R>, Watcher<'_, R>>,
 ) -> Option<ExitCode> {
     let totals = &finished.totals;
     let (accepted, deleted) = (*totals.accepted.get(MOVES)?, *totals.deleted.get(MOVES)?);
-    let live = totals.live.get(MOVES)?;
+    let live = *totals.live.get(MOVES)?;
     println!(rt; "accepted {accepted}, deleted {deleted}, live {live}").ok()?;
-    let watcher = finished.watchers.first()?;
+    let shown = finished.watchers.first()?.shown;
     for good in 0..4 {
-        println!(rt; "{} {}", GOODS[good], watcher.shown[good]).ok()?;
+        println!(rt; "{} {}", GOODS[good], shown[good]).ok()?;
     }
-    let (mut counted, mut is_short) = ((0u64, 0u64), false);
-    for loader in &finished.loaders {
-        counted.0 = counted.0.wrapping_add(loader.accepted);
-        counted.1 = counted.1.wrapping_add(loader.deleted);
+    let same = (accepted, deleted, false) == counted(finished.loaders.as_slice());
+    Some(ExitCode::from(if same { 0 } else { 1 }))
+}
+
+// How many rows the loaders appended and deleted, and whether one left out a file.
+fn counted<R>(loaders: &[Loader<'_, '_, R>]) -> (u64, u64, bool) {
+    let (mut accepted, mut deleted, mut is_short) = (0u64, 0u64, false);
+    for loader in loaders {
+        accepted = accepted.wrapping_add(loader.accepted);
+        deleted = deleted.wrapping_add(loader.deleted);
         is_short = is_short || loader.is_short;
     }
-    let same = (accepted, deleted) == counted && !is_short;
-    Some(ExitCode::from(if same { 0 } else { 1 }))
+    (accepted, deleted, is_short)
 }
