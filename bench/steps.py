@@ -46,27 +46,34 @@ def least(rounds, command, folder, given=None):
     return min(seconds)
 
 
-def shown(seconds):
-    return "     -" if seconds is None else f"{seconds:6.2f}"
-
-
-def main():
-    program = subprocess.run(["realpath", sys.argv[1]], capture_output=True, text=True, check=True).stdout.strip()
-    count = int(sys.argv[2]) if len(sys.argv) > 2 else 131_072
-    rounds = int(sys.argv[3]) if len(sys.argv) > 3 else 3
+def measured(program, count, rounds, names):
+    """The least seconds by one worker, by four and of pandas, of each of these steps over so many rows."""
+    program = subprocess.run(["realpath", program], capture_output=True, text=True, check=True).stdout.strip()
     source = random.Random(20261128)
     with tempfile.TemporaryDirectory() as folder:
         with open(f"{folder}/rows.csv", "w", encoding="ascii") as rows:
             rows.write("k,g,v,w\n")
             for n in range(count):
                 rows.write(f"key-{source.randrange(5000):04},g{source.randrange(64)},{source.randrange(-50000, 50000)},{n}\n")
-        print(f"{count} rows           1 worker  4 workers  pandas")
-        for name, (step, asked) in STEPS.items():
+        for name in names:
+            step, asked = STEPS[name]
             with open(f"{folder}/views.toml", "w", encoding="ascii") as document:
                 document.write(f'[[frame]]\nname = "rows"\ncolumns = {COLUMNS}\npath = "rows.csv"\n[[view]]\nname = "view"\nfrom = "rows"\nsteps = [{step}]\n')
             one, four = (least(rounds, [program, "views.toml", "--workers", workers], folder) for workers in ("1", "4"))
             peer = least(rounds, ["/usr/bin/python3", "-"], folder, PANDAS.format(asked))
-            print(f"{name:24}{shown(one)}     {shown(four)}  {shown(peer)}")
+            yield name, (one, four, peer)
+
+
+def shown(seconds):
+    return "     -" if seconds is None else f"{seconds:6.2f}"
+
+
+def main():
+    count = int(sys.argv[2]) if len(sys.argv) > 2 else 131_072
+    rounds = int(sys.argv[3]) if len(sys.argv) > 3 else 3
+    print(f"{count} rows           1 worker  4 workers  pandas")
+    for name, (one, four, peer) in measured(sys.argv[1], count, rounds, STEPS):
+        print(f"{name:24}{shown(one)}     {shown(four)}  {shown(peer)}")
 
 
 if __name__ == "__main__":
