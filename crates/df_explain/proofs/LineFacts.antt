@@ -99,22 +99,22 @@ sides_line (inner ∷ sides) =
     (both (last_step_text inner) (sides_text sides) (last_step inner) (sides_line sides))
 
 -- the place of a part of a plan is told in one line
-pub place_line : (whole part : Plan) (text : List ℕ) → IsPlaceOf whole part text → IsOneLine text
-place_line whole part text (outer, sides, up, within, is) =
+pub place_line : (frames : List Columns) (whole part : Plan) (text : List ℕ) → IsPlaceOf frames whole part text → IsOneLine text
+place_line frames whole part text (outer, sides, up, first, within, last, is) =
     subst IsOneLine (sym is) (both (last_step_text outer) (sides_text sides) (last_step outer) (sides_line sides))
 
 step_in_line : (frames : List Columns) (whole : Plan) (f : PlanFault) (place : List ℕ) → IsStepOf frames whole f (Some place) → IsOneLine place
 step_in_line frames whole fault.TooManyScans place h = cc
 step_in_line frames whole fault.TooDeep place h = cc
-step_in_line frames whole (fault.NoFrame n) place h = place_line whole h.0 place h.2
-step_in_line frames whole (fault.Expr f) place h = place_line whole h.0 place h.2
-step_in_line frames whole (fault.DoubledName name) place h = place_line whole h.0 place h.2
-step_in_line frames whole fault.BadWindow place h = place_line whole h.0 place h.2
-step_in_line frames whole fault.EmptyList place h = place_line whole h.0 place h.2
-step_in_line frames whole fault.TooWide place h = place_line whole h.0 place h.2
-step_in_line frames whole (fault.ConstantColumn name) place h = place_line whole h.0 place h.2
-step_in_line frames whole (fault.WrongType name) place h = place_line whole h.0 place h.2
-step_in_line frames whole fault.Memory place h = place_line whole h.0 place h.2
+step_in_line frames whole (fault.NoFrame n) place h = place_line frames whole h.0 place h.2
+step_in_line frames whole (fault.Expr f) place h = place_line frames whole h.0 place h.2
+step_in_line frames whole (fault.DoubledName name) place h = place_line frames whole h.0 place h.2
+step_in_line frames whole fault.BadWindow place h = place_line frames whole h.0 place h.2
+step_in_line frames whole fault.EmptyList place h = place_line frames whole h.0 place h.2
+step_in_line frames whole fault.TooWide place h = place_line frames whole h.0 place h.2
+step_in_line frames whole (fault.ConstantColumn name) place h = place_line frames whole h.0 place h.2
+step_in_line frames whole (fault.WrongType name) place h = place_line frames whole h.0 place h.2
+step_in_line frames whole fault.Memory place h = place_line frames whole h.0 place h.2
 
 -- a plan's fault is told in one line, where what is wrong is
 pub plan_line :

@@ -1,5 +1,5 @@
 -- Where a plan does not check: the step, and how it is told.
-use Rattle.std.specs.Prelude.{◌≡◌, ◌++◌, ◌+◌, ◌-◌, ◌^◌, ℕ, zero, suc, List, [], ◌∷◌, Option, Some, None, Err, codes, min}
+use Rattle.std.specs.Prelude.{◌≡◌, ◌⊎◌, ◌++◌, ◌+◌, ◌-◌, ◌^◌, ⊤, ℕ, zero, suc, true, List, [], ◌∷◌, Option, Some, None, Err, codes, is_ok, length, min}
 use Rattle.df_explain.specs.Places.{step_text}
 use Rattle.df_ops.specs.declared.windows.RollKind.TheVariants as roll
 use Rattle.df_plan.specs.Checks.{columns_of}
@@ -18,6 +18,26 @@ IsFaultOf frames whole part = (f : PlanFault) → columns_of whole frames ≡ Er
 -- the plan without its last step; of a join the left side
 abbrev pub input_of : Plan → Plan
 input_of p = from_inputs p (λ left right. left) (inputs_of (out-Plan p))
+
+-- the left input of a node checks, if it has one
+abbrev pub LeftChecks : List Columns → Inputs Plan → Type 0
+LeftChecks frames none = ⊤
+LeftChecks frames (one input) = is_ok (columns_of input frames) ≡ true
+LeftChecks frames (two left right) = is_ok (columns_of left frames) ≡ true
+
+-- its right side checks, if it has one
+abbrev pub RightChecks : List Columns → Inputs Plan → Type 0
+RightChecks frames none = ⊤
+RightChecks frames (one input) = ⊤
+RightChecks frames (two left right) = is_ok (columns_of right frames) ≡ true
+
+-- what stands before a plan's last step checks, of a join its left side
+abbrev pub IsFirst : List Columns → Plan → Type 0
+IsFirst frames p = LeftChecks frames (inputs_of (out-Plan p))
+
+-- and so does a join's right side
+abbrev pub IsInnermost : List Columns → Plan → Type 0
+IsInnermost frames p = RightChecks frames (inputs_of (out-Plan p))
 
 abbrev pub right_among : Inputs Plan → Option Plan
 right_among none = None
@@ -71,25 +91,35 @@ numbered (suc n) word = step_text (suc n) (Some word)
 abbrev pub last_step_text : Plan → List ℕ
 last_step_text p = numbered (steps_of p) (word_of p)
 
--- a way from a join through its right side: the plan up to a step of that side, which is a join if the way goes on
-abbrev pub IsWithin : Plan → List Plan → Plan → Type 0
-IsWithin p [] part = p ≡ part
-IsWithin p (inner ∷ sides) part = (right : Plan) × (right_of p ≡ Some right) × IsUpTo right inner × IsWithin inner sides part
+-- A way from a join through its right side: the plan up to the first step of that side that does not check, which is a join if the way
+-- goes on.
+abbrev pub IsWithin : List Columns → Plan → List Plan → Plan → Type 0
+IsWithin frames p [] part = p ≡ part
+IsWithin frames p (inner ∷ sides) part =
+    (right : Plan) × (right_of p ≡ Some right) × IsUpTo right inner × IsFirst frames inner × IsWithin frames inner sides part
+
+-- a way of so many sides ends where the right side checks, unless it has the most
+abbrev pub IsWhole : List Columns → ℕ → List Plan → Plan → Type 0
+IsWhole frames most sides part = (length sides ≡ most) ⊎ IsInnermost frames part
+
+-- The most right sides within right sides that are told of. A plan reads at most 3 frames.
+abbrev pub most_sides : ℕ
+most_sides = 3
 
 abbrev pub sides_text : List Plan → List ℕ
 sides_text [] = []
 sides_text (inner ∷ sides) = codes ", right side, " ++ (last_step_text inner ++ sides_text sides)
 
--- the text tells the way from a view's plan to this part of it
-abbrev pub IsPlaceOf : Plan → Plan → List ℕ → Type 0
-IsPlaceOf whole part text =
-    (outer : Plan) × (sides : List Plan) × IsUpTo whole outer × IsWithin outer sides part
-    × (text ≡ last_step_text outer ++ sides_text sides)
+-- The text tells the way from a view's plan to this part of it: up to the first step that does not check, and so on through right sides.
+abbrev pub IsPlaceOf : List Columns → Plan → Plan → List ℕ → Type 0
+IsPlaceOf frames whole part text =
+    (outer : Plan) × (sides : List Plan) × IsUpTo whole outer × IsFirst frames outer × IsWithin frames outer sides part
+    × IsWhole frames most_sides sides part × (text ≡ last_step_text outer ++ sides_text sides)
 
--- the place of a part of a plan whose fault is the plan's
+-- the place of the part of a plan whose fault is the plan's
 abbrev pub IsFaultyStep : List Columns → Plan → Option (List ℕ) → Type 0
 IsFaultyStep frames whole None = ⊥
-IsFaultyStep frames whole (Some place) = (part : Plan) × IsFaultOf frames whole part × IsPlaceOf whole part place
+IsFaultyStep frames whole (Some place) = (part : Plan) × IsFaultOf frames whole part × IsPlaceOf frames whole part place
 
 -- the place of a plan's fault; how many frames are read and how many steps follow one another is a matter of the whole plan
 abbrev pub IsStepOf : List Columns → Plan → PlanFault → Option (List ℕ) → Type 0

@@ -1,9 +1,9 @@
 //! The step of a plan that does not check.
-ghost use Rattle.std.specs.Prelude.{◌≡◌, ◌++◌, IfOk, IfSome, List, Some, codes, is_ok, string_bytes};
+ghost use Rattle.std.specs.Prelude.{◌≡◌, ◌++◌, IfNone, IfOk, IfSome, List, Some, codes, is_ok, string_bytes};
 ghost use Rattle.df_plan.specs.Checks.{columns_of};
 ghost use Rattle.df_plan.specs.declared.plan.Plan.{Plan as AnyPlan};
 ghost use Rattle.df_explain.specs.PlanPlaces as places;
-ghost use Rattle.df_explain.specs.PlanPlaces.{IsFaultOf, IsPlaceOf, IsUpTo, IsWithin, right_of};
+ghost use Rattle.df_explain.specs.PlanPlaces.{IsFaultOf, IsFirst, IsInnermost, IsPlaceOf, IsUpTo, IsWhole, IsWithin, right_of};
 
 use crate::names::joined;
 use crate::place::step_text;
@@ -30,7 +30,8 @@ pub fn faulty_step<'a>(
     frames: &[Schema],
 ) -> Result<FaultyStep<'a>, AllocError>
     ensures fault { IfOk result (λ step. IsFaultOf frames.now plan.now step.part.now) }
-    ensures place { IfOk result (λ step. IsPlaceOf plan.now step.part.now (string_bytes step.place)) }
+    ensures place { IfOk result (λ step.
+        IsPlaceOf frames.now plan.now step.part.now (string_bytes step.place)) }
 {
     let part = faulty_part(alloc, plan, frames)?;
     let place = last_step_text(alloc, part)?;
@@ -44,9 +45,11 @@ fn within_sides<'a>(
     frames: &[Schema],
     most: u32,
 ) -> Result<FaultyStep<'a>, AllocError>
+    requires { IsFirst frames.now step.part.now }
     ensures fault { IfOk result (λ inner. IsFaultOf frames.now step.entry.part.now inner.part.now) }
     ensures place { IfOk result (λ inner. (sides : List AnyPlan)
-        × IsWithin step.entry.part.now sides inner.part.now
+        × IsWithin frames.now step.entry.part.now sides inner.part.now
+        × IsWhole frames.now most sides inner.part.now
         × (string_bytes inner.place ≡ string_bytes step.entry.place ++ places.sides_text sides)) }
 {
     if most == 0 {
@@ -78,6 +81,8 @@ fn faulty_side<'a>(
 ) -> Result<Option<&'a Plan>, AllocError>
     ensures fault { IfOk result (λ side. IfSome side (λ p. IsFaultOf frames.now plan.now p.now)) }
     ensures side { IfOk result (λ side. IfSome side (λ p. right_of plan.now ≡ Some p.now)) }
+    ensures none { IfOk result (λ side. IfNone side
+        (IsFirst frames.now plan.now → IsInnermost frames.now plan.now)) }
 {
     match plan {
         Plan::Join(left, right, _, _, _) => {
@@ -95,6 +100,7 @@ fn faulty_side<'a>(
 fn faulty_part<'a>(alloc: Global, plan: &'a Plan, frames: &[Schema]) -> Result<&'a Plan, AllocError>
     ensures fault { IfOk result (λ part. IsFaultOf frames.now plan.now part.now) }
     ensures step { IfOk result (λ part. IsUpTo plan.now part.now) }
+    ensures first { IfOk result (λ part. IsFirst frames.now part.now) }
 {
     match plan {
         Plan::Scan(_) => Ok(plan),
