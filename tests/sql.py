@@ -2,7 +2,7 @@
 """Views in a real PostgreSQL: sql.py DFSHELL [DOCUMENTS [SEED]]
 
 Starts a PostgreSQL of its own on a socket. There the script of `dfshell --sql` makes the frames and views of each case of
-tests/cases, of tests/sql_names.toml and of so many random documents, and fills the frames by what `rows FRAME csv` answers. Each
+tests/cases, of tests/sessions/sql_names.toml and of so many random documents, and fills the frames by what `rows FRAME csv` answers. Each
 view has to be what `show VIEW` prints: the same columns and rows in the same order. `sql VIEW` has to answer statements of the
 script. A script that says that it is not exact has to be of a document with a name or a text that PostgreSQL does not take, and
 the other way round; such ones are counted, and not tried. Where no PostgreSQL from 15 on is installed, one line says so. Prints what went
@@ -257,7 +257,7 @@ def main(dfshell, documents="100", seed="20261129"):
         print("sql: no PostgreSQL from 15 on is installed: skipped")
         return 0
     wanted = [case for case in cases.cases_of_files([]) if case.wanted[0] != 2]
-    named = (HERE / "sql_names.toml").read_bytes()
+    named = (HERE / "sessions/sql_names.toml").read_bytes()
     with server(bin_folder) as psql, concurrent.futures.ThreadPoolExecutor(os.cpu_count()) as pool:
         databases = queue.Queue()
         for number in range(os.cpu_count()):
@@ -278,7 +278,7 @@ def main(dfshell, documents="100", seed="20261129"):
             return tomllib.loads(named.decode())
 
         kinds = [(case.name, lambda folder, case=case: of_case(case, folder)) for case in wanted]
-        kinds += [("tests/sql_names.toml", named_document)]
+        kinds += [("tests/sessions/sql_names.toml", named_document)]
         kinds += [(f"seed {at}", lambda folder, at=at: of_seed(at, folder)) for at in range(int(seed), int(seed) + int(documents))]
         told = list(pool.map(lambda kind: tried(kind[1]), kinds))
     wrong = [f"{name}: {fault}" for (name, _), fault in zip(kinds, told) if fault not in (None, "", "not exact")]
