@@ -42,6 +42,8 @@ TESTS = [
     ("tables.py", "dfshell", ["20261129"], ["nothing", "field", *ENDS], r""),
     ("framed.py", "dfshell", ["1", "100"], ["status"], r"otherwise: "),
 ]
+# Those that a siege is to tell of.
+SIEGE = ["cell", "row", "title", *ENDS]
 
 
 def wrapped(folder, kind, program):
@@ -58,17 +60,23 @@ def ran(script, program, words):
     return run.returncode, run.stdout + run.stderr
 
 
-def told(test, kind, programs, folder):
+def damaged_programs(folder, programs):
+    """The damaged programs by kind and name. All are written before any runs: a program that is being written does not start."""
+    kinds = {kind for test in TESTS for kind in test[3]} | set(SIEGE)
+    return {(kind, name): wrapped(folder, kind, program) for kind in sorted(kinds) for name, program in programs.items()}
+
+
+def told(test, kind, damaged):
     """What is wrong with a test over a damaged program, or nothing."""
     script, name, words, _, line = test
-    status, said = ran(script, wrapped(folder, kind, programs[name]), words)
+    status, said = ran(script, damaged[kind, name], words)
     wanted = status == 0 if kind == "nothing" else status == 1 and re.search(line, said, re.MULTILINE)
     return None if wanted else f"{script} {' '.join(words)} over {kind}: status {status}, {said[-300:]!r}"
 
 
-def besieged(kind, programs, folder):
+def besieged(kind, damaged):
     """What is wrong with the rounds of a siege over damaged programs, or nothing."""
-    dfviews, dfshell = (wrapped(folder, kind, programs[name]) for name in ("dfviews", "dfshell"))
+    dfviews, dfshell = (damaged[kind, name] for name in ("dfviews", "dfshell"))
     seeds = range(SEED, SEED + 8)
     with tempfile.TemporaryDirectory() as room:
         rounds = {
@@ -195,10 +203,11 @@ def met(name, dfviews):
 def main():
     programs = {"dfviews": os.path.realpath(sys.argv[1]), "dfshell": os.path.realpath(sys.argv[2])}
     with tempfile.TemporaryDirectory() as folder, concurrent.futures.ThreadPoolExecutor(os.cpu_count()) as pool:
-        runs = [(told, test, kind) for test in TESTS for kind in test[3]]
-        answers = list(pool.map(lambda run: run[0](*run[1:], programs, folder), runs))
+        damaged = damaged_programs(folder, programs)
+        runs = [(test, kind) for test in TESTS for kind in test[3]]
+        answers = list(pool.map(lambda run: told(*run, damaged), runs))
         with contextlib.redirect_stdout(io.StringIO()):  # what differs there is what is wanted here
-            answers += [besieged(kind, programs, folder) for kind in ["cell", "row", "title", *ENDS]]
+            answers += [besieged(kind, damaged) for kind in SIEGE]
     answers += [met(name, programs["dfviews"]) for name in MISTAKES]
     wrong = [answer for answer in answers if answer]
     for answer in wrong:
