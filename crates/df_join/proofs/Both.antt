@@ -26,14 +26,15 @@ use Rattle.df_delta.proofs.SameRows.{len-diff, same_row_yes, same_row_no}
 use Rattle.df_join.specs.Keyed.{IsIndexOf, LeadsTo, group_of, staged_or, table_or_none}
 use Rattle.df_join.specs.Probes.{Grows, probes}
 use Rattle.df_join.specs.RowNotes.{AreSides, Leads, NewFit, joined_by_key}
-use Rattle.df_join.specs.Rules.{Cells, by_key}
+use Rattle.df_join.specs.Rules.{Cells}
 use Rattle.df_join.specs.Sides.{AreInputs, AreScans, IsAsBefore, IsOver, IsRowTag, LeadsOver, LeadsToBoth, is_one, join_output}
-use Rattle.df_join.specs.Spread.{HasKeys, IsLeftTag, IsTagOver}
+use Rattle.df_join.specs.Spread.{HasKeys, IsLeftTag, IsRightTag, IsTagOver}
 use Rattle.df_join.specs.declared.join.LiveJoin.{LiveJoin}
 use Rattle.df_join.specs.declared.join.StagedJoin.{StagedJoin}
 use Rattle.df_join.specs.declared.keyed.KeyedTables.{KeyedTables}
 use Rattle.df_join.specs.declared.members.Members.{Members}
-use Rattle.df_join.proofs.Shape.{keys_from, left_keys, right_keys}
+use Rattle.df_join.proofs.LeftSide.{leads_nothing}
+use Rattle.df_join.proofs.Shape.{keys_from}
 use Rattle.df_join.proofs.Tags.{left_tag, right_tag}
 
 -- the keys of a diff are keys of the tables that it leads between
@@ -66,13 +67,6 @@ module _ (j : LiveJoin) where
   one = is_one j.left_scans
 
   module _ (l r : TaggedRows) (d e : Changes) (h : MayFollowBoth (IsOver j) (AreInputs j) l d r e) where
-    pub sides_of : AreSides one j.rule j.right l r
-    sides_of = record {
-      left_keys = left_keys (by_key j.rule) j.left_scans j.right_scans h.over.scans.left h.over.scans.right h.over.scans.both l r h.before.left_tags h.before.right_tags;
-      right_keys = right_keys (by_key j.rule) j.left_scans j.right_scans h.over.scans.left h.over.scans.right h.over.scans.both l r h.before.left_tags h.before.right_tags;
-      over = h.over.right;
-    }
-
     to_left : (q : Tag) → IsTagOver j.left_scans q → IsLeftTag one q
     to_left q k = left_tag j.left_scans q (omega (arith, h.over.scans.right, h.over.scans.both)) k.ends
 
@@ -85,25 +79,35 @@ module _ (j : LiveJoin) where
     pub right_delta_keys : HasKeys (IsRowTag one) e
     right_delta_keys = keys_from (IsTagOver j.right_scans) (IsRowTag one) e row_tag (diff_keys (IsTagOver j.right_scans) r (applied r e) e h.before.right_tags h.after.right_tags (diff_of_applied tag_total tag_same r e h.lean_right h.fits_right))
 
-    -- the left changes first, then the right ones
-    pub over_both : (staged next : StagedJoin) (notes more : Changes)
-        → (IsIndexOf j.rule.indices.left j.left l → Fits l d → NewFit j.left.empty.schema (finite.entries d) → LeadsTo j.rule.indices.left j.left staged.left (applied l d))
-        → LeadsTo j.rule.indices.right j.right staged.right r
-        → (AreSides one j.rule j.right l r → HasKeys (IsLeftTag one) d → Fits l d → Leads notes (join_output j l r) (join_output j (applied l d) r))
-        → ((from t u : TaggedRows) → HasKeys (IsRowTag one) e → Fits u e → NewFit j.right.empty.schema (finite.entries e) → LeadsOver j staged notes from t u → LeadsOver j next more from t (applied u e))
-        → LeadsOver j next more (join_output j l r) (applied l d) (applied r e)
-    over_both staged next notes more stages unstaged leads step =
-        step (join_output j l r) (applied l d) r right_delta_keys h.fits_right (new_fit j.right.empty.schema r e h.after.right_fits)
+    -- what was noted of the right side leads on from its beginning
+    pub over_right : (unstaged staged : KeyedTables) (none notes : Changes)
+        → LeadsTo j.rule.indices.right j.right unstaged r → none ≡ finite.empty
+        → ((from l' r' : TaggedRows) → HasKeys (IsRowTag one) e → Fits r' e → NewFit j.right.empty.schema (finite.entries e) → LeadsOver j unstaged none from l' r' → LeadsOver j staged notes from l' (applied r' e))
+        → LeadsOver j staged notes (join_output j l r) l (applied r e)
+    over_right unstaged staged none notes first empty step =
+        step (join_output j l r) l r right_delta_keys h.fits_right (new_fit j.right.empty.schema r e h.after.right_fits)
         (record {
-          left_keys = keys_from (IsTagOver j.left_scans) (IsLeftTag one) (applied l d) to_left h.after.left_tags;
+          left_keys = keys_from (IsTagOver j.left_scans) (IsLeftTag one) l to_left h.before.left_tags;
           right_keys = keys_from (IsTagOver j.right_scans) (IsRowTag one) r row_tag h.before.right_tags;
-          left = stages h.over.left h.fits_left (new_fit j.left.empty.schema l d h.after.left_fits);
-          right = unstaged;
-          leads = leads sides_of left_delta_keys h.fits_left;
+          left = h.over.left;
+          right = first;
+          leads = leads_nothing (join_output j l r) none empty;
         })
 
-    pub leads_to_both : (staged : StagedJoin) (notes : Changes) → LeadsOver j staged notes (join_output j l r) (applied l d) (applied r e) → LeadsToBoth j staged (applied l d) (applied r e)
-    leads_to_both staged notes over = record { scans = h.over.scans; left = over.left; right = over.right }
+    -- and then of the left side, over the right one as it will be
+    pub over_left : (staged : KeyedTables) (notes more : Changes) → LeadsOver j staged notes (join_output j l r) l (applied r e)
+        → ((from l' r' : TaggedRows) → AreSides one j.rule j.right staged l' r' → HasKeys (IsLeftTag one) d → Fits l' d → Leads notes from (join_output j l' r') → Leads more from (join_output j (applied l' d) r'))
+        → Leads more (join_output j l r) (join_output j (applied l d) (applied r e))
+    over_left staged notes more over step =
+        step (join_output j l r) l (applied r e)
+        (record { left_keys = over.left_keys; right_keys = keys_from (IsRowTag one) (IsRightTag one) (applied r e) (λ q k. k.part) over.right_keys; over = over.right })
+        left_delta_keys h.fits_left over.leads
+
+    pub left_new_fit : NewFit j.left.empty.schema (finite.entries d)
+    left_new_fit = new_fit j.left.empty.schema l d h.after.left_fits
+
+    pub leads_to_both : (left right : KeyedTables) → LeadsTo j.rule.indices.left j.left left (applied l d) → LeadsTo j.rule.indices.right j.right right (applied r e) → LeadsToBoth j (record { left = left; right = right }) (applied l d) (applied r e)
+    leads_to_both left right l' r' = record { scans = h.over.scans; left = l'; right = r' }
 
     within_allowed : (old new : ℕ) → Grows old new (8 * (finite.len d + finite.len e)) → new ≤ old + 8 * (finite.len (diff same_row l (applied l d)) + finite.len (diff same_row r (applied r e)))
     within_allowed old new grows = subst (λ (n : ℕ). new ≤ old + 8 * (n + finite.len (diff same_row r (applied r e)))) (len-diff l d h.lean_left h.fits_left)

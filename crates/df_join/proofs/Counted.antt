@@ -8,7 +8,7 @@ use Rattle.df_column.specs.declared.entry.Entry.{Entry}
 use Rattle.df_delta.specs.Deltas.{Changes}
 use Rattle.df_ops.specs.Groups.{key_of}
 use Rattle.df_value.specs.Rows.{row_eq}
-use Rattle.df_join.specs.Probes.{is_staged, nothing_staged, with_key, with_keys, stage_probes, note_probes, right_probes, change_probes, all_probes, probes_left, probes_made, probes_over}
+use Rattle.df_join.specs.Probes.{is_staged, nothing_staged, with_key, with_keys, note_probes, right_probes, change_probes, all_probes, probes_left, probes_noted, probes_over}
 use Rattle.df_join.specs.Rules.{Cells}
 use Rattle.df_join.specs.declared.keyed.KeyedTables.{KeyedTables}
 use Rattle.df_join.specs.declared.rule.JoinRule.{JoinRule}
@@ -53,26 +53,16 @@ keys_end indices s u items i le h = subst (λ es. with_keys indices s (map entry
 pub counts_add : (m n p a b c : ℕ) → n ≡ m + a → p ≡ n + b → b ≡ c → p ≡ m + (a + c)
 counts_add m n p a b c e f g = omega (arith, e, f, g)
 
--- a right change, over the left members as they were staged before the loop
-pub right_more : (rule : JoinRule) (u v : KeyedTables) (s t : Cells → Bool) (items : List Entry) (i : ℕ) (d : Entry) (m n p : ℕ) → i < length items → d ≡ get_or items i d → v ≡ u
-    → n ≡ m + change_probes rule.indices.right (right_probes rule (is_staged v)) s d.old d.new
-    → t ≡ with_key rule.indices.right d.new (with_key rule.indices.right d.old s)
-    → m + all_probes rule.indices.right (right_probes rule (is_staged u)) s (map entry_change (drop i items)) ≡ p → n + all_probes rule.indices.right (right_probes rule (is_staged u)) t (map entry_change (drop (i + 1) items)) ≡ p
-right_more rule u v s t items i d m n p lt is same grown keys before =
-    probes_more rule.indices.right (right_probes rule (is_staged u)) s t items i d m n p lt is
-    (grown ∙ ap (λ (w : KeyedTables). m + change_probes rule.indices.right (right_probes rule (is_staged w)) s d.old d.new) same)
-    keys before
-
 -- the look-ups of a right row that takes the place of another of its key
-pub replaced_probes : (rule : JoinRule) (left s t : Cells → Bool) (key y z : Cells) (p a b c n : ℕ) → key ≡ key_of rule.indices.right y → key_of rule.indices.right y ≡ key_of rule.indices.right z
+pub replaced_probes : (rule : JoinRule) (s t : Cells → Bool) (key y z : Cells) (p a b c n : ℕ) → key ≡ key_of rule.indices.right y → key_of rule.indices.right y ≡ key_of rule.indices.right z
     → ((k : Cells) → t k ≡ (row_eq key k || s k))
-    → a ≡ p + probes_over (s key) → b ≡ a + probes_left rule key (left key) → c ≡ b + probes_over (t key) → n ≡ c + probes_left rule key (left key)
-    → n ≡ p + change_probes rule.indices.right (right_probes rule left) s (Some y) (Some z)
-replaced_probes rule left s t key y z p a b c n is same touched first second third fourth =
-    add p a b c n (probes_over (s key)) (probes_left rule key (left key)) (probes_over (t key)) (probes_left rule key (left key))
-    (probes_over (s old)) (probes_left rule old (left old)) (probes_over (row_eq old new || s new)) (probes_left rule new (left new)) first second third fourth
-    (ap (λ k. probes_over (s k)) is) (ap (λ k. probes_left rule k (left k)) is)
-    (ap probes_over (touched key) ∙ (λ i. probes_over (row_eq (is i) ((is ∙ same) i) || s ((is ∙ same) i)))) (ap (λ k. probes_left rule k (left k)) (is ∙ same))
+    → a ≡ p + probes_over (s key) → b ≡ a + probes_left rule key → c ≡ b + probes_over (t key) → n ≡ c + probes_left rule key
+    → n ≡ p + change_probes rule.indices.right (right_probes rule) s (Some y) (Some z)
+replaced_probes rule s t key y z p a b c n is same touched first second third fourth =
+    add p a b c n (probes_over (s key)) (probes_left rule key) (probes_over (t key)) (probes_left rule key)
+    (probes_over (s old)) (probes_left rule old) (probes_over (row_eq old new || s new)) (probes_left rule new) first second third fourth
+    (ap (λ k. probes_over (s k)) is) (ap (probes_left rule) is)
+    (ap probes_over (touched key) ∙ (λ i. probes_over (row_eq (is i) ((is ∙ same) i) || s ((is ∙ same) i)))) (ap (probes_left rule) (is ∙ same))
   where
     old : Cells
     old = key_of rule.indices.right y
@@ -83,15 +73,20 @@ replaced_probes rule left s t key y z p a b c n is same touched first second thi
     add : (p a b c n w x y z e f g h : ℕ) → a ≡ p + w → b ≡ a + x → c ≡ b + y → n ≡ c + z → w ≡ e → x ≡ f → y ≡ g → z ≡ h → n ≡ p + ((e + f) + (g + h))
     add p a b c n w x y z e f g h k l m o q r s t = omega (arith, k, l, m, o, q, r, s, t)
 
--- the counts of both phases
-pub counts_made : (rule : JoinRule) (l r : KeyedTables) (d e : Changes) (m a b n : ℕ) → is_staged l ≡ with_keys rule.indices.left nothing_staged (finite.entries d) → is_staged r ≡ nothing_staged
-    → a ≡ m + all_probes rule.indices.left (λ _. note_probes rule) nothing_staged (finite.entries d)
-    → b ≡ a + all_probes rule.indices.left (stage_probes rule.indices.left) nothing_staged (finite.entries d)
-    → n ≡ b + all_probes rule.indices.right (right_probes rule (is_staged l)) (is_staged r) (finite.entries e)
-    → n ≡ m + probes_made rule d e
-counts_made rule l r d e m a b n lk rk first second third =
-    let last : n ≡ b + all_probes rule.indices.right (right_probes rule (with_keys rule.indices.left nothing_staged (finite.entries d))) nothing_staged (finite.entries e) = third ∙ (λ i. b + all_probes rule.indices.right (right_probes rule (lk i)) (rk i) (finite.entries e)) in
-    add m a b n (all_probes rule.indices.left (λ _. note_probes rule) nothing_staged (finite.entries d)) (all_probes rule.indices.left (stage_probes rule.indices.left) nothing_staged (finite.entries d)) (all_probes rule.indices.right (right_probes rule (with_keys rule.indices.left nothing_staged (finite.entries d))) nothing_staged (finite.entries e)) first second last
+-- the counts of both sides' notes, where nothing was staged at first
+pub counts_noted : (rule : JoinRule) (first staged : KeyedTables) (d e : Changes) (m a n : ℕ) → is_staged first ≡ nothing_staged → is_staged staged ≡ with_keys rule.indices.right (is_staged first) (finite.entries e)
+    → a ≡ m + all_probes rule.indices.right (right_probes rule) (is_staged first) (finite.entries e)
+    → n ≡ a + all_probes rule.indices.left (λ _. note_probes rule (is_staged staged)) nothing_staged (finite.entries d)
+    → n ≡ m + probes_noted rule d e
+counts_noted rule first staged d e m a n none keys right left =
+    let begins : a ≡ m + all_probes rule.indices.right (right_probes rule) nothing_staged (finite.entries e) = right ∙ ap (λ s. m + all_probes rule.indices.right (right_probes rule) s (finite.entries e)) none in
+    let known : is_staged staged ≡ with_keys rule.indices.right nothing_staged (finite.entries e) = keys ∙ ap (λ s. with_keys rule.indices.right s (finite.entries e)) none in
+    let ends : n ≡ a + all_probes rule.indices.left (λ _. note_probes rule (with_keys rule.indices.right nothing_staged (finite.entries e))) nothing_staged (finite.entries d) = left ∙ ap (λ s. a + all_probes rule.indices.left (λ _. note_probes rule s) nothing_staged (finite.entries d)) known in
+    add m a n (all_probes rule.indices.right (right_probes rule) nothing_staged (finite.entries e)) (all_probes rule.indices.left (λ _. note_probes rule (with_keys rule.indices.right nothing_staged (finite.entries e))) nothing_staged (finite.entries d)) begins ends
   where
-    add : (m a b n x y z : ℕ) → a ≡ m + x → b ≡ a + y → n ≡ b + z → n ≡ m + (x + y + z)
-    add m a b n x y z e f g = omega (arith, e, f, g)
+    add : (m a n x y : ℕ) → a ≡ m + x → n ≡ a + y → n ≡ m + (x + y)
+    add m a n x y e f = omega (arith, e, f)
+
+-- one count after another
+pub counts_then : (m a n x y : ℕ) → a ≡ m + x → n ≡ a + y → n ≡ m + (x + y)
+counts_then m a n x y e f = omega (arith, e, f)

@@ -15,6 +15,7 @@ use Rattle.df_ops.specs.Groups.{key_of}
 use Rattle.df_join.specs.RowNotes.{AreSides, FitsList, Leads, Note, Noted, joined_by_key, keyed_rows, left_list, row_after, row_before}
 use Rattle.df_join.specs.Rules.{Cells, keeps_left}
 use Rattle.df_join.specs.Spread.{AllKeys, HasKeys, IsLeftTag}
+use Rattle.df_join.specs.declared.keyed.KeyedTables.{KeyedTables}
 use Rattle.df_join.specs.declared.members.Members.{Members}
 use Rattle.df_join.specs.declared.rule.JoinRule.{JoinRule}
 use Rattle.df_join.proofs.Fits.{fits_list}
@@ -25,11 +26,11 @@ use Rattle.df_join.proofs.Staging.{set_none}
 pub leads_nothing : (t : TaggedRows) (notes : Changes) → notes ≡ finite.empty → Leads notes t t
 leads_nothing t notes e = subst (λ ns. Leads ns t t) (sym e) (record { at = λ q. subst (λ n. IsNote n (finite.get t q) (finite.get t q)) (sym (finite.get-empty tag_cmp q)) refl })
 
-module _ (one : Bool) (rule : JoinRule) (right : Members) where
-  pub sides_after : (l r : TaggedRows) (p : Tag) (v : Option Cells) → AreSides one rule right l r → IsLeftTag one p → AreSides one rule right (set_at l p v) r
+module _ (one : Bool) (rule : JoinRule) (right : Members) (staged : KeyedTables) where
+  pub sides_after : (l r : TaggedRows) (p : Tag) (v : Option Cells) → AreSides one rule right staged l r → IsLeftTag one p → AreSides one rule right staged (set_at l p v) r
   sides_after l r p v h is = record { left_keys = keys_set_at (IsLeftTag one) l p v h.left_keys is; right_keys = h.right_keys; over = h.over }
 
-  pub noted_left : (a b : Changes) (goes : Bool) (from l r : TaggedRows) (p : Tag) (x : Cells) → Noted a b (left_list rule one (keeps_left rule.how) goes p x (finite.entries (keyed_rows rule rule.indices.right (key_of rule.indices.left x) r))) → AreSides one rule right l r → IsLeftTag one p → finite.get l p ≡ row_before goes x
+  pub noted_left : (a b : Changes) (goes : Bool) (from l r : TaggedRows) (p : Tag) (x : Cells) → Noted a b (left_list rule one (keeps_left rule.how) goes p x (finite.entries (keyed_rows rule rule.indices.right (key_of rule.indices.left x) r))) → AreSides one rule right staged l r → IsLeftTag one p → finite.get l p ≡ row_before goes x
       → Leads a from (joined_by_key one rule l r) → Leads b from (joined_by_key one rule (set_at l p (row_after goes x)) r)
   noted_left a b goes from l r p x noted h is stood leads =
       let moves = left_moves one rule l r h.left_keys h.right_keys goes p x is stood in
@@ -41,24 +42,24 @@ module _ (one : Bool) (rule : JoinRule) (right : Members) where
   -- the notes lead to a left table from which the rest leads to u
   pub record Follows (notes : Changes) (from r : TaggedRows) (rest : List Note) (u : TaggedRows) : Type 0 where
     pub now : TaggedRows
-    pub sides : AreSides one rule right now r
+    pub sides : AreSides one rule right staged now r
     pub tags : AllKeys (IsLeftTag one) rest
     pub fits : FitsList now rest
     pub gives : applied_list now rest ≡ u
     pub leads : Leads notes from (joined_by_key one rule now r)
 
-  pub follows_first : (notes : Changes) (l r : TaggedRows) (d : Changes) → notes ≡ finite.empty → AreSides one rule right l r → HasKeys (IsLeftTag one) d → Fits l d → Follows notes (joined_by_key one rule l r) r (finite.entries d) (applied l d)
-  follows_first notes l r d e h tags fits = record {
+  pub follows_first : (notes : Changes) (from l r : TaggedRows) (d : Changes) → AreSides one rule right staged l r → HasKeys (IsLeftTag one) d → Fits l d → Leads notes from (joined_by_key one rule l r) → Follows notes from r (finite.entries d) (applied l d)
+  follows_first notes from l r d h tags fits leads = record {
     now = l;
     sides = h;
     tags = all_keys (IsLeftTag one) d tags;
     fits = fits_list (finite.entries d) l (finite.entries_sorted d) (λ q. subst (λ f. IfSome f (λ c. c.old ≡ finite.get l q)) (finite.get-entries d q) (fits.at q));
     gives = refl;
-    leads = leads_nothing (joined_by_key one rule l r) notes e;
+    leads = leads;
   }
 
   pub follows_more : (notes next : Changes) (from r : TaggedRows) (items : List Entry) (i : ℕ) (e : Entry) (u : TaggedRows) → i < length items → e ≡ get_or items i e
-      → ((l : TaggedRows) → AreSides one rule right l r → IsLeftTag one e.tag → finite.get l e.tag ≡ e.old → Leads notes from (joined_by_key one rule l r) → Leads next from (joined_by_key one rule (set_at l e.tag e.new) r))
+      → ((l : TaggedRows) → AreSides one rule right staged l r → IsLeftTag one e.tag → finite.get l e.tag ≡ e.old → Leads notes from (joined_by_key one rule l r) → Leads next from (joined_by_key one rule (set_at l e.tag e.new) r))
       → Follows notes from r (map entry_change (drop i items)) u → Follows next from r (map entry_change (drop (i + 1) items)) u
   follows_more notes next from r items i e u lt is step f =
       let here : drop i items ≡ get_or items i e ∷ drop (i + 1) items = rw add-one (drop-cons items i e lt) in

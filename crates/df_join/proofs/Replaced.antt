@@ -16,14 +16,13 @@ use Rattle.df_delta.proofs.Changes.{get-set_at}
 use Rattle.df_ops.specs.Groups.{key_of}
 use Rattle.df_value.specs.Rows.{row_eq}
 use Rattle.df_join.specs.Joined.{Join, alone, beside, joined, left_rows, matches, right_rows}
-use Rattle.df_join.specs.Keyed.{LeadsTo}
+use Rattle.df_join.specs.Keyed.{IsIndexOf, LeadsTo}
 use Rattle.df_join.specs.RowNotes.{CanMove, FitsList, Leads, Note, Noted, joined_by_key, keyed_rows, replaced_list, replaced_pair}
 use Rattle.df_join.specs.Rules.{Cells, by_key, is_null_key, joined_row, key_or_null}
 use Rattle.df_join.specs.Sides.{IsRowTag, LeadsOver, is_one}
 use Rattle.df_join.specs.Spread.{HasKeys, IsLeftTag, IsRightTag, combine, no_tag, rekeyed, spread_list, tag_left, tag_right}
 use Rattle.df_join.specs.Steps.{HasRightKey, both_sides}
 use Rattle.df_join.specs.declared.join.LiveJoin.{LiveJoin}
-use Rattle.df_join.specs.declared.join.StagedJoin.{StagedJoin}
 use Rattle.df_join.specs.declared.keyed.KeyedTables.{KeyedTables}
 use Rattle.df_join.specs.declared.rule.JoinRule.{JoinRule}
 use Rattle.df_join.proofs.Fits.{notes_fit, notes_give}
@@ -174,20 +173,19 @@ module _ (j : LiveJoin) where
 
   -- a right row takes the place of another of its key
   pub right_replaced : (a b : Changes) (tag : Tag) (y z key : Cells) → key ≡ key_of j.rule.indices.right y → key_of j.rule.indices.right y ≡ key_of j.rule.indices.right z
-      → (from l r : TaggedRows) (s t : StagedJoin) (mid : KeyedTables) → t.left ≡ s.left
-      → (CanMove j.right.empty.schema j.rule.indices.right true tag y key r → LeadsTo j.rule.indices.right j.right s.right r → LeadsTo j.rule.indices.right j.right mid (set_at r tag None))
-      → (CanMove j.right.empty.schema j.rule.indices.right false tag z key (set_at r tag None) → LeadsTo j.rule.indices.right j.right mid (set_at r tag None) → LeadsTo j.rule.indices.right j.right t.right (set_at (set_at r tag None) tag (Some z)))
-      → (LeadsTo j.rule.indices.left j.left t.left l → Noted a b (replaced_list j.rule one tag y z (entries (keyed_rows j.rule j.rule.indices.left key l))))
+      → (from l r : TaggedRows) (s mid t : KeyedTables)
+      → (CanMove j.right.empty.schema j.rule.indices.right true tag y key r → LeadsTo j.rule.indices.right j.right s r → LeadsTo j.rule.indices.right j.right mid (set_at r tag None))
+      → (CanMove j.right.empty.schema j.rule.indices.right false tag z key (set_at r tag None) → LeadsTo j.rule.indices.right j.right mid (set_at r tag None) → LeadsTo j.rule.indices.right j.right t (set_at (set_at r tag None) tag (Some z)))
+      → (IsIndexOf j.rule.indices.left j.left l → Noted a b (replaced_list j.rule one tag y z (entries (keyed_rows j.rule j.rule.indices.left key l))))
       → IsRowTag one tag → get r tag ≡ Some y → T (new_row_fits j.right.empty.schema (Some z)) → LeadsOver j s a from l r → LeadsOver j t b from l (set_at r tag (Some z))
-  right_replaced a b tag y z k key_is same from l r s t mid left_same goes comes noted is stood fits h =
-      let left : LeadsTo j.rule.indices.left j.left t.left l = subst (λ m. LeadsTo j.rule.indices.left j.left m l) (sym left_same) h.left in
+  right_replaced a b tag y z k key_is same from l r s mid t goes comes noted is stood fits h =
       let right : HasKeys (IsRightTag one) r = keys_from (IsRowTag one) (IsRightTag one) r (λ q k. k.part) h.right_keys in
       let without : LeadsTo j.rule.indices.right j.right mid (set_at r tag None) = goes (record { key_is = key_is; stood = stood; fits = tt }) h.right in
       record {
         left_keys = h.left_keys;
         right_keys = keys_set_at (IsRowTag one) r tag (Some z) h.right_keys is;
-        left = left;
-        right = subst (LeadsTo j.rule.indices.right j.right t.right) (set_twice r tag None (Some z)) (comes (record { key_is = key_is ∙ same; stood = get_here r tag None; fits = fits }) without);
+        left = h.left;
+        right = subst (LeadsTo j.rule.indices.right j.right t) (set_twice r tag None (Some z)) (comes (record { key_is = key_is ∙ same; stood = get_here r tag None; fits = fits }) without);
         leads = noted_replaced one j.rule tag y z (after_none tag is.begins) is.part l r h.left_keys right (no_row one r h.right_keys) same stood a b from
-            (subst (λ k. Noted a b (replaced_list j.rule one tag y z (entries (keyed_rows j.rule j.rule.indices.left k l)))) key_is (noted left)) h.leads;
+            (subst (λ k. Noted a b (replaced_list j.rule one tag y z (entries (keyed_rows j.rule j.rule.indices.left k l)))) key_is (noted h.left)) h.leads;
       }

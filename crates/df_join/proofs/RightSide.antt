@@ -1,4 +1,4 @@
--- Notes that follow the right side, one change after another, over the left side as it will be.
+-- Notes that follow the right side, one change after another, over the left side as it is.
 use Rattle.std.proofs.Common.{◌≡◌, ◌≤◌, ◌<◌, ◌+◌, ℕ, Bool, true, false, cond, List, [], ◌∷◌, map, length, drop, get_or, Option, Some, None, refl, sym, ap, subst, ◌∙◌, drop-cons, add-one, arith}
 use Rattle.std.specs.Prelude.{◌==◌, ◌&&◌, T}
 use Rattle.std.specs.Option.{IfSome}
@@ -19,13 +19,13 @@ use Rattle.df_delta.specs.Differences.{Fits}
 use Rattle.df_delta.proofs.Collected.{T-first, T-second}
 use Rattle.df_ops.specs.Groups.{key_of}
 use Rattle.df_join.specs.Joined.{matches, left_rows}
-use Rattle.df_join.specs.Keyed.{LeadsTo, group_of}
+use Rattle.df_join.specs.Keyed.{IsIndexOf, LeadsTo, group_of}
 use Rattle.df_join.specs.RowNotes.{CanMove, FitsList, Leads, NewFit, Note, Noted, joined_by_key, keyed_rows, right_list, row_after, row_before, without}
 use Rattle.df_join.specs.Rules.{Cells, by_key, is_null_key, keeps_left, key_or_null}
 use Rattle.df_join.specs.Sides.{IsRowTag, LeadsOver, is_one}
 use Rattle.df_join.specs.Spread.{AllKeys, HasKeys, IsLeftTag, IsRightTag, no_tag}
 use Rattle.df_join.specs.declared.join.LiveJoin.{LiveJoin}
-use Rattle.df_join.specs.declared.join.StagedJoin.{StagedJoin}
+use Rattle.df_join.specs.declared.keyed.KeyedTables.{KeyedTables}
 use Rattle.df_join.specs.declared.rule.JoinRule.{JoinRule}
 use Rattle.df_join.proofs.Fits.{fits_list}
 use Rattle.df_join.proofs.Groups.{swap}
@@ -103,29 +103,28 @@ module _ (j : LiveJoin) where
         ]))
 
     -- a right row goes or comes
-    pub right_moved : (s t : StagedJoin) → t.left ≡ s.left
-        → (CanMove j.right.empty.schema j.rule.indices.right goes tag y key r → LeadsTo j.rule.indices.right j.right s.right r → LeadsTo j.rule.indices.right j.right t.right (set_at r tag (row_after goes y)))
-        → (CanMove j.right.empty.schema j.rule.indices.right goes tag y key r → LeadsTo j.rule.indices.right j.right s.right r → alone ≡ (finite.len (group_of j.rule.indices.right key (without goes r tag)) == 0))
-        → (LeadsTo j.rule.indices.left j.left t.left l → Noted a b (right_list j.rule one (keeps_left j.rule.how && alone) goes tag y (finite.entries (keyed_rows j.rule j.rule.indices.left key l))))
+    pub right_moved : (s t : KeyedTables)
+        → (CanMove j.right.empty.schema j.rule.indices.right goes tag y key r → LeadsTo j.rule.indices.right j.right s r → LeadsTo j.rule.indices.right j.right t (set_at r tag (row_after goes y)))
+        → (CanMove j.right.empty.schema j.rule.indices.right goes tag y key r → LeadsTo j.rule.indices.right j.right s r → alone ≡ (finite.len (group_of j.rule.indices.right key (without goes r tag)) == 0))
+        → (IsIndexOf j.rule.indices.left j.left l → Noted a b (right_list j.rule one (keeps_left j.rule.how && alone) goes tag y (finite.entries (keyed_rows j.rule j.rule.indices.left key l))))
         → IsRowTag one tag → finite.get r tag ≡ row_before goes y → T (new_row_fits j.right.empty.schema (row_after goes y)) → LeadsOver j s a from l r → LeadsOver j t b from l (set_at r tag (row_after goes y))
-    right_moved s t same stages is_alone noted is stood fits h =
+    right_moved s t stages is_alone noted is stood fits h =
         let can : CanMove j.right.empty.schema j.rule.indices.right goes tag y key r = record { key_is = key_is; stood = stood; fits = fits } in
-        let left : LeadsTo j.rule.indices.left j.left t.left l = subst (λ m. LeadsTo j.rule.indices.left j.left m l) (sym same) h.left in
         let right : HasKeys (IsRightTag one) r = keys_from (IsRowTag one) (IsRightTag one) r (λ q k. k.part) h.right_keys in
         record {
           left_keys = h.left_keys;
           right_keys = keys_set_at (IsRowTag one) r tag (row_after goes y) h.right_keys is;
-          left = left;
+          left = h.left;
           right = stages can h.right;
           leads = noted_right one j.rule a b from l r h.left_keys right tag y (after_none tag is.begins) is.part (no_row one r h.right_keys) goes (keeps_left j.rule.how && alone) stood (lone_is (is_alone can h.right))
-              (subst (λ k. Noted a b (right_list j.rule one (keeps_left j.rule.how && alone) goes tag y (finite.entries (keyed_rows j.rule j.rule.indices.left k l)))) key_is (noted left)) h.leads;
+              (subst (λ k. Noted a b (right_list j.rule one (keeps_left j.rule.how && alone) goes tag y (finite.entries (keyed_rows j.rule j.rule.indices.left k l)))) key_is (noted h.left)) h.leads;
         }
 
-  pub right_absent : (goes : Bool) (s : StagedJoin) (a : Changes) (from l r : TaggedRows) (tag : Tag) → finite.get r tag ≡ cond goes None None → LeadsOver j s a from l r → LeadsOver j s a from l (set_at r tag (cond goes None None))
+  pub right_absent : (goes : Bool) (s : KeyedTables) (a : Changes) (from l r : TaggedRows) (tag : Tag) → finite.get r tag ≡ cond goes None None → LeadsOver j s a from l r → LeadsOver j s a from l (set_at r tag (cond goes None None))
   right_absent goes s a from l r tag stood h = subst (LeadsOver j s a from l) (set_none goes r tag stood) h
 
   -- what is staged and noted leads to a right side from which the rest leads to u
-  pub record Follows (s : StagedJoin) (notes : Changes) (from l : TaggedRows) (rest : List Note) (u : TaggedRows) : Type 0 where
+  pub record Follows (s : KeyedTables) (notes : Changes) (from l : TaggedRows) (rest : List Note) (u : TaggedRows) : Type 0 where
     pub now : TaggedRows
     pub over : LeadsOver j s notes from l now
     pub tags : AllKeys (IsRowTag one) rest
@@ -133,7 +132,7 @@ module _ (j : LiveJoin) where
     pub new_fit : NewFit j.right.empty.schema rest
     pub gives : applied_list now rest ≡ u
 
-  pub follows_first : (s : StagedJoin) (notes : Changes) (from l r : TaggedRows) (d : Changes) → LeadsOver j s notes from l r → HasKeys (IsRowTag one) d → Fits r d → NewFit j.right.empty.schema (finite.entries d) → Follows s notes from l (finite.entries d) (applied r d)
+  pub follows_first : (s : KeyedTables) (notes : Changes) (from l r : TaggedRows) (d : Changes) → LeadsOver j s notes from l r → HasKeys (IsRowTag one) d → Fits r d → NewFit j.right.empty.schema (finite.entries d) → Follows s notes from l (finite.entries d) (applied r d)
   follows_first s notes from l r d over tags fits new_fit = record {
     now = r;
     over = over;
@@ -143,7 +142,7 @@ module _ (j : LiveJoin) where
     gives = refl;
   }
 
-  pub follows_more : (s t : StagedJoin) (notes next : Changes) (from l : TaggedRows) (items : List Entry) (i : ℕ) (e : Entry) (u : TaggedRows) → i < length items → e ≡ get_or items i e
+  pub follows_more : (s t : KeyedTables) (notes next : Changes) (from l : TaggedRows) (items : List Entry) (i : ℕ) (e : Entry) (u : TaggedRows) → i < length items → e ≡ get_or items i e
       → ((r : TaggedRows) → IsRowTag one e.tag → finite.get r e.tag ≡ e.old → T (new_row_fits j.right.empty.schema e.new) → LeadsOver j s notes from l r → LeadsOver j t next from l (set_at r e.tag e.new))
       → Follows s notes from l (map entry_change (drop i items)) u → Follows t next from l (map entry_change (drop (i + 1) items)) u
   follows_more s t notes next from l items i e u lt is step f =
@@ -159,7 +158,7 @@ module _ (j : LiveJoin) where
         gives = f'.gives;
       }
 
-  pub follows_all : (s : StagedJoin) (notes : Changes) (from l : TaggedRows) (items : List Entry) (i : ℕ) (u : TaggedRows) → length items ≤ i → Follows s notes from l (map entry_change (drop i items)) u → LeadsOver j s notes from l u
+  pub follows_all : (s : KeyedTables) (notes : Changes) (from l : TaggedRows) (items : List Entry) (i : ℕ) (u : TaggedRows) → length items ≤ i → Follows s notes from l (map entry_change (drop i items)) u → LeadsOver j s notes from l u
   follows_all s notes from l items i u le f =
       let f' : Follows s notes from l [] u = subst (λ es. Follows s notes from l (map entry_change es) u) (drop_of_length-le items le) f in
       subst (LeadsOver j s notes from l) f'.gives f'.over

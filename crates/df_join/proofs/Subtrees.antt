@@ -2,7 +2,6 @@
 use Rattle.std.proofs.Common.{◌≡◌, not, cond, List, [], ◌∷◌, ◌++◌, length, Option, Some, None, refl, sym, ap, subst, ◌∙◌}
 use Rattle.std.specs.Prelude.{T}
 use Rattle.std.specs.Ordering.{eq_by_cmp, is_eq, is_lt}
-use Rattle.std.specs.declared.cmp.Ordering.{Ordering}
 use Rattle.std.specs.declared.cmp.Ordering.TheVariants.{Less, Equal, Greater}
 use Rattle.std.specs.FinMap as finite
 use Rattle.std.specs.FinMap.{is_sorted, put}
@@ -16,31 +15,31 @@ use Rattle.df_column.specs.declared.tag.Tag.{Tag}
 use Rattle.df_column.proofs.Bools.{T-first, T-second, T-both, is_lt_from_less}
 use Rattle.df_column.proofs.ChangeRuns.{after_changes-left, after_changes-right, apart_heads, apart_at, sorted_first, sorted_second, sorted_apart, sorted_from}
 use Rattle.df_column.proofs.Removal.{remove_is}
-use Rattle.df_join.specs.Subtrees.{rows_in, rows_of}
-use Rattle.df_join.specs.declared.tree_table.subtree.Node.{Node}
+use Rattle.df_join.specs.Subtrees.{parts_rows, rows_of}
+use Rattle.df_join.specs.declared.tree_table.subtree.Parts.{Parts}
 
 -- the rows on both sides of another are in order, too
-pub sorted_left : (n : Node) → T (is_sorted tag_cmp (rows_in n)) → T (is_sorted tag_cmp (rows_of n.left))
+pub sorted_left : (n : Parts) → T (is_sorted tag_cmp (parts_rows n)) → T (is_sorted tag_cmp (rows_of n.left))
 sorted_left n h = sorted_first tag_total (rows_of n.left) ((n.tag, n.row) ∷ rows_of n.right) h
 
-sorted_here : (n : Node) → T (is_sorted tag_cmp (rows_in n)) → T (is_sorted tag_cmp ((n.tag, n.row) ∷ rows_of n.right))
+sorted_here : (n : Parts) → T (is_sorted tag_cmp (parts_rows n)) → T (is_sorted tag_cmp ((n.tag, n.row) ∷ rows_of n.right))
 sorted_here n h = sorted_second tag_total (rows_of n.left) ((n.tag, n.row) ∷ rows_of n.right) h
 
-pub sorted_right : (n : Node) → T (is_sorted tag_cmp (rows_in n)) → T (is_sorted tag_cmp (rows_of n.right))
+pub sorted_right : (n : Parts) → T (is_sorted tag_cmp (parts_rows n)) → T (is_sorted tag_cmp (rows_of n.right))
 sorted_right n h = T-second _ _ (sorted_here n h)
 
-module _ (n : Node) (tag : Tag) (v : Option (List Cell)) (h : T (is_sorted tag_cmp (rows_in n))) where
+module _ (n : Parts) (tag : Tag) (v : Option (List Cell)) (h : T (is_sorted tag_cmp (parts_rows n))) where
   abbrev change : Tag × Change (List Cell)
   change = (tag, record { old = None; new = v })
 
   -- what a change of a lower tag makes of them
-  pub edit_left : tag_cmp tag n.tag ≡ Less → edit tag_cmp (rows_in n) tag v ≡ edit tag_cmp (rows_of n.left) tag v ++ (n.tag, n.row) ∷ rows_of n.right
+  pub edit_left : tag_cmp tag n.tag ≡ Less → edit tag_cmp (parts_rows n) tag v ≡ edit tag_cmp (rows_of n.left) tag v ++ (n.tag, n.row) ∷ rows_of n.right
   edit_left less = after_changes-left tag_total (rows_of n.left) ((n.tag, n.row) ∷ rows_of n.right) (change ∷ [])
       (apart_at tag_total n.tag (change ∷ []) ((n.tag, n.row) ∷ rows_of n.right)
       (T-both _ _ (is_lt_from_less _ less) tt)
       (sorted_from tag_total n.tag (n.tag, n.row) (rows_of n.right) refl (sorted_here n h)))
 
-  edit_from : T (not (is_lt (tag_cmp tag n.tag))) → edit tag_cmp (rows_in n) tag v ≡ rows_of n.left ++ edit tag_cmp ((n.tag, n.row) ∷ rows_of n.right) tag v
+  edit_from : T (not (is_lt (tag_cmp tag n.tag))) → edit tag_cmp (parts_rows n) tag v ≡ rows_of n.left ++ edit tag_cmp ((n.tag, n.row) ∷ rows_of n.right) tag v
   edit_from from = after_changes-right tag_total (rows_of n.left) ((n.tag, n.row) ∷ rows_of n.right) (change ∷ [])
       (apart_at tag_total n.tag (rows_of n.left) (change ∷ [])
       (apart_heads tag_total (rows_of n.left) (n.tag, n.row) (rows_of n.right) (sorted_apart tag_total (rows_of n.left) ((n.tag, n.row) ∷ rows_of n.right) h))
@@ -51,15 +50,15 @@ edit_past e es tag None above = ap (λ r. cond (not (is_eq r)) (e ∷ edit tag_c
 edit_past e es tag (Some x) above = ap (λ r. by_order r ((tag, x) ∷ e ∷ es) ((e.0, x) ∷ es) (e ∷ put tag_cmp tag x es)) above
 
 -- of a higher tag
-pub edit_right : (n : Node) (tag : Tag) (v : Option (List Cell)) → T (is_sorted tag_cmp (rows_in n)) → tag_cmp tag n.tag ≡ Greater
-    → edit tag_cmp (rows_in n) tag v ≡ rows_of n.left ++ (n.tag, n.row) ∷ edit tag_cmp (rows_of n.right) tag v
+pub edit_right : (n : Parts) (tag : Tag) (v : Option (List Cell)) → T (is_sorted tag_cmp (parts_rows n)) → tag_cmp tag n.tag ≡ Greater
+    → edit tag_cmp (parts_rows n) tag v ≡ rows_of n.left ++ (n.tag, n.row) ∷ edit tag_cmp (rows_of n.right) tag v
 edit_right n tag v h above =
     edit_from n tag v h (subst (λ r. T (not (is_lt r))) (sym above) tt)
     ∙ ap (λ es. rows_of n.left ++ es) (edit_past (n.tag, n.row) (rows_of n.right) tag v above)
 
 -- and of this very tag
-pub put_here : (n : Node) (tag : Tag) (x : List Cell) → T (is_sorted tag_cmp (rows_in n)) → tag_cmp tag n.tag ≡ Equal
-    → edit tag_cmp (rows_in n) tag (Some x) ≡ rows_of n.left ++ (n.tag, x) ∷ rows_of n.right
+pub put_here : (n : Parts) (tag : Tag) (x : List Cell) → T (is_sorted tag_cmp (parts_rows n)) → tag_cmp tag n.tag ≡ Equal
+    → edit tag_cmp (parts_rows n) tag (Some x) ≡ rows_of n.left ++ (n.tag, x) ∷ rows_of n.right
 put_here n tag x h here =
     edit_from n tag (Some x) h (subst (λ r. T (not (is_lt r))) (sym here) tt)
     ∙ ap (λ r. rows_of n.left ++ by_order r ((tag, x) ∷ (n.tag, n.row) ∷ rows_of n.right) ((n.tag, x) ∷ rows_of n.right) ((n.tag, n.row) ∷ put tag_cmp tag x (rows_of n.right))) here
@@ -67,56 +66,41 @@ put_here n tag x h here =
 none_above : (tag : Tag) (es : List (Tag × List Cell)) → T (below_all tag_cmp tag es) → edit tag_cmp es tag None ≡ es
 none_above tag es h = after_changes-left tag_total [] es ((tag, record { old = None; new = None }) ∷ []) (T-both _ _ h tt)
 
-pub remove_here : (n : Node) (tag : Tag) → T (is_sorted tag_cmp (rows_in n)) → tag_cmp tag n.tag ≡ Equal
-    → edit tag_cmp (rows_in n) tag None ≡ rows_of n.left ++ rows_of n.right
+pub remove_here : (n : Parts) (tag : Tag) → T (is_sorted tag_cmp (parts_rows n)) → tag_cmp tag n.tag ≡ Equal
+    → edit tag_cmp (parts_rows n) tag None ≡ rows_of n.left ++ rows_of n.right
 remove_here n tag h here =
     edit_from n tag None h (subst (λ r. T (not (is_lt r))) (sym here) tt)
     ∙ ap (λ r. rows_of n.left ++ cond (not (is_eq r)) ((n.tag, n.row) ∷ edit tag_cmp (rows_of n.right) tag None) (edit tag_cmp (rows_of n.right) tag None)) here
     ∙ ap (λ es. rows_of n.left ++ es) (none_above tag (rows_of n.right)
     (subst (λ k. T (below_all tag_cmp k (rows_of n.right))) (sym (tag_same tag n.tag here)) (T-first _ _ (sorted_here n h))))
 
--- the same of nodes that are one, as the code reads them one after another
-module _ (rows : List (Tag × List Cell)) (n k : Node) (tag : Tag) (same : rows ≡ rows_in n) (here : k ≡ n) (a b c : Node) (ea : a ≡ n) (eb : b ≡ n) (ec : c ≡ n) where
-  sorted_in : T (is_sorted tag_cmp rows) → T (is_sorted tag_cmp (rows_in n))
-  sorted_in h = subst (λ rows. T (is_sorted tag_cmp rows)) same h
+-- the same of the rows of a tree that these parts are
+module _ (rows : List (Tag × List Cell)) (p : Parts) (tag : Tag) (same : parts_rows p ≡ rows) (h : T (is_sorted tag_cmp rows)) where
+  sorted_in : T (is_sorted tag_cmp (parts_rows p))
+  sorted_in = subst (λ rows. T (is_sorted tag_cmp rows)) (sym same) h
 
-  compared : (r : Ordering) → r ≡ tag_cmp tag k.tag → tag_cmp tag n.tag ≡ r
-  compared r e = ap (λ (k : Node). tag_cmp tag k.tag) (sym here) ∙ sym e
+  module _ (v : Option (List Cell)) (side out : List (Tag × List Cell)) where
+    pub edited_left : Less ≡ tag_cmp tag p.tag → (T (is_sorted tag_cmp (rows_of p.left)) → side ≡ edit tag_cmp (rows_of p.left) tag v)
+        → out ≡ side ++ (p.tag, p.row) ∷ rows_of p.right → out ≡ edit tag_cmp rows tag v
+    edited_left less made is =
+        is ∙ ap (λ side. side ++ (p.tag, p.row) ∷ rows_of p.right) (made (sorted_left p sorted_in))
+        ∙ sym (edit_left p tag v sorted_in (sym less))
+        ∙ ap (λ rows. edit tag_cmp rows tag v) same
 
-  module _ (d : Node) (ed : d ≡ n) (v : Option (List Cell)) (side out : List (Tag × List Cell)) where
-    pub edited_left : Less ≡ tag_cmp tag k.tag → (T (is_sorted tag_cmp (rows_of d.left)) → side ≡ edit tag_cmp (rows_of d.left) tag v)
-        → out ≡ side ++ (a.tag, b.row) ∷ rows_of c.right → T (is_sorted tag_cmp rows) → out ≡ edit tag_cmp rows tag v
-    edited_left less made is h =
-        let made' : T (is_sorted tag_cmp (rows_of n.left)) → side ≡ edit tag_cmp (rows_of n.left) tag v = subst (λ (d : Node). T (is_sorted tag_cmp (rows_of d.left)) → side ≡ edit tag_cmp (rows_of d.left) tag v) ed made in
-        let moved : side ++ (a.tag, b.row) ∷ rows_of c.right ≡ edit tag_cmp (rows_of n.left) tag v ++ (n.tag, n.row) ∷ rows_of n.right = λ i. made' (sorted_left n (sorted_in h)) i ++ ((ea i).tag, (eb i).row) ∷ rows_of (ec i).right in
-        is ∙ moved
-        ∙ sym (edit_left n tag v (sorted_in h) (compared Less less))
-        ∙ ap (λ rows. edit tag_cmp rows tag v) (sym same)
+    pub edited_right : Greater ≡ tag_cmp tag p.tag → (T (is_sorted tag_cmp (rows_of p.right)) → side ≡ edit tag_cmp (rows_of p.right) tag v)
+        → out ≡ rows_of p.left ++ (p.tag, p.row) ∷ side → out ≡ edit tag_cmp rows tag v
+    edited_right above made is =
+        is ∙ ap (λ side. rows_of p.left ++ (p.tag, p.row) ∷ side) (made (sorted_right p sorted_in))
+        ∙ sym (edit_right p tag v sorted_in (sym above))
+        ∙ ap (λ rows. edit tag_cmp rows tag v) same
 
-    pub edited_right : Greater ≡ tag_cmp tag k.tag → (T (is_sorted tag_cmp (rows_of d.right)) → side ≡ edit tag_cmp (rows_of d.right) tag v)
-        → out ≡ rows_of a.left ++ (b.tag, c.row) ∷ side → T (is_sorted tag_cmp rows) → out ≡ edit tag_cmp rows tag v
-    edited_right above made is h =
-        let made' : T (is_sorted tag_cmp (rows_of n.right)) → side ≡ edit tag_cmp (rows_of n.right) tag v = subst (λ (d : Node). T (is_sorted tag_cmp (rows_of d.right)) → side ≡ edit tag_cmp (rows_of d.right) tag v) ed made in
-        let moved : rows_of a.left ++ (b.tag, c.row) ∷ side ≡ rows_of n.left ++ (n.tag, n.row) ∷ edit tag_cmp (rows_of n.right) tag v = λ i. rows_of (ea i).left ++ ((eb i).tag, (ec i).row) ∷ made' (sorted_right n (sorted_in h)) i in
-        is ∙ moved
-        ∙ sym (edit_right n tag v (sorted_in h) (compared Greater above))
-        ∙ ap (λ rows. edit tag_cmp rows tag v) (sym same)
+  pub put_at : (x : List Cell) (out : List (Tag × List Cell)) → Equal ≡ tag_cmp tag p.tag → out ≡ rows_of p.left ++ (p.tag, x) ∷ rows_of p.right
+      → out ≡ edit tag_cmp rows tag (Some x)
+  put_at x out tie is = is ∙ sym (put_here p tag x sorted_in (sym tie)) ∙ ap (λ rows. edit tag_cmp rows tag (Some x)) same
 
-  pub put_at : (x : List Cell) (out : List (Tag × List Cell)) → Equal ≡ tag_cmp tag k.tag → out ≡ rows_of a.left ++ (b.tag, x) ∷ rows_of c.right
-      → T (is_sorted tag_cmp rows) → out ≡ edit tag_cmp rows tag (Some x)
-  put_at x out tie is h =
-      let moved : rows_of a.left ++ (b.tag, x) ∷ rows_of c.right ≡ rows_of n.left ++ (n.tag, x) ∷ rows_of n.right = λ i. rows_of (ea i).left ++ ((eb i).tag, x) ∷ rows_of (ec i).right in
-      is ∙ moved
-      ∙ sym (put_here n tag x (sorted_in h) (compared Equal tie))
-      ∙ ap (λ rows. edit tag_cmp rows tag (Some x)) (sym same)
-
-  pub removed_at : (out : List (Tag × List Cell)) → Equal ≡ tag_cmp tag k.tag → out ≡ rows_of a.left ++ rows_of b.right
-      → T (is_sorted tag_cmp rows) → out ≡ edit tag_cmp rows tag None
-  removed_at out tie is h =
-      let moved : rows_of a.left ++ rows_of b.right ≡ rows_of n.left ++ rows_of n.right = λ i. rows_of (ea i).left ++ rows_of (eb i).right in
-      is ∙ moved
-      ∙ sym (remove_here n tag (sorted_in h) (compared Equal tie))
-      ∙ ap (λ rows. edit tag_cmp rows tag None) (sym same)
+  pub removed_at : (out : List (Tag × List Cell)) → Equal ≡ tag_cmp tag p.tag → out ≡ rows_of p.left ++ rows_of p.right
+      → out ≡ edit tag_cmp rows tag None
+  removed_at out tie is = is ∙ sym (remove_here p tag sorted_in (sym tie)) ∙ ap (λ rows. edit tag_cmp rows tag None) same
 
 -- the same of rows as a map
 nothing : TaggedRows

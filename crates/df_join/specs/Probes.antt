@@ -27,12 +27,12 @@ is_staged staged = λ k. is_some (get row_eq staged.tables k)
 abbrev pub probes_over : Bool → ℕ
 probes_over staged = cond staged 1 2
 
--- the look-ups for the right rows that match, and for the left ones
-abbrev pub probes_right : JoinRule → Cells → ℕ
-probes_right rule key = cond (is_null_key rule key) 0 1
+-- the look-ups for the left rows that match, and for the right ones as they are staged
+abbrev pub probes_left : JoinRule → Cells → ℕ
+probes_left rule key = cond (is_null_key rule key) 0 1
 
-abbrev pub probes_left : JoinRule → Cells → Bool → ℕ
-probes_left rule key staged = cond (is_null_key rule key) 0 (probes_over staged)
+abbrev pub probes_right : JoinRule → Cells → Bool → ℕ
+probes_right rule key staged = cond (is_null_key rule key) 0 (probes_over staged)
 
 abbrev pub nothing_staged : Cells → Bool
 nothing_staged = λ _. false
@@ -62,20 +62,23 @@ module _ (indices : List (Option ℕ)) where
   all_probes cost s [] = 0
   all_probes cost s (e ∷ es) = change_probes cost s e.1.old e.1.new + all_probes cost (with_key e.1.new (with_key e.1.old s)) es
 
--- the look-ups to note a left row
-abbrev pub note_probes : JoinRule → Option Cells → ℕ
-note_probes rule None = 0
-note_probes rule (Some row) = probes_right rule (key_of rule.indices.left row)
+-- the look-ups to note a left row over the staged right keys r
+abbrev pub note_probes : JoinRule → (Cells → Bool) → Option Cells → ℕ
+note_probes rule r None = 0
+note_probes rule r (Some row) = probes_right rule (key_of rule.indices.left row) (r (key_of rule.indices.left row))
 
--- the look-ups to stage and note a right row over the staged left keys l
-abbrev pub right_probes : JoinRule → (Cells → Bool) → (Cells → Bool) → Option Cells → ℕ
-right_probes rule l s None = 0
-right_probes rule l s (Some row) =
-    probes_over (s (key_of rule.indices.right row)) + probes_left rule (key_of rule.indices.right row) (l (key_of rule.indices.right row))
+-- the look-ups to stage and note a right row
+abbrev pub right_probes : JoinRule → (Cells → Bool) → Option Cells → ℕ
+right_probes rule s None = 0
+right_probes rule s (Some row) = probes_over (s (key_of rule.indices.right row)) + probes_left rule (key_of rule.indices.right row)
 
--- the look-ups for two deltas: the left one is noted and staged, then the right one is staged and noted
+-- the look-ups to note two deltas: the right one is staged and noted, then the left one is noted over the right side as it
+-- will be
+abbrev pub probes_noted : JoinRule → Changes → Changes → ℕ
+probes_noted rule d e =
+    all_probes rule.indices.right (right_probes rule) nothing_staged (finite.entries e)
+    + all_probes rule.indices.left (λ _. note_probes rule (with_keys rule.indices.right nothing_staged (finite.entries e))) nothing_staged (finite.entries d)
+
+-- and to stage the left one, too
 abbrev pub probes_made : JoinRule → Changes → Changes → ℕ
-probes_made rule d e =
-    all_probes rule.indices.left (λ _. note_probes rule) nothing_staged (finite.entries d)
-    + all_probes rule.indices.left (stage_probes rule.indices.left) nothing_staged (finite.entries d)
-    + all_probes rule.indices.right (right_probes rule (with_keys rule.indices.left nothing_staged (finite.entries d))) nothing_staged (finite.entries e)
+probes_made rule d e = probes_noted rule d e + all_probes rule.indices.left (stage_probes rule.indices.left) nothing_staged (finite.entries d)

@@ -12,9 +12,10 @@ use Rattle.df_delta.specs.Deltas.{Changes}
 use Rattle.df_delta.specs.Notes.{IsNote, moved}
 use Rattle.df_ops.specs.Groups.{key_of}
 use Rattle.df_join.specs.Joined.{matches, joined}
-use Rattle.df_join.specs.Keyed.{IsIndexOf}
+use Rattle.df_join.specs.Keyed.{LeadsTo}
 use Rattle.df_join.specs.Rules.{Cells, by_key, joined_row, key_or_null}
 use Rattle.df_join.specs.Spread.{IsLeftTag, IsRightTag, HasKeys, no_tag, combine}
+use Rattle.df_join.specs.declared.keyed.KeyedTables.{KeyedTables}
 use Rattle.df_join.specs.declared.members.Members.{Members}
 use Rattle.df_join.specs.declared.rule.JoinRule.{JoinRule}
 
@@ -90,8 +91,8 @@ module _ (rule : JoinRule) (one : Bool) where
   abbrev pub replaced_list : Tag → Cells → Cells → List (Tag × Cells) → List Note
   replaced_list s y z es = map (λ e. (combine one e.0 s, replaced_pair rule e.1 y z)) es
 
--- the tables of both sides, and the members of the right one
-pub record AreSides (one : Bool) (rule : JoinRule) (right : Members) (l r : TaggedRows) : Type 0 where
+-- the tables of both sides, and the members of the right one as they are staged
+pub record AreSides (one : Bool) (rule : JoinRule) (right : Members) (staged : KeyedTables) (l r : TaggedRows) : Type 0 where
   pub left_keys : HasKeys (IsLeftTag one) l
   pub right_keys : HasKeys (IsRightTag one) r
-  pub over : IsIndexOf rule.indices.right right r
+  pub over : LeadsTo rule.indices.right right staged r

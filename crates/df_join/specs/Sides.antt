@@ -9,6 +9,7 @@ use Rattle.df_join.specs.RowNotes.{Leads, joined_by_key}
 use Rattle.df_join.specs.Spread.{IsLeftTag, IsRightTag, IsTagOver, HasKeys}
 use Rattle.df_join.specs.declared.join.LiveJoin.{LiveJoin}
 use Rattle.df_join.specs.declared.join.StagedJoin.{StagedJoin}
+use Rattle.df_join.specs.declared.keyed.KeyedTables.{KeyedTables}
 
 -- whether the left side has one scan
 abbrev pub is_one : ℕ → Bool
@@ -53,12 +54,12 @@ pub record HasRoomFor (j : LiveJoin) (staged : StagedJoin) : Type 0 where
   pub left : index_map_len staged.left.tables ≤ spare j.left.keyed.tables
   pub right : index_map_len staged.right.tables ≤ spare j.right.keyed.tables
 
--- so far, what is staged leads to these inputs, and what is noted leads to their join
-pub record LeadsOver (j : LiveJoin) (staged : StagedJoin) (notes : Changes) (from l r : TaggedRows) : Type 0 where
+-- so far, what is staged of the right side leads to r beside the left side l, and what is noted leads to their join
+pub record LeadsOver (j : LiveJoin) (staged : KeyedTables) (notes : Changes) (from l r : TaggedRows) : Type 0 where
   pub left_keys : HasKeys (IsLeftTag (is_one j.left_scans)) l
   pub right_keys : HasKeys (IsRowTag (is_one j.left_scans)) r
-  pub left : LeadsTo j.rule.indices.left j.left staged.left l
-  pub right : LeadsTo j.rule.indices.right j.right staged.right r
+  pub left : IsIndexOf j.rule.indices.left j.left l
+  pub right : LeadsTo j.rule.indices.right j.right staged r
   pub leads : Leads notes from (join_output j l r)
 
 -- all but the room is as it was

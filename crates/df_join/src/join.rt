@@ -10,8 +10,9 @@ ghost use Rattle.df_delta.specs.Inputs.{MayFollowBoth};
 ghost use Rattle.df_delta.specs.SameRows.{same_row};
 ghost use Rattle.df_ops.specs.Joins.{join_indices_of as indices_of_join};
 ghost use Rattle.df_ops.specs.Tables as tables;
-ghost use Rattle.df_join.specs.Probes.{Grows, probes as probe_count, probes_made};
-ghost use Rattle.df_join.specs.RowNotes.{joined_by_key};
+ghost use Rattle.df_join.specs.Probes.{Grows, probes as probe_count, probes_made, probes_noted};
+ghost use Rattle.df_join.specs.Keyed.{LeadsTo};
+ghost use Rattle.df_join.specs.RowNotes.{Leads, joined_by_key};
 ghost use Rattle.df_join.specs.Sides as sides;
 ghost use Rattle.df_join.specs.Sides.{AreInputs, AreScans, IsAsBefore, LeadsToBoth, is_one, join_output};
 ghost use Rattle.df_join.specs.Spread.{HasKeys, IsTagOver};
@@ -23,7 +24,7 @@ mod right;
 use crate::keyed::KeyedTables;
 use crate::members::Members;
 use crate::rule::JoinRule;
-use df_delta::{Delta, TwoSidedNode};
+use df_delta::{Delta, Notes, TwoSidedNode};
 use df_expr::{Counter, Meter};
 use df_ops::{How, join_indices_of};
 use df_value::{Schema, Text};
@@ -121,8 +122,34 @@ impl LiveJoin {
         })
     }
 
-    /// What both deltas make of the members of their sides and of the join: the left one first, then the right one over
-    /// the left side as it will be. Makes at most eight probes for each change.
+    /// The notes of both deltas, and what the right one makes of its members: the right delta first, then the left one over the
+    /// right side as it will be. So a left row that comes is noted once, beside the right rows of the end.
+    fn noted(
+        &self,
+        left: &Delta,
+        right: &Delta,
+        probes: &mut Counter,
+    ) -> Result<(KeyedTables, Notes), AllocError>
+        requires { probes.old + 2 ^ 68 < 2 ^ 128 }
+        ensures leads { IfOk result (λ x. (l r : TaggedRows)
+            → MayFollowBoth (sides.IsOver self.now) (AreInputs self.now) l left.now r right.now
+            → Leads x.1 (join_output self.now l r)
+            (join_output self.now (applied l left.now) (applied r right.now))) }
+        ensures staged { IfOk result (λ x. (l r : TaggedRows)
+            → MayFollowBoth (sides.IsOver self.now) (AreInputs self.now) l left.now r right.now
+            → LeadsTo self.now.rule.indices.right self.now.right x.0 (applied r right.now)) }
+        ensures within { probes.new ≤ probes.old + 2 ^ 67 + 2 ^ 66 }
+        ensures exact { OnOk result (probes.new ≡ probes.old + probes_noted self.now.rule left.now right.now) }
+        ensures counted { Grows probes.old probes.new (6 * finite.len right.now + 4 * finite.len left.now) }
+    {
+        let mut staged = KeyedTables::new(self.alloc);
+        let mut notes = Notes::new(self.alloc);
+        self.note_right_all(&mut staged, &mut notes, right, probes)?;
+        self.note_left_all(&staged, &mut notes, left, probes)?;
+        Ok((staged, notes))
+    }
+
+    /// What both deltas make of the members of their sides and of the join. Makes at most eight probes for each change.
     fn changes(
         &self,
         left: &Delta,
@@ -141,15 +168,16 @@ impl LiveJoin {
         ensures exact { OnOk result (probes.new ≡ probes.old + probes_made self.now.rule left.now right.now) }
         ensures counted { Grows probes.old probes.new (8 * (finite.len left.now + finite.len right.now)) }
     {
-        let mut notes = self.note_left_all(left, probes)?;
-        let mut staged = StagedJoin {
-            left: self
-                .left
-                .stage_all(self.rule.indices.left.as_slice(), left, probes)?,
-            right: KeyedTables::new(self.alloc),
-        };
-        self.note_right_all(&mut staged, &mut notes, right, probes)?;
-        Ok((staged, notes.into_delta()?))
+        let (right, notes) = self.noted(left, right, probes)?;
+        let indices = self.rule.indices.left.as_slice();
+        match self.left.stage_all(indices, left, probes) {
+            Ok(left) => Ok((StagedJoin { left, right }, notes.into_delta()?)),
+            Err(refused) => {
+                drop(right);
+                drop(notes);
+                Err(refused)
+            }
+        }
     }
 
     /// Makes the room that a commit of what is staged needs.

@@ -44,17 +44,17 @@ impl Drop for Members {
 /// The table without the row that goes, or with the row that comes.
 fn edited_by(
     alloc: Global,
-    table: &TreeTable,
+    table: TreeTable,
     goes: bool,
     tag: Tag,
     row: &Row,
 ) -> Result<TreeTable, AllocError>
-    ensures { IfOk result (λ t. t ≡ record { schema = table.now.schema; rows = set_at table.now.rows tag (row_after goes row.now) }) }
+    ensures { IfOk result (λ t. t ≡ record { schema = table.schema; rows = set_at table.rows tag (row_after goes row.now) }) }
 {
     if goes {
-        table.remove(alloc, tag)
+        table.without_row(alloc, tag)
     } else {
-        table.insert(alloc, tag, row)
+        table.with_row(alloc, tag, row.copy(alloc)?)
     }
 }
 
@@ -147,7 +147,7 @@ impl Members {
     {
         let before = self.take_table(staged, key, probes)?;
         let was_empty = before.is_empty();
-        let after = edited_by(self.alloc, &before, goes, tag, row)?;
+        let after = edited_by(self.alloc, before, goes, tag, row)?;
         let alone = if goes { after.is_empty() } else { was_empty };
         staged.put(self.alloc, key, after)?;
         Ok(alone)

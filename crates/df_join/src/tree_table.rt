@@ -14,8 +14,8 @@ use subtree::Subtree;
 /// Rows by rising tags, of a schema that no row is checked against. Contracts see them as they see a
 /// [`Table`](df_column::Table).
 ///
-/// To put a row there or to take one away makes a table beside this one. Both share all nodes but those on the way to
-/// the row, whose number goes by the logarithm of the number of rows.
+/// To put a row there or to take one away goes by the logarithm of the number of rows. A shared table stays as it is: what is
+/// changed is a copy of the nodes on the way to the row.
 pub struct TreeTable {
     schema: Shared<Schema>,
     root: Subtree,
@@ -76,22 +76,22 @@ impl TreeTable {
     }
 
     /// The table with this row at the tag.
-    pub fn insert(&self, alloc: Global, tag: Tag, row: &Row) -> Result<TreeTable, AllocError>
+    pub fn with_row(self, alloc: Global, tag: Tag, row: Row) -> Result<TreeTable, AllocError>
         ensures { IfOk result (λ t. t ≡ record
-            { schema = self.now.schema; rows = set_at self.now.rows tag (Some row.now) }) }
+            { schema = self.schema; rows = set_at self.rows tag (Some row) }) }
     {
-        let schema = self.schema.copy(alloc)?;
-        let root = self.root.insert(alloc, tag, row)?;
+        let TreeTable { schema, root } = self;
+        let root = root.with_row(alloc, tag, row)?;
         Ok(TreeTable { schema, root })
     }
 
     /// The table without the row at the tag, if there is one.
-    pub fn remove(&self, alloc: Global, tag: Tag) -> Result<TreeTable, AllocError>
+    pub fn without_row(self, alloc: Global, tag: Tag) -> Result<TreeTable, AllocError>
         ensures { IfOk result (λ t. t ≡ record
-            { schema = self.now.schema; rows = set_at self.now.rows tag None }) }
+            { schema = self.schema; rows = set_at self.rows tag None }) }
     {
-        let schema = self.schema.copy(alloc)?;
-        let root = self.root.remove(alloc, tag)?;
+        let TreeTable { schema, root } = self;
+        let root = root.without_row(alloc, tag)?;
         Ok(TreeTable { schema, root })
     }
 

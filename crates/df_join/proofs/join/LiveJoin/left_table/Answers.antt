@@ -1,15 +1,11 @@
 use Rattle.std.proofs.Common.{ap, ◌∙◌, sym}
 use Rattle.df_join.specs.Keyed.{rows_or_empty}
-use Rattle.df_join.proofs.Index.{kept_rows, null_rows, staged_rows}
+use Rattle.df_join.proofs.Index.{known_rows, null_rows}
 use Rattle.df_join.proofs.join.LiveJoin.left_table.Goals as goal
 
 pub returns-then-is_null_key-clause-rows : goal.returns-then-is_null_key-clause-rows
-returns-then-is_null_key-clause-rows c l leads = null_rows c.args.self.now.rule c.args.self.now.rule.indices.left l c.args.key.now (sym c.is_null_key.ensures ∙ c.if-is_null_key.true)
+returns-then-is_null_key-clause-rows c l over = null_rows c.args.self.now.rule c.args.self.now.rule.indices.left l c.args.key.now (sym c.is_null_key.ensures ∙ c.if-is_null_key.true)
 
-pub returns-in-Some-clause-rows : goal.returns-in-Some-clause-rows
-returns-in-Some-clause-rows c l leads =
-    staged_rows c.args.self.now.rule c.args.self.now.rule.indices.left c.args.self.now.left c.args.staged.now l c.args.key.now c.in-Some.table.now (sym c.is_null_key.ensures ∙ c.if-is_null_key.false) leads (sym c.in-Some.ensures.table)
-
-pub returns-in-None-clause-rows : goal.returns-in-None-clause-rows
-returns-in-None-clause-rows c l leads =
-    ap rows_or_empty c.look-in-None.ensures.table ∙ kept_rows c.args.self.now.rule c.args.self.now.rule.indices.left c.args.self.now.left c.args.staged.now l c.args.key.now (sym c.is_null_key.ensures ∙ c.if-is_null_key.false) leads (sym c.in-None.ensures.table)
+pub returns-clause-rows : goal.returns-clause-rows
+returns-clause-rows c l over =
+    ap rows_or_empty c.look.ensures.table ∙ known_rows c.args.self.now.rule c.args.self.now.rule.indices.left c.args.self.now.left l c.args.key.now (sym c.is_null_key.ensures ∙ c.if-is_null_key.false) over

@@ -13,4 +13,4 @@ returns-clause-leads c = on_ok_then c.note_left_option-2.result c.note_left_opti
     let one = is_one c.args.self.now.left_scans in
     let rule = c.args.self.now.rule in
     subst (λ t. Leads c.note_left_option-2.new.notes from (joined_by_key one rule t r)) (set_twice l e.tag None e.new)
-    (new from (set_at l e.tag None) r (sides_after one rule c.args.self.now.right l r e.tag None h is) is (get_here l e.tag None) (c.in_ok-note_left_option.ensures.leads from l r h is stood leads)))
+    (new from (set_at l e.tag None) r (sides_after one rule c.args.self.now.right c.args.staged.now l r e.tag None h is) is (get_here l e.tag None) (c.in_ok-note_left_option.ensures.leads from l r h is stood leads)))

@@ -3,7 +3,7 @@ use Rattle.std.specs.FinMap as finite
 use Rattle.df_column.specs.Changes.{applied}
 use Rattle.df_column.specs.Tables.{TaggedRows, entry_change}
 use Rattle.df_delta.specs.Differences.{Fits}
-use Rattle.df_join.specs.Probes.{Grows, all_probes, is_staged, right_probes}
+use Rattle.df_join.specs.Probes.{Grows, all_probes, is_staged, right_probes, with_keys}
 use Rattle.df_join.specs.RowNotes.{NewFit}
 use Rattle.df_join.specs.Sides.{IsRowTag, LeadsOver, is_one}
 use Rattle.df_join.specs.Spread.{HasKeys}
@@ -14,8 +14,8 @@ abbrev pub invariant-loop-entry : goal.invariant-loop-entry
 invariant-loop-entry l =
     record {
       short : length l.entry-items ≡ finite.len l.delta;
-      left : l.staged.left ≡ l.fn.staged.left;
-      exact : l.probes + all_probes l.self.rule.indices.right (right_probes l.self.rule (is_staged l.fn.staged.left)) (is_staged l.staged.right) (map entry_change (drop l.entry-index l.entry-items)) ≡ l.fn.probes + all_probes l.self.rule.indices.right (right_probes l.self.rule (is_staged l.fn.staged.left)) (is_staged l.fn.staged.right) (finite.entries l.delta);
-      counted : Grows l.fn.probes l.probes (8 * l.entry-index);
+      touched : with_keys l.self.rule.indices.right (is_staged l.staged) (map entry_change (drop l.entry-index l.entry-items)) ≡ with_keys l.self.rule.indices.right (is_staged l.fn.staged) (finite.entries l.delta);
+      exact : l.probes + all_probes l.self.rule.indices.right (right_probes l.self.rule) (is_staged l.staged) (map entry_change (drop l.entry-index l.entry-items)) ≡ l.fn.probes + all_probes l.self.rule.indices.right (right_probes l.self.rule) (is_staged l.fn.staged) (finite.entries l.delta);
+      counted : Grows l.fn.probes l.probes (6 * l.entry-index);
       follows : (from t r : TaggedRows) → HasKeys (IsRowTag (is_one l.self.left_scans)) l.delta → Fits r l.delta → NewFit l.self.right.empty.schema (finite.entries l.delta) → LeadsOver l.self l.fn.staged l.fn.notes from t r → Follows l.self l.staged l.notes from t (map entry_change (drop l.entry-index l.entry-items)) (applied r l.delta);
     }
