@@ -190,7 +190,7 @@ none-first : (b : Bool) (later : Option Changes) → later ≡ None → cond b N
 none-first true later e = refl
 none-first false later e = e
 
-none-of-name : (name : List ℕ) (vs : List ViewState) → kept_of name vs (none_kept vs) ≡ None
+pub none-of-name : (name : List ℕ) (vs : List ViewState) → kept_of name vs (none_kept vs) ≡ None
 none-of-name name [] = refl
 none-of-name name (v ∷ vs) = none-first (bytes_eq v.name name) (kept_of name vs (none_kept vs)) (none-of-name name vs)
 
