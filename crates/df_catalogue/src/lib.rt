@@ -9,6 +9,8 @@ mod catalogue;
 mod changing;
 mod checks;
 mod commits;
+mod forgetting;
+mod keeping;
 mod live_views;
 mod pictured;
 mod reading;
@@ -26,4 +28,5 @@ pub use df_state::{
     CatalogueFault, CatalogueParts, Change, Desk, NewFault, PARTS_OF_LEDGER, Picture, RowCounts,
     StagedParts, State, ViewChange, ViewState,
 };
+pub use keeping::ViewChanges;
 pub use staged::{StagedRows, StagedViews};
