@@ -1,9 +1,9 @@
 #!/usr/bin/env python3
 """Runs `stocklist` over CSV files that its loaders draw, by 1, 4 and 16 of them: stock_files.py PROGRAM [SEED]
 
-What it prints are the books and totals that Python's csv module reads in these files, whoever loads them. Of a file that is not
-there, that lacks a column, that has a bad cell or more than 65,536 records no row enters: the program names it, loads the others, and
-ends with status 1."""
+What it prints are the books and totals that Python's csv module reads in these files, whoever loads them, also of one with more
+records than a change may have. Of a file that is not there, that lacks a column or that has a bad cell no row enters, and of a longer
+one none from the part with that cell on: the program names it, loads the others, and ends with status 1."""
 
 import csv
 import os
@@ -12,6 +12,8 @@ import subprocess
 import sys
 import tempfile
 
+# So many rows of late.csv come in parts before that with its bad cell.
+LATE = 2 * 65_536
 GOODS = ["apples", "bread", "cheese", "dates"]
 
 
@@ -32,7 +34,7 @@ def moves(count):
 def make_good(folder):
     """Files, with their columns in any order."""
     paths = []
-    for number, count in enumerate([0, 1, 3, 200, 65_536] + [random.randint(1, 40) for _ in range(20)]):
+    for number, count in enumerate([0, 1, 3, 200, 65_536, 140_000] + [random.randint(1, 40) for _ in range(20)]):
         columns = random.sample(["good", "count", "note"], 3)
         paths.append(os.path.join(folder, f"{number}.csv"))
         write(paths[-1], moves(count), columns)
@@ -45,8 +47,8 @@ def make_bad(folder):
         "doubled.csv": "good,count,good\napples,1,apples\n",
         "cell.csv": "good,count\napples,1\nbread,two\n",
         "short.csv": "good,count\napples,1\nbread\n",
-        "long.csv": "good,count\n" + "dates,1\n" * 65_537,
         "text.csv": "good,count\n\udcff,1\n",
+        "late.csv": "good,count\n" + "dates,1\n" * (LATE + 5_000) + "dates,two\n",
     }
     for name, text in bad.items():
         with open(os.path.join(folder, name), "w", errors="surrogateescape") as file:
@@ -54,8 +56,9 @@ def make_bad(folder):
     return [os.path.join(folder, name) for name in [*bad, "absent.csv"]]
 
 
-def expected(paths):
-    count, totals = 0, dict.fromkeys(GOODS, 0)
+def expected(paths, dates=0):
+    """What is printed of these files, and of so many further rows of a date each."""
+    count, totals = dates, {**dict.fromkeys(GOODS, 0), "dates": dates}
     for path in paths:
         with open(path, newline="") as file:
             for row in csv.DictReader(file):
@@ -83,8 +86,8 @@ def main():
             if (ran.returncode, ran.stdout) != (0, expected(good)):
                 faults.append(f"{loaders} loaders: {ran.returncode} {ran.stdout}, and not {expected(good)}")
             ran = run(program, loaders, mixed)
-            if (ran.returncode, ran.stdout) != (1, expected(good)):
-                faults.append(f"{loaders} loaders, bad files: {ran.returncode} {ran.stdout}, and not {expected(good)}")
+            if (ran.returncode, ran.stdout) != (1, expected(good, LATE)):
+                faults.append(f"{loaders} loaders, bad files: {ran.returncode} {ran.stdout}, and not {expected(good, LATE)}")
             named = {line.split(": ")[0] for line in ran.stderr.splitlines() if line.startswith(folder)}
             if named != set(bad):
                 faults.append(f"{loaders} loaders: named are {sorted(named)}")

@@ -9,9 +9,11 @@ use Rattle.df_state.specs.declared.change.Change.{Change}
 use Rattle.df_state.specs.declared.change.Change.TheVariants.{Append, DropView}
 use Rattle.df_state.specs.declared.state.State.{State}
 use Rattle.dataframes.specs.Books.{BooksParts, IsAnswered, IsNext}
-use Rattle.dataframes.specs.Lines.{SayRows}
+use Rattle.dataframes.specs.Lines.{HaveNoRecords, IsReadFrom, SayRows}
 use Rattle.dataframes.specs.declared.books.Appended.{Appended}
+use Rattle.dataframes.specs.declared.csv_rows.CsvRecords.{CsvRecords}
 use Rattle.dataframes.specs.declared.csv_rows.LinesFault.{LinesFault}
+use Rattle.dataframes.specs.declared.csv_rows.LinesFault.TheVariants.{Csv}
 use Rattle.dataframes.specs.declared.fault.ServiceFault.{ServiceFault}
 use Rattle.dataframes.specs.declared.fault.ServiceFault.TheVariants.{FixedView, Lines, NoFrame, Rows, Refused}
 
@@ -58,6 +60,18 @@ module _ {J : Type 0} where
   AreRowsOfLines schemas frame lines (Err (Rows f)) = ⊥
   AreRowsOfLines schemas frame lines (Err FixedView) = ⊥
   AreRowsOfLines schemas frame lines (Err (Refused f)) = ⊥
+
+  -- what is answered to lines of CSV that are read for a frame: their records under its columns, or why they have none
+  abbrev pub ReadsLines : List (List (List ℕ × CellType)) → ℕ → List ℕ → Result CsvRecords (ServiceFault J) → Type 0
+  ReadsLines schemas frame lines (Ok file) =
+      (schema : List (List ℕ × CellType)) × (slice_get schemas frame ≡ Some schema) × IsReadFrom schema lines file.schema file.records
+  ReadsLines schemas frame lines (Err NoFrame) = length schemas ≤ frame
+  ReadsLines schemas frame lines (Err (Lines (Csv f))) =
+      (schema : List (List ℕ × CellType)) × (slice_get schemas frame ≡ Some schema) × HaveNoRecords schema lines f
+  ReadsLines schemas frame lines (Err (Lines f)) = ⊥
+  ReadsLines schemas frame lines (Err (Rows f)) = ⊥
+  ReadsLines schemas frame lines (Err FixedView) = ⊥
+  ReadsLines schemas frame lines (Err (Refused f)) = ⊥
 
   -- lines say rows, and this is answered to these
   pub record AppendsRowsOfLines (schemas : List (List (List ℕ × CellType))) (frame : ℕ) (lines : List ℕ) (result : Result (Appended J) (ServiceFault J)) : Type 0 where

@@ -44,6 +44,29 @@ impl<J: Naming, T: Drop> From<AllocFailed<T>> for ServiceFault<J> {
     }
 }
 
+impl<J: Naming> From<LinesFault> for ServiceFault<J> {
+    ghost from_gives = { λ fault e. e ≡ service_fault.Lines fault };
+
+    fn from(fault: LinesFault) -> ServiceFault<J> {
+        ServiceFault::Lines(fault)
+    }
+}
+
+impl<J: Naming> fmt::Display for ServiceFault<J> {
+    fn fmt<O: fmt::Write>(&self, f: &mut fmt::Formatter<O>) -> fmt::Result {
+        match self {
+            ServiceFault::NoFrame => write!(f, "no such frame"),
+            ServiceFault::Lines(fault) => write!(f, "{fault}"),
+            ServiceFault::Rows(fault) => write!(f, "{fault}"),
+            ServiceFault::FixedView => write!(f, "the service was opened with this view"),
+            ServiceFault::Refused(ChangeFault::Refused(fault, _)) => write!(f, "{fault}"),
+            ServiceFault::Refused(ChangeFault::Memory) => write!(f, "out of memory"),
+            ServiceFault::Refused(ChangeFault::Spent) => write!(f, "no further version"),
+            ServiceFault::Refused(ChangeFault::Ahead) => write!(f, "another history was told"),
+        }
+    }
+}
+
 /// Why there are no totals of a service.
 #[derive(PartialEq, Eq, Drop)]
 pub enum FinishFault {

@@ -20,7 +20,7 @@ mod view_rows;
 pub use books::{Appended, Books};
 pub use builder::ServiceBuilder;
 pub use cells::row_of;
-pub use csv_rows::{LinesFault, read_rows};
+pub use csv_rows::{CsvRecords, LinesFault, read_rows};
 pub use dashboard::Dashboard;
 pub use df_catalogue::CatalogueFault;
 pub use df_csv::CsvFault;

@@ -4,13 +4,13 @@ ghost use Rattle.std.specs.Option.{option_copied};
 ghost use Rattle.df_state.specs.FrameChanges.{change_of};
 ghost use Rattle.df_state.specs.ViewChanges.{change_of_views};
 ghost use Rattle.df_state.specs.declared.change.Change.TheVariants.{Delete, DropView, Register, Replace};
-ghost use Rattle.dataframes.specs.Appends.{AnswersDrop, AnswersOfBooks, AppendsLines, AppendsOne, AppendsToBooks, AreRowsOfLines};
+ghost use Rattle.dataframes.specs.Appends.{AnswersDrop, AnswersOfBooks, AppendsLines, AppendsOne, AppendsToBooks, AreRowsOfLines, ReadsLines};
 ghost use Rattle.dataframes.specs.Cells.{row_lent};
 ghost use Rattle.df_versions.specs.Histories.{AllowsAll};
 
 use crate::books::{Appended, Books};
 use crate::cells::row_of;
-use crate::csv_rows::read_rows;
+use crate::csv_rows::{CsvRecords, LinesFault, read_rows};
 use crate::dashboard::Dashboard;
 use crate::fault::ServiceFault;
 use df_catalogue::{FrameChange, ViewChange};
@@ -77,6 +77,16 @@ pub trait Service {
         lines: &[u8],
     ) -> Result<Appended<Self::History>, ServiceFault<Self::History>>
         ensures { AppendsLines Self.History.schemas frame lines.now result };
+
+    /// Reads lines of CSV of any length for a frame, which takes their rows part by part ([`CsvRecords::rows`]).
+    ///
+    /// Refused are, in this order: an index of no frame; lines without records of the frame ([`CsvRecords::read`]).
+    fn read_csv(
+        &self,
+        frame: usize,
+        lines: &[u8],
+    ) -> Result<CsvRecords, ServiceFault<Self::History>>
+        ensures { ReadsLines Self.History.schemas frame lines.now result };
 
     /// Takes the rows of these numbers out of a frame. Refused are a number that stands twice, and one of no row.
     fn delete(
@@ -207,6 +217,16 @@ impl<'s, R: Wait, Acc: Ledger, Del: Ledger, J: Naming> Service for OpenService<'
         match self.rows_of(frame, lines) {
             Ok(rows) => self.append(frame, rows),
             Err(fault) => Err(fault),
+        }
+    }
+
+    fn read_csv(&self, frame: usize, lines: &[u8]) -> Result<CsvRecords, ServiceFault<J>> {
+        match self.schemas.get(frame) {
+            Some(schema) => match CsvRecords::read(self.alloc, schema, lines) {
+                Ok(records) => Ok(records),
+                Err(fault) => Err(ServiceFault::Lines(LinesFault::Csv(fault))),
+            },
+            None => Err(ServiceFault::NoFrame),
         }
     }
 

@@ -13,7 +13,7 @@ mod output;
 mod refused;
 mod running;
 
-pub use df_document::{DocumentFault, FileState, Files};
+pub use df_document::{DocumentFault, FileState, Files, SystemFiles};
 pub use df_store::{Gate, OpenGate};
 pub use fault::{NamedLoadCause, RunFault};
 pub use fault_texts::fault_text;

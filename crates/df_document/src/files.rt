@@ -5,6 +5,7 @@ ghost use Rattle.df_document.specs.declared.files.FileState.{FileState};
 ghost use Rattle.df_document.specs.declared.files.FileState.TheVariants as known;
 
 use df_value::List;
+use std::fs;
 use std::io::Read;
 
 /// What is known of the file under a path. Contracts speak of it, and no code makes one.
@@ -31,4 +32,18 @@ pub trait Files {
         ensures same { file_at self.new ≡ file_at self.old }
         ensures opened { Opens (file_at self.old path.now)
             (option_map Self.Reader.remaining result) };
+}
+
+/// The files of the system, each under its path as it is written. A runtime opens them.
+#[derive(Drop)]
+pub struct SystemFiles<'a, R> {
+    pub rt: &'a R,
+}
+
+impl<'a, R: fs::Files> Files for SystemFiles<'a, R> {
+    type Reader = R::File;
+
+    fn open(&mut self, path: &str) -> Option<R::File> {
+        fs::open(self.rt, path).ok()
+    }
 }

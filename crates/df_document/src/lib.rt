@@ -16,7 +16,7 @@ mod refused;
 
 pub use fault::DocumentFault;
 pub use fault_texts::{csv_text, document_fault_text, plan_text, views_text};
-pub use files::{FileState, Files};
+pub use files::{FileState, Files, SystemFiles};
 pub use next_view::open_next_view;
 pub use opening::{
     MOST_BYTES_OF_DOCUMENT, OpenedDocument, SourcedDocument, copy_schemas, open_document,

@@ -33,6 +33,7 @@ mod refusal_texts;
 mod rows;
 mod session;
 mod sql_views;
+mod system_files;
 mod telling;
 mod view_store;
 mod words;

@@ -2,10 +2,8 @@
 //! frames and views from standard input on standard output.
 #![tactic(auto)]
 
-mod system_files;
-
 use clap::error::ErrorKind;
-use df_document::DocumentFault;
+use df_document::{DocumentFault, Files, SystemFiles};
 use df_explain::explain;
 use df_shell::{
     DocumentCheck, Prompts, SessionEnd, SessionOptions, ShellFault, check_document,
@@ -19,7 +17,6 @@ use std::process::ExitCode;
 use std::sync::Wait;
 use std::thread::Threads;
 use std::{env, io};
-use system_files::{SystemFiles, open};
 
 fn main(rt: HostRuntime) -> ExitCode {
     match env::args(&rt) {
@@ -89,7 +86,7 @@ fn document_of(rt: &HostRuntime, line: CommandLine<'_>) -> Result<Option<File>, 
     let Some(path) = line.views else {
         return Ok(None);
     };
-    match open(rt, path) {
+    match (SystemFiles { rt }).open(path) {
         Some(document) => Ok(Some(document)),
         None => Err(ShellFault::Document(DocumentFault::ReadFault)),
     }
@@ -99,7 +96,7 @@ fn answer_commands<R: Threads + Wait + Sync>(
     rt: &HostRuntime,
     waiting: &R,
     document: Option<&mut File>,
-    files: &mut SystemFiles<'_>,
+    files: &mut SystemFiles<'_, HostRuntime>,
     line: CommandLine<'_>,
 ) -> Result<Option<SessionEnd>, ShellFault> {
     let alloc = rt.alloc();

@@ -3,13 +3,12 @@
 #![tactic(auto)]
 
 mod progress;
-mod system_files;
 
 ghost use Rattle.std.specs.Prelude.{◌≤◌};
 ghost use Rattle.df_value.specs.Limits.{most_rows_of_chunk};
 
 use clap::error::ErrorKind;
-use df_app::{DocumentFault, Outcome, RunFault, fault_text, run};
+use df_app::{DocumentFault, Files, Outcome, RunFault, SystemFiles, fault_text, run};
 use df_words::{Words, words};
 use progress::Progress;
 use std::alloc::AllocError;
@@ -18,7 +17,6 @@ use std::process::ExitCode;
 use std::sync::Wait;
 use std::thread::Threads;
 use std::{env, io};
-use system_files::{SystemFiles, open};
 
 fn main(rt: HostRuntime) -> ExitCode {
     match env::args(&rt) {
@@ -68,7 +66,7 @@ fn run_words<R: Threads + Wait + Sync>(
     requires few { words.chunk ≤ most_rows_of_chunk }
 {
     match words.views {
-        Some(path) => match open(rt, path) {
+        Some(path) => match (SystemFiles { rt }).open(path) {
             Some(mut file) => run_reader(rt, threads, &mut file, words),
             None => Err(RunFault::Document(DocumentFault::ReadFault)),
         },

@@ -64,7 +64,7 @@ struct Loader<'r, 's, R> {
     rounds: u64,
     accepted: u64,
     deleted: u64,
-    // Whether a file of it is left out.
+    // Whether a file of it, or a part of one, is left out.
     is_short: bool,
 }
 
@@ -107,18 +107,26 @@ impl<'r, 's, R: Eprint> Loader<'r, 's, R> {
     }
 
     fn load_file<S: Service>(&mut self, service: &S, file: &Source) {
-        match &file.lines {
-            Some(lines) => self.append_lines(service, file.path.as_str(), lines.as_slice()),
-            None => self.leave_out(file.path.as_str(), &"it cannot be read"),
+        let Some(lines) = &file.lines else {
+            return self.leave_out(file.path.as_str(), &"it cannot be read");
+        };
+        if let Err(fault) = self.append_lines(service, lines.as_slice()) {
+            self.leave_out(file.path.as_str(), &fault);
         }
     }
 
-    fn append_lines<S: Service>(&mut self, service: &S, path: &str, lines: &[u8]) {
-        match service.append_csv(MOVES, lines) {
-            Ok(came) => self.accepted = self.accepted.wrapping_add(came.rows as u64),
-            Err(ServiceFault::Lines(fault)) => self.leave_out(path, &fault),
-            Err(_) => self.leave_out(path, &"refused"),
+    // A file may have any number of lines: its rows enter by parts.
+    fn append_lines<S: Service>(
+        &mut self,
+        service: &S,
+        lines: &[u8],
+    ) -> Result<(), ServiceFault<S::History>> {
+        let records = service.read_csv(MOVES, lines)?;
+        for part in 0..records.parts() {
+            let came = service.append(MOVES, records.rows(service.alloc(), part)?)?;
+            self.accepted = self.accepted.wrapping_add(came.rows as u64);
         }
+        Ok(())
     }
 
     fn leave_out<D: Display>(&mut self, path: &str, why: &D) {

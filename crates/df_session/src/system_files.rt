@@ -1,27 +1,14 @@
-//! The files of the system.
-use df_document::Files;
-use df_shell::{WriteFault, WriteFiles};
+//! Files of the system, written whole or not at all.
+use crate::exporting::WriteFiles;
+use crate::refusal::WriteFault;
+use df_document::SystemFiles;
 use std::alloc::Global;
 use std::fs;
-use std::fs::File;
+use std::fs::{File, OpenFile};
 use std::io::Write;
 
-/// Opens and writes files of the system.
-#[derive(Drop)]
-pub struct SystemFiles<'a> {
-    pub rt: &'a HostRuntime,
-}
-
-impl<'a> Files for SystemFiles<'a> {
-    type Reader = File;
-
-    fn open(&mut self, path: &str) -> Option<File> {
-        open(self.rt, path)
-    }
-}
-
 /// A file is written beside its place, under its path with `.part` behind it, and then renamed.
-impl<'a> WriteFiles for SystemFiles<'a> {
+impl<'a, R: fs::Files> WriteFiles for SystemFiles<'a, R> {
     ghost use Rattle.std.specs.Prelude.{⊤};
 
     // Of the system's files nothing is known.
@@ -44,21 +31,16 @@ impl<'a> WriteFiles for SystemFiles<'a> {
 }
 
 // Writes the bytes, and waits until the disk has them.
-fn fill(mut file: File, bytes: &[u8]) -> Result<(), WriteFault> {
+fn fill<F: Write + OpenFile + Drop>(mut file: F, bytes: &[u8]) -> Result<(), WriteFault> {
     match file.write_all(bytes) {
         Ok(()) => file.sync_all().map_err(|_| WriteFault::NotWritten),
         Err(_) => Err(WriteFault::NotWritten),
     }
 }
 
-fn place(rt: &HostRuntime, part: &str, path: &str) -> Result<(), WriteFault> {
-    match fs::rename(rt, part, path) {
+fn place<R: fs::Files>(files: &R, part: &str, path: &str) -> Result<(), WriteFault> {
+    match fs::rename(files, part, path) {
         Ok(()) => Ok(()),
         Err(_) => Err(WriteFault::NotPlaced),
     }
-}
-
-/// The file under a path as it is written; `None` where it cannot be opened.
-pub fn open(rt: &HostRuntime, path: &str) -> Option<File> {
-    File::open(rt, path).ok()
 }
