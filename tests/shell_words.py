@@ -77,6 +77,9 @@ RUNS = [
     (["--check", "--hall", "two.toml"], "", "ok: 2 frames, 0 views\n", "", 0),
     (["--check", "refused.toml"], "", "refused t 0: record 2, column x\n", "", 1),
     (["--check", "fault.toml"], "", "", r"fault.toml: view 1 `v`: no frame `u`; the frames are t \[V6 view 0\]\n", 2),
+    # a document that can be read only once
+    (["--check", "/dev/stdin"], FRAME.format(cell="2") + "view = [{name='w', from='t'}, {name='v', from='t', steps=[['filter', ['col', 'y']]]}]\n",
+     "", r"/dev/stdin: view 2 `v`, step 1 `filter`: no column `y`; the columns there are x \[v: P2 E1 y\]\n", 2),
     (["--check", "text.toml"], "", "", r"text.toml, line 1: .* \[V1\]\n", 2),
     (["--check", "no_file.toml"], "", "", r"t: none.csv cannot be .* \[t: F1\]\n", 2),
     (["--check", "none.toml"], "", "", r"none.toml: .* \[V10\]\n", 2),

@@ -1,2 +1,5 @@
+mod DocumentFacts
 mod LineFacts
 mod PlaceFacts
+mod StepFacts
+mod TreeFacts

@@ -1,21 +1,24 @@
 -- Texts without a line end.
 use Rattle.std.proofs.Common.{◌≡◌, ◌<◌, ◌≤◌, ◌+◌, ◌/◌, ◌%◌, ◌∙◌, ℕ, zero, suc, Bool, true, false, not, List, [], ◌∷◌, ◌++◌, length, slice_index_or, refl, ap, sym, arith, codes, subst}
-use Rattle.std.specs.Prelude.{◌≢◌, ◌==◌, ◌&&◌, Option, Some, None, decimal}
+use Rattle.std.specs.Prelude.{◌≢◌, ◌==◌, ◌&&◌, Option, Some, None, decimal, option_map}
 use Rattle.std.specs.Fmt.{digits, digits_onto, digit_glyph}
 use Rattle.std.specs.List.{list_all}
 use Rattle.std.proofs.lemmas.Bool.Decides.{nat_tests}
 use Rattle.std.proofs.lemmas.List.{get_or_default}
 use Rattle.std.proofs.lemmas.List.Elements.{All-append, All-cons}
 use Rattle.df_value.specs.Choices.{either}
-use Rattle.df_print.specs.Printed.{is_all_printable, is_printable}
+use Rattle.df_print.specs.Printed.{escaped_text, is_all_printable, is_printable}
+use Rattle.df_print.proofs.EscapeFacts.{escaped_printable}
 use Rattle.df_plan.specs.declared.plan.Plan.{Plan}
 use Rattle.df_plan.specs.declared.plan.Plan.TheVariants as plan
 use Rattle.df_ops.specs.declared.windows.RollKind.TheVariants as roll
-use Rattle.df_explain.specs.Places.{step_text, word_text, IsOneLine}
-use Rattle.df_plan.specs.declared.fault.PlanFault.{PlanFault}
-use Rattle.df_plan.specs.declared.fault.PlanFault.TheVariants as fault
+use Rattle.toml.specs.Data.{Data, Members}
+use Rattle.df_text.specs.declared.document.Location.{Location}
+use Rattle.df_text.specs.declared.document.Location.TheVariants as location
 use Rattle.df_value.specs.Schemas.{Columns}
-use Rattle.df_explain.specs.PlanPlaces.{last_step_text, numbered, sides_text, steps_of, text_at, word_of, IsPlaceOf, IsStepOf}
+use Rattle.df_explain.specs.Places.{part_in, part_text, place_in, place_in_steps, step_in, step_place_in, step_text, word_text, IsOneLine}
+use Rattle.df_explain.specs.PlanPlaces.{last_step_text, numbered, sides_text, steps_of, word_of, IsPlaceOf}
+use Rattle.df_explain.specs.Trees.{name_in, steps_in, word_in}
 
 pub one-line : (xs : List ℕ) → ((i : ℕ) → i < length xs → slice_index_or xs i 0 ≢ 10) → IsOneLine xs
 one-line xs none k d h e = none k h (rw (get_or_default xs k 0 d h) e)
@@ -103,23 +106,57 @@ pub place_line : (frames : List Columns) (whole part : Plan) (text : List ℕ) �
 place_line frames whole part text (outer, sides, up, first, within, last, is) =
     subst IsOneLine (sym is) (both (last_step_text outer) (sides_text sides) (last_step outer) (sides_line sides))
 
-step_in_line : (frames : List Columns) (whole : Plan) (f : PlanFault) (place : List ℕ) → IsStepOf frames whole f (Some place) → IsOneLine place
-step_in_line frames whole fault.TooManyScans place h = cc
-step_in_line frames whole fault.TooDeep place h = cc
-step_in_line frames whole (fault.NoFrame n) place h = place_line frames whole h.0 place h.2
-step_in_line frames whole (fault.Expr f) place h = place_line frames whole h.0 place h.2
-step_in_line frames whole (fault.DoubledName name) place h = place_line frames whole h.0 place h.2
-step_in_line frames whole fault.BadWindow place h = place_line frames whole h.0 place h.2
-step_in_line frames whole fault.EmptyList place h = place_line frames whole h.0 place h.2
-step_in_line frames whole fault.TooWide place h = place_line frames whole h.0 place h.2
-step_in_line frames whole (fault.ConstantColumn name) place h = place_line frames whole h.0 place h.2
-step_in_line frames whole (fault.WrongType name) place h = place_line frames whole h.0 place h.2
-step_in_line frames whole fault.Memory place h = place_line frames whole h.0 place h.2
+-- a step's place, with its word as it is printed
 
--- a plan's fault is told in one line, where what is wrong is
-pub plan_line :
-    (frames : List Columns) (whole : Plan) (f : PlanFault) (step : Option (List ℕ)) (what text : List ℕ)
-    → IsStepOf frames whole f step → IsOneLine what → text ≡ text_at step what → IsOneLine text
-plan_line frames whole f None what text h k e = subst IsOneLine (sym e) k
-plan_line frames whole f (Some place) what text h k e =
-    subst IsOneLine (sym e) (both place (codes ": " ++ what) (step_in_line frames whole f place h) (both (codes ": ") what (tested (codes ": ") refl) k))
+shown_line : (n : ℕ) (word : Option (List ℕ)) → IsOneLine (step_text n (option_map escaped_text word))
+shown_line n None = wordless_line n
+shown_line n (Some word) = step_line n (escaped_text word) (printed (escaped_text word) (escaped_printable word))
+
+step_in_line : (steps : List Data) (index : ℕ) → IsOneLine (step_in steps index)
+step_in_line steps index = shown_line (index + 1) (word_in steps index)
+
+pub steps_line : (steps : List Data) (at : Location) → IsOneLine (place_in_steps steps at)
+steps_line steps location.Top = tested [] refl
+steps_line steps (location.Frame frame) = tested [] refl
+steps_line steps (location.View view) = tested [] refl
+steps_line steps (location.Step view step) = both (step_in steps step) (codes ": ") (step_in_line steps step) (tested (codes ": ") refl)
+steps_line steps (location.Item view step item) =
+    both (step_in steps step) (codes ", item " ++ (decimal item ++ codes ": ")) (step_in_line steps step)
+    (both (codes ", item ") (decimal item ++ codes ": ") (tested (codes ", item ") refl)
+    (both (decimal item) (codes ": ") (number_line item) (tested (codes ": ") refl)))
+
+pub placed : (before between what text : List ℕ) → IsOneLine before → IsOneLine between → IsOneLine what → text ≡ before ++ (between ++ what) → IsOneLine text
+placed before between what text h k l e = subst IsOneLine (sym e) (both before (between ++ what) h (both between what k l))
+
+-- names, places of a document, and codes
+
+pub escaped_line : (name : List ℕ) → IsOneLine (escaped_text name)
+escaped_line name = printed (escaped_text name) (escaped_printable name)
+
+pub part_line : (kind : List ℕ) (n : ℕ) (name : Option (List ℕ)) → IsOneLine kind → IsOneLine (part_text kind n (option_map escaped_text name))
+part_line kind n None h =
+    both kind (codes " " ++ (decimal n ++ [])) h
+    (both (codes " ") (decimal n ++ []) (tested (codes " ") refl) (both (decimal n) [] (number_line n) (tested [] refl)))
+part_line kind n (Some name) h =
+    both kind (codes " " ++ (decimal n ++ word_text (Some (escaped_text name)))) h
+    (both (codes " ") (decimal n ++ word_text (Some (escaped_text name))) (tested (codes " ") refl)
+    (both (decimal n) (word_text (Some (escaped_text name))) (number_line n)
+    (both (codes " `") (escaped_text name ++ codes "`") (tested (codes " `") refl)
+    (both (escaped_text name) (codes "`") (escaped_line name) (tested (codes "`") refl)))))
+
+view_line : (tree : Members) (index : ℕ) → IsOneLine (part_in tree (codes "view") index)
+view_line tree index = part_line (codes "view") (index + 1) (name_in (codes "view") index tree) (tested (codes "view") refl)
+
+step_place_line : (tree : Members) (view : ℕ) (at : Location) → IsOneLine (step_place_in tree view at)
+step_place_line tree view at =
+    both (part_in tree (codes "view") view) (codes ", " ++ place_in_steps (steps_in view tree) at) (view_line tree view)
+    (both (codes ", ") (place_in_steps (steps_in view tree) at) (tested (codes ", ") refl) (steps_line (steps_in view tree) at))
+
+pub document_line : (tree : Members) (at : Location) → IsOneLine (place_in tree at)
+document_line tree location.Top = tested [] refl
+document_line tree (location.Frame frame) =
+    both (part_in tree (codes "frame") frame) (codes ": ")
+    (part_line (codes "frame") (frame + 1) (name_in (codes "frame") frame tree) (tested (codes "frame") refl)) (tested (codes ": ") refl)
+document_line tree (location.View view) = both (part_in tree (codes "view") view) (codes ": ") (view_line tree view) (tested (codes ": ") refl)
+document_line tree (location.Step view step) = step_place_line tree view (location.Step view step)
+document_line tree (location.Item view step item) = step_place_line tree view (location.Item view step item)

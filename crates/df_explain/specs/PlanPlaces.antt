@@ -117,22 +117,17 @@ IsPlaceOf frames whole part text =
     × IsWhole frames most_sides sides part × (text ≡ last_step_text outer ++ sides_text sides)
 
 -- the place of the part of a plan whose fault is the plan's
-abbrev pub IsFaultyStep : List Columns → Plan → Option (List ℕ) → Type 0
-IsFaultyStep frames whole None = ⊥
-IsFaultyStep frames whole (Some place) = (part : Plan) × IsFaultOf frames whole part × IsPlaceOf frames whole part place
+abbrev pub IsFaultyStep : List Columns → Plan → List ℕ → Type 0
+IsFaultyStep frames whole place = (part : Plan) × IsFaultOf frames whole part × IsPlaceOf frames whole part place
 
--- the place of a plan's fault; how many frames are read and how many steps follow one another is a matter of the whole plan
-abbrev pub IsStepOf : List Columns → Plan → PlanFault → Option (List ℕ) → Type 0
-IsStepOf frames whole fault.TooManyScans step = step ≡ None
-IsStepOf frames whole fault.TooDeep step = step ≡ None
-IsStepOf frames whole f step = IsFaultyStep frames whole step
+-- words that begin with the place of the step at fault, whatever stands behind it
+abbrev pub IsStepText : List Columns → Plan → List ℕ → Type 0
+IsStepText frames whole words =
+    (place : List ℕ) × (what : List ℕ) × IsFaultyStep frames whole place × (words ≡ place ++ (codes ": " ++ what))
 
--- what is wrong, behind its place if there is one
-abbrev pub text_at : Option (List ℕ) → List ℕ → List ℕ
-text_at None what = what
-text_at (Some place) what = place ++ (codes ": " ++ what)
-
--- words that begin with the place of a plan's fault
+-- The words of a plan's fault. How many frames are read and how many steps follow one another is a matter of the whole
+-- plan: no step is named.
 abbrev pub IsPlanText : List Columns → Plan → PlanFault → List ℕ → Type 0
-IsPlanText frames whole f words =
-    (step : Option (List ℕ)) × (what : List ℕ) × IsStepOf frames whole f step × (words ≡ text_at step what)
+IsPlanText frames whole fault.TooManyScans words = words ≡ codes "it reads frames more than 3 times, those of right sides too"
+IsPlanText frames whole fault.TooDeep words = words ≡ codes "more than 11 steps follow one another on the way from a frame"
+IsPlanText frames whole f words = IsStepText frames whole words

@@ -1,27 +1,37 @@
 //! Faults of a frame's records in words.
-use crate::names::quoted;
+ghost use Rattle.std.specs.Prelude.{◌≡◌, IfOk, option_map, string_bytes};
+ghost use Rattle.std.specs.Option.{option_copied};
+ghost use Rattle.df_explain.specs.Explanations as explanations;
+ghost use Rattle.df_explain.specs.Explanations.{IsRecordsText};
+
+use crate::names::{first_line, quoted};
 use df_text::{CsvFault, FrameSource, FrameSpec, Views, escape};
-use df_value::Text;
+use df_value::{Text, index_of_name};
 use std::alloc::{AllocError, Global};
 
-/// What is wrong with the records of the frame of this name, with their source.
+/// What is wrong with the records of the frame of this name, behind its name and where they stand.
 pub fn csv_words(
     alloc: Global,
     document: &Views,
     frame: &Text,
     fault: &CsvFault,
-) -> Result<String, AllocError> {
+) -> Result<String, AllocError>
+    ensures { IfOk result (λ words. IsRecordsText document.now frame.now (string_bytes words)) }
+{
     let name = escape(alloc, frame.as_str())?;
     let name = name.as_str();
-    let source = source_text(alloc, document, frame)?;
+    let source = source_text(alloc, frame_named(document, frame.as_str()))?;
     let source = source.as_str();
     let what = what_is_wrong(alloc, fault)?;
-    let what = what.as_str();
+    let what = first_line(what.as_str());
     format!(in alloc; "{name}: {source} {what}")
 }
 
-fn source_text(alloc: Global, document: &Views, frame: &Text) -> Result<String, AllocError> {
-    match frame_named(document, frame) {
+fn source_text(alloc: Global, frame: Option<&FrameSpec>) -> Result<String, AllocError>
+    ensures { IfOk result (λ text. string_bytes text
+        ≡ explanations.source_text (option_map (λ f. f.now.source) frame.entry)) }
+{
+    match frame {
         Some(frame) => match &frame.source {
             FrameSource::Path(path) => escape(alloc, path.as_str()),
             FrameSource::Text(_) => String::from_str(alloc, "its text"),
@@ -30,13 +40,11 @@ fn source_text(alloc: Global, document: &Views, frame: &Text) -> Result<String, 
     }
 }
 
-fn frame_named<'a>(document: &'a Views, name: &Text) -> Option<&'a FrameSpec> {
-    for frame in document.frames.as_slice() {
-        if frame.name.as_str() == name.as_str() {
-            return Some(frame);
-        }
-    }
-    None
+fn frame_named<'a>(document: &'a Views, name: &str) -> Option<&'a FrameSpec>
+    ensures { option_copied result ≡ explanations.frame_named document.now name.now }
+{
+    let at = index_of_name(document.frames.as_slice(), name)?;
+    document.frames.get(at)
 }
 
 fn what_is_wrong(alloc: Global, fault: &CsvFault) -> Result<String, AllocError> {

@@ -1,9 +1,9 @@
 //! Faults of a document in words: where in the document, what is wrong there, and what would do.
 //!
-//! [`explain`] reads the document once more and tells of a fault that `df_document` answered, and [`next_view_words`] of a
-//! fault of one more view. A fault of the document's shape
-//! names its place itself, a [`Location`](df_text::Location); the step of a plan that does not check is found by
-//! [`faulty_step`].
+//! [`explanation`] tells of a fault that `df_document` answered for a document's bytes, which are read once more, and
+//! [`next_view_words`] of a fault of one more view. A fault of the document's shape names its place itself, a
+//! [`Location`](df_text::Location), whose frame or view, and whose step, are looked up in the document; the step of a plan
+//! that does not check is found by [`faulty_step`].
 #![tactic(auto)]
 
 mod csv_words;
@@ -21,6 +21,6 @@ mod unknown_words;
 mod views_words;
 mod written_view;
 
-pub use explaining::{explain, explanation};
+pub use explaining::explanation;
 pub use next_view::next_view_words;
 pub use plan_place::faulty_step;

@@ -1,5 +1,6 @@
 //! Names and texts in a sentence.
 ghost use Rattle.std.specs.Prelude.{◌≡◌, ◌++◌, IfOk, string_bytes};
+ghost use Rattle.df_explain.specs.Places.{IsOneLine};
 
 use df_text::escape;
 use df_value::Schema;
@@ -50,4 +51,14 @@ pub fn appended(alloc: Global, a: &str, b: &str) -> Result<String, AllocError>
     ensures { IfOk result (λ text. string_bytes text ≡ a.now ++ b.now) }
 {
     format!(in alloc; "{a}{b}")
+}
+
+/// A text up to its first line end.
+pub fn first_line(text: &str) -> &str
+    ensures { IsOneLine result.now }
+{
+    match text.split_once('\n') {
+        Some((line, _)) => line,
+        None => text,
+    }
 }

@@ -1,13 +1,17 @@
 //! Faults of one more view of a document in words.
-ghost use Rattle.std.specs.Prelude.{◌≡◌, IfOk, Ok, string_bytes};
+ghost use Rattle.std.specs.Prelude.{◌≡◌, ◌++◌, IfErr, IfOk, List, Ok, codes, map, string_bytes, ℕ};
+ghost use Rattle.toml.specs.Data.{no_members};
+ghost use Rattle.toml.specs.View.{table_view, view as view_of_value};
 ghost use Rattle.df_document.specs.Opening.{schemas_of};
 ghost use Rattle.df_explain.specs.Explanations.{AreWordsOf};
-ghost use Rattle.df_explain.specs.Places.{IsAt, IsOneLine, location_of as spec_location_of};
+ghost use Rattle.df_explain.specs.Places.{IsOneLine, location_of as spec_location_of, place_in_steps};
 ghost use Rattle.df_explain.specs.PlanPlaces.{IsPlanText};
+ghost use Rattle.df_explain.specs.ReadSteps.{AreStepsOf};
+ghost use Rattle.df_explain.specs.Trees.{steps_said, tree_in};
 ghost use Rattle.df_text.specs.Document.{next_view_of};
 ghost use Rattle.df_text.specs.declared.document.ViewSpec.{ViewSpec};
 
-use crate::names::appended;
+use crate::names::{appended, first_line};
 use crate::part::array_at;
 use crate::place::place_in_view;
 use crate::plan_words::words_in_plan;
@@ -15,7 +19,7 @@ use crate::step_words::step_words;
 use crate::views_words::location_of;
 use crate::written_view::WrittenView;
 use df_document::DocumentFault;
-use df_plan::{Plan, PlanFault};
+use df_plan::PlanFault;
 use df_text::{FrameSpec, Location, Views, ViewsFault, read_next_view};
 use std::alloc::{AllocError, Global};
 use toml::Table;
@@ -24,8 +28,27 @@ use toml::Table;
 const KEY: &[u8] = b"steps = ";
 
 /// Why one more view of a document is refused, given as to [`df_document::open_next_view`], whose fault this is: the place in its
-/// steps, counted from 1, what is wrong there and what would do. It is one line, without an end.
+/// steps, counted from 1, what is wrong there and what would do. It is one line, without an end. The word of a step is the
+/// one that stands there, also where the step was found by the plan.
 pub fn next_view_words(
+    alloc: Global,
+    document: &Views,
+    name: &str,
+    source: &str,
+    steps: &[u8],
+    fault: &DocumentFault,
+) -> Result<String, AllocError>
+    ensures place { IfOk result (λ words.
+        AreWordsOf document.now name.now source.now steps.now fault.now (string_bytes words)) }
+    ensures line { IfOk result (λ words. IsOneLine (string_bytes words)) }
+    ensures steps { (view : ViewSpec)
+        → next_view_of document.now.frames document.now.views name.now source.now steps.now ≡ Ok view
+        → AreStepsOf (steps_said steps.now) view.plan }
+{
+    words_of(alloc, document, name, source, steps, fault)
+}
+
+fn words_of(
     alloc: Global,
     document: &Views,
     name: &str,
@@ -45,15 +68,6 @@ pub fn next_view_words(
     }
 }
 
-fn first_line(words: &str) -> &str
-    ensures { IsOneLine result.now }
-{
-    match words.split_once('\n') {
-        Some((line, _)) => line,
-        None => words,
-    }
-}
-
 // A fault of the view's shape; of steps that are no TOML where they are none.
 fn shape_words(
     alloc: Global,
@@ -62,7 +76,8 @@ fn shape_words(
     steps: &[u8],
     fault: &ViewsFault,
 ) -> Result<String, AllocError>
-    ensures place { IfOk result (λ words. IsAt (spec_location_of fault.now) (string_bytes words)) }
+    ensures place { IfOk result (λ words. (what : List ℕ) × (string_bytes words
+        ≡ place_in_steps (steps_said steps.now) (spec_location_of fault.now) ++ what)) }
     ensures line { IfOk result (λ words. IsOneLine (string_bytes words)) }
 {
     let bytes = with_key(alloc, steps)?;
@@ -85,7 +100,10 @@ fn shape_words(
 }
 
 // The table that a text says, or why it says none.
-fn table_of(alloc: Global, bytes: &[u8]) -> Result<Table, Result<String, AllocError>> {
+fn table_of(alloc: Global, bytes: &[u8]) -> Result<Table, Result<String, AllocError>>
+    ensures table { IfOk result (λ table. tree_in bytes.now ≡ table_view table) }
+    ensures none { IfErr result (λ what. IfOk what (λ _. tree_in bytes.now ≡ no_members)) }
+{
     let Ok(text) = str::from_utf8(bytes) else {
         return Err(String::from_str(alloc, "the steps are not UTF-8"));
     };
@@ -102,14 +120,17 @@ fn behind_place(
     fault: &ViewsFault,
     what: &str,
 ) -> Result<String, AllocError>
-    ensures place { IfOk result (λ words. IsAt (spec_location_of fault.now) (string_bytes words)) }
+    ensures place { IfOk result (λ words. (what : List ℕ) × (string_bytes words
+        ≡ place_in_steps (map view_of_value view.now.steps.now) (spec_location_of fault.now) ++ what)) }
     ensures line { IfOk result (λ words. IsOneLine (string_bytes words)) }
 {
     let place = place_in_view(alloc, view, location_of(fault))?;
     appended(alloc, place.as_str(), first_line(what))
 }
 
-fn with_key(alloc: Global, steps: &[u8]) -> Result<Vec<u8>, AllocError> {
+fn with_key(alloc: Global, steps: &[u8]) -> Result<Vec<u8>, AllocError>
+    ensures { IfOk result (λ bytes. bytes.items ≡ codes "steps = " ++ steps.now) }
+{
     let mut bytes = Vec::new(alloc);
     bytes.extend_from_slice(KEY)?;
     bytes.extend_from_slice(steps)?;
@@ -188,22 +209,8 @@ fn plan_words(
     let frames = document.frames.as_slice();
     let before = document.views.as_slice();
     match read_next_view(alloc, frames, before, name, source, steps) {
-        Ok(view) => line_in_plan(alloc, document, &view.plan, fault),
+        Ok(view) => words_in_plan(alloc, document, &view.plan, fault),
         Err(ViewsFault::Memory) => Err(AllocError),
         Err(_) => String::from_str(alloc, "a plan does not check"),
     }
-}
-
-fn line_in_plan(
-    alloc: Global,
-    document: &Views,
-    plan: &Plan,
-    fault: &PlanFault,
-) -> Result<String, AllocError>
-    ensures place { IfOk result (λ words.
-        IsPlanText (schemas_of document.now.frames) plan.now fault.now (string_bytes words)) }
-    ensures line { IfOk result (λ words. IsOneLine (string_bytes words)) }
-{
-    let words = words_in_plan(alloc, document, plan, fault)?;
-    words.text(alloc, first_line(words.what.as_str()))
 }

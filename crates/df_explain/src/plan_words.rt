@@ -1,90 +1,69 @@
 //! Faults of a view's plan in words.
-ghost use Rattle.std.specs.Prelude.{◌≡◌, ◌++◌, ℕ, IfOk, List, None, option_map, string_bytes};
-ghost use Rattle.std.specs.Option.{option_copied};
+ghost use Rattle.std.specs.Prelude.{◌≡◌, ◌+◌, ◌++◌, IfOk, List, Some, codes, slice_get, string_bytes, ℕ};
 ghost use Rattle.df_document.specs.Opening.{schemas_of};
-ghost use Rattle.df_explain.specs.Explanations.{view_named, TellsStep};
-ghost use Rattle.df_explain.specs.PlanPlaces.{IsFaultyStep, IsStepOf, text_at};
+ghost use Rattle.df_print.specs.Printed.{escaped_text};
+ghost use Rattle.df_text.specs.declared.document.ViewSpec.{ViewSpec as AnyView};
+ghost use Rattle.df_explain.specs.Explanations as explanations;
+ghost use Rattle.df_explain.specs.Explanations.{IsViewText};
+ghost use Rattle.df_explain.specs.Places as places;
+ghost use Rattle.df_explain.specs.Places.{IsOneLine};
+ghost use Rattle.df_explain.specs.PlanPlaces.{IsPlanText, IsStepText};
 
-use crate::names::{column_names, joined, quoted};
+use crate::names::{column_names, first_line, joined, quoted};
 use crate::near::unknown;
-use crate::plan_place::{FaultyStep, faulty_step, word_of};
+use crate::place::named_part;
+use crate::plan_place::{faulty_step, word_of};
 use df_expr::ExprFault;
 use df_plan::{Plan, PlanFault, schema_of};
-use df_text::{FrameSpec, ViewSpec, Views, escape};
+use df_text::{FrameSpec, Views, escape};
 use df_value::{CellType, Duplicate, Schema, Text, index_of_name};
 use std::alloc::{AllocError, Global};
 
-/// What is wrong in a plan, and the place of the step where, if it is one: ``step 2 `filter` ``.
-#[derive(Drop)]
-pub struct PlanWords {
-    pub step: Option<String>,
-    pub what: String,
-}
-
-impl PlanWords {
-    /// Both, with a colon between them.
-    pub fn text(&self, alloc: Global, what: &str) -> Result<String, AllocError>
-        ensures { IfOk result (λ text. string_bytes text
-            ≡ text_at (option_map string_bytes self.now.step) what.now) }
-    {
-        match &self.step {
-            Some(step) => {
-                let step = step.as_str();
-                format!(in alloc; "{step}: {what}")
-            }
-            None => String::from_str(alloc, what),
-        }
-    }
-}
-
-/// What is wrong in the plan of the view of this name, with the step: the text behind the document's name.
+/// What is wrong in the plan of the view of this name, behind the view and the step: the text behind the document's name.
 pub fn plan_words(
     alloc: Global,
     document: &Views,
     view: &Text,
     fault: &PlanFault,
 ) -> Result<String, AllocError>
-    ensures { IfOk result (λ words. TellsStep document.now view.now fault.now (string_bytes words)) }
+    ensures { IfOk result (λ words. IsViewText document.now view.now fault.now (string_bytes words)) }
 {
-    let place = view_place(alloc, document, view)?;
-    match spec_named(document, view.as_str()) {
-        Some(spec) => {
-            let words = words_in_plan(alloc, document, &spec.plan, fault)?;
-            behind_view(alloc, &place, &words)
-        }
-        None => Ok(place),
+    match index_of_name(document.views.as_slice(), view.as_str()) {
+        Some(index) => words_in_view(alloc, document, view, index, fault),
+        // The fault of another document.
+        None => String::from_str(alloc, "a plan does not check"),
     }
 }
 
-fn spec_named<'a>(document: &'a Views, name: &str) -> Option<&'a ViewSpec>
-    ensures { option_copied result ≡ view_named document.now name.now }
+fn words_in_view(
+    alloc: Global,
+    document: &Views,
+    name: &Text,
+    index: usize,
+    fault: &PlanFault,
+) -> Result<String, AllocError>
+    ensures { IfOk result (λ words. (view : AnyView) → slice_get document.now.views index ≡ Some view
+        → (there : List ℕ) × IsPlanText (schemas_of document.now.frames) view.plan fault.now there
+        × (string_bytes words ≡ places.part_text (codes "view") (index + 1) (Some (escaped_text name.now))
+        ++ (explanations.between fault.now ++ there))) }
 {
-    let at = index_of_name(document.views.as_slice(), name)?;
-    document.views.get(at)
-}
-
-fn behind_view(alloc: Global, view: &String, words: &PlanWords) -> Result<String, AllocError>
-    ensures { IfOk result (λ text. (before : List ℕ) × (string_bytes text
-        ≡ before ++ text_at (option_map string_bytes words.now.step) (string_bytes words.now.what))) }
-{
-    let what = words.text(alloc, words.what.as_str())?;
-    let between = match &words.step {
-        Some(_) => ", ",
-        None => ": ",
-    };
-    joined(alloc, view.as_str(), between, what.as_str())
-}
-
-// A view by its number, from 1, and its name.
-fn view_place(alloc: Global, document: &Views, view: &Text) -> Result<String, AllocError> {
-    let name = quoted(alloc, view.as_str())?;
-    let name = name.as_str();
-    match index_of_name(document.views.as_slice(), view.as_str()) {
-        Some(index) => {
-            let number = index as u128 + 1;
-            format!(in alloc; "view {number} {name}")
+    match document.views.get(index) {
+        Some(view) => {
+            let place = named_part(alloc, "view", index as u128 + 1, name.as_str())?;
+            let there = words_in_plan(alloc, document, &view.plan, fault)?;
+            joined(alloc, place.as_str(), between(fault), there.as_str())
         }
-        None => format!(in alloc; "view {name}"),
+        None => String::from_str(alloc, "a plan does not check"),
+    }
+}
+
+// What stands between a view and the place of its plan's fault.
+fn between(fault: &PlanFault) -> &'static str
+    ensures { result.now ≡ explanations.between fault.now }
+{
+    match fault {
+        PlanFault::TooManyScans | PlanFault::TooDeep => ": ",
+        _ => ", ",
     }
 }
 
@@ -98,23 +77,24 @@ fn schemas(alloc: Global, frames: &[FrameSpec]) -> Result<Vec<Schema>, AllocErro
     Ok(schemas)
 }
 
-/// What is wrong in a plan over a document's frames. How large the plan is is no matter of a step.
+/// What is wrong in a plan over a document's frames, behind the step: ``step 2 `filter`: ..``. How large the plan is is no
+/// matter of a step.
 pub fn words_in_plan(
     alloc: Global,
     document: &Views,
     plan: &Plan,
     fault: &PlanFault,
-) -> Result<PlanWords, AllocError>
-    ensures { IfOk result (λ words.
-        IsStepOf (schemas_of document.now.frames) plan.now fault.now
-        (option_map string_bytes words.step)) }
+) -> Result<String, AllocError>
+    ensures place { IfOk result (λ words.
+        IsPlanText (schemas_of document.now.frames) plan.now fault.now (string_bytes words)) }
+    ensures line { IfOk result (λ words. IsOneLine (string_bytes words)) }
 {
     match fault {
-        PlanFault::TooManyScans => of_whole_plan(
+        PlanFault::TooManyScans => String::from_str(
             alloc,
             "it reads frames more than 3 times, those of right sides too",
         ),
-        PlanFault::TooDeep => of_whole_plan(
+        PlanFault::TooDeep => String::from_str(
             alloc,
             "more than 11 steps follow one another on the way from a frame",
         ),
@@ -125,27 +105,18 @@ pub fn words_in_plan(
     }
 }
 
-fn of_whole_plan(alloc: Global, what: &str) -> Result<PlanWords, AllocError>
-    ensures { IfOk result (λ words. words.step ≡ None) }
-{
-    let what = String::from_str(alloc, what)?;
-    Ok(PlanWords { step: None, what })
-}
-
 fn words_at_step(
     alloc: Global,
     plan: &Plan,
     frames: &[Schema],
     fault: &PlanFault,
-) -> Result<PlanWords, AllocError>
-    ensures { IfOk result (λ words. IsFaultyStep frames.now plan.now (option_map string_bytes words.step)) }
+) -> Result<String, AllocError>
+    ensures place { IfOk result (λ words. IsStepText frames.now plan.now (string_bytes words)) }
+    ensures line { IfOk result (λ words. IsOneLine (string_bytes words)) }
 {
-    let FaultyStep { place, part } = faulty_step(alloc, plan, frames)?;
-    let what = what_is_wrong(alloc, part, frames, fault)?;
-    Ok(PlanWords {
-        step: Some(place),
-        what,
-    })
+    let step = faulty_step(alloc, plan, frames)?;
+    let what = what_is_wrong(alloc, step.part, frames, fault)?;
+    joined(alloc, step.place.as_str(), ": ", first_line(what.as_str()))
 }
 
 fn what_is_wrong(

@@ -1,10 +1,11 @@
 //! Faults of a document's shape in words.
 ghost use Rattle.std.specs.Prelude.{◌≡◌, IfOk, string_bytes};
+ghost use Rattle.toml.specs.View.{table_view};
+ghost use Rattle.df_explain.specs.Explanations.{IsToldOf};
 ghost use Rattle.df_explain.specs.Places as places;
-ghost use Rattle.df_explain.specs.Places.{TellsPlace};
 
 use crate::forms::{KEYS_OF_FRAME, KEYS_OF_TOP, KEYS_OF_VIEW, TYPES};
-use crate::names::{appended, joined};
+use crate::names::{appended, first_line, joined};
 use crate::near::unknown;
 use crate::part::{array_at, frame_names, items_of, table_in, text_of};
 use crate::place::place_text;
@@ -16,21 +17,21 @@ use df_value::SchemaFault;
 use std::alloc::{AllocError, Global};
 use toml::{Table, Value};
 
-/// What is wrong in a document of this name, whose tree this is, with its place: the text behind the name.
+/// What is wrong in the shape of a document of this tree, with its place, behind what names the document.
 pub fn views_words(
     alloc: Global,
-    name: &str,
+    named: &str,
     tree: &Table,
     fault: &ViewsFault,
 ) -> Result<String, AllocError>
-    ensures { IfOk result (λ words. TellsPlace fault.now (string_bytes words)) }
+    ensures { IfOk result (λ words.
+        IsToldOf named.now (table_view tree.now) fault.now (string_bytes words)) }
 {
     let what = what_is_wrong(alloc, tree, fault)?;
-    let name = quoted_name(alloc, name)?;
-    behind_place(alloc, name.as_str(), tree, fault, what.as_str())
+    behind_place(alloc, named, tree, fault, what.as_str())
 }
 
-/// What is wrong in the shape of what is named so, behind its place.
+/// What is wrong, behind its place in a document of this tree and what names the document.
 pub fn behind_place(
     alloc: Global,
     named: &str,
@@ -38,16 +39,12 @@ pub fn behind_place(
     fault: &ViewsFault,
     what: &str,
 ) -> Result<String, AllocError>
-    ensures { IfOk result (λ words. TellsPlace fault.now (string_bytes words)) }
+    ensures { IfOk result (λ words.
+        IsToldOf named.now (table_view tree.now) fault.now (string_bytes words)) }
 {
     let place = place_text(alloc, tree, location_of(fault))?;
-    let there = appended(alloc, place.as_str(), what)?;
+    let there = appended(alloc, place.as_str(), first_line(what))?;
     joined(alloc, named, ": ", there.as_str())
-}
-
-/// The name of a document or of a file, escaped as in a printed table.
-pub fn quoted_name(alloc: Global, name: &str) -> Result<String, AllocError> {
-    df_text::escape(alloc, name)
 }
 
 /// Where a fault of a document's shape lies, as far as it says.

@@ -1,4 +1,8 @@
 //! A view as it is written.
+ghost use Rattle.std.specs.Prelude.{◌≡◌, [], map, slice_get};
+ghost use Rattle.toml.specs.View.{table_view, view};
+ghost use Rattle.df_explain.specs.Trees.{items_or_none, steps_in};
+
 use crate::part::{array_at, items_of, table_in, text_at};
 use toml::{Table, Value};
 
@@ -11,7 +15,9 @@ pub struct WrittenView<'a> {
 
 impl<'a> WrittenView<'a> {
     /// A view over the frame of this name.
-    pub fn without_steps(source: &'a str) -> WrittenView<'a> {
+    pub fn without_steps(source: &'a str) -> WrittenView<'a>
+        ensures { map view result.steps.now ≡ [] }
+    {
         WrittenView {
             source: Some(source),
             steps: &[],
@@ -19,7 +25,9 @@ impl<'a> WrittenView<'a> {
     }
 
     /// The view of this index in a document's tree.
-    pub fn in_tree(tree: &'a Table, index: usize) -> WrittenView<'a> {
+    pub fn in_tree(tree: &'a Table, index: usize) -> WrittenView<'a>
+        ensures { map view result.steps.now ≡ steps_in index (table_view tree.now) }
+    {
         match table_in(tree, "view", index) {
             Some(table) => WrittenView {
                 source: text_at(table, "from"),
@@ -33,7 +41,9 @@ impl<'a> WrittenView<'a> {
     }
 
     /// The items of a step.
-    pub fn items_of_step(&self, step: usize) -> &'a [Value] {
+    pub fn items_of_step(&self, step: usize) -> &'a [Value]
+        ensures { map view result.now ≡ items_or_none (slice_get (map view self.now.steps.now) step) }
+    {
         match self.steps.get(step) {
             Some(value) => items_of(value),
             None => &[],

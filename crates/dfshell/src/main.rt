@@ -3,15 +3,15 @@
 #![tactic(auto)]
 
 use clap::error::ErrorKind;
-use df_document::{DocumentFault, Files, SystemFiles};
-use df_explain::explain;
+use df_csv::{ReadLimitedFault, read_limited};
+use df_document::{DocumentFault, Files, MOST_BYTES_OF_DOCUMENT, SystemFiles};
+use df_explain::explanation;
 use df_shell::{
     DocumentCheck, Prompts, SessionEnd, SessionOptions, ShellFault, check_document,
     run_declared_shell, run_hall_shell, run_shell, shell_fault_text, write_document_sql,
 };
 use df_words::{CommandLine, read_command_line};
 use std::alloc::AllocError;
-use std::fs::File;
 use std::io::{BufReader, IsTerminal};
 use std::process::ExitCode;
 use std::sync::Wait;
@@ -45,57 +45,104 @@ fn run_arguments<R: Threads + Wait + Sync>(
 
 fn run_words<R: Threads + Wait + Sync>(rt: &HostRuntime, waiting: &R, words: &[&str]) -> ExitCode {
     match read_command_line(rt.alloc(), words) {
-        Ok(line) => match run_line(rt, waiting, line) {
-            Ok(code) => code,
-            Err(fault) => report_at(rt, line.views, &fault),
-        },
+        Ok(line) => run_line(rt, waiting, line),
         Err(error) => answer(rt, &error),
     }
 }
 
-// A session is clean also where chunks are refused: it goes on without them.
+// A document is read once, so that a fault of its opening is explained by the bytes that were opened.
 fn run_line<R: Threads + Wait + Sync>(
     rt: &HostRuntime,
     waiting: &R,
     line: CommandLine<'_>,
-) -> Result<ExitCode, ShellFault> {
-    let mut document = document_of(rt, line)?;
-    let mut files = SystemFiles { rt };
-    match &mut document {
-        Some(document) if line.check => {
-            let mut output = rt.stdout();
-            match check_document(waiting, rt.alloc(), document, &mut files, &mut output)? {
-                DocumentCheck::Clean => Ok(ExitCode::from(0)),
-                DocumentCheck::Refused => Ok(ExitCode::from(1)),
-            }
-        }
-        Some(document) if line.sql => {
-            let mut output = rt.stdout();
-            write_document_sql(waiting, rt.alloc(), document, &mut files, &mut output)?;
-            Ok(ExitCode::from(0))
-        }
-        document => match answer_commands(rt, waiting, document.as_mut(), &mut files, line)? {
-            Some(SessionEnd::Refused) => Ok(ExitCode::from(1)),
-            _ => Ok(ExitCode::from(0)),
+) -> ExitCode {
+    let Some(path) = line.views else {
+        return match declare(rt, waiting, line) {
+            Ok(end) => code_of(end),
+            Err(fault) => report(rt, &fault),
+        };
+    };
+    match bytes_at(rt, path) {
+        Ok(bytes) => match run_document(rt, waiting, bytes.as_slice(), line) {
+            Ok(code) => code,
+            Err(fault) => report_at(rt, path, bytes.as_slice(), &fault),
         },
+        Err(fault) => report_at(rt, path, &[], &fault),
     }
 }
 
-// The view document, if the words name one. One that cannot be opened is one that cannot be read.
-fn document_of(rt: &HostRuntime, line: CommandLine<'_>) -> Result<Option<File>, ShellFault> {
-    let Some(path) = line.views else {
-        return Ok(None);
+// The bytes of the view document. One that cannot be opened is one that cannot be read.
+fn bytes_at(rt: &HostRuntime, path: &str) -> Result<Vec<u8>, ShellFault> {
+    let Some(mut document) = (SystemFiles { rt }).open(path) else {
+        return Err(ShellFault::Document(DocumentFault::ReadFault));
     };
-    match (SystemFiles { rt }).open(path) {
-        Some(document) => Ok(Some(document)),
-        None => Err(ShellFault::Document(DocumentFault::ReadFault)),
+    match read_limited(rt.alloc(), &mut document, MOST_BYTES_OF_DOCUMENT) {
+        Ok(bytes) => Ok(bytes),
+        Err(ReadLimitedFault::Failed) => Err(ShellFault::Document(DocumentFault::ReadFault)),
+        Err(ReadLimitedFault::TooLarge) => Err(ShellFault::Document(DocumentFault::TooLarge)),
+        Err(ReadLimitedFault::Memory) => Err(ShellFault::Memory),
     }
+}
+
+fn run_document<R: Threads + Wait + Sync>(
+    rt: &HostRuntime,
+    waiting: &R,
+    bytes: &[u8],
+    line: CommandLine<'_>,
+) -> Result<ExitCode, ShellFault> {
+    let mut document = bytes;
+    let mut files = SystemFiles { rt };
+    if line.check {
+        let mut output = rt.stdout();
+        return match check_document(waiting, rt.alloc(), &mut document, &mut files, &mut output)? {
+            DocumentCheck::Clean => Ok(ExitCode::from(0)),
+            DocumentCheck::Refused => Ok(ExitCode::from(1)),
+        };
+    }
+    if line.sql {
+        let mut output = rt.stdout();
+        write_document_sql(waiting, rt.alloc(), &mut document, &mut files, &mut output)?;
+        return Ok(ExitCode::from(0));
+    }
+    let end = answer_commands(rt, waiting, &mut document, &mut files, line)?;
+    Ok(code_of(end))
+}
+
+// A session is clean also where chunks are refused: it goes on without them.
+fn code_of(end: Option<SessionEnd>) -> ExitCode {
+    match end {
+        Some(SessionEnd::Refused) => ExitCode::from(1),
+        _ => ExitCode::from(0),
+    }
+}
+
+// A session without a document.
+fn declare<R: Threads + Wait + Sync>(
+    rt: &HostRuntime,
+    waiting: &R,
+    line: CommandLine<'_>,
+) -> Result<Option<SessionEnd>, ShellFault> {
+    let alloc = rt.alloc();
+    let Ok(mut input) = BufReader::new(alloc, rt.stdin()) else {
+        return Err(ShellFault::Memory);
+    };
+    let mut output = rt.stdout();
+    let mut files = SystemFiles { rt };
+    run_declared_shell(
+        waiting,
+        alloc,
+        line.hall,
+        &mut files,
+        options_at(rt, line),
+        &mut input,
+        &mut output,
+    )
 }
 
 fn answer_commands<R: Threads + Wait + Sync>(
     rt: &HostRuntime,
     waiting: &R,
-    document: Option<&mut File>,
+    document: &mut &[u8],
     files: &mut SystemFiles<'_, HostRuntime>,
     line: CommandLine<'_>,
 ) -> Result<Option<SessionEnd>, ShellFault> {
@@ -105,17 +152,6 @@ fn answer_commands<R: Threads + Wait + Sync>(
     };
     let mut output = rt.stdout();
     let options = options_at(rt, line);
-    let Some(document) = document else {
-        return run_declared_shell(
-            waiting,
-            alloc,
-            line.hall,
-            files,
-            options,
-            &mut input,
-            &mut output,
-        );
-    };
     if line.hall {
         return run_hall_shell(
             waiting,
@@ -175,22 +211,18 @@ fn refuse_arguments(rt: &HostRuntime, error: &io::Error) -> ExitCode {
     ExitCode::from(2)
 }
 
-// A fault of the document in words, with its place; any other, and one for whose words there is no memory, by its code.
-fn report_at(rt: &HostRuntime, views: Option<&str>, fault: &ShellFault) -> ExitCode {
-    match (views, fault) {
-        (Some(path), ShellFault::Document(document)) if *document != DocumentFault::Memory => {
-            match explained(rt, path, document) {
+// A fault of the document at this path in words, with its place; any other, and one for whose words there is no memory,
+// by its code.
+fn report_at(rt: &HostRuntime, path: &str, bytes: &[u8], fault: &ShellFault) -> ExitCode {
+    match fault {
+        ShellFault::Document(document) if *document != DocumentFault::Memory => {
+            match explanation(rt.alloc(), path, bytes, document) {
                 Ok(text) => tell(rt, text.as_str()),
                 Err(_) => report(rt, fault),
             }
         }
         _ => report(rt, fault),
     }
-}
-
-fn explained(rt: &HostRuntime, path: &str, fault: &DocumentFault) -> Result<String, AllocError> {
-    let mut files = SystemFiles { rt };
-    explain(rt.alloc(), &mut files, path, fault)
 }
 
 fn tell(rt: &HostRuntime, text: &str) -> ExitCode {

@@ -1,18 +1,18 @@
-use Rattle.std.proofs.Common.{refl, subst}
-use Rattle.std.specs.Prelude.{option_map, string_bytes}
-use Rattle.df_document.specs.Opening.{schemas_of}
-use Rattle.df_explain.specs.PlanPlaces.{text_at, IsStepOf}
-use Rattle.df_explain.proofs.PlaceFacts.{if_ok_then, none_found, same_found}
+use Rattle.std.proofs.Common.{◌≡◌, ◌∙◌, ◌++◌, ◌+◌, ap, codes, subst, sym}
+use Rattle.std.specs.Prelude.{Some, slice_get, string_bytes}
+use Rattle.df_print.specs.Printed.{escaped_text}
+use Rattle.df_explain.specs.Explanations.{between}
+use Rattle.df_explain.specs.Places.{part_text}
+use Rattle.df_explain.proofs.PlaceFacts.{if_ok_then, same_found}
 use Rattle.df_explain.proofs.plan_words.plan_words.Goals as goal
 
-pub returns-in_ok-words-in-Some : goal.returns-in_ok-words-in-Some
-returns-in_ok-words-in-Some c =
-    if_ok_then c.behind_view.result c.behind_view.ensures
-    (λ text e spec named.
-    let step = option_map string_bytes c.in_ok-words-in-Some.words.step in
-    let same = same_found c.in-Some.spec.now spec _ (rw (c.as_str.ensures, c.in-Some.is) at c.spec_named.ensures) named in
-    let there = subst (λ v. IsStepOf (schemas_of c.args.document.now.frames) v.plan c.args.fault.now step) same c.in_ok-words-in-Some.ensures in
-    (e.0, text_at step (string_bytes c.in_ok-words-in-Some.words.what), (step, string_bytes c.in_ok-words-in-Some.words.what, there, refl), e.1))
-
-pub returns-in-None : goal.returns-in-None
-returns-in-None c spec named = none_found spec _ (rw (c.as_str.ensures, c.in-None.is) at c.spec_named.ensures) named
+pub returns-in-Some : goal.returns-in-Some
+returns-in-Some c =
+    if_ok_then c.words_in_view.result c.words_in_view.ensures
+    (λ words h index view named found.
+    let same = same_found c.in-Some.index index _ (rw (c.as_slice.ensures, c.as_str.ensures, c.in-Some.is) at c.index_of_name.ensures.value) named in
+    let p = h view (subst (λ i. slice_get c.args.document.now.views i ≡ Some view) (sym same) found) in (
+      p.0,
+      p.1,
+      p.2 ∙ ap (λ i. part_text (codes "view") (i + 1) (Some (escaped_text c.args.view.now)) ++ (between c.args.fault.now ++ p.0)) same,
+    ))
