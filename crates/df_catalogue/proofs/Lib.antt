@@ -4,6 +4,7 @@ pub mod PartFacts
 pub mod ViewChangeFacts
 pub mod FrameChangeFacts
 pub mod WorkFacts
+pub mod KeptFacts
 pub mod PictureFacts
 pub mod StagedPictureFacts
 pub mod StagingFacts

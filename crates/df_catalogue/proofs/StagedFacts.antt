@@ -1,7 +1,8 @@
 -- Changes in two steps, by what was answered: what a staging tells, and that a staging and its commit are the whole change.
-use Rattle.std.proofs.Common.{◌≡◌, ℕ, ◌∙◌, List, refl, ap, sym, subst}
+use Rattle.std.proofs.Common.{◌≡◌, ℕ, ◌∙◌, Bool, List, refl, ap, sym, subst}
 use Rattle.std.specs.Prelude.{Option, Some, None, Result, Ok, Err, IsSomeAnd, option_and_then, option_map}
 use Rattle.df_expr.specs.declared.meter.Meter.{Meter}
+use Rattle.df_delta.specs.Deltas.{Changes}
 use Rattle.df_delta.specs.Work.{IsWithin}
 use Rattle.df_plan.specs.CheckedParts.{CheckedParts}
 use Rattle.df_state.specs.declared.change.Change.{Change}
@@ -23,6 +24,8 @@ use Rattle.df_state.specs.Changes as changes
 use Rattle.df_state.specs.Desks.{DeskParts, desk_after}
 use Rattle.df_state.specs.FrameChanges.{change_of}
 use Rattle.df_frame.specs.FrameParts.{FrameParts, schemas_of, states_of}
+use Rattle.df_catalogue.specs.KeptChanges.{AreKeptAt, HasChangesOf, HasSameChanges}
+use Rattle.df_catalogue.specs.LiveViews.{changes_staged}
 use Rattle.df_catalogue.specs.Parts.{state_of}
 use Rattle.df_state.specs.Refusals.{refusal_of}
 use Rattle.df_catalogue.specs.StagedChanges.{counted_desk, counts_of, counts_staged, IsCommit, IsStagedChange, IsStagedFor}
@@ -34,51 +37,71 @@ use Rattle.df_catalogue.proofs.WorkFacts.{counted-frame}
 
 -- a change that was staged
 pub staged-made :
-    {T : Type 0} (t : T) (frames : List FrameParts) (views : List View) (state : State) (work : Meter) (o : Option Staging) (s : Staging) (old : CatalogueParts)
-    (c : Change) → o ≡ Some s → changes.IsSound c → refusal_of old.state c ≡ None → IsStagedFor old c (staged_parts frames views work s) →
-    state ≡ old.state → work ≡ old.work → IsLegal state →
-    IsStagedChange old c (Ok t) (record { state = state; work = work; staged = option_map (staged_parts frames views work) o })
-staged-made t frames views state work o s old c is sound free for same same_work legal =
-    subst (λ p. IsStagedChange old c (Ok t) (record { state = state; work = work; staged = option_map (staged_parts frames views work) p })) (sym is)
-    (record { sound = sound; accepted = free; staged = for; refused = tt; nothing = tt; state = same; work = same_work; legal = legal })
+    {T : Type 0} (t : T) (frames : List FrameParts) (views : List View) (state : State) (work : Meter) (o : Option Staging) (s : Staging) (keeps : Bool)
+    (kept : List (Option Changes)) (old : CatalogueParts) (c : Change) → o ≡ Some s → changes.IsSound c → refusal_of old.state c ≡ None →
+    IsStagedFor old c (staged_parts frames views work s) → state ≡ old.state → work ≡ old.work → keeps ≡ old.keeps → kept ≡ old.changes → IsLegal state →
+    IsStagedChange old c (Ok t) (record { state = state; work = work; staged = option_map (staged_parts frames views work) o; keeps = keeps; changes = kept })
+staged-made t frames views state work o s keeps kept old c is sound free for same same_work same_keeps same_kept legal =
+    subst (λ p. IsStagedChange old c (Ok t) (record { state = state; work = work; staged = option_map (staged_parts frames views work) p; keeps = keeps; changes = kept }))
+    (sym is)
+    (record {
+      sound = sound;
+      accepted = free;
+      staged = for;
+      refused = tt;
+      nothing = tt;
+      state = same;
+      work = same_work;
+      kept = record { keeps = same_keeps; changes = same_kept };
+      legal = legal;
+    })
 
 -- one that was refused
 pub not-staged :
     {T : Type 0} (old new : CatalogueParts) (c : Change) (f : CatalogueFault) → RefusedBy old.state c f → new.staged ≡ None → new.state ≡ old.state →
-    new.work ≡ old.work → IsLegal new.state → IsStagedChange {T = T} old c (Err f) new
-not-staged old new c f refused none same same_work legal =
-    record { sound = tt; accepted = tt; staged = tt; refused = refused; nothing = none; state = same; work = same_work; legal = legal }
+    new.work ≡ old.work → HasSameChanges old new → IsLegal new.state → IsStagedChange {T = T} old c (Err f) new
+not-staged old new c f refused none same same_work kept legal =
+    record { sound = tt; accepted = tt; staged = tt; refused = refused; nothing = none; state = same; work = same_work; kept = kept; legal = legal }
 
 for-old :
-    (old mid : CatalogueParts) (c : Change) (s : StagedParts) → mid.state ≡ old.state → mid.work ≡ old.work → IsStagedFor mid c s → IsStagedFor old c s
-for-old old mid c s same same_work h = record {
+    (old mid : CatalogueParts) (c : Change) (s : StagedParts) → mid.state ≡ old.state → mid.work ≡ old.work → mid.keeps ≡ old.keeps → IsStagedFor mid c s →
+    IsStagedFor old c s
+for-old old mid c s same same_work same_keeps h = record {
   state = subst (λ t. s.state ≡ changes.after t c) same h.state;
   legal = h.legal;
   work = subst (λ t. IsCounted (allowed_after t c None) old.work s.work) same (subst (λ m. IsCounted (allowed_after mid.state c None) m s.work) same_work h.work);
   rows = h.rows;
+  kept = subst (λ t. AreKeptAt old.keeps c t s.state s.changes) same (subst (λ k. AreKeptAt k c mid.state s.state s.changes) same_keeps h.kept);
 }
 
 for-some :
-    (old mid : CatalogueParts) (c : Change) (o : Option StagedParts) → mid.state ≡ old.state → mid.work ≡ old.work →
+    (old mid : CatalogueParts) (c : Change) (o : Option StagedParts) → mid.state ≡ old.state → mid.work ≡ old.work → mid.keeps ≡ old.keeps →
     IsSomeAnd o (IsStagedFor mid c) → IsSomeAnd o (IsStagedFor old c)
-for-some old mid c None same same_work h = h
-for-some old mid c (Some s) same same_work h = for-old old mid c s same same_work h
+for-some old mid c None same same_work same_keeps h = h
+for-some old mid c (Some s) same same_work same_keeps h = for-old old mid c s same same_work same_keeps h
 
--- what was staged over the same state and work
+pub same-kept : (c : CatalogueParts) → HasSameChanges c c
+same-kept c = record { keeps = refl; changes = refl }
+
+kept-after : (old mid new : CatalogueParts) → HasSameChanges old mid → HasSameChanges mid new → HasSameChanges old new
+kept-after old mid new h k = record { keeps = k.keeps ∙ h.keeps; changes = k.changes ∙ h.changes }
+
+-- what was staged over the same state, work and kept changes
 pub staged-after :
     {T : Type 0} (old mid new : CatalogueParts) (c : Change) (r : Result T CatalogueFault) → mid.state ≡ old.state → mid.work ≡ old.work →
-    IsStagedChange mid c r new → IsStagedChange old c r new
-staged-after old mid new c (Ok t) same same_work h = record {
+    HasSameChanges old mid → IsStagedChange mid c r new → IsStagedChange old c r new
+staged-after old mid new c (Ok t) same same_work kept h = record {
   sound = h.sound;
   accepted = subst (λ s. refusal_of s c ≡ None) same h.accepted;
-  staged = for-some old mid c new.staged same same_work h.staged;
+  staged = for-some old mid c new.staged same same_work kept.keeps h.staged;
   refused = tt;
   nothing = tt;
   state = h.state ∙ same;
   work = h.work ∙ same_work;
+  kept = kept-after old mid new kept h.kept;
   legal = h.legal;
 }
-staged-after old mid new c (Err f) same same_work h = record {
+staged-after old mid new c (Err f) same same_work kept h = record {
   sound = tt;
   accepted = tt;
   staged = tt;
@@ -86,6 +109,7 @@ staged-after old mid new c (Err f) same same_work h = record {
   nothing = h.nothing;
   state = h.state ∙ same;
   work = h.work ∙ same_work;
+  kept = kept-after old mid new kept h.kept;
   legal = h.legal;
 }
 
@@ -127,6 +151,14 @@ work-of-commit :
 work-of-commit old new c None h k = absurd h
 work-of-commit old new c (Some s) h k = subst (IsCounted (allowed_after old.state c None) old.work) (sym k) h.work
 
+-- what is kept once what was staged is committed
+pub kept-of-commit :
+    (old new : CatalogueParts) (c : Change) (o : Option StagedParts) → IsSomeAnd o (IsStagedFor old c) → IsSomeAnd o (λ s. new.state ≡ s.state) →
+    IsSomeAnd o (λ s. new.changes ≡ s.changes) → AreKeptAt old.keeps c old.state new.state new.changes
+kept-of-commit old new c None h is kept = absurd h
+kept-of-commit old new c (Some s) h is kept =
+    subst (λ t. AreKeptAt old.keeps c old.state t new.changes) (sym is) (subst (AreKeptAt old.keeps c old.state s.state) (sym kept) h.kept)
+
 -- staged and committed, the state is that after the change
 pub whole-state :
     {T U : Type 0} (t : T) (u : U) (old mid new : CatalogueParts) (c : Change) → IsStagedChange old c (Ok t) mid → IsCommit mid new →
@@ -139,6 +171,12 @@ pub whole-work :
     IsWorkOf old c (Ok u) new
 whole-work t u old mid new c h k = record { counted = work-of-commit old new c mid.staged h.staged k.work; same = tt }
 
+pub whole-changes :
+    {T U : Type 0} (t : T) (u : U) (old mid new : CatalogueParts) (c : Change) → IsStagedChange old c (Ok t) mid → IsCommit mid new →
+    HasChangesOf old c (Ok u) new
+whole-changes t u old mid new c h k =
+    record { keeps = k.keeps ∙ h.kept.keeps; kept = kept-of-commit old new c mid.staged h.staged k.state k.changes; same = tt }
+
 -- and where nothing was staged all is as it was
 pub refused-state :
     {T U : Type 0} (f : CatalogueFault) (old new : CatalogueParts) (c : Change) → IsStagedChange {T = T} old c (Err f) new → IsTransition {T = U} old.state c (Err f) new.state
@@ -147,6 +185,10 @@ refused-state f old new c h = record { accepted = tt; after = tt; refused = h.re
 pub refused-work :
     {T U : Type 0} (f : CatalogueFault) (old new : CatalogueParts) (c : Change) → IsStagedChange {T = T} old c (Err f) new → IsWorkOf {T = U} old c (Err f) new
 refused-work f old new c h = record { counted = tt; same = h.work }
+
+pub refused-changes :
+    {T U : Type 0} (f : CatalogueFault) (old new : CatalogueParts) (c : Change) → IsStagedChange {T = T} old c (Err f) new → HasChangesOf {T = U} old c (Err f) new
+refused-changes f old new c h = record { keeps = h.kept.keeps; kept = tt; same = h.kept.changes }
 
 desk-counted : (f : ℕ) (c : FrameChange) (d new : DeskParts) → IsSomeAnd (counts_of (change_of f c)) (λ r. new ≡ counted_desk d r) → new ≡ desk_after d (change_of f c)
 desk-counted f (Append chunk) d new h = h
@@ -196,12 +238,14 @@ pub rows-for :
     IsWithin r.work
     (allowance (state_of (schemas_of frames) (states_of frames) views) (changes.after (state_of (schemas_of frames) (states_of frames) views) (change_of r.frame c))) →
     Some (record { frame = r.frame; accepted = r.accepted; deleted = r.deleted }) ≡ counts_of (change_of r.frame c) →
+    AreKeptAt old.keeps (change_of r.frame c) old.state (state_with_rows frames now r) (changes_staged r.views.items) →
     IsStagedFor old (change_of r.frame c) (staged_parts frames now work (Rows r))
-rows-for frames views now work r old c told after legal counted counts = record {
+rows-for frames views now work r old c told after legal counted counts kept = record {
   state = subst (λ s. state_with_rows frames now r ≡ changes.after s (change_of r.frame c)) told after;
   legal = legal;
   work =
       counted-frame old.state r.frame c r.work old.work
       (subst (λ s. IsWithin r.work (allowance s (changes.after s (change_of r.frame c)))) told counted);
   rows = counts;
+  kept = kept;
 }

@@ -53,7 +53,7 @@ pub view-for :
     (frames : List FrameParts) (views : List View) (work : Meter) (view : View) (old : CatalogueParts) →
     staged_state frames views (NewView view) ≡ after old.state (Register view.name view.live.plan) → IsLegal (staged_state frames views (NewView view)) →
     work ≡ old.work → IsStagedFor old (Register view.name view.live.plan) (staged_parts frames views work (NewView view))
-view-for frames views work view old is legal same = record { state = is; legal = legal; work = same; rows = refl }
+view-for frames views work view old is legal same = record { state = is; legal = legal; work = same; rows = refl; kept = refl }
 
 -- a view that is there
 pub removal-staged :
@@ -76,4 +76,4 @@ pub removal-for :
     (frames : List FrameParts) (views : List View) (work : Meter) (at : ℕ) (name : List ℕ) (old : CatalogueParts) →
     staged_state frames views (OldView at) ≡ after old.state (DropView name) → IsLegal (staged_state frames views (OldView at)) →
     work ≡ old.work → IsStagedFor old (DropView name) (staged_parts frames views work (OldView at))
-removal-for frames views work at name old is legal same = record { state = is; legal = legal; work = same; rows = refl }
+removal-for frames views work at name old is legal same = record { state = is; legal = legal; work = same; rows = refl; kept = refl }

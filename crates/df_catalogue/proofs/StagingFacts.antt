@@ -1,7 +1,8 @@
 -- What a catalogue's parts are once what is staged is committed: the parts of the staged state, and sound.
-use Rattle.std.proofs.Common.{◌≡◌, ℕ, ◌+◌, ◌<◌, ◌∙◌, List, [], ◌∷◌, ◌++◌, length, map, refl, ap, sym, subst, arith}
+use Rattle.std.proofs.Common.{◌≡◌, ℕ, ◌+◌, ◌<◌, ◌∙◌, Bool, List, [], ◌∷◌, ◌++◌, length, map, refl, ap, sym, subst, arith}
 use Rattle.std.specs.Prelude.{Option, Some, None, IfSome, option_map, remove}
 use Rattle.std.specs.List.{AllByRecursion}
+use Rattle.df_delta.specs.Deltas.{Changes}
 use Rattle.df_expr.specs.declared.meter.Meter.{Meter}
 use Rattle.df_catalogue.specs.declared.staging.StagedFrame.{StagedFrame}
 use Rattle.df_catalogue.specs.declared.staging.Staging.{Staging}
@@ -15,7 +16,7 @@ use Rattle.df_frame.specs.FrameParts.{FrameParts, schemas_of, states_of}
 use Rattle.df_catalogue.specs.LiveViews.{headings, tagged_frames, view_state, AreLive}
 use Rattle.df_catalogue.specs.Parts.{state_of, IsCatalogue}
 use Rattle.df_catalogue.specs.StagedChanges.{IsCommit}
-use Rattle.df_catalogue.specs.Staging.{frames_with, rows_staged, staged_parts, staged_state, staged_work, state_with_rows, IsNewView, IsOldView, IsSoundCatalogue, IsStagedFrame, IsStaging}
+use Rattle.df_catalogue.specs.Staging.{frames_with, rows_staged, staged_changes, staged_parts, staged_state, staged_work, state_with_rows, IsNewView, IsOldView, IsSoundCatalogue, IsStagedFrame, IsStaging}
 use Rattle.df_state.specs.States.{IsLegal, IsPlanOver}
 use Rattle.df_state.proofs.SoundFrames.{accepted-few, deleted-few}
 use Rattle.df_catalogue.proofs.LiveFacts.{headings-plans, refreshed-headings, views-live}
@@ -120,13 +121,15 @@ nothing-staged frames views capacity o accepted deleted of_accepted of_deleted n
 
 -- what the commit of what is staged makes of a catalogue
 pub committed :
-    (frames : List FrameParts) (views : List View) (state : State) (work : Meter) (o : Option Staging) (s : Staging) (old new : CatalogueParts) →
-    record { state = state; work = work; staged = option_map (staged_parts frames views work) o } ≡ old → o ≡ Some s →
-    new.state ≡ staged_state frames views s → new.work ≡ staged_work work s → new.staged ≡ None → IsLegal new.state → IsCommit old new
-committed frames views state work o s old new told is e w none legal =
+    (frames : List FrameParts) (views : List View) (state : State) (work : Meter) (o : Option Staging) (s : Staging) (keeps : Bool) (changes : List (Option Changes))
+    (old new : CatalogueParts) →
+    record { state = state; work = work; staged = option_map (staged_parts frames views work) o; keeps = keeps; changes = changes } ≡ old → o ≡ Some s →
+    new.state ≡ staged_state frames views s → new.work ≡ staged_work work s → new.staged ≡ None → IsLegal new.state → new.keeps ≡ keeps →
+    new.changes ≡ staged_changes views s → IsCommit old new
+committed frames views state work o s keeps changes old new told is e w none legal same kept =
     subst (λ (c : CatalogueParts). IsCommit c new) told
-    (subst (λ p. IsCommit (record { state = state; work = work; staged = option_map (staged_parts frames views work) p }) new) (sym is)
-    (record { state = e; work = w; nothing = none; legal = legal }))
+    (subst (λ p. IsCommit (record { state = state; work = work; staged = option_map (staged_parts frames views work) p; keeps = keeps; changes = changes }) new) (sym is)
+    (record { state = e; work = w; changes = kept; keeps = same; nothing = none; legal = legal }))
 
 -- a catalogue over which this is staged
 pub something-staged :

@@ -1,5 +1,5 @@
 -- The views of a catalogue, each over the same frames, and what was staged for each.
-use Rattle.std.specs.Prelude.{ℕ, ◌<◌, List, length, map, slice_index_or}
+use Rattle.std.specs.Prelude.{ℕ, ◌<◌, List, length, map, Option, slice_index_or}
 use Rattle.std.specs.FinMap as finite
 use Rattle.df_value.specs.declared.cell.Cell.{Cell}
 use Rattle.df_column.specs.Tables.{TaggedRows}
@@ -25,6 +25,14 @@ headings views = map (λ v. (v.name, v.live.plan)) views
 -- the plans of views
 abbrev pub plans : List View → List CheckedParts
 plans views = map (λ v. v.live.plan) views
+
+-- what is kept of the last change of each view
+abbrev pub changes_kept : List View → List (Option Changes)
+changes_kept views = map (λ v. v.live.changes) views
+
+-- what is to be kept of the change that was staged for each
+abbrev pub changes_staged : List StagedView → List (Option Changes)
+changes_staged staged = map (λ s. s.changes) staged
 
 -- the frames' rows by their tags
 abbrev pub tagged_frames : List FrameState → List TaggedRows

@@ -12,6 +12,7 @@ use Rattle.df_state.specs.Changes as changes
 use Rattle.df_state.specs.Desks.{DeskParts}
 use Rattle.df_state.specs.Refusals.{refusal_of}
 use Rattle.df_state.specs.States.{IsLegal}
+use Rattle.df_catalogue.specs.KeptChanges.{AreKeptAt, HasSameChanges}
 use Rattle.df_catalogue.specs.Work.{IsCounted, allowed_after}
 
 -- what the desk counts at a change of rows
@@ -22,15 +23,16 @@ counts_of (Replace f rows) = Some (record { frame = f; accepted = 0; deleted = 0
 counts_of (Register name p) = None
 counts_of (DropView name) = None
 
--- the change is what is staged: its commit makes the state after it, and its work
+-- the change is what is staged: its commit makes the state after it, its work, and what is kept of it
 pub record IsStagedFor (old : CatalogueParts) (change : Change) (s : StagedParts) : Type 0 where
   pub state : s.state ≡ changes.after old.state change
   pub legal : IsLegal s.state
   pub work : IsCounted (allowed_after old.state change None) old.work s.work
   pub rows : s.rows ≡ counts_of change
+  pub kept : AreKeptAt old.keeps change old.state s.state s.changes
 
 -- what a call that stages a change makes of a catalogue: at Ok the change is sound, nothing refuses it, and it is staged;
--- at Err nothing is staged. The state and the work are as they were
+-- at Err nothing is staged. The state, the work and what is kept are as they were
 pub record IsStagedChange {T : Type 0} (old : CatalogueParts) (change : Change) (result : Result T CatalogueFault) (new : CatalogueParts) :
     Type 0 where
   pub sound : OnOk result (changes.IsSound change)
@@ -40,12 +42,15 @@ pub record IsStagedChange {T : Type 0} (old : CatalogueParts) (change : Change) 
   pub nothing : OnErr result (new.staged ≡ None)
   pub state : new.state ≡ old.state
   pub work : new.work ≡ old.work
+  pub kept : HasSameChanges old new
   pub legal : IsLegal new.state
 
 -- what a commit makes of a catalogue
 pub record IsCommit (old new : CatalogueParts) : Type 0 where
   pub state : IsSomeAnd old.staged (λ s. new.state ≡ s.state)
   pub work : IsSomeAnd old.staged (λ s. new.work ≡ s.work)
+  pub changes : IsSomeAnd old.staged (λ s. new.changes ≡ s.changes)
+  pub keeps : new.keeps ≡ old.keeps
   pub nothing : new.staged ≡ None
   pub legal : IsLegal new.state
 

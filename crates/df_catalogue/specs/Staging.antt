@@ -2,6 +2,7 @@
 -- needs no memory and is not refused. Changes in two steps are this project's own.
 use Rattle.std.specs.Prelude.{◌≡◌, ℕ, ◌+◌, ◌<◌, List, [], ◌∷◌, ◌++◌, length, map, remove, slice_set, Option, Some, None, option_and_then, IfSome}
 use Rattle.df_expr.specs.declared.meter.Meter.{Meter}
+use Rattle.df_delta.specs.Deltas.{Changes}
 use Rattle.df_live.specs.Views.{IsLive}
 use Rattle.df_catalogue.specs.declared.staging.StagedFrame.{StagedFrame}
 use Rattle.df_catalogue.specs.declared.staging.Staging.{Staging}
@@ -13,7 +14,8 @@ use Rattle.df_catalogue.specs.declared.views.View.{View}
 use Rattle.df_state.specs.Changes.{refreshed_views}
 use Rattle.df_state.specs.Desks.{accepted_in, deleted_in}
 use Rattle.df_frame.specs.FrameParts.{FrameParts, schemas_of, states_of}
-use Rattle.df_catalogue.specs.LiveViews.{tagged_frames, view_state, AreStaged, HaveRoom}
+use Rattle.df_catalogue.specs.KeptChanges.{none_kept}
+use Rattle.df_catalogue.specs.LiveViews.{changes_staged, tagged_frames, view_state, AreStaged, HaveRoom}
 use Rattle.df_catalogue.specs.Parts.{state_of, IsCatalogue}
 use Rattle.df_state.specs.States.{IsLegal}
 
@@ -47,9 +49,15 @@ staged_counts (Rows r) = Some (record { frame = r.frame; accepted = r.accepted; 
 staged_counts (NewView v) = None
 staged_counts (OldView at) = None
 
+-- what is kept at it of each view's change
+abbrev pub staged_changes : List View → Staging → List (Option Changes)
+staged_changes views (Rows r) = changes_staged r.views.items
+staged_changes views (NewView v) = none_kept (map view_state (views ++ v ∷ []))
+staged_changes views (OldView at) = none_kept (map view_state (remove views at))
+
 abbrev pub staged_parts : List FrameParts → List View → Meter → Staging → StagedParts
 staged_parts frames views work s =
-    record { state = staged_state frames views s; work = staged_work work s; rows = staged_counts s }
+    record { state = staged_state frames views s; work = staged_work work s; rows = staged_counts s; changes = staged_changes views s }
 
 -- the rows that are staged, if it is rows
 abbrev pub rows_in : Staging → Option StagedFrame

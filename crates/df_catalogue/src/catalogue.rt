@@ -1,5 +1,5 @@
 //! The catalogue: frames, views and books.
-ghost use Rattle.std.specs.Prelude.{◌≡◌, ◌≢◌, ◌≤◌, ◌*◌, None, Some, IfErr, IfOk, OnOk, length};
+ghost use Rattle.std.specs.Prelude.{◌≡◌, ◌≢◌, ◌≤◌, ◌*◌, [], None, Some, IfErr, IfOk, OnOk, false, length};
 ghost use Rattle.df_state.specs.New as new_spec;
 ghost use Rattle.df_state.specs.Desks as desks_spec;
 ghost use Rattle.df_state.specs.Ledgers as ledgers;
@@ -18,8 +18,8 @@ use std::marker::Model;
 use std::sync::ledger::{Blank, Book, Ledger, Share};
 
 /// Frames of rows and registered views, each of which has at every moment the table that its plan
-/// gives over the frames. Contracts see the [`State`](crate::State), and the work of the last change
-/// of rows.
+/// gives over the frames. Contracts see the [`State`](crate::State), the work of the last change
+/// of rows, and what is kept of what it did to each view.
 ///
 /// `Acc` and `Del` are the ledgers of all rows that were accepted and deleted: a desk of another
 /// catalogue has another type.
@@ -28,6 +28,8 @@ pub struct Catalogue<Acc: Ledger, Del: Ledger> {
     pub(crate) views: Vec<View>,
     pub(crate) work: Meter,
     pub(crate) staged: Option<Staging>,
+    // Whether each view keeps what the last change did to its table.
+    pub(crate) keeps: bool,
     pub(crate) accepted: Book<Acc>,
     pub(crate) deleted: Book<Del>,
     pub(crate) accepted_of_no_desk: Share<Acc>,
@@ -42,6 +44,7 @@ impl<Acc: Ledger, Del: Ledger> Drop for Catalogue<Acc, Del> {
             views,
             work,
             staged,
+            keeps: _,
             accepted,
             deleted,
             accepted_of_no_desk,
@@ -61,20 +64,24 @@ impl<Acc: Ledger, Del: Ledger> Drop for Catalogue<Acc, Del> {
 impl<Acc: Ledger, Del: Ledger> Model for Catalogue<Acc, Del> {
     ghost use Rattle.df_state.specs.declared.state.CatalogueParts.{CatalogueParts};
     ghost use Rattle.df_frame.specs.FrameParts.{schemas_of, states_of};
+    ghost use Rattle.df_catalogue.specs.LiveViews.{changes_kept};
     ghost use Rattle.df_catalogue.specs.Parts.{state_of};
     ghost use Rattle.df_catalogue.specs.Staging.{IsSoundCatalogue, staged_parts};
+    ghost use Rattle.df_delta.specs.contracts.delta.Delta as delta_type;
     ghost use Rattle.std.specs.Coded.{codes};
     ghost use Rattle.std.specs.Prelude.{option_map, vec_capacity};
     ghost use Rattle.df_plan.specs.contracts.plan.Plan as plan_type;
 
     ghost Value = { CatalogueParts };
 
-    ghost coded = { Prim.hlevel (codes, plan_type.the_row.coded) };
+    ghost coded = { Prim.hlevel (codes, plan_type.the_row.coded, delta_type.the_row.coded) };
 
     ghost view = { λ c. record {
       state = state_of (schemas_of c.frames.items) (states_of c.frames.items) c.views.items;
       work = c.work;
       staged = option_map (staged_parts c.frames.items c.views.items c.work) c.staged;
+      keeps = c.keeps;
+      changes = changes_kept c.views.items;
     } };
 
     ghost invariant = { λ c.
@@ -106,6 +113,8 @@ impl<Acc: Ledger, Del: Ledger> Catalogue<Acc, Del> {
         ensures opening { IfOk result (λ made. made.0.state ≡ opening_of schemas) }
         ensures work { IfOk result (λ made. made.0.work ≡ no_work) }
         ensures staged { IfOk result (λ made. made.0.staged ≡ None) }
+        ensures keeps { IfOk result (λ made. made.0.keeps ≡ false) }
+        ensures changes { IfOk result (λ made. made.0.changes ≡ []) }
         ensures legal { IfOk result (λ made. IsLegal made.0.state) }
         ensures desks { IfOk result (λ made.
             made.1.items ≡ desks_spec.first_desks (length schemas)) }
@@ -131,6 +140,7 @@ impl<Acc: Ledger, Del: Ledger> Catalogue<Acc, Del> {
             views: Vec::new(alloc),
             work: Meter::new(),
             staged: None,
+            keeps: false,
             accepted,
             deleted,
             accepted_of_no_desk,

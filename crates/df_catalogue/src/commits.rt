@@ -3,7 +3,7 @@ ghost use Rattle.std.specs.Prelude.{◌≡◌, Some, IsSomeAnd, option_map};
 ghost use Rattle.df_catalogue.specs.StagedChanges.{IsCommit, counted_desk, counts_staged};
 
 use crate::catalogue::Catalogue;
-use crate::live_views::commit_all;
+use crate::live_views::{add_view, commit_all, remove_view};
 use crate::staged::{StagedRows, StagedViews};
 use crate::staging::{StagedFrame, Staging, take_rows};
 use df_state::Desk;
@@ -39,15 +39,15 @@ impl<Acc: Ledger, Del: Ledger> Catalogue<Acc, Del> {
         self.work = work;
     }
 
-    /// Makes the change of views that was staged last.
+    /// Makes the change of views that was staged last. What was kept of changes is forgotten.
     pub fn commit_views(&mut self, staged: StagedViews<Acc, Del>)
         requires last { staged.catalogue.value ≡ self.old }
         ensures made { IsCommit self.old self.new }
     {
         let _ = staged;
         match self.staged.take() {
-            Some(Staging::NewView(view)) => self.views.push_reserved(view),
-            Some(Staging::OldView(at)) => drop(self.views.remove(at)),
+            Some(Staging::NewView(view)) => add_view(&mut self.views, view),
+            Some(Staging::OldView(at)) => remove_view(&mut self.views, at),
             other => drop(other),
         }
     }

@@ -9,6 +9,7 @@ mod catalogue;
 mod changing;
 mod checks;
 mod commits;
+mod keeping;
 mod live_views;
 mod pictured;
 mod reading;
@@ -26,4 +27,5 @@ pub use df_state::{
     CatalogueFault, CatalogueParts, Change, Desk, NewFault, PARTS_OF_LEDGER, Picture, RowCounts,
     StagedParts, State, ViewChange, ViewState,
 };
+pub use keeping::ViewChanges;
 pub use staged::{StagedRows, StagedViews};

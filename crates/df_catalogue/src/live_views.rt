@@ -1,11 +1,13 @@
 //! The views follow a change of a frame: all of them prepare before any commits.
-ghost use Rattle.std.specs.Prelude.{◌≡◌, ◌≤◌, ◌^◌, IfOk, OnOk, List, length};
+ghost use Rattle.std.specs.Prelude.{◌≡◌, ◌≤◌, ◌<◌, ◌^◌, ◌++◌, ◌∷◌, [], IfOk, None, OnOk, List, length, remove, vec_capacity, vec_len};
 ghost use Rattle.df_value.specs.Limits.{most_views};
 ghost use Rattle.df_column.specs.Tables.{TaggedRows};
 ghost use Rattle.df_delta.specs.Work.{IsBelow, IsWithin, no_work, plus};
 ghost use Rattle.df_live.specs.Frames.{changed};
-ghost use Rattle.df_live.specs.Views.{HasRoomFor, IsChangeOf, IsLive, LeadsTo, most_work, work};
-ghost use Rattle.df_catalogue.specs.LiveViews.{AreChangesOf, AreLive, AreStaged, HaveRoom, headings, plans};
+ghost use Rattle.df_live.specs.KeptDiffs.{IsKeptDiff};
+ghost use Rattle.df_live.specs.Views.{HasRoomFor, IsChangeOf, IsLive, LeadsTo, most_work, value, work};
+ghost use Rattle.df_catalogue.specs.KeptChanges.{AreForgotten, AreKept};
+ghost use Rattle.df_catalogue.specs.LiveViews.{AreChangesOf, AreLive, AreStaged, HaveRoom, changes_kept, changes_staged, headings, plans};
 ghost use Rattle.df_catalogue.specs.Work.{work_of_all};
 
 use crate::views::View;
@@ -20,10 +22,12 @@ fn prepare_view(
     frame: usize,
     delta: &Delta,
     meter: &mut Meter,
+    keeps: bool,
 ) -> Result<StagedView, AllocError>
     requires { IsBelow meter.old (2 ^ 127) }
     ensures name { view.new.name ≡ view.old.name }
     ensures plan { view.new.live.plan ≡ view.old.live.plan }
+    ensures changes { view.new.live.changes ≡ view.old.live.changes }
     ensures live { (frames : List TaggedRows) → IsLive view.old.live frames → IsLive view.new.live frames }
     ensures staged { IfOk result (λ s. (frames : List TaggedRows) → IsLive view.old.live frames
         → IsChangeOf view.old.live.plan.frames frames frame delta.now
@@ -34,8 +38,12 @@ fn prepare_view(
         → IsChangeOf view.old.live.plan.frames frames frame delta.now
         → IsWithin meter.new (plus meter.old
         (work view.old.live.plan frames (changed frames frame delta.now))) }
+    ensures kept { IfOk result (λ s. (frames : List TaggedRows) → IsLive view.old.live frames
+        → IsChangeOf view.old.live.plan.frames frames frame delta.now
+        → IsKeptDiff keeps (value view.old.live.plan frames)
+        (value view.old.live.plan (changed frames frame delta.now)) s.changes) }
 {
-    view.live.prepare(frame, delta, meter)
+    view.live.prepare(frame, delta, meter, keeps)
 }
 
 // Puts what one view staged in place.
@@ -45,17 +53,30 @@ fn commit_view(view: &mut View, staged: StagedView)
     ensures plan { view.new.live.plan ≡ view.old.live.plan }
     ensures live { (frames : List TaggedRows) → LeadsTo view.old.live staged frames
         → IsLive view.new.live frames }
+    ensures changes { view.new.live.changes ≡ staged.changes }
 {
     view.live.commit(staged);
 }
 
-/// Prepares each view for the delta of a frame. The views stand as they stood, also where memory is refused.
+// Keeps the last change of one view no longer.
+fn forget_view(view: &mut View)
+    ensures name { view.new.name ≡ view.old.name }
+    ensures plan { view.new.live.plan ≡ view.old.live.plan }
+    ensures live { (frames : List TaggedRows) → IsLive view.old.live frames → IsLive view.new.live frames }
+    ensures changes { view.new.live.changes ≡ None }
+{
+    view.live.forget_changes();
+}
+
+/// Prepares each view for the delta of a frame, and where `keeps` for keeping what it does to its table. The views stand as
+/// they stood, also where memory is refused.
 pub fn prepare_all(
     alloc: Global,
     views: &mut Vec<View>,
     frame: usize,
     delta: &Delta,
     meter: &mut Meter,
+    keeps: bool,
 ) -> Result<Vec<StagedView>, AllocError>
     requires few { length views.old.items ≤ most_views }
     requires meter { meter.old ≡ no_work }
@@ -71,8 +92,13 @@ pub fn prepare_all(
         → AreChangesOf views.old.items frames frame delta.now
         → IsWithin meter.new
         (work_of_all (plans views.old.items) frames (changed frames frame delta.now))) }
+    ensures changes { changes_kept views.new.items ≡ changes_kept views.old.items }
+    ensures kept { IfOk result (λ s. (frames : List TaggedRows) → AreLive views.old.items frames
+        → AreChangesOf views.old.items frames frame delta.now
+        → AreKept keeps frames (changed frames frame delta.now) (plans views.old.items)
+        (changes_staged s.items)) }
 {
-    prepare_each(alloc, views.as_mut_slice(), frame, delta, meter)
+    prepare_each(alloc, views.as_mut_slice(), frame, delta, meter, keeps)
 }
 
 /// Puts in place what was staged for each view.
@@ -82,8 +108,34 @@ pub fn commit_all(views: &mut Vec<View>, staged: Vec<StagedView>)
     ensures headings { headings views.new.items ≡ headings views.old.items }
     ensures live { (frames : List TaggedRows) → AreStaged views.old.items staged.items frames
         → AreLive views.new.items frames }
+    ensures changes { changes_kept views.new.items ≡ changes_staged staged.items }
 {
     commit_each(views.as_mut_slice(), staged)
+}
+
+/// Keeps the last changes of the views no longer.
+pub fn forget_all(views: &mut Vec<View>)
+    ensures { AreForgotten views.old.items views.new.items }
+{
+    forget_each(views.as_mut_slice())
+}
+
+/// Adds a view last, for which there is room, and keeps no changes of before.
+pub fn add_view(views: &mut Vec<View>, view: View)
+    requires { vec_len views.old < vec_capacity views.old }
+    ensures { AreForgotten (views.old.items ++ view ∷ []) views.new.items }
+{
+    views.push_reserved(view);
+    forget_all(views)
+}
+
+/// Takes the view of this index out, and keeps no changes of before.
+pub fn remove_view(views: &mut Vec<View>, at: usize)
+    requires { at < length views.old.items }
+    ensures { AreForgotten (remove views.old.items at) views.new.items }
+{
+    drop(views.remove(at));
+    forget_all(views)
 }
 
 // Prepares each of the views.
@@ -93,6 +145,7 @@ fn prepare_each(
     frame: usize,
     delta: &Delta,
     meter: &mut Meter,
+    keeps: bool,
 ) -> Result<Vec<StagedView>, AllocError>
     requires few { length views.old ≤ most_views }
     requires meter { meter.old ≡ no_work }
@@ -108,10 +161,15 @@ fn prepare_each(
         → AreChangesOf views.old frames frame delta.now
         → IsWithin meter.new
         (work_of_all (plans views.old) frames (changed frames frame delta.now))) }
+    ensures changes { changes_kept views.new ≡ changes_kept views.old }
+    ensures kept { IfOk result (λ s. (frames : List TaggedRows) → AreLive views.old frames
+        → AreChangesOf views.old frames frame delta.now
+        → AreKept keeps frames (changed frames frame delta.now) (plans views.old)
+        (changes_staged s.items)) }
 {
     let mut staged = Vec::with_capacity(alloc, views.len())?;
     for at in 0..views.len() {
-        let made = prepare_view(&mut views[at], frame, delta, meter)?;
+        let made = prepare_view(&mut views[at], frame, delta, meter, keeps)?;
         staged.push(made)?;
     }
     Ok(staged)
@@ -124,10 +182,20 @@ fn commit_each(views: &mut [View], staged: Vec<StagedView>)
     ensures headings { headings views.new ≡ headings views.old }
     ensures live { (frames : List TaggedRows) → AreStaged views.old staged.items frames
         → AreLive views.new frames }
+    ensures changes { changes_kept views.new ≡ changes_staged staged.items }
 {
     let mut staged = staged;
     while let Some(last) = staged.pop() {
         let at = staged.len();
         commit_view(&mut views[at], last);
+    }
+}
+
+// Keeps the last change of each view no longer.
+fn forget_each(views: &mut [View])
+    ensures { AreForgotten views.old views.new }
+{
+    for at in 0..views.len() {
+        forget_view(&mut views[at]);
     }
 }

@@ -6,6 +6,7 @@ ghost use Rattle.df_live.specs.Views.{IsLive};
 ghost use Rattle.df_state.specs.declared.change.Change.TheVariants.{Append, Delete, Replace, Register, DropView};
 ghost use Rattle.df_state.specs.Changes as changes;
 ghost use Rattle.df_state.specs.FrameChanges as frame_changes;
+ghost use Rattle.df_catalogue.specs.KeptChanges.{HasSameChanges};
 ghost use Rattle.df_catalogue.specs.LiveViews.{tagged_frames};
 ghost use Rattle.df_state.specs.Refusals.{refusal_of};
 ghost use Rattle.df_catalogue.specs.StagedChanges.{IsStagedChange, IsStagedFor};
@@ -155,6 +156,7 @@ impl<Acc: Ledger, Del: Ledger> Catalogue<Acc, Del> {
         requires nothing { self.old.staged ≡ None }
         ensures state { self.new.state ≡ self.old.state }
         ensures work { self.new.work ≡ self.old.work }
+        ensures kept { HasSameChanges self.old self.new }
         ensures legal { IsLegal self.new.state }
         ensures sound { OnOk result (changes.IsSound (frame_changes.change_of frame change.entry)) }
         ensures staged { OnOk result (IsSomeAnd self.new.staged
@@ -166,7 +168,15 @@ impl<Acc: Ledger, Del: Ledger> Catalogue<Acc, Del> {
         let deleted = change.deleted_rows();
         let (changed, delta) = self.frames[frame].changed(alloc, change)?;
         let mut work = Meter::new();
-        let views = prepare_all(alloc, &mut self.views, frame, delta.get(), &mut work)?;
+        let keeps = self.keeps;
+        let views = prepare_all(
+            alloc,
+            &mut self.views,
+            frame,
+            delta.get(),
+            &mut work,
+            keeps,
+        )?;
         let rows = StagedFrame {
             frame,
             changed,
@@ -201,6 +211,7 @@ impl<Acc: Ledger, Del: Ledger> Catalogue<Acc, Del> {
         requires nothing { self.old.staged ≡ None }
         ensures state { self.new.state ≡ self.old.state }
         ensures work { self.new.work ≡ self.old.work }
+        ensures kept { HasSameChanges self.old self.new }
         ensures legal { IsLegal self.new.state }
         ensures staged { OnOk result (IsSomeAnd self.new.staged
             (IsStagedFor self.old (Register view.name view.live.plan))) }
@@ -222,6 +233,7 @@ impl<Acc: Ledger, Del: Ledger> Catalogue<Acc, Del> {
     fn unstage(&mut self)
         ensures state { self.new.state ≡ self.old.state }
         ensures work { self.new.work ≡ self.old.work }
+        ensures kept { HasSameChanges self.old self.new }
         ensures nothing { self.new.staged ≡ None }
         ensures legal { IsLegal self.new.state }
     {

@@ -1,5 +1,6 @@
 pub mod Staged
 pub mod Answered
+pub mod LastChangeFacts
 pub mod FirstFacts
 pub mod TotalsFacts
 pub mod CrossingPlans

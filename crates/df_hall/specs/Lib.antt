@@ -1,3 +1,4 @@
 pub mod Rooms
 pub mod Closing
 pub mod Halls
+pub mod LastChanges

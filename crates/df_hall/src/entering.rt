@@ -103,6 +103,8 @@ pub(crate) fn enter_rows<Acc: Ledger, Del: Ledger, J: Naming, R: Wait>(
     ensures history { ChangesHistory publisher.old result publisher.new }
     ensures committed { OnOk result (catalogue.new.state ≡ next_state catalogue.old) }
     ensures same { OnErr result (catalogue.new.state ≡ catalogue.old.state) }
+    ensures kept { OnOk result (IsSomeAnd catalogue.old.staged (λ s. catalogue.new.changes ≡ s.changes)) }
+    ensures same_kept { OnErr result (catalogue.new.changes ≡ catalogue.old.changes) }
     ensures desk { OnOk result (IsSomeAnd (counts_staged catalogue.old) (λ rows.
         desk.new ≡ counted_desk desk.old rows)) }
     ensures same_desk { OnErr result (desk.new ≡ desk.old) }
@@ -130,6 +132,8 @@ pub(crate) fn enter_views<Acc: Ledger, Del: Ledger, J: Naming, R: Wait>(
     ensures history { ChangesHistory publisher.old result publisher.new }
     ensures committed { OnOk result (catalogue.new.state ≡ next_state catalogue.old) }
     ensures same { OnErr result (catalogue.new.state ≡ catalogue.old.state) }
+    ensures kept { OnOk result (IsSomeAnd catalogue.old.staged (λ s. catalogue.new.changes ≡ s.changes)) }
+    ensures same_kept { OnErr result (catalogue.new.changes ≡ catalogue.old.changes) }
 {
     match publish_staged(catalogue, publisher, rt, alloc) {
         Ok(told) => {

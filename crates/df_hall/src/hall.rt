@@ -1,5 +1,5 @@
 //! The hall: a lock round a catalogue that publishes its versions.
-ghost use Rattle.std.specs.Prelude.{◌≡◌, [], None, IfErr, IfOk, OnErr, OnOk, Some, length, option_map};
+ghost use Rattle.std.specs.Prelude.{◌≡◌, [], None, IfErr, IfOk, IfSome, OnErr, OnOk, Some, length, option_map};
 ghost use Rattle.df_state.specs.declared.change.Change.TheVariants.{Append, Delete, DropView, Register, Replace};
 ghost use Rattle.df_state.specs.Desks.{AgreeWithBooks, desk_after, having_accepted, having_deleted};
 ghost use Rattle.df_state.specs.FrameChanges.{change_of};
@@ -7,6 +7,7 @@ ghost use Rattle.df_state.specs.States.{IsLegal};
 ghost use Rattle.df_state.specs.ViewChanges.{change_of_views};
 ghost use Rattle.df_hall.specs.Closing as closing;
 ghost use Rattle.df_hall.specs.Halls.{AnswersOverHistory};
+ghost use Rattle.df_hall.specs.LastChanges.{AreOfLastStep, IsLastChange};
 ghost use Rattle.df_hall.specs.Rooms.{HasRoomFor, Holds};
 ghost use Rattle.df_value.specs.Limits as limits;
 ghost use Rattle.df_versions.specs.Answered.{told_states};
@@ -15,11 +16,11 @@ ghost use Rattle.df_versions.specs.Histories.{IsHistoryOver, IsLastState, last_s
 use crate::closing::{Unsettled, settle};
 use crate::totals::{Totals, TotalsRoom};
 use crate::versioned::VersionedCatalogue;
-use df_catalogue::{Catalogue, Desk, FrameChange, ViewChange};
+use df_catalogue::{Catalogue, Desk, FrameChange, ViewChange, ViewChanges};
 use df_plan::CheckedPlan;
 use df_value::{Chunk, Row, Text};
 use df_versions::{ChangeFault, Naming, Publisher, Told};
-use std::alloc::Global;
+use std::alloc::{AllocError, Global};
 use std::sync::ledger::Ledger;
 use std::sync::{Mutex, MutexGuard, Wait};
 
@@ -185,6 +186,32 @@ impl<Acc: Ledger, Del: Ledger, J: Naming> Hall<Acc, Del, J> {
         answer
     }
 
+    /// From now on each view keeps what a change of rows does to its table, or keeps it no longer. What is kept now is
+    /// forgotten.
+    pub fn keep_changes<R: Wait>(&self, rt: &R, keeps: bool) {
+        let mut catalogue = self.catalogue.lock(rt);
+        catalogue.keep_changes(keeps);
+        MutexGuard::unlock(catalogue);
+    }
+
+    /// What the last change of rows did to the view of this name, and its table after it. None where that is not kept, where
+    /// anything changed since this was told, and where there is no such view. It takes the memory of a table that shares its
+    /// blocks.
+    pub fn last_changes<R: Wait>(
+        &self,
+        rt: &R,
+        alloc: Global,
+        name: &str,
+        told: &Told<J>,
+    ) -> Result<Option<ViewChanges>, AllocError>
+        ensures { IfOk result (λ r. IfSome r (IsLastChange told.now name.now)) }
+    {
+        let catalogue = self.catalogue.lock(rt);
+        let answer = catalogue.last_changes(alloc, name, told);
+        MutexGuard::unlock(catalogue);
+        answer
+    }
+
     /// The catalogue and its totals by frame, exactly where the gathered shares of these desks are the
     /// books of every frame; readers get no version from then on. Else the least frame where they are not, with the
     /// hall and the desks, of which those of one frame are now one. It takes no memory, so it can be tried again.
@@ -253,6 +280,7 @@ fn reopened<Acc: Ledger, Del: Ledger, J: Naming>(
 ) -> Missing<Acc, Del, J>
     requires last { last_state publisher ≡ Some unsettled.catalogue.state }
     requires over { IsHistoryOver J.schemas publisher }
+    requires changes { AreOfLastStep publisher unsettled.catalogue }
     requires room { HasRoomFor limits.most_frames unsettled.room }
     requires empty { Holds unsettled.room [] }
     ensures frame { result.frame ≡ unsettled.frame }

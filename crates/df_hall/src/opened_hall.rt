@@ -52,8 +52,8 @@ impl<Acc: Ledger, Del: Ledger> Model for OpenedHall<Acc, Del> {
 
     ghost view = { λ o. (o.versions.0, (o.versions.1, o.desks.items), o.versions.2) };
 
-    // The history ends with the catalogue's state.
-    ghost invariant = { λ o. (last_state o.versions.1 ≡ Some o.catalogue.state)
+    // The history ends with the catalogue's state, which keeps no changes.
+    ghost invariant = { λ o. (last_state o.versions.1 ≡ Some o.catalogue.state) × (o.catalogue.changes ≡ [])
         × (HasRoomFor limits.most_frames o.room × Holds o.room []) };
 }
 
@@ -103,6 +103,7 @@ impl<Acc: Ledger, Del: Ledger> OpenedHall<Acc, Del> {
         opened: Result<(OpenedVersions, TotalsRoom), OpenFault>,
     ) -> Result<OpenedHall<Acc, Del>, OpenFault>
         requires history { IfOk opened (λ made. made.0.1 ≡ catalogue.state ∷ []) }
+        requires changes { catalogue.changes ≡ [] }
         requires room { IfOk opened (λ made. HasRoomFor limits.most_frames made.1) }
         requires empty { IfOk opened (λ made. Holds made.1 []) }
         ensures history { IfOk result (λ o. o.1.0 ≡ catalogue.state ∷ []) }

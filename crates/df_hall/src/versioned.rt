@@ -1,17 +1,18 @@
 //! A catalogue of which each change is published: what stands behind the lock of a hall.
-ghost use Rattle.std.specs.Prelude.{◌≡◌, Some, OnErr, OnOk, length, option_map};
+ghost use Rattle.std.specs.Prelude.{◌≡◌, Some, IfOk, IfSome, OnErr, OnOk, length, option_map};
 ghost use Rattle.df_state.specs.Desks.{AgreeWithBooks, desk_after};
 ghost use Rattle.df_state.specs.FrameChanges.{change_of};
 ghost use Rattle.df_state.specs.ViewChanges.{change_of_views};
 ghost use Rattle.df_state.specs.declared.state.State.{State};
 ghost use Rattle.df_hall.specs.Closing as closing;
+ghost use Rattle.df_hall.specs.LastChanges.{AreOfLastStep, IsLastChange};
 ghost use Rattle.df_versions.specs.Histories.{AreAllowed, IsHistoryOver, last_state};
 
 use crate::closing::gather_audited;
 use crate::entering::{check_ready, enter_rows, enter_views, report};
-use df_catalogue::{Catalogue, Desk, FrameChange, ViewChange};
+use df_catalogue::{Catalogue, Desk, FrameChange, ViewChange, ViewChanges};
 use df_versions::{ChangeFault, Naming, Publisher, Told};
-use std::alloc::Global;
+use std::alloc::{AllocError, Global};
 use std::marker::Model;
 use std::sync::Wait;
 use std::sync::ledger::Ledger;
@@ -27,6 +28,7 @@ impl<Acc: Ledger, Del: Ledger, J: Naming> Model for VersionedCatalogue<Acc, Del,
     ghost use Rattle.std.specs.Coded.{coded_list};
     ghost use Rattle.df_state.specs.declared.state.State.{State};
     ghost use Rattle.df_state.specs.contracts.state.State as state_type;
+    ghost use Rattle.df_hall.specs.LastChanges.{AreOfLastStep};
     ghost use Rattle.df_versions.specs.Histories.{IsHistoryOver, last_state};
 
     ghost Value = { List State };
@@ -35,9 +37,9 @@ impl<Acc: Ledger, Del: Ledger, J: Naming> Model for VersionedCatalogue<Acc, Del,
 
     ghost view = { λ v. v.publisher };
 
-    // The history ends with the catalogue's state.
+    // The history ends with the catalogue's state, and what the catalogue keeps of changes was done by its last step.
     ghost invariant = { λ v. (last_state v.publisher ≡ Some v.catalogue.state)
-        × IsHistoryOver J.schemas v.publisher };
+        × IsHistoryOver J.schemas v.publisher × AreOfLastStep v.publisher v.catalogue };
 }
 
 /// The calls that change the catalogue publish the version after the change, and answer the history up to it. Each takes
@@ -53,6 +55,7 @@ impl<Acc: Ledger, Del: Ledger, J: Naming> VersionedCatalogue<Acc, Del, J> {
     ) -> VersionedCatalogue<Acc, Del, J>
         requires last { last_state publisher ≡ Some catalogue.state }
         requires over { IsHistoryOver J.schemas publisher }
+        requires changes { AreOfLastStep publisher catalogue }
         ensures { result ≡ publisher }
     {
         VersionedCatalogue {
@@ -66,6 +69,7 @@ impl<Acc: Ledger, Del: Ledger, J: Naming> VersionedCatalogue<Acc, Del, J> {
         ensures publisher { result.1 ≡ self }
         ensures state { last_state self ≡ Some result.0.state }
         ensures over { IsHistoryOver J.schemas self }
+        ensures changes { AreOfLastStep self result.0 }
     {
         let VersionedCatalogue {
             catalogue,
@@ -81,6 +85,30 @@ impl<Acc: Ledger, Del: Ledger, J: Naming> VersionedCatalogue<Acc, Del, J> {
         ensures allowed { AreAllowed J.allows self.now }
     {
         self.publisher.len()
+    }
+
+    /// From now on each view keeps what a change of rows does to its table, or keeps it no longer. What is kept now is
+    /// forgotten.
+    pub fn keep_changes(&mut self, keeps: bool)
+        ensures same { self.new ≡ self.old }
+    {
+        self.catalogue.keep_changes(keeps);
+    }
+
+    /// What the last change of rows did to the view of this name, and its table after it. None where that is not kept, where
+    /// anything changed since this was told, and where there is no such view.
+    pub fn last_changes(
+        &self,
+        alloc: Global,
+        name: &str,
+        told: &Told<J>,
+    ) -> Result<Option<ViewChanges>, AllocError>
+        ensures { IfOk result (λ r. IfSome r (IsLastChange told.now name.now)) }
+    {
+        if !self.publisher.is_last(told) {
+            return Ok(None);
+        }
+        self.catalogue.view_changes(alloc, name)
     }
 
     /// Waits until no reader is inside a step, and gives the catalogue back. Readers get no version from then on.

@@ -1,6 +1,6 @@
 -- What a view's tree and table are of, before and after a change.
-use Rattle.std.proofs.Common.{◌≡◌, ℕ, List, sym, ap, subst, ◌∙◌}
-use Rattle.std.specs.Prelude.{Ok}
+use Rattle.std.proofs.Common.{◌≡◌, ℕ, Bool, true, false, List, sym, ap, subst, ◌∙◌}
+use Rattle.std.specs.Prelude.{Ok, Some, None, if◌then◌else◌}
 use Rattle.std.specs.FinMap as finite
 use Rattle.df_value.specs.Schemas.{Columns}
 use Rattle.df_column.specs.Changes.{applied}
@@ -11,6 +11,7 @@ use Rattle.df_plan.specs.CheckedParts.{CheckedParts}
 use Rattle.df_plan.specs.Checks.{CheckResult, plan_check}
 use Rattle.df_live.specs.Frames.{AreFrames, changed}
 use Rattle.df_live.specs.Fresh.{AreEmpty, IsFreshFor}
+use Rattle.df_live.specs.KeptDiffs.{IsKeptDiff}
 use Rattle.df_live.specs.Trees.{IsOver, MayFollow, Takes, allowed, output}
 use Rattle.df_live.specs.Views.{IsChangeOf, IsOf, value}
 use Rattle.df_live.specs.declared.building.Fresh.{Fresh}
@@ -53,6 +54,18 @@ pub table_after :
 table_after tree plan frames after t u d h rows schema are diff gives =
     let is : applied t.rows d ≡ value plan after = ap (λ r. applied r d) (rows ∙ sym (h.gives frames)) ∙ (diff.gives ∙ h.gives after) in
     gives (subst (λ s. RowsFit s (applied t.rows d)) (sym schema) (subst (RowsFit plan.schema) (sym is) (h.fits after are))) ∙ is
+
+kept_or_not : (keeps : Bool) (t u : TaggedRows) (d : Changes) → IsDiff t u d → IsKeptDiff keeps t u (if keeps then Some d else None)
+kept_or_not true t u d h = h
+kept_or_not false t u d h = tt
+
+-- the delta of the tree's output is that of the view's table
+pub kept_diff :
+    (tree : LiveTree) (plan : CheckedParts) (frames after : List TaggedRows) (keeps : Bool) (d : Changes) → IsOf tree plan →
+    IsDiff (output tree frames) (output tree after) d → IsKeptDiff keeps (value plan frames) (value plan after) (if keeps then Some d else None)
+kept_diff tree plan frames after keeps d h diff =
+    kept_or_not keeps (value plan frames) (value plan after) d
+    (subst (λ t. IsDiff t (value plan after) d) (h.gives frames) (subst (λ u. IsDiff (output tree frames) u d) (h.gives after) diff))
 
 same_columns : (r : CheckResult) (a b : Columns) → r ≡ Ok a → r ≡ Ok b → a ≡ b
 same_columns r a b f g = cc

@@ -9,3 +9,4 @@ pub mod Lawful
 pub mod Fresh
 pub mod Tables
 pub mod Views
+pub mod KeptDiffs

@@ -9,6 +9,7 @@ mod building;
 mod fresh_tree;
 mod join_trees;
 mod joined;
+mod keeping;
 mod nodes;
 mod operator;
 mod row_wise_trees;

@@ -5,11 +5,13 @@ ghost use Rattle.df_live.specs.Trees.{budget};
 
 use crate::building::Fresh;
 use crate::fresh_tree::fresh_tree;
+use crate::keeping::with_changes;
 use crate::tree::{LiveTree, StagedTree};
 use df_column::Table;
-use df_delta::{Delta, apply};
+use df_delta::Delta;
 use df_expr::Meter;
 use df_plan::CheckedPlan;
+use df_value::{Duplicate, Shared};
 use std::alloc::{AllocError, Global};
 
 /// The table of a plan over frames, which follows their changes.
@@ -21,11 +23,14 @@ use std::alloc::{AllocError, Global};
 /// What a change costs goes by the rows that it changes at each node and by the rows of the groups that it reaches, and
 /// not by the others that stand there. But at a cumulative sum or a rank one row can change those of many others. Each
 /// table that is kept then gets a new list of its blocks, of which those without a change stay.
+///
+/// Where it is asked to, it keeps what the last commit did to its table.
 pub struct LiveView {
     alloc: Global,
     plan: CheckedPlan,
     tree: LiveTree,
     table: Table,
+    changes: Option<Shared<Delta>>,
     ghost counts: { IsAtMost (budget tree) (2 ^ 94) },
 }
 
@@ -37,10 +42,12 @@ impl Drop for LiveView {
             plan,
             tree,
             table,
+            changes,
         } = self;
         drop(plan);
         drop(tree);
         drop(table);
+        drop(changes);
     }
 }
 
@@ -50,17 +57,20 @@ impl Drop for LiveView {
 pub struct StagedView {
     tree: StagedTree,
     table: Table,
+    changes: Option<Shared<Delta>>,
 }
 
 impl LiveView {
-    ghost use Rattle.std.specs.Prelude.{◌≡◌, IfOk, List, Ok, OnOk, slice_set};
+    ghost use Rattle.std.specs.Prelude.{◌≡◌, IfOk, List, None, Ok, OnOk, slice_set};
+    ghost use Rattle.std.specs.Option.{option_copied};
     ghost use Rattle.df_column.specs.Tables.{TaggedRows};
     ghost use Rattle.df_delta.specs.Work.{IsBelow, IsWithin, plus};
     ghost use Rattle.df_live.specs.Frames.{AreFrames, changed};
     ghost use Rattle.df_live.specs.Fresh.{AreEmpty, IsFreshFor};
     ghost use Rattle.df_plan.specs.Checks.{plan_check};
     ghost use Rattle.df_live.specs.Tables.{MayBeFilled, schemas_of, tables_of};
-    ghost use Rattle.df_live.specs.Views.{HasRoomFor, IsChangeOf, IsLive, LeadsTo, most_work, work};
+    ghost use Rattle.df_live.specs.KeptDiffs.{IsKeptDiff};
+    ghost use Rattle.df_live.specs.Views.{HasRoomFor, IsChangeOf, IsLive, LeadsTo, most_work, value, work};
 
     /// The plan.
     pub fn plan(&self) -> &CheckedPlan
@@ -76,15 +86,48 @@ impl LiveView {
         &self.table
     }
 
+    /// What the last commit did to the table, where its prepare was asked to keep it.
+    pub fn changes(&self) -> Option<&Delta>
+        ensures { option_copied result ≡ self.now.changes }
+    {
+        match &self.changes {
+            Some(changes) => Some(changes.get()),
+            None => None,
+        }
+    }
+
+    /// The same as one more owner of it. It takes no memory: the refusal is that of a further owner.
+    pub fn shared_changes(&self) -> Result<Option<Shared<Delta>>, AllocError>
+        ensures { IfOk result (λ changes. changes ≡ self.now.changes) }
+    {
+        match &self.changes {
+            Some(changes) => Ok(Some(changes.copy(self.alloc)?)),
+            None => Ok(None),
+        }
+    }
+
+    /// Keeps the last change no longer.
+    pub fn forget_changes(&mut self)
+        ensures plan { self.new.plan ≡ self.old.plan }
+        ensures table { self.new.table ≡ self.old.table }
+        ensures changes { self.new.changes ≡ None }
+        ensures live { (frames : List TaggedRows) → IsLive self.old frames → IsLive self.new frames }
+    {
+        drop(self.changes.take());
+    }
+
     /// Makes all that a commit of a frame's delta needs, and leaves the view as it stands, also where memory was refused.
+    /// Where `keeps`, the commit keeps what it does to the table.
     pub fn prepare(
         &mut self,
         frame: usize,
         delta: &Delta,
         meter: &mut Meter,
+        keeps: bool,
     ) -> Result<StagedView, AllocError>
         requires { IsBelow meter.old (2 ^ 127) }
         ensures plan { self.new.plan ≡ self.old.plan }
+        ensures changes { self.new.changes ≡ self.old.changes }
         ensures contents { (frames : List TaggedRows) → IsLive self.old frames
             → IsLive self.new frames }
         ensures grows { IsWithin meter.old meter.new }
@@ -97,10 +140,18 @@ impl LiveView {
             → IsChangeOf self.old.plan.frames frames frame delta.now
             → LeadsTo self.new s (changed frames frame delta.now)) }
         ensures room { IfOk result (λ s. HasRoomFor self.new s) }
+        ensures kept { IfOk result (λ s. (frames : List TaggedRows) → IsLive self.old frames
+            → IsChangeOf self.old.plan.frames frames frame delta.now
+            → IsKeptDiff keeps (value self.old.plan frames)
+            (value self.old.plan (changed frames frame delta.now)) s.changes) }
     {
         let (tree, changes) = self.tree.prepare(self.alloc, frame, delta, meter)?;
-        let table = apply(self.alloc, &self.table, &changes)?;
-        Ok(StagedView { tree, table })
+        let (table, changes) = with_changes(self.alloc, &self.table, changes, keeps)?;
+        Ok(StagedView {
+            tree,
+            table,
+            changes,
+        })
     }
 
     /// Puts the staged view in place.
@@ -109,10 +160,16 @@ impl LiveView {
         ensures plan { self.new.plan ≡ self.old.plan }
         ensures over { (frames : List TaggedRows) → LeadsTo self.old staged frames
             → IsLive self.new frames }
+        ensures changes { self.new.changes ≡ staged.changes }
     {
-        let StagedView { tree, table } = staged;
+        let StagedView {
+            tree,
+            table,
+            changes,
+        } = staged;
         self.tree.commit(tree);
         self.table = table;
+        self.changes = changes;
     }
 
     /// The view of the plan over these frames. It begins over empty ones, and each frame then comes as one delta, so that
@@ -139,7 +196,7 @@ impl LiveView {
             → IsLive self.new (slice_set frames frame table.now.rows)) }
     {
         let delta = Delta::whole(self.alloc, table)?;
-        let staged = self.prepare(frame, &delta, &mut Meter::new())?;
+        let staged = self.prepare(frame, &delta, &mut Meter::new(), false)?;
         self.commit(staged);
         Ok(())
     }
@@ -175,6 +232,7 @@ impl LiveView {
                 plan,
                 tree,
                 table,
+                changes: None,
             }),
             Err(refused) => {
                 drop(tree);

@@ -18,6 +18,12 @@ work-of e = ap (λ (x : CatalogueParts). x.work) e
 pub staged-of : {p q : CatalogueParts} → p ≡ q → p.staged ≡ q.staged
 staged-of e = ap (λ (x : CatalogueParts). x.staged) e
 
+pub keeps-of : {p q : CatalogueParts} → p ≡ q → p.keeps ≡ q.keeps
+keeps-of e = ap (λ (x : CatalogueParts). x.keeps) e
+
+pub changes-of : {p q : CatalogueParts} → p ≡ q → p.changes ≡ q.changes
+changes-of e = ap (λ (x : CatalogueParts). x.changes) e
+
 -- the changed item at its place
 pub change-set : {T : Type 0} (change : T → T) (xs : List T) (i : ℕ) (x : T) → slice_get xs i ≡ Some x → change_at i change xs ≡ slice_set xs i (change x)
 change-set change [] i x e = cc

@@ -1,8 +1,10 @@
 -- What is read of a state: the rows and numbers of frames, and views by name.
-use Rattle.std.specs.Prelude.{ℕ, Bool, false, List, length, map, Option, Result, option_map, unwrap_or, ok_or, find, slice_get, bytes_eq}
+use Rattle.std.specs.Prelude.{ℕ, Bool, false, cond, List, [], ◌∷◌, length, map, Option, None, Result, option_map, unwrap_or, ok_or, find, slice_get, bytes_eq}
 use Rattle.df_value.specs.declared.cell.Cell.{Cell}
 use Rattle.df_value.specs.declared.cell.CellType.{CellType}
+use Rattle.df_delta.specs.Deltas.{Changes}
 use Rattle.df_plan.specs.CheckedParts.{CheckedParts}
+use Rattle.df_state.specs.declared.state.CatalogueParts.{CatalogueParts}
 use Rattle.df_state.specs.declared.state.State.{State}
 use Rattle.df_state.specs.declared.state.ViewState.{ViewState}
 use Rattle.df_state.specs.declared.fault.CatalogueFault.{CatalogueFault}
@@ -45,3 +47,13 @@ view_schema_of s name = option_map (λ p. p.schema) (view_plan_of s name)
 
 abbrev pub view_names_of : State → List (List ℕ)
 view_names_of s = map (λ v. v.name) s.views
+
+-- of what is kept of each view's change, in their order, that of the view of a name
+abbrev pub kept_of : List ℕ → List ViewState → List (Option Changes) → Option Changes
+kept_of name [] changes = None
+kept_of name (v ∷ vs) [] = None
+kept_of name (v ∷ vs) (d ∷ ds) = cond (bytes_eq v.name name) d (kept_of name vs ds)
+
+-- what the last change did to the view of a name, where it is kept
+abbrev pub last_changes_of : CatalogueParts → List ℕ → Option Changes
+last_changes_of c name = kept_of name c.state.views c.changes

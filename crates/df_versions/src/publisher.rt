@@ -1,5 +1,5 @@
 //! The history that is published.
-ghost use Rattle.std.specs.Prelude.{◌≡◌, ◌++◌, ◌∷◌, ◌-◌, ◌^◌, [], None, drop, IfErr, IfOk, IsErr, ◌<◌, length};
+ghost use Rattle.std.specs.Prelude.{◌≡◌, ◌++◌, ◌∷◌, ◌-◌, ◌^◌, [], None, drop, IfErr, IfOk, IsErr, ◌<◌, length, true};
 ghost use Rattle.df_state.specs.Pictures.{picture_of};
 ghost use Rattle.left_right.specs.Sides.{view};
 ghost use Rattle.df_versions.specs.Histories.{AreAllowed, IsHistory, IsHistoryOver, MayFollow, MayFollowBy};
@@ -126,6 +126,14 @@ impl<J: Naming> Publisher<J> {
         ensures over { IsHistoryOver J.schemas self.now }
     {
         Told::of(self.history.again())
+    }
+
+    /// Whether nothing was published since this was told.
+    pub fn is_last(&self, told: &Told<J>) -> bool
+        ensures { result ≡ true → told.now ≡ self.now }
+    {
+        let told = told.history();
+        told.begins(&self.history) && self.history.begins(told)
     }
 
     /// Adds the state that M asks for, which an allowed change makes, and publishes the version with its picture.

@@ -64,6 +64,12 @@ impl<J: Naming> Told<J> {
         }
     }
 
+    pub(crate) fn history(&self) -> &History
+        ensures { result.now ≡ (J.book, self.now) }
+    {
+        &self.history
+    }
+
     pub(crate) fn into_history(self) -> History
         ensures { result ≡ (J.book, self) }
     {

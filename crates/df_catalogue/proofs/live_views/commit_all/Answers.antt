@@ -18,3 +18,8 @@ pub returns-clause-live : goal.returns-clause-live
 returns-clause-live c =
     let same : (with_items c.args.views.now c.commit_each.new.views).items ≡ c.commit_each.new.views = with_items_is c.args.views.now c.commit_each.new.views (search rules) in
     rw (same, ← c.as_mut_slice.ensures.value) c.commit_each.ensures.live
+
+pub returns-clause-changes : goal.returns-clause-changes
+returns-clause-changes c =
+    let same : (with_items c.args.views.now c.commit_each.new.views).items ≡ c.commit_each.new.views = with_items_is c.args.views.now c.commit_each.new.views (search rules) in
+    rw same c.commit_each.ensures.changes

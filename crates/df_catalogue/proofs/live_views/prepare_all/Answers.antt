@@ -34,3 +34,12 @@ prepare_each-requires-clause-few c = rw c.as_mut_slice.ensures.value c.requires.
 pub returns-clause-work : goal.returns-clause-work
 returns-clause-work c =
     rw (← c.as_mut_slice.ensures.value) c.prepare_each.ensures.work
+
+pub returns-clause-changes : goal.returns-clause-changes
+returns-clause-changes c =
+    let same : (with_items c.args.views.now c.prepare_each.new.views).items ≡ c.prepare_each.new.views = with_items_is c.args.views.now c.prepare_each.new.views (search rules) in
+    rw (same, ← c.as_mut_slice.ensures.value) c.prepare_each.ensures.changes
+
+pub returns-clause-kept : goal.returns-clause-kept
+returns-clause-kept c =
+    rw (← c.as_mut_slice.ensures.value) c.prepare_each.ensures.kept

@@ -4,6 +4,7 @@ use Rattle.std.proofs.lemmas.List.{length-map}
 use Rattle.df_state.specs.FrameChanges.{change_of}
 use Rattle.df_state.specs.States.{IsLegal}
 use Rattle.df_state.specs.Transitions.{IsTransition}
+use Rattle.df_catalogue.specs.KeptChanges.{HasChangesOf}
 use Rattle.df_catalogue.specs.Work.{IsWorkOf}
 use Rattle.df_state.proofs.DeskFacts.{desk-read, desks-long, frames-long}
 use Rattle.df_state.proofs.FrameChangeFacts.{desks-transition}
@@ -37,6 +38,10 @@ returns-clause-state g c =
 pub returns-clause-work : goal.returns-clause-work
 returns-clause-work g c =
     subst (λ f. IsWorkOf c.args.self.now (change_of f c.args.change) c.change_frame.result c.change_frame.new.self) (desk g c).1 c.change_frame.ensures.work
+
+pub returns-clause-changes : goal.returns-clause-changes
+returns-clause-changes g c =
+    subst (λ f. HasChangesOf c.args.self.now (change_of f c.args.change) c.change_frame.result c.change_frame.new.self) (desk g c).1 c.change_frame.ensures.changes
 
 pub returns-clause-desks : goal.returns-clause-desks
 returns-clause-desks g c =

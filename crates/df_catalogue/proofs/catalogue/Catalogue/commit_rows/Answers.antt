@@ -40,5 +40,5 @@ returns-clause-made g c =
     let made = rows-committed parts.frames.items parts.views.items c.commit_all.new.views.items rows _ _ _ _ _ _ c.self.invariant.parts sound
     c.commit_all.ensures.headings (c.commit_all.ensures.live _ sound.leads) c.count_accepted.ensures.book c.count_deleted.ensures.book in
     let frames = slice_set parts.frames.items rows.frame rows.changed in
-    committed parts.frames.items parts.views.items _ parts.work parts.staged (Rows rows) _ _ c.self.view_is there made.0 refl
-    (ap (option_map (staged_parts frames c.commit_all.new.views.items rows.work)) c.take_rows.ensures.nothing) made.1.legal
+    committed parts.frames.items parts.views.items _ parts.work parts.staged (Rows rows) parts.keeps _ _ _ c.self.view_is there made.0 refl
+    (ap (option_map (staged_parts frames c.commit_all.new.views.items rows.work)) c.take_rows.ensures.nothing) made.1.legal refl c.commit_all.ensures.changes

@@ -7,7 +7,7 @@ use Rattle.df_state.specs.Refusals.{refusal_of}
 use Rattle.df_catalogue.specs.StagedChanges.{IsStagedChange, IsStagedFor}
 use Rattle.df_state.proofs.Legal.{register-accepted}
 use Rattle.df_state.proofs.Refusing.{by-reason}
-use Rattle.df_catalogue.proofs.StagedFacts.{no-room, not-staged, staged-after}
+use Rattle.df_catalogue.proofs.StagedFacts.{no-room, not-staged, same-kept, staged-after}
 use Rattle.df_catalogue.proofs.catalogue.Catalogue.stage_register.Goals as goal
 
 pub view_over-requires : goal.view_over-requires
@@ -22,8 +22,8 @@ returns-in_err-check_register-clause-staged g c =
     let reason = ap (λ n. refusal_of mid.state (Register n c.args.plan)) (sym c.as_str.ensures) ∙ (c.in_err-check_register.ensures.answer ∙ ap Some (sym made.2)) in
     let refused = by-reason mid.state change made.0 reason in
     subst (λ r. IsStagedChange old change r mid) (sym made.1)
-    (staged-after old mid mid change (Err made.0) c.unstage.ensures.state c.unstage.ensures.work
-    (not-staged mid mid change made.0 refused c.unstage.ensures.nothing refl refl c.unstage.ensures.legal))
+    (staged-after old mid mid change (Err made.0) c.unstage.ensures.state c.unstage.ensures.work c.unstage.ensures.kept
+    (not-staged mid mid change made.0 refused c.unstage.ensures.nothing refl refl (same-kept mid) c.unstage.ensures.legal))
 
 pub returns-in_err-live-clause-staged : goal.returns-in_err-live-clause-staged
 returns-in_err-live-clause-staged g c =
@@ -34,8 +34,8 @@ returns-in_err-live-clause-staged g c =
     let free = subst (λ n. refusal_of mid.state (Register n c.args.plan) ≡ None) c.as_str.ensures c.in_ok-check_register.ensures.answer in
     let refused = subst (RefusedBy mid.state change) (sym made.2) (no-room mid.state c.args.name c.args.plan free) in
     subst (λ r. IsStagedChange old change r mid) (sym made.1)
-    (staged-after old mid mid change (Err made.0) c.unstage.ensures.state c.unstage.ensures.work
-    (not-staged mid mid change made.0 refused c.unstage.ensures.nothing refl refl c.unstage.ensures.legal))
+    (staged-after old mid mid change (Err made.0) c.unstage.ensures.state c.unstage.ensures.work c.unstage.ensures.kept
+    (not-staged mid mid change made.0 refused c.unstage.ensures.nothing refl refl (same-kept mid) c.unstage.ensures.legal))
 
 pub returns-in_err-stage_view-clause-staged : goal.returns-in_err-stage_view-clause-staged
 returns-in_err-stage_view-clause-staged g c =
@@ -47,8 +47,8 @@ returns-in_err-stage_view-clause-staged g c =
     let free = subst (λ n. refusal_of mid.state (Register n c.args.plan) ≡ None) c.as_str.ensures c.in_ok-check_register.ensures.answer in
     let refused = subst (RefusedBy mid.state change) (sym made.2) (no-room mid.state c.args.name c.args.plan free) in
     subst (λ r. IsStagedChange old change r new) (sym made.1)
-    (staged-after old mid new change (Err made.0) c.unstage.ensures.state c.unstage.ensures.work
-    (not-staged mid new change made.0 refused c.in_err-stage_view.ensures.nothing c.stage_view.ensures.state c.stage_view.ensures.work c.stage_view.ensures.legal))
+    (staged-after old mid new change (Err made.0) c.unstage.ensures.state c.unstage.ensures.work c.unstage.ensures.kept
+    (not-staged mid new change made.0 refused c.in_err-stage_view.ensures.nothing c.stage_view.ensures.state c.stage_view.ensures.work c.stage_view.ensures.kept c.stage_view.ensures.legal))
 
 pub returns-clause-staged : goal.returns-clause-staged
 returns-clause-staged g c =
@@ -57,7 +57,7 @@ returns-clause-staged g c =
     let new = c.stage_view.new.self in
     let staged = subst (λ p. IsSomeAnd new.staged (IsStagedFor mid (Register c.args.name p))) c.in_ok-live.ensures.plan c.in_ok-stage_view.ensures.staged in
     let free = subst (λ n. refusal_of mid.state (Register n c.args.plan) ≡ None) c.as_str.ensures c.in_ok-check_register.ensures.answer in
-    staged-after old mid new (Register c.args.name c.args.plan) (Ok _) c.unstage.ensures.state c.unstage.ensures.work (record {
+    staged-after old mid new (Register c.args.name c.args.plan) (Ok _) c.unstage.ensures.state c.unstage.ensures.work c.unstage.ensures.kept (record {
       sound = c.in_ok-check_register.ensures.sound;
       accepted = free;
       staged = staged;
@@ -65,5 +65,6 @@ returns-clause-staged g c =
       nothing = tt;
       state = c.stage_view.ensures.state;
       work = c.stage_view.ensures.work;
+      kept = c.stage_view.ensures.kept;
       legal = c.stage_view.ensures.legal;
     })

@@ -1,4 +1,4 @@
-use Rattle.std.proofs.Common.{◌≡◌, ◌∙◌, None, ap, refl, sym, subst}
+use Rattle.std.proofs.Common.{◌≡◌, ◌∙◌, None, ap, map, refl, sym, subst}
 use Rattle.std.specs.Prelude.{option_map, OnErr}
 use Rattle.std.proofs.lemmas.Result.{err_from_is_err_and}
 use Rattle.df_catalogue.specs.declared.staging.StagedFrame.{StagedFrame}
@@ -9,14 +9,16 @@ use Rattle.df_state.specs.FrameChanges.{change_of}
 use Rattle.df_frame.specs.FrameChanges.{frame_after}
 use Rattle.df_frame.specs.FrameTables.{tagged_rows_of}
 use Rattle.df_frame.specs.FrameParts.{schemas_of, states_of}
-use Rattle.df_catalogue.specs.LiveViews.{tagged_frames, AreStaged}
-use Rattle.df_catalogue.specs.Staging.{staged_parts}
+use Rattle.df_catalogue.specs.KeptChanges.{AreKeptAt}
+use Rattle.df_catalogue.specs.LiveViews.{changes_staged, tagged_frames, view_state, AreStaged}
+use Rattle.df_catalogue.specs.Staging.{staged_parts, state_with_rows}
+use Rattle.df_catalogue.proofs.KeptFacts.{kept-staged}
 use Rattle.df_catalogue.proofs.FrameChangeFacts.{changeable-of, fits-after, views-kept}
 use Rattle.df_state.proofs.FrameChangeFacts.{accepted-of, deleted-of, free-of, sound-of}
 use Rattle.df_catalogue.proofs.StagedRowsFacts.{rows-after, rows-counts, rows-led, rows-sound, rows-work, IsRowsOf}
 use Rattle.df_catalogue.proofs.StagedFacts.{rows-for, staged-some}
 use Rattle.df_catalogue.proofs.StagingFacts.{none-staged, nothing-staged, something-staged}
-use Rattle.df_state.proofs.StateFacts.{staged-of, state-of}
+use Rattle.df_state.proofs.StateFacts.{changes-of, keeps-of, staged-of, state-of}
 use Rattle.df_catalogue.proofs.catalogue.Catalogue.stage_rows.Goals as goal
 
 pub changed-requires-clause-sound : goal.changed-requires-clause-sound
@@ -49,6 +51,12 @@ returns-in_err-views-clause-state g c =
     let kept = views-kept (schemas_of parts.frames.items) (states_of parts.frames.items) parts.views.items c.prepare_all.new.views.items _ _ _ _ c.self.invariant.parts
     c.prepare_all.ensures.headings (c.prepare_all.ensures.live _ c.self.invariant.parts.live) in
     kept.0 ∙ state-of c.self.view_is
+
+pub returns-in_err-views-clause-kept : goal.returns-in_err-views-clause-kept
+returns-in_err-views-clause-kept g c = record { keeps = keeps-of c.self.view_is; changes = c.prepare_all.ensures.changes ∙ changes-of c.self.view_is }
+
+pub returns-clause-kept : goal.returns-clause-kept
+returns-clause-kept g c = record { keeps = keeps-of c.self.view_is; changes = c.prepare_all.ensures.changes ∙ changes-of c.self.view_is }
 
 pub returns-in_err-views-clause-legal : goal.returns-in_err-views-clause-legal
 returns-in_err-views-clause-legal g c =
@@ -149,6 +157,14 @@ returns-clause-staged g c =
     let after = rows-after parts.frames.items parts.views.items c.prepare_all.new.views.items c.args.change c.index.result.now rows is same_views in
     let counted = rows-work parts.frames.items parts.views.items c.prepare_all.new.views.items c.args.change c.index.result.now rows c.get.result.now c.prepare_all.new.meter is same_views led.1
     (c.in_ok-views.ensures.work (tagged_frames (states_of parts.frames.items)) c.self.invariant.parts.live led.0) in
+    let kept_changes =
+    subst (λ k. AreKeptAt k (change_of c.args.frame c.args.change) c.args.self.now.state (state_with_rows parts.frames.items c.prepare_all.new.views.items rows) (changes_staged c.in_ok-views.views.items))
+    (keeps-of c.self.view_is)
+    (kept-staged parts.keeps c.args.frame c.args.change c.args.self.now.state (state_with_rows parts.frames.items c.prepare_all.new.views.items rows) parts.views.items
+    (map view_state c.prepare_all.new.views.items) _ _ (changes_staged c.in_ok-views.views.items) refl same_views
+    (ap (λ (s : State). tagged_frames s.frames) (state-of c.self.view_is)) led.1
+    (c.in_ok-views.ensures.kept (tagged_frames (states_of parts.frames.items)) c.self.invariant.parts.live led.0)) in
     staged-some parts.frames.items c.prepare_all.new.views.items parts.work _ (Rows rows) c.args.self.now (change_of c.args.frame c.args.change) c.stage.ensures
     (rows-for parts.frames.items parts.views.items c.prepare_all.new.views.items parts.work rows c.args.self.now c.args.change (state-of c.self.view_is) after sound.legal counted
-    (rows-counts c.args.frame c.args.change _ _ (c.accepted_rows-accepted.ensures.value ∙ accepted-of c.args.frame c.args.change) (c.deleted_rows-deleted.ensures ∙ deleted-of c.args.frame c.args.change)))
+    (rows-counts c.args.frame c.args.change _ _ (c.accepted_rows-accepted.ensures.value ∙ accepted-of c.args.frame c.args.change) (c.deleted_rows-deleted.ensures ∙ deleted-of c.args.frame c.args.change))
+    kept_changes)

@@ -3,12 +3,13 @@ use Rattle.std.specs.Prelude.{option_map, vec_capacity}
 use Rattle.df_state.specs.declared.change.Change.TheVariants.{Register}
 use Rattle.df_catalogue.specs.declared.staging.Staging.TheVariants.{NewView}
 use Rattle.df_frame.specs.FrameParts.{schemas_of, states_of}
+use Rattle.df_catalogue.specs.LiveViews.{changes_kept}
 use Rattle.df_catalogue.specs.Parts.{state_of}
 use Rattle.df_catalogue.specs.Staging.{staged_parts}
 use Rattle.df_catalogue.proofs.StagedFacts.{staged-some}
 use Rattle.df_catalogue.proofs.StagedViewsFacts.{same-views, view-for, view-staged}
 use Rattle.df_catalogue.proofs.StagingFacts.{none-staged, nothing-staged, something-staged}
-use Rattle.df_state.proofs.StateFacts.{staged-of, state-of, work-of}
+use Rattle.df_state.proofs.StateFacts.{changes-of, keeps-of, staged-of, state-of, work-of}
 use Rattle.df_catalogue.proofs.catalogue.Catalogue.stage_view.Goals as goal
 
 pub invariant_of-self : goal.invariant_of-self
@@ -21,6 +22,14 @@ pub returns-then-not-has_room-clause-state : goal.returns-then-not-has_room-clau
 returns-then-not-has_room-clause-state g c =
     let parts = c.self.inside in
     ap (λ vs. state_of (schemas_of parts.frames.items) (states_of parts.frames.items) vs) c.has_room.ensures.items ∙ state-of c.self.view_is
+
+pub returns-then-not-has_room-clause-kept : goal.returns-then-not-has_room-clause-kept
+returns-then-not-has_room-clause-kept g c =
+    record { keeps = keeps-of c.self.view_is; changes = ap changes_kept c.has_room.ensures.items ∙ changes-of c.self.view_is }
+
+pub returns-clause-kept : goal.returns-clause-kept
+returns-clause-kept g c =
+    record { keeps = keeps-of c.self.view_is; changes = ap changes_kept c.has_room.ensures.items ∙ changes-of c.self.view_is }
 
 pub returns-then-not-has_room-clause-legal : goal.returns-then-not-has_room-clause-legal
 returns-then-not-has_room-clause-legal g c =

@@ -1,10 +1,11 @@
-use Rattle.std.proofs.Common.{subst}
+use Rattle.std.proofs.Common.{Some, ap, subst, sym, ◌∙◌}
 use Rattle.std.proofs.lemmas.Result.{on_ok_weaker}
 use Rattle.df_state.specs.FrameChanges.{change_of}
 use Rattle.df_state.specs.Pictures.{next_state}
 use Rattle.df_catalogue.proofs.StagedFacts.{staged-frame, whole-desk}
 use Rattle.df_versions.specs.Histories.{IsHistoryOver}
 use Rattle.df_hall.proofs.Answered.{entered-ends, entered-over, reported-answers, staged-answers}
+use Rattle.df_hall.proofs.LastChangeFacts.{entered-last, refused-last}
 use Rattle.df_hall.proofs.Staged.{staged-follows}
 use Rattle.df_hall.proofs.versioned.VersionedCatalogue.change_rows.Goals as goal
 
@@ -23,7 +24,14 @@ invariant_of-self g c =
       entered-ends c.self.inside.publisher c.enter_rows.new.publisher c.self.inside.catalogue.state c.stage_frame_change.new.self.state c.enter_rows.new.catalogue.state (next_state c.stage_frame_change.new.self) c.enter_rows.result
           c.self.invariant.0 c.in-Ok.ensures.staged.state e.answer e.history e.committed e.same,
       entered-over g.J.Naming.schemas c.self.inside.publisher c.enter_rows.new.publisher (next_state c.stage_frame_change.new.self) c.enter_rows.result c.self.invariant.1 e.answer e.history,
+      entered-last c.self.inside.publisher c.enter_rows.new.publisher c.self.inside.catalogue c.stage_frame_change.new.self c.enter_rows.new.catalogue (change_of c.args.desk.now.frame c.args.change) c.enter_rows.result
+          c.self.invariant.0 c.self.invariant.2 c.in-Ok.ensures.staged.kept c.in-Ok.ensures.staged.state c.in-Ok.ensures.staged.staged e.answer e.history e.committed e.same e.kept e.same_kept,
     )
+
+pub invariant_of-self-in-Err : goal.invariant_of-self-in-Err
+invariant_of-self-in-Err g c =
+    let s = c.in-Err.ensures.staged in
+    (c.self.invariant.0 ∙ ap Some (sym s.state), c.self.invariant.1, refused-last c.self.inside.publisher c.self.inside.catalogue c.stage_frame_change.new.self s.kept s.state c.self.invariant.2)
 
 pub returns-in-Ok-clause-answer : goal.returns-in-Ok-clause-answer
 returns-in-Ok-clause-answer g c =

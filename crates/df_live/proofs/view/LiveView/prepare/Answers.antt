@@ -1,9 +1,10 @@
-use Rattle.std.proofs.Common.{◌≡◌, ◌∙◌, ap, subst}
+use Rattle.std.proofs.Common.{◌≡◌, ◌∙◌, ap, subst, sym}
 use Rattle.std.specs.FinMap as finite
 use Rattle.df_delta.specs.Work.{IsWithin, plus}
 use Rattle.df_live.specs.Frames.{changed}
 use Rattle.df_live.specs.Views.{value}
-use Rattle.df_live.proofs.ViewLaws.{follows, same_is_of, table_after}
+use Rattle.df_live.specs.KeptDiffs.{IsKeptDiff}
+use Rattle.df_live.proofs.ViewLaws.{follows, kept_diff, same_is_of, table_after}
 use Rattle.df_live.proofs.view.LiveView.prepare.Goals as goal
 
 pub returns-clause-contents : goal.returns-clause-contents
@@ -62,3 +63,11 @@ returns-clause-staged c frames h change =
       schema = c.in_ok-table.ensures.schema ∙ h.schema;
       rows = ap (finite.values) table ∙ h.of_plan.rows after change.after;
     }
+
+pub returns-clause-kept : goal.returns-clause-kept
+returns-clause-kept c frames h change =
+    let plan = c.args.self.now.plan in
+    let after = changed frames c.args.frame c.args.delta.now in
+    let diff = c.in_ok-tree.ensures.diff frames (follows _ _ _ _ _ h.of_plan h.over change) in
+    subst (IsKeptDiff c.args.keeps (value plan frames) (value plan after)) (sym c.in_ok-table.ensures.kept)
+    (kept_diff c.args.self.now.tree plan frames after c.args.keeps c.in_ok-tree.changes h.of_plan diff)
