@@ -41,12 +41,11 @@ class Frame(random_sessions.Frame):
     def csv(self, rows):
         text = io.StringIO()
         csv.writer(text, lineterminator="\n").writerows([random_sessions.field(cell) for cell in row] for row in rows)
-        # Python writes a row whose only cell is null in quotes, which is null, too.
         return text.getvalue()
 
-    def load(self, source, path):
-        """A file of some chunks, of which one may have a bad cell; its command, and how many chunks enter."""
-        rows = [self.row(source, TEXTS + LONG) for _ in range(source.choice([0, 1, 7, 1000, 1001, 2300]))]
+    def load(self, source, path, sizes):
+        """A file of so many rows as one of these sizes, of which one may have a bad cell; its command, and how many chunks enter."""
+        rows = [self.row(source, TEXTS + LONG) for _ in range(source.choice(sizes))]
         lines = [self.csv([row]) for row in rows]
         bad = source.randrange(len(rows)) if rows and source.random() < 0.3 else None
         chunks, behind = 0, max(self.accepted, default=-1) + 1
@@ -78,6 +77,9 @@ class Session:
         self.frames = [Frame(name, columns) for name, columns in live.FRAMES]
         self.registered = [view[0] for view in self.views]
         self.watched, self.files, self.turns = [], 0, []
+        # A join of many rows with few keys is large.
+        joins = any(step[0] == "join" for _, _, steps in self.views for step in steps)
+        self.sizes = [0, 1, 7, 40] if joins else [0, 7, 1000, 1001, 2300]
         # Behind a change of rows its number of changes: then `changes` has an answer.
         self.last_of_rows = False
 
@@ -93,8 +95,16 @@ class Session:
         for view in self.watched:
             self.type(f"show {view} csv\n", "shown", view)
 
+    def frame(self):
+        """A frame, more often one that a watched view begins with."""
+        starts = [start for view, start, _ in self.views if view in self.watched]
+        if starts and self.source.random() < 0.7:
+            name = self.source.choice(starts)
+            return next(frame for frame in self.frames if frame.name == name)
+        return self.source.choice(self.frames)
+
     def change(self):
-        frame = self.source.choice(self.frames)
+        frame = self.frame()
         change = self.source.choice([lambda: frame.append(self.source, 9), lambda: frame.append(self.source, 9), lambda: frame.delete(self.source), lambda: frame.replace(self.source)])
         command, answer = change()
         self.type(command, "said", answer)
@@ -104,7 +114,7 @@ class Session:
     def load(self):
         self.files += 1
         path = os.path.join(self.folder, f"rows{self.files}.csv")
-        command, chunks = self.source.choice(self.frames).load(self.source, path)
+        command, chunks = self.frame().load(self.source, path, self.sizes)
         self.type(command, "loaded")
         self.made(chunks)
 

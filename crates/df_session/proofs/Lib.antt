@@ -7,3 +7,4 @@ mod DescribedFacts
 mod NumberFacts
 mod LoadFacts
 mod FramedFacts
+mod PlaceFacts

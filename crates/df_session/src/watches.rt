@@ -1,5 +1,5 @@
 //! The views that are watched, and what is to be told of them.
-ghost use Rattle.std.specs.Prelude.{◌≡◌, ◌⊎◌, ◌++◌, ◌∷◌, [], IfOk, OnErr, OnOk, false, flat_map, is_nil, string_bytes, true};
+ghost use Rattle.std.specs.Prelude.{◌≡◌, ◌⊎◌, ◌++◌, ◌==◌, ◌∷◌, [], IfOk, OnErr, OnOk, false, flat_map, length, string_bytes, true};
 ghost use Rattle.df_session.specs.ViewChanges as view_changes;
 ghost use Rattle.df_session.specs.Watching as watching;
 ghost use Rattle.df_session.specs.Watching.{with_name, without_name};
@@ -128,7 +128,7 @@ impl Watches {
 
     /// Whether no view is watched.
     pub fn is_empty(&self) -> bool
-        ensures { result ≡ is_nil self.now.names }
+        ensures { result ≡ (length self.now.names == 0) }
     {
         self.views.is_empty()
     }
