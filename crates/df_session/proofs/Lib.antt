@@ -8,3 +8,4 @@ mod NumberFacts
 mod LoadFacts
 mod FramedFacts
 mod PlaceFacts
+mod WatchFacts

@@ -44,7 +44,7 @@ impl<S> WatchedStore<S> {
 
     /// The store.
     pub fn into_store(self) -> S
-        ensures { result ≡ self.entry.store }
+        ensures { result ≡ self.store }
     {
         let WatchedStore { store, watches } = self;
         drop(watches);
@@ -85,7 +85,7 @@ impl<S: ChangeStore> WatchedStore<S> {
 }
 
 impl<S: ChangeStore> ViewStore for WatchedStore<S> {
-    ghost use Rattle.std.specs.Prelude.{◌≡◌, ◌⊎◌, refl};
+    ghost use Rattle.std.specs.Prelude.{refl};
     ghost use Rattle.df_session.specs.Watching.{HasTold};
     ghost use Rattle.df_session.specs.declared.refusal.Refusal.TheVariants.{Memory};
 
@@ -199,10 +199,10 @@ fn watch<S: ChangeStore>(
     store: &mut WatchedStore<S>,
     view: &str,
 ) -> Result<(), Refusal>
-    ensures begun { OnOk result (HasBegun S.Finds S.Turns view.now
+    ensures begun { OnOk result (HasBegun S.Finds S.Turns S.Tells view.now
         store.old.store store.old.watches store.new.store store.new.watches) }
     ensures refused { IfErr result
-        (IsRefusalOfWatch S.Finds view.now store.old.store store.new.store) }
+        (IsRefusalOfWatch S.Finds S.Turns S.Tells view.now store.old.store store.new.store) }
     ensures same { OnErr result (store.new.watches ≡ store.old.watches) }
 {
     let watched = WatchedView::new(alloc, view)?;
@@ -219,7 +219,7 @@ fn watch<S: ChangeStore>(
 
 // Watches a view no longer, if it did. It takes no memory.
 fn unwatch<S: ChangeStore>(store: &mut WatchedStore<S>, view: &str)
-    ensures { HasEnded S.Turns view.now store.old.store store.old.watches
+    ensures { HasEnded S.Finds S.Turns S.Tells view.now store.old.store store.old.watches
         store.new.store store.new.watches }
 {
     store.watches.end(view);
@@ -234,7 +234,7 @@ fn changes_of<S: ChangeStore>(
     store: &mut WatchedStore<S>,
     view: &str,
 ) -> Result<Vec<u8>, Refusal>
-    ensures changes { IsChangesOf S.Finds S.Tells view.now store.old.store store.new.store
+    ensures changes { IsChangesOf S.Finds S.Turns S.Tells view.now store.old.store store.new.store
         (is_watched view.now store.old.watches.names) result }
     ensures same { store.new.watches ≡ store.old.watches }
 {
@@ -249,7 +249,7 @@ fn changes_of<S: ChangeStore>(
 
 // Why a view has no changes that is not watched.
 fn unwatched<S: ChangeStore>(alloc: Global, store: &mut S, view: &str) -> Result<Refusal, Refusal>
-    ensures { MatchResult result (IsUnwatched S.Finds view.now store.old store.new)
+    ensures { MatchResult result (IsUnwatched S.Finds S.Turns S.Tells view.now store.old store.new)
         (λ r. S.Finds store.old store.new view.now (Err r)) }
 {
     if store.has_view(alloc, view)? {

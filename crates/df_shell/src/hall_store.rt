@@ -254,7 +254,6 @@ impl<'r, R: Wait, Acc: Ledger, Del: Ledger, J: Naming> ViewStore for HallStore<'
 
 impl<'r, R: Wait, Acc: Ledger, Del: Ledger, J: Naming> ChangeStore
     for HallStore<'r, R, Acc, Del, J> {
-    ghost use Rattle.std.specs.Prelude.{◌≡◌};
     ghost use Rattle.df_shell.specs.Halls.{IsFoundInHall};
     ghost use Rattle.df_shell.specs.ToldChanges.{TellsInHall, last_number};
 

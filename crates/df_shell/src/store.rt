@@ -141,7 +141,6 @@ impl<Acc: Ledger, Del: Ledger> ViewStore for Store<Acc, Del> {
 }
 
 impl<Acc: Ledger, Del: Ledger> ChangeStore for Store<Acc, Del> {
-    ghost use Rattle.std.specs.Prelude.{None};
     ghost use Rattle.df_catalogue.specs.KeptChanges.{none_kept};
     ghost use Rattle.df_shell.specs.ToldChanges.{FindsView, TellsLast};
 
