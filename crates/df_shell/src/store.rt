@@ -67,10 +67,19 @@ impl<Acc: Ledger, Del: Ledger> Store<Acc, Del> {
         let desks = self.desks.as_mut_slice();
         let made = self.catalogue.apply(alloc, desks, change);
         self.numbers.note(end_if_made(&made, end));
-        if made.is_ok() {
-            self.change_number = self.change_number.saturating_add(1);
-        }
+        self.change_number = number_after(&made, self.change_number);
         made
+    }
+}
+
+// The number of the last change, where this was the one before it: a refused one has none.
+fn number_after(made: &Result<(), CatalogueFault>, number: u64) -> u64
+    ensures counted { OnOk made.now (result ≡ number_behind number) }
+    ensures same { OnErr made.now (result ≡ number) }
+{
+    match made {
+        Ok(()) => number.saturating_add(1),
+        Err(_) => number,
     }
 }
 
