@@ -1,6 +1,6 @@
 -- What is kept of the changes of views: item by item where views are prepared and committed, and of the view of a name.
 use Rattle.std.proofs.Common.{◌≡◌, ℕ, zero, suc, ◌+◌, ◌<◌, ◌≤◌, Bool, true, false, cond, List, [], ◌∷◌, ◌++◌, drop, get_or, length, map, set, take, refl, ap, sym, subst, ◌∙◌, arith}
-use Rattle.std.specs.Prelude.{Option, Some, None, option_and_then, option_map, bytes_eq, find, position}
+use Rattle.std.specs.Prelude.{Option, Some, None, IfSome, option_and_then, option_map, bytes_eq, find, position}
 use Rattle.std.specs.List.{AllZip}
 use Rattle.std.proofs.lemmas.List.{drop-set, length-map, length-set, take_more, take_more_set}
 use Rattle.df_column.specs.Tables.{TaggedRows}
@@ -11,7 +11,7 @@ use Rattle.df_live.specs.KeptDiffs.{IsKeptDiff}
 use Rattle.df_live.specs.Views.{IsLive, value}
 use Rattle.df_live.specs.declared.view.StagedView.{StagedView}
 use Rattle.df_state.specs.Changes.{refreshed_views}
-use Rattle.df_state.specs.Reads.{kept_of, view_named}
+use Rattle.df_state.specs.Reads.{kept_of, view_named, view_schema_of}
 use Rattle.df_state.specs.declared.change.Change.{Change}
 use Rattle.df_state.specs.declared.change.Change.TheVariants.{Append, Delete, Replace, Register, DropView}
 use Rattle.df_state.specs.declared.state.CatalogueParts.{CatalogueParts}
@@ -180,7 +180,7 @@ found-first false keeps frames new_frames v found x later d h rest e = rest e
 found-between :
     (keeps : Bool) (frames new_frames : List TaggedRows) (vs : List ViewState) (ds : List (Option Changes)) (name : List ℕ) (d : Changes) →
     AreKept keeps frames new_frames (map (λ v. v.plan) vs) ds → kept_of name vs ds ≡ Some d → IsFound frames new_frames (view_named name vs) d
-found-between keeps frames new_frames [] ds name d h e = cc
+found-between keeps frames new_frames [] ds name d h e = absurd (cc (e))
 found-between keeps frames new_frames (v ∷ vs) [] name d h e = absurd h
 found-between keeps frames new_frames (v ∷ vs) (x ∷ xs) name d h e =
     found-first (bytes_eq v.name name) keeps frames new_frames v (view_named name vs) x (kept_of name vs xs) d h.0
@@ -190,7 +190,7 @@ none-first : (b : Bool) (later : Option Changes) → later ≡ None → cond b N
 none-first true later e = refl
 none-first false later e = e
 
-none-of-name : (name : List ℕ) (vs : List ViewState) → kept_of name vs (none_kept vs) ≡ None
+pub none-of-name : (name : List ℕ) (vs : List ViewState) → kept_of name vs (none_kept vs) ≡ None
 none-of-name name [] = refl
 none-of-name name (v ∷ vs) = none-first (bytes_eq v.name name) (kept_of name vs (none_kept vs)) (none-of-name name vs)
 
@@ -246,3 +246,17 @@ table-placed s name vs at v told found lent live =
     ap (λ ws. option_map (λ (w : ViewState). value w.plan (tagged_frames s.frames)) (view_named name ws)) told
     ∙ (ap (option_map (λ (w : ViewState). value w.plan (tagged_frames s.frames))) (views-found (λ n. bytes_eq n name) vs ∙ ap (option_map view_state) (placed-found (λ w. bytes_eq w.name name) vs at v found lent))
     ∙ ap Some (sym live.table))
+
+-- and its schema
+pub schema-placed :
+    (s : State) (name : List ℕ) (vs : List View) (at : ℕ) (v : View) → s.views ≡ map view_state vs → position (λ v. bytes_eq v.name name) vs ≡ Some at →
+    v ≡ get_or vs at v → IsLive v.live (tagged_frames s.frames) → view_schema_of s name ≡ Some v.live.table.schema
+schema-placed s name vs at v told found lent live =
+    ap (λ ws. option_map (λ (p : CheckedParts). p.schema) (option_map (λ (w : ViewState). w.plan) (view_named name ws))) told
+    ∙ (ap (λ o. option_map (λ (p : CheckedParts). p.schema) (option_map (λ (w : ViewState). w.plan) o))
+    (views-found (λ n. bytes_eq n name) vs ∙ ap (option_map view_state) (placed-found (λ w. bytes_eq w.name name) vs at v found lent))
+    ∙ ap Some (sym live.schema))
+
+pub some-weaker : {A : Type 0} {P Q : A → Type 0} (o : Option A) → ((a : A) → P a → Q a) → IfSome o P → IfSome o Q
+some-weaker None f h = tt
+some-weaker (Some a) f h = f a h

@@ -3,7 +3,8 @@ ghost use Rattle.std.specs.Prelude.{◌≡◌, Some, IsSomeAnd, option_map};
 ghost use Rattle.df_catalogue.specs.StagedChanges.{IsCommit, counted_desk, counts_staged};
 
 use crate::catalogue::Catalogue;
-use crate::live_views::{add_view, commit_all, remove_view};
+use crate::forgetting::{add_view, remove_view};
+use crate::live_views::commit_all;
 use crate::staged::{StagedRows, StagedViews};
 use crate::staging::{StagedFrame, Staging, take_rows};
 use df_state::Desk;

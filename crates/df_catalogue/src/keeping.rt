@@ -6,7 +6,7 @@ ghost use Rattle.df_state.specs.States.{IsLegal};
 ghost use Rattle.df_catalogue.specs.KeptChanges.{none_kept, tagged_table_of};
 
 use crate::catalogue::Catalogue;
-use crate::live_views::forget_all;
+use crate::forgetting::forget_all;
 use crate::staging::clear;
 use df_column::Table;
 use df_delta::Delta;
@@ -57,11 +57,7 @@ impl<Acc: Ledger, Del: Ledger> Catalogue<Acc, Del> {
     }
 
     /// The same as a further owner of it, with a table that shares the blocks of the view's.
-    pub fn view_changes(
-        &self,
-        alloc: Global,
-        name: &str,
-    ) -> Result<Option<ViewChanges>, AllocError>
+    pub fn view_changes(&self, alloc: Global, name: &str) -> Result<Option<ViewChanges>, AllocError>
         ensures changes { IfOk result (λ r. option_map (λ v. v.changes) r ≡ last_changes_of self.now name.now) }
         ensures table { IfOk result (λ r. IfSome r (λ v. tagged_table_of self.now.state name.now ≡ Some v.table.rows)) }
         ensures schema { IfOk result (λ r. IfSome r (λ v. view_schema_of self.now.state name.now ≡ Some v.table.schema)) }

@@ -9,6 +9,7 @@ mod catalogue;
 mod changing;
 mod checks;
 mod commits;
+mod forgetting;
 mod keeping;
 mod live_views;
 mod pictured;

@@ -1,12 +1,12 @@
 //! The views follow a change of a frame: all of them prepare before any commits.
-ghost use Rattle.std.specs.Prelude.{◌≡◌, ◌≤◌, ◌<◌, ◌^◌, ◌++◌, ◌∷◌, [], IfOk, None, OnOk, List, length, remove, vec_capacity, vec_len};
+ghost use Rattle.std.specs.Prelude.{◌≡◌, ◌≤◌, ◌^◌, IfOk, OnOk, List, length};
 ghost use Rattle.df_value.specs.Limits.{most_views};
 ghost use Rattle.df_column.specs.Tables.{TaggedRows};
 ghost use Rattle.df_delta.specs.Work.{IsBelow, IsWithin, no_work, plus};
 ghost use Rattle.df_live.specs.Frames.{changed};
 ghost use Rattle.df_live.specs.KeptDiffs.{IsKeptDiff};
 ghost use Rattle.df_live.specs.Views.{HasRoomFor, IsChangeOf, IsLive, LeadsTo, most_work, value, work};
-ghost use Rattle.df_catalogue.specs.KeptChanges.{AreForgotten, AreKept};
+ghost use Rattle.df_catalogue.specs.KeptChanges.{AreKept};
 ghost use Rattle.df_catalogue.specs.LiveViews.{AreChangesOf, AreLive, AreStaged, HaveRoom, changes_kept, changes_staged, headings, plans};
 ghost use Rattle.df_catalogue.specs.Work.{work_of_all};
 
@@ -58,16 +58,6 @@ fn commit_view(view: &mut View, staged: StagedView)
     view.live.commit(staged);
 }
 
-// Keeps the last change of one view no longer.
-fn forget_view(view: &mut View)
-    ensures name { view.new.name ≡ view.old.name }
-    ensures plan { view.new.live.plan ≡ view.old.live.plan }
-    ensures live { (frames : List TaggedRows) → IsLive view.old.live frames → IsLive view.new.live frames }
-    ensures changes { view.new.live.changes ≡ None }
-{
-    view.live.forget_changes();
-}
-
 /// Prepares each view for the delta of a frame, and where `keeps` for keeping what it does to its table. The views stand as
 /// they stood, also where memory is refused.
 pub fn prepare_all(
@@ -111,31 +101,6 @@ pub fn commit_all(views: &mut Vec<View>, staged: Vec<StagedView>)
     ensures changes { changes_kept views.new.items ≡ changes_staged staged.items }
 {
     commit_each(views.as_mut_slice(), staged)
-}
-
-/// Keeps the last changes of the views no longer.
-pub fn forget_all(views: &mut Vec<View>)
-    ensures { AreForgotten views.old.items views.new.items }
-{
-    forget_each(views.as_mut_slice())
-}
-
-/// Adds a view last, for which there is room, and keeps no changes of before.
-pub fn add_view(views: &mut Vec<View>, view: View)
-    requires { vec_len views.old < vec_capacity views.old }
-    ensures { AreForgotten (views.old.items ++ view ∷ []) views.new.items }
-{
-    views.push_reserved(view);
-    forget_all(views)
-}
-
-/// Takes the view of this index out, and keeps no changes of before.
-pub fn remove_view(views: &mut Vec<View>, at: usize)
-    requires { at < length views.old.items }
-    ensures { AreForgotten (remove views.old.items at) views.new.items }
-{
-    drop(views.remove(at));
-    forget_all(views)
 }
 
 // Prepares each of the views.
@@ -188,14 +153,5 @@ fn commit_each(views: &mut [View], staged: Vec<StagedView>)
     while let Some(last) = staged.pop() {
         let at = staged.len();
         commit_view(&mut views[at], last);
-    }
-}
-
-// Keeps the last change of each view no longer.
-fn forget_each(views: &mut [View])
-    ensures { AreForgotten views.old views.new }
-{
-    for at in 0..views.len() {
-        forget_view(&mut views[at]);
     }
 }

@@ -169,14 +169,7 @@ impl<Acc: Ledger, Del: Ledger> Catalogue<Acc, Del> {
         let (changed, delta) = self.frames[frame].changed(alloc, change)?;
         let mut work = Meter::new();
         let keeps = self.keeps;
-        let views = prepare_all(
-            alloc,
-            &mut self.views,
-            frame,
-            delta.get(),
-            &mut work,
-            keeps,
-        )?;
+        let views = prepare_all(alloc, &mut self.views, frame, delta.get(), &mut work, keeps)?;
         let rows = StagedFrame {
             frame,
             changed,

@@ -1,12 +1,17 @@
 -- A live view, and what it stages, may go to another thread.
 use denote.RattleType.{RattleType}
-use denote.Param.Send.{IsSend, sendable}
+use denote.Param.Send.{IsSend, IsSync, sendable}
 use Rattle.std.proofs.Crossing.{crosses}
 use Rattle.std.specs.contracts.boxed.Box as Box
 use Rattle.std.specs.contracts.alloc.Global as Global
 use Rattle.std.specs.contracts.impls.GlobalAllocator.TheImpl.{ghosts}
 use Rattle.df_value.proofs.list.List.TheSendSync as list
+use Rattle.df_value.proofs.row.Row.TheSendSync as row
+use Rattle.df_value.proofs.shared.Shared.TheSendSync as shared
 use Rattle.df_column.proofs.Crossing.{table_send}
+use Rattle.df_column.specs.contracts.entry.Entry as Entry
+use Rattle.df_delta.specs.contracts.delta.Delta as Delta
+use Rattle.df_delta.specs.contracts.delta.Delta.TheInside as DeltaInside
 use Rattle.df_nodes.specs.contracts.window.LiveWindow as LiveWindow
 use Rattle.df_nodes.specs.contracts.sum.LiveSum as LiveSum
 use Rattle.df_nodes.specs.contracts.changed_tables.ChangedTables as ChangedTables
@@ -40,8 +45,27 @@ join_operator_send = let j = join_send in search (sendable, crosses) depth 40
 tree_field_send : IsSend (LiveTree.the_field).row
 tree_field_send = tree.send-LiveTree (search sendable depth 20) box_send operator_send join_operator_send
 
+-- changes that are kept: an Arc crosses where its contents both cross and may be shared
+entry_send : IsSend (Entry.the_field).row
+entry_send = search (sendable, crosses, row.the_send) depth 20
+
+entry_sync : IsSync (Entry.the_field).row
+entry_sync = search (sendable, crosses, row.the_sync) depth 20
+
+delta_inside_send : IsSend DeltaInside.the_row
+delta_inside_send = let e = entry_send in search (sendable, crosses) depth 20
+
+delta_inside_sync : IsSync DeltaInside.the_row
+delta_inside_sync = let e = entry_sync in search (sendable, crosses) depth 20
+
+delta_send : IsSend Delta.the_row
+delta_send = let i = delta_inside_send in search sendable depth 20
+
+delta_sync : IsSync Delta.the_row
+delta_sync = let i = delta_inside_sync in search sendable depth 20
+
 pub live_send : IsSend (LiveView.the_field).row
-live_send = let t = tree_field_send in let c = checked_send in search (sendable, crosses, table_send) depth 40
+live_send = let t = tree_field_send in let c = checked_send in let d = delta_send in let e = delta_sync in search (sendable, crosses, shared.the_send, table_send) depth 40
 
 tables_send : IsSend (ChangedTables.the_field).row
 tables_send = search (sendable, crosses, table_send) depth 40
@@ -53,4 +77,4 @@ staged_tree_send : IsSend (StagedTree.the_field).row
 staged_tree_send = staged_tree.send-StagedTree box_send staged_operator_send staged_join_send
 
 pub staged_send : IsSend (StagedView.the_field).row
-staged_send = let t = staged_tree_send in search (sendable, crosses, table_send) depth 40
+staged_send = let t = staged_tree_send in let d = delta_send in let e = delta_sync in search (sendable, crosses, shared.the_send, table_send) depth 40

@@ -1,6 +1,7 @@
 -- What a catalogue keeps is what the last step of its history did.
 use Rattle.std.proofs.Common.{◌≡◌, ◌∙◌, ℕ, List, [], ◌∷◌, ◌++◌, refl, ap, subst, sym, append_assoc, Result, Ok, Err, Some, None, OnOk, OnErr, IsSomeAnd}
-use Rattle.std.specs.Prelude.{Option, option_map, unwrap_or}
+use Rattle.std.specs.Prelude.{IfOk, IfSome, Option, option_map, unwrap_or}
+use Rattle.std.specs.declared.alloc.AllocError.{AllocError}
 use Rattle.df_column.specs.Tables.{TaggedRows}
 use Rattle.df_delta.specs.Deltas.{Changes}
 use Rattle.df_plan.specs.CheckedParts.{CheckedParts}
@@ -12,11 +13,11 @@ use Rattle.df_state.specs.declared.state.CatalogueParts.{CatalogueParts}
 use Rattle.df_state.specs.declared.state.StagedParts.{StagedParts}
 use Rattle.df_state.specs.declared.state.State.{State}
 use Rattle.df_state.specs.declared.state.ViewState.{ViewState}
-use Rattle.df_catalogue.specs.KeptChanges.{AreKeptAt, HasSameChanges, tagged_table_of}
+use Rattle.df_catalogue.specs.KeptChanges.{AreKeptAt, HasSameChanges, none_kept, tagged_table_of}
 use Rattle.df_catalogue.specs.LiveViews.{tagged_frames}
 use Rattle.df_catalogue.specs.StagedChanges.{IsStagedFor}
 use Rattle.df_catalogue.specs.declared.keeping.ViewChanges.{ViewChanges}
-use Rattle.df_catalogue.proofs.KeptFacts.{kept-found, kept-of-none}
+use Rattle.df_catalogue.proofs.KeptFacts.{kept-found, kept-of-none, none-of-name}
 use Rattle.df_catalogue.proofs.StagedFacts.{kept-of-commit}
 use Rattle.df_versions.specs.Answered.{AnswersNext, ChangesHistory}
 use Rattle.df_versions.specs.Histories.{last_state}
@@ -47,6 +48,21 @@ last-change history c name v ends all kept table schema =
       table = some-same v.table.rows (value h.view.plan (tagged_frames h.new.frames)) (sym table ∙ (ap (λ s. tagged_table_of s name) is ∙ own));
       schema = some-same v.table.schema h.view.plan.schema (sym schema ∙ (ap (λ s. view_schema_of s name) is ∙ ap (λ o. option_map (λ (p : CheckedParts). p.schema) (option_map (λ (w : ViewState). w.plan) o)) h.named));
     }
+
+-- where all was forgotten
+pub forgotten-last : (history : List State) (c : CatalogueParts) → c.changes ≡ none_kept c.state.views → AreOfLastStep history c
+forgotten-last history c none name d e = absurd (cc (ap (kept_of name c.state.views) none, none-of-name name c.state.views, e))
+
+-- what is answered for a history that was told, where it is the catalogue's
+pub told-change :
+    (history told own : List State) (c : CatalogueParts) (name : List ℕ) (r : Result (Option ViewChanges) AllocError) → last_state history ≡ Some c.state →
+    AreOfLastStep history c → told ≡ own → history ≡ own → IfOk r (λ o. option_map (λ v. v.changes) o ≡ last_changes_of c name) →
+    IfOk r (λ o. IfSome o (λ v. tagged_table_of c.state name ≡ Some v.table.rows)) →
+    IfOk r (λ o. IfSome o (λ v. view_schema_of c.state name ≡ Some v.table.schema)) → IfOk r (λ o. IfSome o (IsLastChange told name))
+told-change history told own c name (Ok None) ends all is same kept table schema = tt
+told-change history told own c name (Ok (Some v)) ends all is same kept table schema =
+    subst (λ h. IsLastChange h name v) (is ∙ sym same) (last-change history c name v ends all (sym kept) table schema)
+told-change history told own c name (Err f) ends all is same kept table schema = tt
 
 -- the state that is to come is the staged one
 staged-state :

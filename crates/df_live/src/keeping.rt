@@ -22,7 +22,7 @@ pub fn with_changes(
 {
     match apply(alloc, table, &changes) {
         Ok(after) => {
-            let kept = kept(alloc, changes, keeps)?;
+            let kept = if_kept(alloc, changes, keeps)?;
             Ok((after, kept))
         }
         Err(refused) => {
@@ -33,7 +33,7 @@ pub fn with_changes(
 }
 
 // The changes, where they are kept.
-fn kept(alloc: Global, changes: Delta, keeps: bool) -> Result<Option<Shared<Delta>>, AllocError>
+fn if_kept(alloc: Global, changes: Delta, keeps: bool) -> Result<Option<Shared<Delta>>, AllocError>
     ensures { IfOk result (λ kept. kept ≡ (if keeps then Some changes else None)) }
 {
     if !keeps {

@@ -4,6 +4,7 @@ ghost use Rattle.df_state.specs.Desks.{AreInOrder};
 ghost use Rattle.df_state.specs.Reads.{live_of};
 ghost use Rattle.df_state.specs.States.{IsLegal};
 ghost use Rattle.df_state.specs.Transitions.{IsTransition};
+ghost use Rattle.df_catalogue.specs.KeptChanges.{HasChangesOf};
 ghost use Rattle.df_catalogue.specs.Work.{IsWorkOf};
 ghost use Rattle.df_shell.specs.NextNumbers.{next_numbers};
 ghost use Rattle.df_shell.specs.ToldChanges.{number_behind};
@@ -58,6 +59,7 @@ impl<Acc: Ledger, Del: Ledger> Store<Acc, Del> {
     fn apply(&mut self, alloc: Global, change: Change) -> Result<(), CatalogueFault>
         ensures state { IsTransition self.old.catalogue.state change result self.new.catalogue.state }
         ensures work { IsWorkOf self.old.catalogue change result self.new.catalogue }
+        ensures changes { HasChangesOf self.old.catalogue change result self.new.catalogue }
         ensures staged { self.new.catalogue.staged ≡ None }
         ensures counted { OnOk result
             (self.new.change_number ≡ number_behind self.old.change_number) }

@@ -30,6 +30,8 @@ returns-in-Ok g c =
       state = state i;
       work = c.in_ok-catalogue.ensures.work i;
       staged = c.in_ok-catalogue.ensures.staged i;
+      keeps = c.in_ok-catalogue.ensures.keeps i;
+      changes = c.in_ok-catalogue.ensures.changes i;
     } in
     subst (λ s. AreMade IsMade s n (opening_changes d c.args.pieces)) start
     (all-within IsMade (λ s. s.catalogue) _ c.fill.new.store (opening_changes d c.args.pieces) c.in-Ok.ensures)

@@ -1,7 +1,7 @@
 use Rattle.std.proofs.Common.{◌<◌, length, refl, ◌∙◌, arith}
 use Rattle.df_catalogue.proofs.KeptFacts.{forgotten_more, forgotten_whole}
 use Rattle.df_catalogue.proofs.ViewLists.{headings_set, live_set}
-use Rattle.df_catalogue.proofs.live_views.forget_each.Goals as goal
+use Rattle.df_catalogue.proofs.forgetting.forget_each.Goals as goal
 
 pub loop-at-init : goal.loop-at-init
 loop-at-init c = record { same = refl; live = λ frames h. h; kept = refl }

@@ -2,7 +2,7 @@ use Rattle.std.proofs.Common.{◌≡◌, List, map, take}
 use Rattle.df_column.specs.Tables.{TaggedRows}
 use Rattle.df_catalogue.specs.KeptChanges.{none_kept}
 use Rattle.df_catalogue.specs.LiveViews.{changes_kept, headings, view_state, AreLive}
-use Rattle.df_catalogue.proofs.live_views.forget_each.Given as goal
+use Rattle.df_catalogue.proofs.forgetting.forget_each.Given as goal
 
 abbrev pub invariant-loop-at : goal.invariant-loop-at
 invariant-loop-at l = record {

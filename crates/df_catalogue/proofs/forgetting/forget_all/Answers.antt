@@ -1,7 +1,7 @@
 use Rattle.std.proofs.Common.{rules, ◌≡◌}
 use Rattle.std.specs.Vec.{with_items}
 use Rattle.std.proofs.lemmas.List.{with_items_is}
-use Rattle.df_catalogue.proofs.live_views.forget_all.Goals as goal
+use Rattle.df_catalogue.proofs.forgetting.forget_all.Goals as goal
 
 pub returns : goal.returns
 returns c =
