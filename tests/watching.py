@@ -223,7 +223,7 @@ class Client:
     """The tables that are watched, by what is told of them."""
 
     def __init__(self, changes):
-        self.tables, self.last, self.changes = {}, {}, changes
+        self.tables, self.names, self.last, self.changes = {}, {}, {}, changes
         # Changes that were told, the rows in them, and changes of some rows of a table that has others.
         self.told = self.rows = self.partial = 0
 
@@ -261,11 +261,11 @@ class Client:
         elif what == "loaded":
             answers.load()
         elif what == "begun":
-            self.tables[wanted] = records(answers.table())[1:]
+            self.names[wanted], *self.tables[wanted] = records(answers.table())
         elif what == "shown":
-            shown = records(answers.table())[1:]
-            if shown != self.tables[wanted]:
-                raise ValueError(f"{wanted} is {shown}, not {self.tables[wanted]}")
+            names, *shown = records(answers.table())
+            if (names, shown) != (self.names[wanted], self.tables[wanted]):
+                raise ValueError(f"{wanted} is {names} {shown}, not {self.names[wanted]} {self.tables[wanted]}")
         elif what == "told":
             self.tell(*answers.change(), wanted)
         elif what == "asked":

@@ -123,7 +123,7 @@ fn answer_alone<S: ViewStore>(
     store: &mut S,
     command: Command<'_>,
 ) -> Result<Answer, Refusal>
-    requires { IsAlone command.entry }
+    requires { IsAlone command }
     ensures { IsAnswerAlone (S.Keeps store.old store.new)
         (S.Answers store.old store.new definitions.now)
         (map (λ c. (c.0.now, c.1.now, c.2.now)) commands.now)
