@@ -1,5 +1,5 @@
 -- What a session is told of the last change: its number, and what it did to a view.
-use Rattle.std.specs.Prelude.{◌≡◌, ◌+◌, ◌-◌, ⊤, ℕ, min, Bool, List, Option, Some, None, Result, Ok, Err, bytes_eq, is_some, length}
+use Rattle.std.specs.Prelude.{◌≡◌, ◌+◌, ◌-◌, ⊤, ℕ, min, Bool, List, Option, Some, None, Result, Ok, Err, bytes_eq, is_some, length, map}
 use Rattle.std.specs.Global.{Vec}
 use Rattle.std.specs.List.{list_any}
 use Rattle.df_column.specs.Tables.{TaggedRows}
@@ -45,5 +45,5 @@ TellsInHall told name (Err r) = r ≡ refusal.Memory
 
 -- whether a picture has a view of a name
 abbrev pub FindsIn : PictureParts → List ℕ → Result Bool Refusal → Type 0
-FindsIn p name (Ok found) = found ≡ list_any (λ v. bytes_eq v.0 name) p.views
+FindsIn p name (Ok found) = found ≡ list_any (λ n. bytes_eq n name) (map (λ v. v.0) p.views)
 FindsIn p name (Err r) = r ≡ refusal.Memory

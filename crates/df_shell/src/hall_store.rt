@@ -8,12 +8,13 @@ ghost use Rattle.df_shell.specs.Halls.{Closes, Follows, IsLeftOpen};
 ghost use Rattle.df_shell.specs.ToldChanges.{TellsInHall};
 ghost use Rattle.df_versions.specs.Histories.{AllowsAll};
 
+use crate::reading::tell_last;
 use crate::version_reading::{answer_from_version, has_view};
 use df_catalogue::{CatalogueFault, Change, Desk, FrameChange, ViewChange};
 use df_hall::{Hall, Missing};
 use df_session::{
     ChangeStore, Definitions, Numbers, Question, Refusal, ShellFault, VersionFault, ViewStore,
-    end_of, tell_change,
+    end_of,
 };
 use df_versions::{ChangeFault, Naming, Reader, Told};
 use std::alloc::Global;
@@ -303,12 +304,7 @@ fn changes<R: Wait, Acc: Ledger, Del: Ledger, J: Naming>(
     ensures { TellsInHall told.now view.now result }
 {
     match hall.last_changes(rt, alloc, view, told)? {
-        Some(last) => {
-            let changes = last.changes.get();
-            let text = tell_change(alloc, view, told.number(), &last.table, changes);
-            drop(last);
-            Ok(Some(text?))
-        }
+        Some(last) => Ok(Some(tell_last(alloc, view, told.number(), last)?)),
         None => Ok(None),
     }
 }

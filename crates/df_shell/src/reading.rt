@@ -3,10 +3,11 @@ ghost use Rattle.std.specs.Prelude.{◌≡◌, IfErr, IfOk, option_map, string_b
 ghost use Rattle.df_state.specs.Reads.{view_named, view_names_of};
 ghost use Rattle.df_session.specs.Asked.{frame_index_of};
 ghost use Rattle.df_session.specs.Told.{IsTold, names_text};
+ghost use Rattle.df_session.specs.ViewChanges.{change_lines, change_text};
 ghost use Rattle.df_shell.specs.Questions.{books_text, frame_text, rows_text, view_text, work_text};
 ghost use Rattle.df_shell.specs.ToldChanges.{TellsLast};
 
-use df_catalogue::{Catalogue, CatalogueFault};
+use df_catalogue::{Catalogue, CatalogueFault, ViewChanges};
 use df_expr::WorkCounts;
 use df_session::{
     Definitions, Format, Part, Refusal, books_of, names_lines, tell_change, write_part, write_rows,
@@ -65,10 +66,25 @@ pub fn changes<Acc: Ledger, Del: Ledger>(
 ) -> Result<Option<Vec<u8>>, Refusal>
     ensures { TellsLast catalogue.now number view.now result }
 {
-    match (catalogue.last_changes(view), catalogue.view_table(view)) {
-        (Some(delta), Some(table)) => { Ok(Some(tell_change(alloc, view, number, table, delta)?)) }
-        _ => Ok(None),
+    match catalogue.view_changes(alloc, view)? {
+        Some(last) => Ok(Some(tell_last(alloc, view, number, last)?)),
+        None => Ok(None),
     }
+}
+
+/// What a change of this number did to a view.
+pub fn tell_last(
+    alloc: Global,
+    view: &str,
+    number: u64,
+    last: ViewChanges,
+) -> Result<Vec<u8>, AllocError>
+    ensures { IfOk result (λ text. text.items
+        ≡ change_text view.now number (change_lines last.table.rows last.changes)) }
+{
+    let text = tell_change(alloc, view, number, &last.table, last.changes.get());
+    drop(last);
+    text
 }
 
 /// How many rows a frame accepted, how many were deleted, and how many it has.
