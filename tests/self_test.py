@@ -41,6 +41,7 @@ TESTS = [
     ("shell_words.py", "dfshell", [], ["status", "complaint"], r""),
     ("tables.py", "dfshell", ["20261129"], ["nothing", "field", *ENDS], r""),
     ("framed.py", "dfshell", ["1", "100"], ["status"], r"otherwise: "),
+    ("watching.py", "dfshell", ["20261129", "4"], ["nothing", "field", "ok", *ENDS], r"^session of seed "),
 ]
 # Those that a siege is to tell of.
 SIEGE = ["cell", "row", "title", *ENDS]

@@ -18,7 +18,8 @@ behind it too. A refusal at the start ends in a fault of memory and status 2. On
 books, views and the version are then those from before the command, and the same command typed again is answered as in
 the session without a refusal, and so is all that comes behind it. A session in which an accepted append of rows was never
 refused is wrong itself: then nothing is refused here. A session that sources or loads a file, or has a command that is no
-text, runs once. One in which the words of an append or a replace are refused has one allocation refused at a time:
+text, runs once. Where views are watched, one allocation is refused at a time; one behind an accepted change, at what it did to
+them, has it told of each that this is missed. One in which the words of an append or a replace are refused has one allocation refused at a time:
 at two, the lines behind such a command are guessed. Prints what differs, and ends with a count.
 """
 
@@ -80,6 +81,10 @@ class Session:
         words, *lines = self.typed[at].split(b"\n")
         count = words.split()[-1:] or [b""]
         return at == len(self.typed) - 1 and words.startswith(b"append") and count[0].isdigit() and int(count[0]) > len(lines) - 1
+
+    def watches(self):
+        """Whether it is told what changes did to views."""
+        return any(typed.startswith(b"watch ") for typed in self.typed)
 
     def guesses(self):
         """Whether memory that is refused twice to the words of a command may have lines behind it taken for its own."""
@@ -150,10 +155,14 @@ class Runner:
         self.whole(plain, LD_PRELOAD=library, COUNTS=counts)
         with open(counts) as file:
             allocations = int(file.read().split()[0])
-        at, refused = 0, set()
+        at, missing, refused = 0, 0, set()
         for n in range(1, allocations + 1):
-            several = 1 if self.session.guesses() else 2 - n % 2
+            several = 1 if self.session.guesses() or self.session.watches() else 2 - n % 2
             variables = {"LD_PRELOAD": library, "FAIL_ALLOC": str(n), "FAIL_ALLOCS": str(several)}
+            if self.session.watches() and (missed := self.missing(self.whole(plain, **variables)[0], at)) is not None:
+                at = missed
+                missing += 1
+                continue
             came = self.again(at, n % 2 == 1, variables)
             # Where these are not the answers, the refusal may have come to a later command.
             later = iter([] if came is not None else self.places(self.whole(plain, **variables)[0], at))
@@ -165,7 +174,18 @@ class Runner:
                 self.differs(f"with allocation {n} refused", b"".join(self.session.answers), self.whole(plain, **variables)[0])
         for at in sorted(self.growing() - refused):
             self.wrong.append(f"{self.session.path}: no allocation was refused at {first_line(self.session.typed[at])}")
+        if self.session.watches() and not missing:
+            self.wrong.append(f"{self.session.path}: no allocation was refused behind a change")
         return allocations
+
+    def missing(self, output, at):
+        """The command at this place, or behind it, that was accepted, and of which is told that it is missed what it did."""
+        answers = self.session.answers
+        for place in range(at, len(answers)):
+            told = missed(answers[place])
+            if told != answers[place] and output == b"".join([*answers[:place], told, *answers[place + 1 :]]):
+                return place
+        return None
 
     def growing(self):
         """The commands that cannot do without memory: appends of rows that are accepted."""
@@ -234,6 +254,21 @@ def document_of(path):
     """The name of a session's document, in a list of at most one."""
     name = os.path.basename(path)[: -len("session")] + "toml"
     return [name] if os.path.exists(os.path.join(os.path.dirname(path), name)) else []
+
+
+def missed(answer):
+    """An answer to an accepted change, where what it did to the views that are watched could not be told."""
+    accepted, *lines = answer.splitlines(keepends=True) or [b""]
+    if not accepted.startswith(b"ok"):
+        return answer
+    told = [accepted]
+    while lines:
+        head = re.fullmatch(rb"change (.* \d+) (\d+)\n", lines.pop(0))
+        if not head:
+            return answer
+        told.append(b"missed " + head[1] + b" 0\n")
+        del lines[: int(head[2])]
+    return b"".join(told)
 
 
 def quoted(name):

@@ -7,3 +7,5 @@ mod DescribedFacts
 mod NumberFacts
 mod LoadFacts
 mod FramedFacts
+mod PlaceFacts
+mod WatchFacts

@@ -28,6 +28,7 @@ answer_text answer.Accepted = codes "ok\n"
 answer_text (answer.Told text) = text.items
 answer_text (answer.Load frame path) = []
 answer_text (answer.Export path table) = []
+answer_text (answer.Watch asked view) = []
 answer_text (answer.Source path) = []
 answer_text answer.Ended = []
 
@@ -58,6 +59,35 @@ abbrev pub LeavesDefinitions : Definitions → Definitions → Command → Resul
 LeavesDefinitions d after (command.Define view source) (Ok a) = ⊤
 LeavesDefinitions d after c result = after ≡ d
 
+-- whether no lines follow a command
+abbrev pub IsAlone : Command → Type 0
+IsAlone (command.Change change) = ⊥
+IsAlone (command.AppendNext frame) = ⊥
+IsAlone (command.Define view source) = ⊥
+IsAlone c = ⊤
+
+-- by what a store keeps where it makes no change, and answers, and the commands that are told
+module _ (Keeps : Type 0) (Answers : Question → Result (Vec ℕ) Refusal → Type 0) (commands : List (List ℕ × List ℕ × List ℕ)) where
+  -- The answer to a command that no lines follow: the question is answered, or it is refused. The store stays.
+  abbrev pub IsAnswerAlone : Definitions → Command → Result Answer Refusal → Type 0
+  IsAnswerAlone d (command.Question q) (Ok (answer.Told text)) = Answers q (Ok text)
+  IsAnswerAlone d (command.Question q) (Err r) = Answers q (Err r)
+  IsAnswerAlone d (command.Load frame path) (Ok (answer.Load f p)) = (f ≡ frame.now) × (p ≡ path.now) × Keeps
+  IsAnswerAlone d (command.Load frame path) (Err r) = (r ≡ refusal.Memory) × Keeps
+  IsAnswerAlone d (command.Export view path) result = IsTableFor Keeps (Answers (question.Show view part.Whole format.Csv)) path.now result
+  IsAnswerAlone d (command.Sql view) (Ok (answer.Told text)) = IsSome (plan_named d view.now) × Keeps
+  IsAnswerAlone d (command.Sql view) (Err r) = IsRefusalOfSql (plan_named d view.now) r × Keeps
+  IsAnswerAlone d (command.Watch asked view) (Ok (answer.Watch a v)) = (a ≡ asked) × (v ≡ view.now) × Keeps
+  IsAnswerAlone d (command.Watch asked view) (Err r) = (r ≡ refusal.Memory) × Keeps
+  IsAnswerAlone d (command.Source path) (Ok (answer.Source file)) = (file ≡ path.now) × Keeps
+  IsAnswerAlone d (command.Source path) (Err r) = (r ≡ refusal.Memory) × Keeps
+  IsAnswerAlone d command.Help (Ok (answer.Told text)) = (text.items ≡ help_list commands) × Keeps
+  IsAnswerAlone d command.Help (Err r) = (r ≡ refusal.Memory) × Keeps
+  IsAnswerAlone d (command.HelpOn name) (Ok (answer.Told text)) = (help_on name.now commands ≡ Some text.items) × Keeps
+  IsAnswerAlone d (command.HelpOn name) (Err r) = IsRefusalOfHelp (help_on name.now commands) r × Keeps
+  IsAnswerAlone d command.Quit (Ok answer.Ended) = Keeps
+  IsAnswerAlone d c result = ⊥
+
 -- by what a store makes, refuses, keeps where it makes no change, and answers, the numbers that it has for further rows, and the
 -- commands that are told
 module _
@@ -74,26 +104,15 @@ module _
     abbrev pub IsAnswer : Definitions → Definitions → Command → Result (Vec ℕ) Refusal → Result Answer Refusal → Type 0
     IsAnswer d after (command.Change change) lines (Ok answer.Accepted) = IsMadeAsAsked Makes d change lines
     IsAnswer d after (command.Change change) lines (Err r) = IsRefusalOfAsked Refuses d change lines r × Keeps
+    IsAnswer d after (command.Change change) lines result = ⊥
     IsAnswer d after (command.AppendNext frame) lines (Ok (answer.Told text)) = IsAppended Makes Next d (frame_index_of d frame.now) lines text
     IsAnswer d after (command.AppendNext frame) lines (Err r) =
         IsRefusalOfAppendNext Refuses d (frame_index_of d frame.now) lines r × Keeps
-    IsAnswer d after (command.Question q) lines (Ok (answer.Told text)) = Answers q (Ok text)
-    IsAnswer d after (command.Question q) lines (Err r) = Answers q (Err r)
+    IsAnswer d after (command.AppendNext frame) lines result = ⊥
     IsAnswer d after (command.Define view source) steps (Ok answer.Accepted) = IsDefined Makes d after view.now source.now steps
     IsAnswer d after (command.Define view source) steps (Err r) = IsRefusalOfDefine Refuses d view.now source.now steps r × Keeps
-    IsAnswer d after (command.Load frame path) lines (Ok (answer.Load f p)) = (f ≡ frame.now) × (p ≡ path.now) × Keeps
-    IsAnswer d after (command.Load frame path) lines (Err r) = (r ≡ refusal.Memory) × Keeps
-    IsAnswer d after (command.Export view path) lines result = IsTableFor Keeps (Answers (question.Show view part.Whole format.Csv)) path.now result
-    IsAnswer d after (command.Sql view) lines (Ok (answer.Told text)) = IsSome (plan_named d view.now) × Keeps
-    IsAnswer d after (command.Sql view) lines (Err r) = IsRefusalOfSql (plan_named d view.now) r × Keeps
-    IsAnswer d after (command.Source path) lines (Ok (answer.Source file)) = (file ≡ path.now) × Keeps
-    IsAnswer d after (command.Source path) lines (Err r) = (r ≡ refusal.Memory) × Keeps
-    IsAnswer d after command.Help lines (Ok (answer.Told text)) = (text.items ≡ help_list commands) × Keeps
-    IsAnswer d after command.Help lines (Err r) = (r ≡ refusal.Memory) × Keeps
-    IsAnswer d after (command.HelpOn name) lines (Ok (answer.Told text)) = (help_on name.now commands ≡ Some text.items) × Keeps
-    IsAnswer d after (command.HelpOn name) lines (Err r) = IsRefusalOfHelp (help_on name.now commands) r × Keeps
-    IsAnswer d after command.Quit lines (Ok answer.Ended) = Keeps
-    IsAnswer d after c lines result = ⊥
+    IsAnswer d after (command.Define view source) lines result = ⊥
+    IsAnswer d after c lines result = IsAnswerAlone Keeps Answers commands d c result
 
     -- what is answered to the command that words say
     abbrev pub IsAnswerToWords : Definitions → Definitions → Row → Result (Vec ℕ) Refusal → Result Answer Refusal → Type 0

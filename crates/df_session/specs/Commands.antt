@@ -13,6 +13,8 @@ use Rattle.df_session.specs.declared.command.Part.{Part}
 use Rattle.df_session.specs.declared.command.Part.TheVariants as part
 use Rattle.df_session.specs.declared.command.Question.{Question}
 use Rattle.df_session.specs.declared.command.Question.TheVariants as question
+use Rattle.df_session.specs.declared.command.Watching.{Watching}
+use Rattle.df_session.specs.declared.command.Watching.TheVariants as watching
 
 -- the number below a bound that a word writes: digits, before which a plus may stand
 abbrev pub IsNumberBelow : ℕ → List ℕ → ℕ → Type 0
@@ -66,6 +68,12 @@ IsQuestionOf words question.Check = words ≡ codes "check" ∷ []
 IsQuestionOf words question.Work = words ≡ codes "work" ∷ []
 IsQuestionOf words question.Version = words ≡ codes "version" ∷ []
 
+-- the first word of a command about what changes do to a view
+abbrev pub watching_word : Watching → List ℕ
+watching_word watching.Begin = codes "watch"
+watching_word watching.End = codes "unwatch"
+watching_word watching.Ask = codes "changes"
+
 -- the words of a command
 abbrev pub IsCommandOf : List (List ℕ) → Command → Type 0
 IsCommandOf words (command.Change change) = IsChangeOf words change
@@ -76,6 +84,7 @@ IsCommandOf words (command.Export view path) = words ≡ codes "export" ∷ view
 IsCommandOf words (command.Define view source) =
     (word : List ℕ) × (rest : List (List ℕ)) × (words ≡ codes "define" ∷ view.now ∷ source.now ∷ word ∷ rest)
 IsCommandOf words (command.Sql view) = words ≡ codes "sql" ∷ view.now ∷ []
+IsCommandOf words (command.Watch asked view) = words ≡ watching_word asked ∷ view.now ∷ []
 IsCommandOf words (command.Source path) = words ≡ codes "source" ∷ path.now ∷ []
 IsCommandOf words command.Help = words ≡ codes "help" ∷ []
 IsCommandOf words (command.HelpOn name) = words ≡ codes "help" ∷ name.now ∷ []

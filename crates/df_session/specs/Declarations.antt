@@ -67,10 +67,11 @@ IsOpening (command.Define view source) = ⊤
 IsOpening (command.Source path) = ⊤
 IsOpening c = ⊥
 
--- the commands that ask
+-- the commands that ask: before a store is opened, there is no view that could be watched
 abbrev pub IsAsking : Command → Type 0
 IsAsking (command.Question question) = ⊤
 IsAsking (command.Sql view) = ⊤
+IsAsking (command.Watch asked view) = ⊤
 IsAsking c = ⊥
 
 -- What words come to that declare no frame: a question is left to a store of the declared frames, and so is what may change one.

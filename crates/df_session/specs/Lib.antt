@@ -16,3 +16,5 @@ pub mod Numbers
 pub mod Filling
 pub mod Loading
 pub mod Exported
+pub mod ViewChanges
+pub mod Watching

@@ -38,6 +38,8 @@ mistake_text mistake.NestedSource = codes "source stands in no file that is sour
 mistake_text mistake.LateFrame = codes "a frame is declared before all changes: begin a session with it, or put it into the document"
 mistake_text mistake.OnlyWithHall = codes "only with --hall"
 mistake_text mistake.NotWithHall = codes "not with --hall"
+mistake_text mistake.NotWatched = codes "the view is not watched: watch begins it"
+mistake_text mistake.NoChange = codes "the last change was none of rows, or came before the watch"
 
 -- the code of a catalogue's fault, the number that it is about, and both in words
 abbrev pub catalogue_text : CatalogueFault → List ℕ

@@ -1,12 +1,12 @@
 //! The answers to commands.
 ghost use Rattle.std.specs.Prelude.{◌≡◌, IfErr, IfOk, OnErr, OnOk, Some, map};
 ghost use Rattle.csv.specs.Records.{fields_of};
-ghost use Rattle.df_session.specs.Answers.{IsAnswer, IsAnswerToLine, IsRefusalOfHelp, IsTableFor, LeavesDefinitions, answer_text};
+ghost use Rattle.df_session.specs.Answers.{IsAlone, IsAnswer, IsAnswerAlone, IsAnswerToLine, IsRefusalOfHelp, IsTableFor, LeavesDefinitions, answer_text};
 ghost use Rattle.df_session.specs.Asked.{IsMadeAsAsked, IsRefusalOfAsked};
 ghost use Rattle.df_session.specs.Help.{help_on};
 
 use crate::changing::{append, append_next, delete, drop_view, register, replace};
-use crate::command::{AskedChange, Command, Format, Part, Question, read_command};
+use crate::command::{AskedChange, Command, Format, Part, Question, Watching, read_command};
 use crate::defining::define;
 use crate::definitions::Definitions;
 use crate::help::{CommandHelp, explain_command, list_commands};
@@ -28,6 +28,8 @@ pub enum Answer {
     Load(Text, Text),
     /// Nothing: a file under this path is to have this table.
     Export(Text, Vec<u8>),
+    /// Nothing: this is asked about what changes do to the view of this name.
+    Watch(Watching, Text),
     /// Nothing: the commands in the file under this path come next.
     Source(Text),
     /// Nothing: the session ends.
@@ -42,7 +44,11 @@ impl Answer {
         match self {
             Answer::Accepted => b"ok\n",
             Answer::Told(text) => text.as_slice(),
-            Answer::Load(..) | Answer::Export(..) | Answer::Source(_) | Answer::Ended => b"",
+            Answer::Load(..)
+            | Answer::Export(..)
+            | Answer::Watch(..)
+            | Answer::Source(_)
+            | Answer::Ended => b"",
         }
     }
 }
@@ -98,42 +104,44 @@ fn answer_command<S: ViewStore>(
             let told = append_next(alloc, definitions, store, frame, lines)?;
             Ok(Answer::Told(told))
         }
-        Command::Question(question) => {
-            drop(lines);
-            Ok(Answer::Told(store.answer(alloc, definitions, question)?))
-        }
         Command::Define(view, source) => {
             define(alloc, definitions, store, view, source, lines)?;
             Ok(Answer::Accepted)
         }
-        Command::Load(frame, path) => {
+        command => {
             drop(lines);
-            Ok(load_of(alloc, frame, path)?)
+            answer_alone(alloc, commands, definitions, store, command)
         }
-        Command::Export(view, path) => {
-            drop(lines);
-            export_of(alloc, definitions, store, view, path)
+    }
+}
+
+// The answer to a command that no lines follow.
+fn answer_alone<S: ViewStore>(
+    alloc: Global,
+    commands: &[CommandHelp],
+    definitions: &Definitions,
+    store: &mut S,
+    command: Command<'_>,
+) -> Result<Answer, Refusal>
+    requires { IsAlone command }
+    ensures { IsAnswerAlone (S.Keeps store.old store.new)
+        (S.Answers store.old store.new definitions.now)
+        (map (λ c. (c.0.now, c.1.now, c.2.now)) commands.now)
+        definitions.now command.entry result }
+{
+    match command {
+        Command::Question(question) => {
+            Ok(Answer::Told(store.answer(alloc, definitions, question)?))
         }
-        Command::Sql(view) => {
-            drop(lines);
-            Ok(Answer::Told(sql_of_view(alloc, definitions, view)?))
-        }
-        Command::Source(path) => {
-            drop(lines);
-            Ok(Answer::Source(Text::from_str(alloc, path)?))
-        }
-        Command::Help => {
-            drop(lines);
-            Ok(Answer::Told(list_commands(alloc, commands)?))
-        }
-        Command::HelpOn(name) => {
-            drop(lines);
-            Ok(Answer::Told(explain(alloc, commands, name)?))
-        }
-        Command::Quit => {
-            drop(lines);
-            Ok(Answer::Ended)
-        }
+        Command::Export(view, path) => export_of(alloc, definitions, store, view, path),
+        Command::Load(frame, path) => Ok(load_of(alloc, frame, path)?),
+        Command::Sql(view) => Ok(Answer::Told(sql_of_view(alloc, definitions, view)?)),
+        Command::Watch(asked, view) => Ok(Answer::Watch(asked, Text::from_str(alloc, view)?)),
+        Command::Source(path) => Ok(Answer::Source(Text::from_str(alloc, path)?)),
+        Command::Help => Ok(Answer::Told(list_commands(alloc, commands)?)),
+        Command::HelpOn(name) => Ok(Answer::Told(explain(alloc, commands, name)?)),
+        Command::Quit => Ok(Answer::Ended),
+        Command::Change(_) | Command::AppendNext(_) | Command::Define(..) => unreachable!(),
     }
 }
 

@@ -24,6 +24,8 @@ pub enum Command<'a> {
     Define(&'a str, &'a str),
     /// The view of a name as SQL, behind the tables of the frames that it reads.
     Sql(&'a str),
+    /// About what changes do to a view.
+    Watch(Watching, &'a str),
     /// The commands in the file under a path.
     Source(&'a str),
     /// The commands.
@@ -32,6 +34,17 @@ pub enum Command<'a> {
     HelpOn(&'a str),
     /// The end of the session.
     Quit,
+}
+
+/// What a command says about what changes do to a view.
+#[derive(Clone, Copy, PartialEq, Eq)]
+pub enum Watching {
+    /// That of each further change of rows is written behind its answer.
+    Begin,
+    /// It no longer is.
+    End,
+    /// That of the last change is asked for.
+    Ask,
 }
 
 /// A change that is asked for.
@@ -120,6 +133,9 @@ fn command_of<'a>(alloc: Global, name: &str, arguments: &[&'a str]) -> Result<Co
         "export" => Ok(read_export(arguments)?),
         "define" => Ok(read_define(arguments)?),
         "sql" => Ok(Command::Sql(only(arguments)?)),
+        "watch" => Ok(Command::Watch(Watching::Begin, only(arguments)?)),
+        "unwatch" => Ok(Command::Watch(Watching::End, only(arguments)?)),
+        "changes" => Ok(Command::Watch(Watching::Ask, only(arguments)?)),
         "source" => Ok(Command::Source(only(arguments)?)),
         "help" => Ok(read_help(arguments)?),
         "quit" => bare(Command::Quit, arguments),

@@ -170,7 +170,7 @@ fn answer_other(
         (map (λ w. w.now) words.now) result }
 {
     match read_command(alloc, words)? {
-        Command::Question(_) | Command::Sql(_) => Ok(Declaration::Asked),
+        Command::Question(_) | Command::Sql(_) | Command::Watch(..) => Ok(Declaration::Asked),
         Command::Help => {
             let told = list_commands(alloc, commands)?;
             Ok(Declaration::Answered(Answer::Told(told)))

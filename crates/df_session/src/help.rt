@@ -8,7 +8,7 @@ use std::alloc::{AllocError, Global};
 pub type CommandHelp = (&'static str, &'static str, &'static str);
 
 /// The commands, in the order in which `help` lists them. A command of several forms has an entry for each.
-pub const COMMANDS: [CommandHelp; 28] = [
+pub const COMMANDS: [CommandHelp; 31] = [
     (
         "frame",
         "frame NAME COLUMN TYPE ..    declares a frame of these columns; without a document, before all changes\n",
@@ -98,6 +98,21 @@ pub const COMMANDS: [CommandHelp; 28] = [
         "show",
         "show VIEW .. csv             these rows as CSV; with json as lines of JSON\n",
         "    > show by_region csv\n    region,n,total\n    north,2,2\n    south,1,0\n    > show by_region 1 json\n    {\"region\":\"north\",\"n\":2,\"total\":2}\n",
+    ),
+    (
+        "watch",
+        "watch VIEW                   writes behind each change of rows what it does to a view, in lines of CSV\n",
+        "    > watch by_region\n    ok\n    > append sales 3 1\n    | south,4\n    ok\n    change by_region 3 2\n    -,1,south,1,0\n    +,1,south,2,4\n",
+    ),
+    (
+        "unwatch",
+        "unwatch VIEW                 writes it no longer\n",
+        "    > unwatch by_region\n    ok\n",
+    ),
+    (
+        "changes",
+        "changes VIEW                 what the last change of rows did to a view that is watched\n",
+        "    > changes by_region\n    change by_region 3 2\n    -,1,south,1,0\n    +,1,south,2,4\n",
     ),
     (
         "export",

@@ -1,13 +1,14 @@
 //! Commands, and a session that answers them from any store of views.
 //!
 //! [`read_command`] reads a [`Command`] from the words of a line, and [`answer_line`] answers it from a [`ViewStore`],
-//! or with a [`Refusal`]. A [`Session`] goes through the commands of an input by [`answer_from`], over a document that
+//! or with a [`Refusal`]. A [`WatchedStore`] tells what each change does to the views that are watched. A [`Session`] goes through the commands of an input by [`answer_from`], over a document that
 //! [`prepare`] opened and a store that [`fill`] filled. docs/ARCHITECTURE.md says where to add a command.
 #![tactic(auto)]
 
 mod answering;
 mod behind;
 mod buffers;
+mod change_store;
 mod changing;
 mod command;
 mod declared_frames;
@@ -35,13 +36,18 @@ mod session;
 mod sql_views;
 mod system_files;
 mod telling;
+mod turns;
+mod view_changes;
 mod view_store;
+mod watched_store;
+mod watches;
 mod words;
 mod writing;
 
 pub use answering::{Answer, answer_line};
 pub use buffers::Buffers;
-pub use command::{AskedChange, Command, Format, Part, Question, read_command};
+pub use change_store::ChangeStore;
+pub use command::{AskedChange, Command, Format, Part, Question, Watching, read_command};
 pub use declared_frames::{Declaration, DeclaredFrames, answer_declaring};
 pub use declaring::{Declared, Declaring};
 pub use definitions::Definitions;
@@ -63,4 +69,7 @@ pub use refusal_texts::refusal_text;
 pub use session::{Beginning, Session, answer_from};
 pub use sql_views::write_document_sql;
 pub use telling::{books_of, names_lines, verdict};
+pub use view_changes::tell_change;
 pub use view_store::ViewStore;
+pub use watched_store::WatchedStore;
+pub use watches::Watches;

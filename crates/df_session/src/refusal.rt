@@ -94,6 +94,12 @@ pub enum Mistake {
     /// A question about the work of a change, of which a hall tells nothing.
     #[error("not with --hall")]
     NotWithHall,
+    /// What changes do to a view is asked, which is not watched.
+    #[error("the view is not watched")]
+    NotWatched,
+    /// The last change was none of rows, or came before the first watch.
+    #[error("the last change was none of rows")]
+    NoChange,
 }
 
 /// Why a hall has no version for a command.

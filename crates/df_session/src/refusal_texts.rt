@@ -55,6 +55,8 @@ fn mistake_text(mistake: Mistake) -> &'static str
             "a frame is declared before all changes: begin a session with it, or put it into the document",
         Mistake::OnlyWithHall => "only with --hall",
         Mistake::NotWithHall => "not with --hall",
+        Mistake::NotWatched => "the view is not watched: watch begins it",
+        Mistake::NoChange => "the last change was none of rows, or came before the watch",
     }
 }
 

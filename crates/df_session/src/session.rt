@@ -2,18 +2,19 @@
 use crate::answering::{Answer, answer_line};
 use crate::behind::read_behind;
 use crate::buffers::Buffers;
+use crate::change_store::ChangeStore;
 use crate::definitions::Definitions;
-use crate::exporting::{WriteFiles, export};
+use crate::exporting::WriteFiles;
 use crate::fault::ShellFault;
 use crate::help::COMMANDS;
 use crate::lines::{Line, read_line, without_end};
-use crate::loading::load;
 use crate::options::{SessionEnd, SessionOptions};
 use crate::prompts::{COMMAND_PROMPT, Prompts, greeting};
 use crate::refusal::{Mistake, Refusal};
-use crate::view_store::ViewStore;
+use crate::turns::{Turn, export_table, load_file, turn_of, watch_view};
+use crate::watched_store::WatchedStore;
 use crate::words::{lines_behind, read_words};
-use crate::writing::{Status, refuse, write_all, write_answer, write_loaded, write_prompt};
+use crate::writing::{Status, refuse, write_all, write_answer, write_changes, write_prompt};
 use df_document::Files;
 use df_value::{List, Text};
 use std::alloc::Global;
@@ -23,7 +24,7 @@ use std::thread::Threads;
 /// What a shell has while it answers.
 pub struct Session<S> {
     pub definitions: Definitions,
-    pub store: S,
+    pub store: WatchedStore<S>,
     pub buffers: Buffers,
     pub options: SessionOptions,
 }
@@ -39,28 +40,9 @@ pub enum Beginning {
     Command,
 }
 
-/// What comes behind a command.
-#[derive(Drop)]
-enum Turn {
-    /// The next one.
-    Next,
-    /// The rows of a file, which enter a frame, named first, whose path this is.
-    Load(Text, Text),
-    /// A file under this path, of this table.
-    Export(Text, Vec<u8>),
-    /// The commands in the file under this path.
-    Source(Text),
-    /// Nothing: the input has ended.
-    End,
-    /// Nothing: the session ends.
-    Quit,
-    /// Nothing: a refusal ends the session.
-    Refused,
-}
-
 /// Writes the first lines, those of the refused chunks among them, and answers the commands. A session that begins with a
 /// command in its buffers answers it in place of the first lines. None: it goes on, behind the question that it began with.
-pub fn answer_from<R: Threads + Sync, S: ViewStore, F: Files + WriteFiles, I: BufRead, W: Write>(
+pub fn answer_from<R: Threads + Sync, S: ChangeStore, F: Files + WriteFiles, I: BufRead, W: Write>(
     rt: &R,
     alloc: Global,
     session: &mut Session<S>,
@@ -98,7 +80,7 @@ fn greet<S, W: Write>(
     }
 }
 
-fn answer_all<R: Threads + Sync, S: ViewStore, F: Files + WriteFiles, I: BufRead, W: Write>(
+fn answer_all<R: Threads + Sync, S: ChangeStore, F: Files + WriteFiles, I: BufRead, W: Write>(
     rt: &R,
     alloc: Global,
     session: &mut Session<S>,
@@ -117,7 +99,7 @@ fn answer_all<R: Threads + Sync, S: ViewStore, F: Files + WriteFiles, I: BufRead
 }
 
 // Does what comes behind a command. Some: so the session has ended.
-fn follow<R: Threads + Sync, S: ViewStore, F: Files + WriteFiles, W: Write>(
+fn follow<R: Threads + Sync, S: ChangeStore, F: Files + WriteFiles, W: Write>(
     rt: &R,
     alloc: Global,
     session: &mut Session<S>,
@@ -131,6 +113,7 @@ fn follow<R: Threads + Sync, S: ViewStore, F: Files + WriteFiles, W: Write>(
         Turn::Export(path, table) => {
             export_table(alloc, session.options, files, path, table, output)
         }
+        Turn::Watch(asked, view) => watch_view(alloc, session, asked, view, output),
         Turn::Source(path) => source(rt, alloc, session, files, &path, output),
         Turn::End | Turn::Quit => Ok(Some(SessionEnd::Whole)),
         Turn::Refused => Ok(Some(SessionEnd::Refused)),
@@ -138,7 +121,7 @@ fn follow<R: Threads + Sync, S: ViewStore, F: Files + WriteFiles, W: Write>(
 }
 
 // Answers the commands in a file, without prompts. Some: one of them ends the session.
-fn source<R: Threads + Sync, S: ViewStore, F: Files + WriteFiles, W: Write>(
+fn source<R: Threads + Sync, S: ChangeStore, F: Files + WriteFiles, W: Write>(
     rt: &R,
     alloc: Global,
     session: &mut Session<S>,
@@ -157,7 +140,7 @@ fn source<R: Threads + Sync, S: ViewStore, F: Files + WriteFiles, W: Write>(
     end
 }
 
-fn answer_file<R: Threads + Sync, S: ViewStore, F: Files + WriteFiles, W: Write>(
+fn answer_file<R: Threads + Sync, S: ChangeStore, F: Files + WriteFiles, W: Write>(
     rt: &R,
     alloc: Global,
     session: &mut Session<S>,
@@ -172,7 +155,7 @@ fn answer_file<R: Threads + Sync, S: ViewStore, F: Files + WriteFiles, W: Write>
 }
 
 // The commands of a file name no further file.
-fn answer_sourced<R: Threads + Sync, S: ViewStore, F: Files + WriteFiles, I: BufRead, W: Write>(
+fn answer_sourced<R: Threads + Sync, S: ChangeStore, F: Files + WriteFiles, I: BufRead, W: Write>(
     rt: &R,
     alloc: Global,
     session: &mut Session<S>,
@@ -200,7 +183,7 @@ fn answer_sourced<R: Threads + Sync, S: ViewStore, F: Files + WriteFiles, I: Buf
 }
 
 // Does what comes behind a command of a file.
-fn take_sourced<R: Threads + Sync, S: ViewStore, F: Files + WriteFiles, W: Write>(
+fn take_sourced<R: Threads + Sync, S: ChangeStore, F: Files + WriteFiles, W: Write>(
     rt: &R,
     alloc: Global,
     session: &mut Session<S>,
@@ -214,6 +197,7 @@ fn take_sourced<R: Threads + Sync, S: ViewStore, F: Files + WriteFiles, W: Write
         Turn::Export(path, table) => {
             export_table(alloc, session.options, files, path, table, output)
         }
+        Turn::Watch(asked, view) => watch_view(alloc, session, asked, view, output),
         Turn::Source(_) => {
             let nested = Refusal::Mistake(Mistake::NestedSource);
             refuse(alloc, output, session.options, &nested)
@@ -223,74 +207,8 @@ fn take_sourced<R: Threads + Sync, S: ViewStore, F: Files + WriteFiles, W: Write
     }
 }
 
-// Loads a file, and writes what came of it.
-fn load_file<R: Threads + Sync, S: ViewStore, F: Files, W: Write>(
-    rt: &R,
-    alloc: Global,
-    session: &mut Session<S>,
-    files: &mut F,
-    frame: Text,
-    path: Text,
-    output: &mut W,
-) -> Result<Option<SessionEnd>, ShellFault> {
-    let options = session.options;
-    let definitions = &session.definitions;
-    let store = &mut session.store;
-    let loaded = load(
-        rt,
-        alloc,
-        definitions,
-        store,
-        files,
-        frame.as_str(),
-        path.as_str(),
-    );
-    drop(frame);
-    drop(path);
-    match loaded {
-        Ok(loaded) => {
-            let written = write_loaded(output, options, &loaded);
-            drop(loaded);
-            written?;
-            Ok(None)
-        }
-        Err(refusal) => {
-            let written = refuse(alloc, output, options, &refusal);
-            drop(refusal);
-            written
-        }
-    }
-}
-
-// Writes a table to a file, and what came of it.
-fn export_table<F: WriteFiles, W: Write>(
-    alloc: Global,
-    options: SessionOptions,
-    files: &mut F,
-    path: Text,
-    table: Vec<u8>,
-    output: &mut W,
-) -> Result<Option<SessionEnd>, ShellFault> {
-    let exported = export(alloc, files, path.as_str(), table.as_slice());
-    drop(path);
-    drop(table);
-    match exported {
-        Ok(told) => {
-            let written = write_answer(output, options.framed, Status::Ok, &[told.as_bytes()]);
-            drop(told);
-            written?;
-            Ok(None)
-        }
-        Err(refusal) => {
-            let written = refuse(alloc, output, options, &refusal);
-            drop(refusal);
-            written
-        }
-    }
-}
-
 // Reads a line, and answers the command that it is.
-fn answer_next<S: ViewStore, I: BufRead, W: Write>(
+fn answer_next<S: ChangeStore, I: BufRead, W: Write>(
     alloc: Global,
     session: &mut Session<S>,
     input: &mut I,
@@ -311,8 +229,9 @@ fn answer_next<S: ViewStore, I: BufRead, W: Write>(
     }
 }
 
-// Reads what belongs to a command, does what it says and writes the answer.
-fn take_turn<S: ViewStore, I: BufRead, W: Write>(
+// Reads what belongs to a command, does what it says and writes the answer, and behind it what it did to the views that
+// are watched.
+fn take_turn<S: ChangeStore, I: BufRead, W: Write>(
     alloc: Global,
     session: &mut Session<S>,
     input: &mut I,
@@ -338,7 +257,9 @@ fn take_turn<S: ViewStore, I: BufRead, W: Write>(
             let definitions = &mut session.definitions;
             let store = &mut session.store;
             let answer = answer_line(alloc, &COMMANDS, definitions, store, words, lines);
-            tell(alloc, output, session.options, answer)
+            let turn = tell(alloc, output, session.options, answer)?;
+            write_changes(output, &mut session.store)?;
+            Ok(turn)
         }
         Err(fault) => {
             drop(words);
@@ -358,6 +279,7 @@ fn tell<W: Write>(
         Ok(Answer::Ended) => Ok(Turn::Quit),
         Ok(Answer::Load(frame, path)) => Ok(Turn::Load(frame, path)),
         Ok(Answer::Export(path, table)) => Ok(Turn::Export(path, table)),
+        Ok(Answer::Watch(asked, view)) => Ok(Turn::Watch(asked, view)),
         Ok(Answer::Source(path)) => Ok(Turn::Source(path)),
         Ok(answer) => {
             let written = write_answer(output, options.framed, Status::Ok, &[answer.bytes()]);
@@ -370,14 +292,6 @@ fn tell<W: Write>(
             drop(refusal);
             Ok(turn_of(written?))
         }
-    }
-}
-
-// What comes behind a refusal.
-fn turn_of(end: Option<SessionEnd>) -> Turn {
-    match end {
-        Some(_) => Turn::Refused,
-        None => Turn::Next,
     }
 }
 

@@ -1,15 +1,20 @@
 //! What a session writes.
-ghost use Rattle.std.specs.Prelude.{◌≡◌, ◌++◌, ℕ, List, OnOk, Some, flat_map, sum_by, true};
+ghost use Rattle.std.specs.Prelude.{◌≡◌, ◌++◌, [], ℕ, List, OnOk, Some, false, flat_map, sum_by, true};
 ghost use Rattle.std.specs.Io.KnownBytes.{Appends, Keeps};
 ghost use Rattle.df_session.specs.Framed as framed_spec;
 ghost use Rattle.df_session.specs.Framed.{answer_written, ends_lines, frame_head, lines_and_rest, status_word};
+ghost use Rattle.df_session.specs.ViewChanges.{missed_line};
+ghost use Rattle.df_session.specs.Watching.{told_text};
 
+use crate::change_store::ChangeStore;
 use crate::fault::ShellFault;
 use crate::loading::Loaded;
 use crate::options::{SessionEnd, SessionOptions};
 use crate::prompts::Prompts;
 use crate::refusal::Refusal;
 use crate::refusal_texts::refusal_text;
+use crate::watched_store::WatchedStore;
+use crate::watches::{WatchedView, Watches};
 use df_text::write_text;
 use itoa::Buffer;
 use std::alloc::Global;
@@ -113,6 +118,67 @@ pub fn write_answer<W: Write>(
     }
 }
 
+/// Writes what changes did to the views that are watched, where there is something to be told: for each a line `change NAME
+/// NUMBER LINES`, and so many lines. It takes no memory.
+///
+/// What is missed, since there was no memory for it, is told behind that by a line `missed NAME NUMBER 0` for each view: what
+/// was done to it is not known up to the change of that number.
+pub fn write_changes<S: ChangeStore, W: Write>(
+    output: &mut W,
+    store: &mut WatchedStore<S>,
+) -> Result<(), ShellFault>
+    ensures told { OnOk result ((number : ℕ) × S.Numbers store.old.store number
+        × Appends (W.contents output.old) (W.contents output.new) (told_text number store.old.watches)) }
+    ensures store { store.new.store ≡ store.old.store }
+    ensures forgotten { OnOk result (store.new.watches
+        ≡ record store.old.watches { told = []; is_missing = false }) }
+{
+    let number = store.store.change_number();
+    write_told(output, number, &store.watches)?;
+    store.watches.forget();
+    Ok(())
+}
+
+fn write_told<W: Write>(output: &mut W, number: u64, watches: &Watches) -> Result<(), ShellFault>
+    ensures { OnOk result (Appends (W.contents output.old) (W.contents output.new)
+        (told_text number watches.now)) }
+{
+    write_all(output, watches.told())?;
+    if watches.is_missing() {
+        write_missed(output, number, watches.views())?;
+    }
+    flush(output)
+}
+
+// Writes that something is missed of each of these views.
+fn write_missed<W: Write>(
+    output: &mut W,
+    number: u64,
+    views: &[WatchedView],
+) -> Result<(), ShellFault>
+    ensures { OnOk result (Appends (W.contents output.old) (W.contents output.new)
+        (flat_map (missed_line number) views.now)) }
+{
+    for view in views {
+        write_missed_line(output, number, view)?;
+    }
+    Ok(())
+}
+
+fn write_missed_line<W: Write>(
+    output: &mut W,
+    number: u64,
+    view: &WatchedView,
+) -> Result<(), ShellFault>
+    ensures { OnOk result (Appends (W.contents output.old) (W.contents output.new)
+        (missed_line number view.now)) }
+{
+    let mut buffer = Buffer::new();
+    write_all(output, view.missed())?;
+    write_all(output, buffer.format(number).as_bytes())?;
+    write_all(output, b" 0\n")
+}
+
 // Writes parts that follow one another, and what the output keeps back.
 fn write_whole<W: Write>(output: &mut W, parts: &[&[u8]]) -> Result<(), ShellFault>
     ensures { OnOk result (Appends (W.contents output.old) (W.contents output.new)
@@ -164,7 +230,8 @@ fn line_ends(text: &[u8]) -> usize
     count_ends(text)
 }
 
-fn count_ends(text: &[u8]) -> usize
+/// The same, without its law.
+pub fn count_ends(text: &[u8]) -> usize
     ensures { result ≡ framed_spec.line_ends text.now }
 {
     text.iter().filter(|byte| **byte == b'\n').count()

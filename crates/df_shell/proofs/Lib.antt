@@ -3,3 +3,4 @@ pub mod DesksFacts
 pub mod HallFacts
 pub mod CheckFacts
 pub mod NextNumberFacts
+pub mod MadeFacts

@@ -1,6 +1,6 @@
 -- What a session over a hall sees: the history that it was told of, the newest that it saw, and its desks. Each change and
 -- each answer goes on from these.
-use Rattle.std.specs.Prelude.{◌≡◌, ◌<◌, ◌⊎◌, ⊤, ℕ, List, None, Result, Err, length, slice_get}
+use Rattle.std.specs.Prelude.{◌≡◌, ◌<◌, ◌⊎◌, ⊤, ℕ, Bool, List, None, Result, Err, length, slice_get}
 use Rattle.std.specs.Global.{Vec}
 use mathlib.Core.List.{IsPrefix}
 use Rattle.df_value.specs.declared.cell.CellType.{CellType}
@@ -11,6 +11,7 @@ use Rattle.df_state.specs.declared.change.Change.TheVariants.{Append, Delete, Dr
 use Rattle.df_state.specs.declared.fault.CatalogueFault.TheVariants as fault
 use Rattle.df_state.specs.declared.state.State.{State}
 use Rattle.df_session.specs.Told.{IsTold}
+use Rattle.df_shell.specs.ToldChanges.{FindsIn}
 use Rattle.df_shell.specs.Versions.{refusal_with_hall, text_of_version}
 use Rattle.df_session.specs.declared.command.Question.{Question}
 use Rattle.df_session.specs.declared.definitions.Definitions.{Definitions}
@@ -74,6 +75,12 @@ pub record IsTaken (old new : HallParts) (v : ℕ × PictureParts) : Type 0 wher
 abbrev pub IsAnswerOfHall : HallParts → HallParts → Definitions → Question → Result (Vec ℕ) Refusal → Type 0
 IsAnswerOfHall old new d q result =
     ((v : ℕ × PictureParts) × IsTaken old new v × IsTold (text_of_version d new.desks v q) (refusal_with_hall q) result)
+    ⊎ ((result ≡ Err (refusal.Version version.Missing)) × (new ≡ old))
+
+-- Whether a view of the name is registered was answered from the newest version; or there is none, and nothing changed.
+abbrev pub IsFoundInHall : HallParts → HallParts → List ℕ → Result Bool Refusal → Type 0
+IsFoundInHall old new name result =
+    ((v : ℕ × PictureParts) × IsTaken old new v × FindsIn v.1 name result)
     ⊎ ((result ≡ Err (refusal.Version version.Missing)) × (new ≡ old))
 
 -- Desks with which a hall over frames of these schemas was closed: their shares are the books of every frame of a state that it may

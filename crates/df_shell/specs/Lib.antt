@@ -4,5 +4,6 @@ pub mod Questions
 pub mod Versions
 pub mod Halls
 pub mod Changing
+pub mod ToldChanges
 pub mod Opening
 pub mod NextNumbers

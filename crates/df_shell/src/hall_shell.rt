@@ -10,7 +10,7 @@ use df_document::{Files, copy_schemas};
 use df_hall::{Hall, OpenedHall};
 use df_session::{
     Beginning, Numbers, Prepared, Refusal, Session, SessionEnd, SessionOptions, ShellFault,
-    VersionFault, WriteFiles, answer_from, fill, prepare,
+    VersionFault, WatchedStore, WriteFiles, answer_from, fill, prepare,
 };
 use df_value::{List, Piece};
 use df_versions::{Naming, OpenFault, Reader};
@@ -196,7 +196,7 @@ fn answer_and_close<
     } = prepared;
     let mut session = Session {
         definitions,
-        store,
+        store: WatchedStore::new(alloc, store),
         buffers,
         options,
     };
@@ -219,7 +219,7 @@ fn answer_and_close<
     } = session;
     drop(definitions);
     drop(buffers);
-    let closed = store.close();
+    let closed = store.into_store().close();
     let end = answered?;
     closed?;
     Ok(end)

@@ -5,13 +5,16 @@ ghost use Rattle.df_state.specs.FrameChanges.{change_of};
 ghost use Rattle.df_state.specs.ViewChanges.{change_of_views};
 ghost use Rattle.df_shell.specs.Changing.{IsAnswered, IsLearnt, IsLongEnough};
 ghost use Rattle.df_shell.specs.Halls.{Closes, Follows, IsLeftOpen};
+ghost use Rattle.df_shell.specs.ToldChanges.{TellsInHall};
 ghost use Rattle.df_versions.specs.Histories.{AllowsAll};
 
-use crate::version_reading::answer_from_version;
+use crate::reading::tell_last;
+use crate::version_reading::{answer_from_version, has_view};
 use df_catalogue::{CatalogueFault, Change, Desk, FrameChange, ViewChange};
 use df_hall::{Hall, Missing};
 use df_session::{
-    Definitions, Numbers, Question, Refusal, ShellFault, VersionFault, ViewStore, end_of,
+    ChangeStore, Definitions, Numbers, Question, Refusal, ShellFault, VersionFault, ViewStore,
+    end_of,
 };
 use df_versions::{ChangeFault, Naming, Reader, Told};
 use std::alloc::Global;
@@ -248,4 +251,60 @@ impl<'r, R: Wait, Acc: Ledger, Del: Ledger, J: Naming> ViewStore for HallStore<'
       follows = record { told = ([], append-nil s.told); seen = refl };
       desks = refl;
     } };
+}
+
+impl<'r, R: Wait, Acc: Ledger, Del: Ledger, J: Naming> ChangeStore
+    for HallStore<'r, R, Acc, Del, J> {
+    ghost use Rattle.df_shell.specs.Halls.{IsFoundInHall};
+    ghost use Rattle.df_shell.specs.ToldChanges.{TellsInHall, last_number};
+
+    // No clause says what the hall keeps.
+    ghost Turns = { λ old new keeps. new ≡ old };
+
+    ghost Tells = { λ s name r. TellsInHall s.told name r };
+
+    ghost Finds = { λ old new name r. IsFoundInHall old new name r };
+
+    ghost Numbers = { λ s n. n ≡ last_number s.told };
+
+    fn keep_changes(&mut self, keeps: bool) {
+        self.hall.keep_changes(self.rt, keeps);
+    }
+
+    fn changes(&self, alloc: Global, view: &str) -> Result<Option<Vec<u8>>, Refusal> {
+        match &self.told {
+            Some(told) => changes(self.rt, alloc, &self.hall, told, view),
+            None => Ok(None),
+        }
+    }
+
+    fn has_view(&mut self, alloc: Global, view: &str) -> Result<bool, Refusal> {
+        match self.reader.snapshot() {
+            Some(version) => has_view(alloc, version.as_ref(), view),
+            None => Err(Refusal::Version(VersionFault::Missing)),
+        }
+    }
+
+    fn change_number(&self) -> u64 {
+        match &self.told {
+            Some(told) => told.number(),
+            None => 0,
+        }
+    }
+}
+
+// What the last change that was told did to a view. None: the hall does not keep it, or knows of a later change.
+fn changes<R: Wait, Acc: Ledger, Del: Ledger, J: Naming>(
+    rt: &R,
+    alloc: Global,
+    hall: &Hall<Acc, Del, J>,
+    told: &Told<J>,
+    view: &str,
+) -> Result<Option<Vec<u8>>, Refusal>
+    ensures { TellsInHall told.now view.now result }
+{
+    match hall.last_changes(rt, alloc, view, told)? {
+        Some(last) => Ok(Some(tell_last(alloc, view, told.number(), last)?)),
+        None => Ok(None),
+    }
 }

@@ -39,6 +39,7 @@ pub fn open_store<Acc: Ledger, Del: Ledger>(
         catalogue,
         desks,
         numbers,
+        change_number: 0,
     };
     match fill(alloc, &mut store, definitions, pieces) {
         Ok(()) => Ok(store),

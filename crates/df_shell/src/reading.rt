@@ -3,12 +3,14 @@ ghost use Rattle.std.specs.Prelude.{◌≡◌, IfErr, IfOk, option_map, string_b
 ghost use Rattle.df_state.specs.Reads.{view_named, view_names_of};
 ghost use Rattle.df_session.specs.Asked.{frame_index_of};
 ghost use Rattle.df_session.specs.Told.{IsTold, names_text};
+ghost use Rattle.df_session.specs.ViewChanges.{change_lines, change_text};
 ghost use Rattle.df_shell.specs.Questions.{books_text, frame_text, rows_text, view_text, work_text};
+ghost use Rattle.df_shell.specs.ToldChanges.{TellsLast};
 
-use df_catalogue::{Catalogue, CatalogueFault};
+use df_catalogue::{Catalogue, CatalogueFault, ViewChanges};
 use df_expr::WorkCounts;
 use df_session::{
-    Definitions, Format, Part, Refusal, books_of, names_lines, write_part, write_rows,
+    Definitions, Format, Part, Refusal, books_of, names_lines, tell_change, write_part, write_rows,
 };
 use df_value::Text;
 use std::alloc::{AllocError, Global};
@@ -53,6 +55,36 @@ pub fn rows<Acc: Ledger, Del: Ledger>(
     let numbers = catalogue.frame_numbers(alloc, at)?;
     let (rows, numbers) = (rows.as_slice(), numbers.as_slice());
     Ok(write_rows(alloc, &spec.name, &spec.schema, rows, numbers, format)?)
+}
+
+/// What the last change, which has this number, did to a view. None: the catalogue does not keep it.
+pub fn changes<Acc: Ledger, Del: Ledger>(
+    alloc: Global,
+    catalogue: &Catalogue<Acc, Del>,
+    number: u64,
+    view: &str,
+) -> Result<Option<Vec<u8>>, Refusal>
+    ensures { TellsLast catalogue.now number view.now result }
+{
+    match catalogue.view_changes(alloc, view)? {
+        Some(last) => Ok(Some(tell_last(alloc, view, number, last)?)),
+        None => Ok(None),
+    }
+}
+
+/// What a change of this number did to a view.
+pub fn tell_last(
+    alloc: Global,
+    view: &str,
+    number: u64,
+    last: ViewChanges,
+) -> Result<Vec<u8>, AllocError>
+    ensures { IfOk result (λ text. text.items
+        ≡ change_text view.now number (change_lines last.table.rows last.changes)) }
+{
+    let text = tell_change(alloc, view, number, &last.table, last.changes.get());
+    drop(last);
+    text
 }
 
 /// How many rows a frame accepted, how many were deleted, and how many it has.

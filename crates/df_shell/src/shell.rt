@@ -7,8 +7,8 @@ use crate::store::Store;
 use df_catalogue::PARTS_OF_LEDGER;
 use df_document::Files;
 use df_session::{
-    Beginning, Prepared, Session, SessionEnd, SessionOptions, ShellFault, WriteFiles, answer_from,
-    prepare,
+    Beginning, Prepared, Session, SessionEnd, SessionOptions, ShellFault, WatchedStore, WriteFiles,
+    answer_from, prepare,
 };
 use df_value::List;
 use std::alloc::Global;
@@ -89,7 +89,7 @@ fn serve<Acc: Ledger, Del: Ledger, R: Threads + Sync, F: Files + WriteFiles, I: 
         Ok(store) => {
             let session = Session {
                 definitions,
-                store,
+                store: WatchedStore::new(alloc, store),
                 buffers,
                 options,
             };

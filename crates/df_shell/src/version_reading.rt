@@ -4,6 +4,7 @@ ghost use Rattle.std.specs.Option.{option_copied};
 ghost use Rattle.df_state.specs.Pictures.{frame_len_in, view_rows_in};
 ghost use Rattle.df_session.specs.Asked.{frame_index_of, plan_named};
 ghost use Rattle.df_session.specs.Told.{IsMemory, IsTold, check_text, names_text};
+ghost use Rattle.df_shell.specs.ToldChanges.{FindsIn};
 ghost use Rattle.df_shell.specs.Versions.{counted_text, differs_from, first_differing_in, numbered_text, refusal_with_hall, shown_text, text_of_index, text_of_version, version_line};
 
 use df_catalogue::{CatalogueFault, Desk};
@@ -118,6 +119,14 @@ fn books<Acc: Ledger, Del: Ledger>(
         return Err(Refusal::Store(CatalogueFault::NoFrame));
     };
     Ok(books_of(alloc, desk.accepted(), desk.deleted(), live)?.into_bytes())
+}
+
+/// Whether a view of this name is registered.
+pub fn has_view(alloc: Global, version: &Version, view: &str) -> Result<bool, Refusal>
+    ensures { FindsIn version.now.1 view.now result }
+{
+    let names = version.view_names(alloc)?;
+    Ok(names.as_slice().iter().any(|name| name.as_str() == view))
 }
 
 // The names of the views, a line each.

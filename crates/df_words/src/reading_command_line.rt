@@ -34,6 +34,9 @@ const AFTER_HELP: &str = r#"Commands, one a line of standard input:
   show VIEW COUNT              its first COUNT rows, and how many more there are
   show VIEW from ROW COUNT     COUNT rows from row ROW on, the first being 0, and how many lie around them
   show VIEW .. csv             these rows as CSV; with json as lines of JSON
+  watch VIEW                   writes behind each change of rows what it does to a view, in lines of CSV
+  unwatch VIEW                 writes it no longer
+  changes VIEW                 what the last change of rows did to a view that is watched
   export VIEW PATH             writes the table of a view to a file, as CSV, whole or not at all
   rows FRAME                   the table of a frame, and the numbers of its rows
   rows FRAME csv               the rows with their numbers as CSV; with json as lines of JSON

@@ -6,6 +6,7 @@ use Rattle.df_shell.specs.NextNumbers.{next_numbers}
 use Rattle.df_state.specs.States.{opening_of}
 use Rattle.df_text.specs.declared.document.FrameSpec.{FrameSpec}
 use Rattle.df_session.proofs.AreMadeFacts.{all-within}
+use Rattle.df_shell.proofs.MadeFacts.{all-weaker}
 use Rattle.df_shell.specs.Changes.{IsMade}
 use Rattle.df_session.specs.Filling.{AreMade, opening_changes}
 use Rattle.df_shell.specs.Opening.{empty_catalogue}
@@ -34,4 +35,5 @@ returns-in-Ok g c =
       changes = c.in_ok-catalogue.ensures.changes i;
     } in
     subst (λ s. AreMade IsMade s n (opening_changes d c.args.pieces)) start
-    (all-within IsMade (λ s. s.catalogue) _ c.fill.new.store (opening_changes d c.args.pieces) c.in-Ok.ensures)
+    (all-within IsMade (λ s. s.catalogue) _ c.fill.new.store (opening_changes d c.args.pieces)
+    (all-weaker _ (λ a b change. IsMade a.catalogue b.catalogue change) (λ a b change made. made.0) _ c.fill.new.store (opening_changes d c.args.pieces) c.in-Ok.ensures))

@@ -1,0 +1,137 @@
+//! What comes behind the line of a command.
+use crate::change_store::ChangeStore;
+use crate::command::Watching;
+use crate::exporting::{WriteFiles, export};
+use crate::fault::ShellFault;
+use crate::loading::load;
+use crate::options::{SessionEnd, SessionOptions};
+use crate::session::Session;
+use crate::watched_store::answer_watching;
+use crate::writing::{Status, refuse, write_answer, write_changes, write_loaded};
+use df_document::Files;
+use df_value::Text;
+use std::alloc::Global;
+use std::io::Write;
+use std::thread::Threads;
+
+/// What comes behind a command.
+#[derive(Drop)]
+pub enum Turn {
+    /// The next one.
+    Next,
+    /// The rows of a file, which enter a frame, named first, whose path this is.
+    Load(Text, Text),
+    /// A file under this path, of this table.
+    Export(Text, Vec<u8>),
+    /// This, which is asked about what changes do to the view of a name.
+    Watch(Watching, Text),
+    /// The commands in the file under this path.
+    Source(Text),
+    /// Nothing: the input has ended.
+    End,
+    /// Nothing: the session ends.
+    Quit,
+    /// Nothing: a refusal ends the session.
+    Refused,
+}
+
+/// Loads a file, and writes what came of it, and behind that what its chunks did to the views that are watched.
+pub fn load_file<R: Threads + Sync, S: ChangeStore, F: Files, W: Write>(
+    rt: &R,
+    alloc: Global,
+    session: &mut Session<S>,
+    files: &mut F,
+    frame: Text,
+    path: Text,
+    output: &mut W,
+) -> Result<Option<SessionEnd>, ShellFault> {
+    let options = session.options;
+    let definitions = &session.definitions;
+    let store = &mut session.store;
+    let loaded = load(
+        rt,
+        alloc,
+        definitions,
+        store,
+        files,
+        frame.as_str(),
+        path.as_str(),
+    );
+    drop(frame);
+    drop(path);
+    match loaded {
+        Ok(loaded) => {
+            let written = write_loaded(output, options, &loaded);
+            drop(loaded);
+            written?;
+            write_changes(output, &mut session.store)?;
+            Ok(None)
+        }
+        Err(refusal) => {
+            let written = refuse(alloc, output, options, &refusal);
+            drop(refusal);
+            written
+        }
+    }
+}
+
+/// Writes a table to a file, and what came of it.
+pub fn export_table<F: WriteFiles, W: Write>(
+    alloc: Global,
+    options: SessionOptions,
+    files: &mut F,
+    path: Text,
+    table: Vec<u8>,
+    output: &mut W,
+) -> Result<Option<SessionEnd>, ShellFault> {
+    let exported = export(alloc, files, path.as_str(), table.as_slice());
+    drop(path);
+    drop(table);
+    match exported {
+        Ok(told) => {
+            let written = write_answer(output, options.framed, Status::Ok, &[told.as_bytes()]);
+            drop(told);
+            written?;
+            Ok(None)
+        }
+        Err(refusal) => {
+            let written = refuse(alloc, output, options, &refusal);
+            drop(refusal);
+            written
+        }
+    }
+}
+
+/// Does what is asked about what changes do to a view, and writes the answer.
+pub fn watch_view<S: ChangeStore, W: Write>(
+    alloc: Global,
+    session: &mut Session<S>,
+    asked: Watching,
+    view: Text,
+    output: &mut W,
+) -> Result<Option<SessionEnd>, ShellFault> {
+    let options = session.options;
+    let answered = answer_watching(alloc, &mut session.store, asked, view.as_str());
+    drop(view);
+    match answered {
+        Ok(answer) => {
+            let written = write_answer(output, options.framed, Status::Ok, &[answer.bytes()]);
+            drop(answer);
+            written?;
+            Ok(None)
+        }
+        Err(refusal) => {
+            let written = refuse(alloc, output, options, &refusal);
+            drop(refusal);
+            written
+        }
+    }
+}
+
+/// What comes behind a refusal.
+pub fn turn_of(end: Option<SessionEnd>) -> Turn {
+    match end {
+        Some(_) => Turn::Refused,
+        None => Turn::Next,
+    }
+}
