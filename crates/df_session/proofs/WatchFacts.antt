@@ -10,6 +10,10 @@ pub told-more :
     IsToldOf Tells names text → Tells name (Ok (Some last)) → whole ≡ text ++ last.items → IsToldOf Tells (names ++ name ∷ []) whole
 told-more Tells [] text name last whole told tells is =
     (last, [], tells, refl, is ∙ (ap (λ t. t ++ last.items) told ∙ sym (append-nil last.items)))
-told-more Tells (n ∷ names) text name last whole (first, rest, tells-first, told, split) tells is =
-    (first, rest ++ last.items, tells-first, told-more Tells names rest name last (rest ++ last.items) told tells refl,
-    is ∙ (ap (λ t. t ++ last.items) split ∙ append_assoc first.items rest last.items))
+told-more Tells (n ∷ names) text name last whole (first, rest, tells-first, told, split) tells is = (
+  first,
+  rest ++ last.items,
+  tells-first,
+  told-more Tells names rest name last (rest ++ last.items) told tells refl,
+  is ∙ (ap (λ t. t ++ last.items) split ∙ append_assoc first.items rest last.items),
+)
