@@ -6,6 +6,7 @@ use Rattle.df_csv.specs.declared.fault.CsvFault.{CsvFault}
 use Rattle.df_csv.specs.declared.fault.CsvFault.TheVariants as csv_fault
 use Rattle.df_csv.specs.declared.typed.TypedRows.TheVariants as typed_rows
 use Rattle.df_value.specs.declared.chunk.Piece.TheVariants as piece
+use Rattle.df_value.specs.Chunks.{ChunkParts}
 use Rattle.df_value.specs.Limits.{most_rows_of_chunk}
 use Rattle.df_value.specs.declared.cell.Cell.{Cell}
 use Rattle.df_value.specs.declared.cell.CellType.{CellType}
@@ -30,7 +31,7 @@ HaveNoRecords schema lines f = f ≢ csv_fault.Memory → records_of lines schem
 -- what a part of records makes, by the pieces of 65,536 records that they make in turn: its rows, or its first bad cell
 abbrev pub IsTypedPart : List (List ℕ × CellType) → FieldRows → ℕ → Result (List (List Cell)) LinesFault → Type 0
 IsTypedPart schema records part (Ok rows) =
-    (first : ℕ) × (slice_get (pieces_of schema most_rows_of_chunk records) part ≡ Some (piece.Good (record { schema = schema; first = first; rows = rows })))
+    (chunk : ChunkParts) × (slice_get (pieces_of schema most_rows_of_chunk records) part ≡ Some (piece.Good chunk)) × (rows ≡ chunk.rows)
 IsTypedPart schema records part (Err (Csv f)) = f ≡ csv_fault.Memory
 IsTypedPart schema records part (Err TooMany) = ⊥
 IsTypedPart schema records part (Err (BadCell cell)) = slice_get (pieces_of schema most_rows_of_chunk records) part ≡ Some (piece.Bad cell)
