@@ -238,6 +238,16 @@ pub kept-unplaced :
     (name : List ℕ) (vs : List View) → position (λ v. bytes_eq v.name name) vs ≡ None → kept_of name (map view_state vs) (changes_kept vs) ≡ None
 kept-unplaced name vs none = kept-view name vs ∙ ap (option_and_then (λ (v : View). v.live.changes)) (none-named (λ w. bytes_eq w.name name) vs none)
 
+missing-first :
+    (b : Bool) (v : ViewState) (d later : Option Changes) (found : Option ViewState) → (found ≡ None → later ≡ None) → cond b (Some v) found ≡ None → cond b d later ≡ None
+missing-first true v d later found f e = absurd (cc (e))
+missing-first false v d later found f e = f e
+
+pub kept-missing : (name : List ℕ) (ws : List ViewState) (ds : List (Option Changes)) → view_named name ws ≡ None → kept_of name ws ds ≡ None
+kept-missing name [] ds e = refl
+kept-missing name (v ∷ vs) [] e = refl
+kept-missing name (v ∷ vs) (d ∷ ds) e = missing-first (bytes_eq v.name name) v d (kept_of name vs ds) (view_named name vs) (kept-missing name vs ds) e
+
 -- and its table
 pub table-placed :
     (s : State) (name : List ℕ) (vs : List View) (at : ℕ) (v : View) → s.views ≡ map view_state vs → position (λ v. bytes_eq v.name name) vs ≡ Some at →

@@ -55,14 +55,14 @@ forgotten-last history c none name d e = absurd (cc (ap (kept_of name c.state.vi
 
 -- what is answered for a history that was told, where it is the catalogue's
 pub told-change :
-    (history told own : List State) (c : CatalogueParts) (name : List ℕ) (r : Result (Option ViewChanges) AllocError) → last_state history ≡ Some c.state →
-    AreOfLastStep history c → told ≡ own → history ≡ own → IfOk r (λ o. option_map (λ v. v.changes) o ≡ last_changes_of c name) →
+    (history told : List State) (c : CatalogueParts) (name : List ℕ) (r : Result (Option ViewChanges) AllocError) → last_state history ≡ Some c.state →
+    AreOfLastStep history c → told ≡ history → IfOk r (λ o. option_map (λ v. v.changes) o ≡ last_changes_of c name) →
     IfOk r (λ o. IfSome o (λ v. tagged_table_of c.state name ≡ Some v.table.rows)) →
     IfOk r (λ o. IfSome o (λ v. view_schema_of c.state name ≡ Some v.table.schema)) → IfOk r (λ o. IfSome o (IsLastChange told name))
-told-change history told own c name (Ok None) ends all is same kept table schema = tt
-told-change history told own c name (Ok (Some v)) ends all is same kept table schema =
-    subst (λ h. IsLastChange h name v) (is ∙ sym same) (last-change history c name v ends all (sym kept) table schema)
-told-change history told own c name (Err f) ends all is same kept table schema = tt
+told-change history told c name (Ok None) ends all same kept table schema = tt
+told-change history told c name (Ok (Some v)) ends all same kept table schema =
+    subst (λ h. IsLastChange h name v) (sym same) (last-change history c name v ends all (sym kept) table schema)
+told-change history told c name (Err f) ends all same kept table schema = tt
 
 -- the state that is to come is the staged one
 staged-state :

@@ -129,6 +129,7 @@ impl<J: Naming> Publisher<J> {
     }
 
     /// Whether nothing was published since this was told.
+    #[tactic(auto, using(crate::proofs::Prefixes::prefix_both))]
     pub fn is_last(&self, told: &Told<J>) -> bool
         ensures { result ≡ true → told.now ≡ self.now }
     {

@@ -31,17 +31,6 @@ invariant_of-self g c =
     let kept = views-kept _ _ _ c.add_view.new.views.items _ _ _ _ more c.add_view.ensures.same (c.add_view.ensures.live _ more.live) in
     nothing-staged _ _ _ _ _ _ _ _ c.take.ensures.after kept.1
 
-pub returns-in-Some-NewView : goal.returns-in-Some-NewView
-returns-in-Some-NewView g c =
-    let parts = c.self.inside in
-    let view = c.in-Some-NewView.view in
-    let is : parts.staged ≡ Some (NewView view) = cc (c.take.ensures.value, c.in-Some-NewView.is, c.in-Some-NewView.field-0-is) in
-    let sound = can-commit parts.frames.items parts.views.items _ parts.staged (NewView view) c.self.invariant.staging is in
-    let more = view-committed parts.frames.items parts.views.items _ view _ _ _ _ c.self.invariant.parts sound in
-    let kept = views-kept _ _ _ c.add_view.new.views.items _ _ _ _ more c.add_view.ensures.same (c.add_view.ensures.live _ more.live) in
-    committed parts.frames.items parts.views.items _ parts.work parts.staged (NewView view) parts.keeps _ _ _ c.self.view_is is kept.0 refl
-    (ap (option_map (staged_parts parts.frames.items c.add_view.new.views.items parts.work)) c.take.ensures.after) kept.1.legal refl c.add_view.ensures.kept
-
 pub invariant_of-self-in-Some-OldView : goal.invariant_of-self-in-Some-OldView
 invariant_of-self-in-Some-OldView g c =
     let parts = c.self.inside in
@@ -52,6 +41,19 @@ invariant_of-self-in-Some-OldView g c =
     let kept = views-kept _ _ _ c.remove_view.new.views.items _ _ _ _ fewer c.remove_view.ensures.same (c.remove_view.ensures.live _ fewer.live) in
     nothing-staged _ _ _ _ _ _ _ _ c.take.ensures.after kept.1
 
+pub returns-in-Some-NewView : goal.returns-in-Some-NewView
+returns-in-Some-NewView g c =
+    let parts = c.self.inside in
+    let view = c.in-Some-NewView.view in
+    let is : parts.staged ≡ Some (NewView view) = cc (c.take.ensures.value, c.in-Some-NewView.is, c.in-Some-NewView.field-0-is) in
+    let sound = can-commit parts.frames.items parts.views.items _ parts.staged (NewView view) c.self.invariant.staging is in
+    let more = view-committed parts.frames.items parts.views.items _ view _ _ _ _ c.self.invariant.parts sound in
+    let kept = views-kept _ _ _ c.add_view.new.views.items _ _ _ _ more c.add_view.ensures.same (c.add_view.ensures.live _ more.live) in
+    record {
+      made = committed parts.frames.items parts.views.items _ parts.work parts.staged (NewView view) parts.keeps _ _ _ c.self.view_is is kept.0 refl
+          (ap (option_map (staged_parts parts.frames.items c.add_view.new.views.items parts.work)) c.take.ensures.after) kept.1.legal refl c.add_view.ensures.kept;
+    }
+
 pub returns-in-Some-OldView : goal.returns-in-Some-OldView
 returns-in-Some-OldView g c =
     let parts = c.self.inside in
@@ -60,5 +62,7 @@ returns-in-Some-OldView g c =
     let sound = can-commit parts.frames.items parts.views.items _ parts.staged (OldView at) c.self.invariant.staging is in
     let fewer = removal-committed parts.frames.items parts.views.items at _ _ _ _ c.self.invariant.parts sound in
     let kept = views-kept _ _ _ c.remove_view.new.views.items _ _ _ _ fewer c.remove_view.ensures.same (c.remove_view.ensures.live _ fewer.live) in
-    committed parts.frames.items parts.views.items _ parts.work parts.staged (OldView at) parts.keeps _ _ _ c.self.view_is is kept.0 refl
-    (ap (option_map (staged_parts parts.frames.items c.remove_view.new.views.items parts.work)) c.take.ensures.after) kept.1.legal refl c.remove_view.ensures.kept
+    record {
+      made = committed parts.frames.items parts.views.items _ parts.work parts.staged (OldView at) parts.keeps _ _ _ c.self.view_is is kept.0 refl
+          (ap (option_map (staged_parts parts.frames.items c.remove_view.new.views.items parts.work)) c.take.ensures.after) kept.1.legal refl c.remove_view.ensures.kept;
+    }

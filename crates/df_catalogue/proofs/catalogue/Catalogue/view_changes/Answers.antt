@@ -5,7 +5,11 @@ use Rattle.df_column.specs.Tables.{TableParts}
 use Rattle.df_live.specs.Views.{IsLive}
 use Rattle.df_state.specs.Reads.{last_changes_of, view_schema_of}
 use Rattle.df_state.specs.declared.state.State.{State}
+use Rattle.df_frame.specs.FrameParts.{schemas_of, states_of}
 use Rattle.df_catalogue.specs.KeptChanges.{tagged_table_of}
+use Rattle.df_catalogue.specs.LiveViews.{tagged_frames}
+use Rattle.df_catalogue.specs.Parts.{state_of}
+use Rattle.df_catalogue.specs.declared.views.View.{View}
 use Rattle.df_catalogue.specs.declared.keeping.ViewChanges.{ViewChanges}
 use Rattle.df_catalogue.proofs.KeptFacts.{kept-placed, kept-unplaced, schema-placed, some-weaker, table-placed}
 use Rattle.df_catalogue.proofs.PartFacts.{views-position}
@@ -34,9 +38,10 @@ returns-in-Some-clause-table g c =
     let name = c.args.name.now in
     let vs = c.self.inside.views.items in
     let v = c.index.result.now in
+    let now : State = state_of (schemas_of c.self.inside.frames.items) (states_of c.self.inside.frames.items) vs in
     let live = c.self.invariant.parts.live.at c.in-Some.at v (found-within (λ v. bytes_eq v.name name) vs c.in-Some.at (found g c)) in
     let is : tagged_table_of c.args.self.now.state name ≡ Some v.live.table.rows =
-    sym (ap (λ s. tagged_table_of s name) (state-of c.self.view_is)) ∙ table-placed _ name vs c.in-Some.at v refl (found g c) c.index.ensures (subst (λ w. IsLive w.live _) (sym c.index.ensures) live) in
+    sym (ap (λ s. tagged_table_of s name) (state-of c.self.view_is)) ∙ table-placed now name vs c.in-Some.at v refl (found g c) c.index.ensures (subst (λ (w : View). IsLive w.live (tagged_frames now.frames)) (sym c.index.ensures) live) in
     IfOk-weaker c.changes_of.result _ _ (λ r h. some-weaker r (λ (w : ViewChanges) e. is ∙ ap (λ (t : TableParts). Some t.rows) (sym e)) h) c.changes_of.ensures.table
 
 pub returns-in-Some-clause-schema : goal.returns-in-Some-clause-schema
@@ -44,9 +49,10 @@ returns-in-Some-clause-schema g c =
     let name = c.args.name.now in
     let vs = c.self.inside.views.items in
     let v = c.index.result.now in
+    let now : State = state_of (schemas_of c.self.inside.frames.items) (states_of c.self.inside.frames.items) vs in
     let live = c.self.invariant.parts.live.at c.in-Some.at v (found-within (λ v. bytes_eq v.name name) vs c.in-Some.at (found g c)) in
     let is : view_schema_of c.args.self.now.state name ≡ Some v.live.table.schema =
-    sym (ap (λ s. view_schema_of s name) (state-of c.self.view_is)) ∙ schema-placed _ name vs c.in-Some.at v refl (found g c) c.index.ensures (subst (λ w. IsLive w.live _) (sym c.index.ensures) live) in
+    sym (ap (λ s. view_schema_of s name) (state-of c.self.view_is)) ∙ schema-placed now name vs c.in-Some.at v refl (found g c) c.index.ensures (subst (λ (w : View). IsLive w.live (tagged_frames now.frames)) (sym c.index.ensures) live) in
     IfOk-weaker c.changes_of.result _ _ (λ r h. some-weaker r (λ (w : ViewChanges) e. is ∙ ap (λ (t : TableParts). Some t.schema) (sym e)) h) c.changes_of.ensures.table
 
 pub returns-in-None-clause-changes : goal.returns-in-None-clause-changes

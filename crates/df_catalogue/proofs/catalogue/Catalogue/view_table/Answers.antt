@@ -3,7 +3,12 @@ use Rattle.std.specs.Prelude.{bytes_eq, position}
 use Rattle.std.specs.FinMap as finite
 use Rattle.df_live.specs.Views.{IsLive}
 use Rattle.df_state.specs.Reads.{view_schema_of}
+use Rattle.df_state.specs.declared.state.State.{State}
+use Rattle.df_frame.specs.FrameParts.{schemas_of, states_of}
 use Rattle.df_catalogue.specs.KeptChanges.{tagged_table_of}
+use Rattle.df_catalogue.specs.LiveViews.{tagged_frames}
+use Rattle.df_catalogue.specs.Parts.{state_of}
+use Rattle.df_catalogue.specs.declared.views.View.{View}
 use Rattle.df_catalogue.proofs.KeptFacts.{schema-placed, table-placed}
 use Rattle.df_catalogue.proofs.PartFacts.{views-position, views-table}
 use Rattle.df_state.proofs.Places.{found-within, none-named}
@@ -30,24 +35,26 @@ returns-clause-tags g c =
     let name = c.args.name.now in
     let vs = c.self.inside.views.items in
     let v = c.index.result.now in
+    let now : State = state_of (schemas_of c.self.inside.frames.items) (states_of c.self.inside.frames.items) vs in
     let found : position (λ v. bytes_eq v.name name) vs ≡ Some c.in_ok-at.at =
     sym (views-position (λ n. bytes_eq n name) vs)
     ∙ (ap (λ s. position (λ v. bytes_eq v.name name) s.views) (state-of c.self.view_is) ∙ (sym c.view_index.ensures.value ∙ c.in_ok-at.was)) in
-    let live = subst (λ w. IsLive w.live _) (sym c.index.ensures) (c.self.invariant.parts.live.at c.in_ok-at.at v (found-within (λ v. bytes_eq v.name name) vs c.in_ok-at.at found)) in
+    let live = subst (λ (w : View). IsLive w.live (tagged_frames now.frames)) (sym c.index.ensures) (c.self.invariant.parts.live.at c.in_ok-at.at v (found-within (λ v. bytes_eq v.name name) vs c.in_ok-at.at found)) in
     ap (λ t. Some t.rows) c.table.ensures
-    ∙ (sym (table-placed _ name vs c.in_ok-at.at v refl found c.index.ensures live) ∙ ap (λ s. tagged_table_of s name) (state-of c.self.view_is))
+    ∙ (sym (table-placed now name vs c.in_ok-at.at v refl found c.index.ensures live) ∙ ap (λ s. tagged_table_of s name) (state-of c.self.view_is))
 
 pub returns-clause-schema : goal.returns-clause-schema
 returns-clause-schema g c =
     let name = c.args.name.now in
     let vs = c.self.inside.views.items in
     let v = c.index.result.now in
+    let now : State = state_of (schemas_of c.self.inside.frames.items) (states_of c.self.inside.frames.items) vs in
     let found : position (λ v. bytes_eq v.name name) vs ≡ Some c.in_ok-at.at =
     sym (views-position (λ n. bytes_eq n name) vs)
     ∙ (ap (λ s. position (λ v. bytes_eq v.name name) s.views) (state-of c.self.view_is) ∙ (sym c.view_index.ensures.value ∙ c.in_ok-at.was)) in
-    let live = subst (λ w. IsLive w.live _) (sym c.index.ensures) (c.self.invariant.parts.live.at c.in_ok-at.at v (found-within (λ v. bytes_eq v.name name) vs c.in_ok-at.at found)) in
+    let live = subst (λ (w : View). IsLive w.live (tagged_frames now.frames)) (sym c.index.ensures) (c.self.invariant.parts.live.at c.in_ok-at.at v (found-within (λ v. bytes_eq v.name name) vs c.in_ok-at.at found)) in
     ap (λ t. Some t.schema) c.table.ensures
-    ∙ (sym (schema-placed _ name vs c.in_ok-at.at v refl found c.index.ensures live) ∙ ap (λ s. view_schema_of s name) (state-of c.self.view_is))
+    ∙ (sym (schema-placed now name vs c.in_ok-at.at v refl found c.index.ensures live) ∙ ap (λ s. view_schema_of s name) (state-of c.self.view_is))
 
 pub returns-clause-table : goal.returns-clause-table
 returns-clause-table g c =
