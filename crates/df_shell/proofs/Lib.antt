@@ -4,3 +4,4 @@ pub mod HallFacts
 pub mod CheckFacts
 pub mod NextNumberFacts
 pub mod MadeFacts
+pub mod ToldFacts
