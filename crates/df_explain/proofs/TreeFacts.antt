@@ -15,7 +15,7 @@ use Rattle.df_text.specs.declared.fault.ViewsFault.{ViewsFault}
 use Rattle.df_text.specs.declared.document.FrameSpec.{FrameSpec}
 use Rattle.df_text.specs.declared.document.Views.{Views}
 use Rattle.df_explain.specs.Explanations.{frame_named, line_of, source_text, IsRecordsText, IsShapeText, IsToldOf}
-use Rattle.df_explain.specs.Places.{location_of, place_in}
+use Rattle.df_explain.specs.Places.{location_of, place_in, IsOneLine}
 use Rattle.df_explain.specs.Trees.{array_at, steps_said, tree_in}
 
 -- an item of values is that of their data
@@ -67,10 +67,10 @@ shape_of_none name bytes shown named words f before line text none within is sam
 
 -- words behind the place of a fault
 pub told :
-    (named place what words : List ℕ) (tree : Members) (at : Location) (f : ViewsFault) → place ≡ place_in tree at → at ≡ location_of f
+    (named place what words : List ℕ) (tree : Members) (at : Location) (f : ViewsFault) → IsOneLine what → place ≡ place_in tree at → at ≡ location_of f
     → words ≡ named ++ (codes ": " ++ (place ++ what)) → IsToldOf named tree f words
-told named place what words tree at f is same e =
-    (what, e ∙ ap (λ p. named ++ (codes ": " ++ (p ++ what))) (is ∙ ap (place_in tree) same))
+told named place what words tree at f line is same e =
+    (what, line, e ∙ ap (λ p. named ++ (codes ": " ++ (p ++ what))) (is ∙ ap (place_in tree) same))
 
 -- a fault of a frame's records, told of the frame that was found
 
@@ -79,11 +79,12 @@ pub source_is : (r : Option (Bor FrameSpec)) (found : Option FrameSpec) → opti
 source_is None found e = rw (← e) refl
 source_is (Some f) found e = rw (← e) refl
 
-pub recorded : (document : Views) (name shown source what words : List ℕ) → shown ≡ escaped_text name
+pub recorded : (document : Views) (name shown source what words : List ℕ) → IsOneLine what → shown ≡ escaped_text name
     → source ≡ source_text (option_map (λ (f : FrameSpec). f.source) (frame_named document name))
     → words ≡ shown ++ (codes ": " ++ (source ++ (codes " " ++ what))) → IsRecordsText document name words
-recorded document name shown source what words same is e = (
+recorded document name shown source what words line same is e = (
   what,
+  line,
   e ∙ (ap (λ n. n ++ (codes ": " ++ (source ++ (codes " " ++ what)))) same ∙ ap (λ s. escaped_text name ++ (codes ": " ++ (s ++ (codes " " ++ what)))) is),
 )
 

@@ -1,5 +1,5 @@
 -- What an explanation of a fault says for sure: of a document its name, the place and the fault's code; of one more view the
--- place. What stands behind the place is left open.
+-- place. What stands behind the place is one line, whatever it says.
 use Rattle.std.specs.Prelude.{◌≡◌, ◌≤◌, ◌++◌, ◌+◌, ◌==◌, ⊤, ℕ, Bool, true, false, List, [], Ok, Option, Some, None, codes, count_by, decimal, length, option_and_then, option_map, slice_get, take}
 use Rattle.std.specs.Str.{is_utf8}
 use Rattle.toml.specs.Data.{Members}
@@ -19,7 +19,7 @@ use Rattle.df_text.specs.declared.document.FrameSpec.{FrameSpec}
 use Rattle.df_text.specs.declared.document.ViewSpec.{ViewSpec}
 use Rattle.df_text.specs.declared.document.Views.{Views}
 use Rattle.df_text.specs.declared.fault.ViewsFault.{ViewsFault}
-use Rattle.df_explain.specs.Places.{location_of, part_text, place_in, place_in_steps}
+use Rattle.df_explain.specs.Places.{location_of, part_text, place_in, place_in_steps, IsOneLine}
 use Rattle.df_explain.specs.PlanPlaces.{IsPlanText}
 use Rattle.df_explain.specs.Trees.{steps_said, tree_in}
 
@@ -38,7 +38,7 @@ IsLine bytes line = IsLineAt (is_utf8 bytes) (parse_document bytes) bytes line
 
 -- words with the place of a fault of a document's shape, behind what names the document
 abbrev pub IsToldOf : List ℕ → Members → ViewsFault → List ℕ → Type 0
-IsToldOf named tree f words = (what : List ℕ) × (words ≡ named ++ (codes ": " ++ (place_in tree (location_of f) ++ what)))
+IsToldOf named tree f words = (what : List ℕ) × IsOneLine what × (words ≡ named ++ (codes ": " ++ (place_in tree (location_of f) ++ what)))
 
 -- the words of a fault of the shape of the document of this name and of these bytes
 abbrev pub IsShapeText : List ℕ → List ℕ → ViewsFault → List ℕ → Type 0
@@ -71,7 +71,7 @@ source_text (Some (source.Text text)) = codes "its text"
 -- the words of a fault of the records of the frame of this name: the frame, and where its records stand
 abbrev pub IsRecordsText : Views → List ℕ → List ℕ → Type 0
 IsRecordsText document name words =
-    (what : List ℕ) × (words ≡ escaped_text name
+    (what : List ℕ) × IsOneLine what × (words ≡ escaped_text name
     ++ (codes ": " ++ (source_text (option_map (λ (f : FrameSpec). f.source) (frame_named document name)) ++ (codes " " ++ what))))
 
 -- words behind a document's name

@@ -1,6 +1,6 @@
 -- Where a plan does not check: the step, and how it is told.
 use Rattle.std.specs.Prelude.{◌≡◌, ◌⊎◌, ◌++◌, ◌+◌, ◌-◌, ◌^◌, ⊤, ℕ, zero, suc, true, List, [], ◌∷◌, Option, Some, None, Err, codes, is_ok, length, min}
-use Rattle.df_explain.specs.Places.{step_text}
+use Rattle.df_explain.specs.Places.{step_text, IsOneLine}
 use Rattle.df_ops.specs.declared.windows.RollKind.TheVariants as roll
 use Rattle.df_plan.specs.Checks.{columns_of}
 use Rattle.df_plan.specs.Inputs.{Inputs, none, one, two, inputs_of, from_inputs}
@@ -120,10 +120,10 @@ IsPlaceOf frames whole part text =
 abbrev pub IsFaultyStep : List Columns → Plan → List ℕ → Type 0
 IsFaultyStep frames whole place = (part : Plan) × IsFaultOf frames whole part × IsPlaceOf frames whole part place
 
--- words that begin with the place of the step at fault, whatever stands behind it
+-- words that begin with the place of the step at fault; behind it stands one line, whatever it says
 abbrev pub IsStepText : List Columns → Plan → List ℕ → Type 0
 IsStepText frames whole words =
-    (place : List ℕ) × (what : List ℕ) × IsFaultyStep frames whole place × (words ≡ place ++ (codes ": " ++ what))
+    (place : List ℕ) × (what : List ℕ) × IsFaultyStep frames whole place × IsOneLine what × (words ≡ place ++ (codes ": " ++ what))
 
 -- The words of a plan's fault. How many frames are read and how many steps follow one another is a matter of the whole
 -- plan: no step is named.

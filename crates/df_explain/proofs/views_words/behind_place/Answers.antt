@@ -9,5 +9,5 @@ pub returns : goal.returns
 returns c =
     if_ok_then c.joined.result c.joined.ensures
     (λ words e. told c.args.named.now (string_bytes c.in_ok-place.place) c.first_line.result.now (string_bytes words) (table_view c.args.tree.now) c.location_of.result c.args.fault.now
-    c.in_ok-place.ensures c.location_of.ensures
+    c.first_line.ensures c.in_ok-place.ensures c.location_of.ensures
     (e ∙ ap (λ t. c.args.named.now ++ (codes ": " ++ t)) (c.as_str-2.ensures.value ∙ (c.in_ok-there.ensures ∙ ap (λ t. t ++ c.first_line.result.now) c.as_str.ensures.value))))
