@@ -1,8 +1,8 @@
 #!/usr/bin/env python3
 """clauses.py [--write]: docs/CLAUSES.md, the index of clauses, says what the crates say. Run it at the top of the repository.
 
-The index has each public call of each library whose clauses have names, with these names, and then those with one clause that
-has none. With --write it is made anew; else it is compared, and the status is 1 where it differs."""
+The index has each public call of each library whose clauses have names, with these names, and then those that have no clause.
+With --write it is made anew; else it is compared, and the status is 1 where it differs."""
 
 import pathlib
 import re
@@ -11,10 +11,9 @@ import sys
 PAGE = pathlib.Path("docs/CLAUSES.md")
 HEAD = """# Clauses
 
-The index of what is proved of each public call: the names of its clauses, as they stand in the code above its body. `requires` is
-what a caller must show, `ensures` what the call promises; `-` stands for a clause that needs no name, since it is the only one.
-A call of a trait has its clauses in each implementation. [PROMISES.md](PROMISES.md) says in words what the most important ones
-mean together. Made by `tests/clauses.py --write`.
+What is proved of each public call: the names of its clauses, as they stand in the code above its body. `requires` is what a caller
+must show, `ensures` what the call promises; `-` is a clause without a name. A call that is not listed has one `ensures`, without a name.
+[PROMISES.md](PROMISES.md) says in words what the most important ones mean together. Made by `tests/clauses.py --write`.
 """
 TESTS = {"df_tests", "df_load_tests"}
 
@@ -69,19 +68,19 @@ def found(crate):
 
 
 def section(crate):
-    """The part of the page on a library: a table, and the calls with one clause."""
-    rows, plain = [], []
+    """The part of the page on a library: a table, and the calls without a clause."""
+    rows, bare = [], []
     for name, clauses in found(crate):
         if clauses["requires"] or set(clauses["ensures"]) - {"-"}:
             rows.append(f"| `{name}` | {', '.join(clauses['requires'])} | {', '.join(clauses['ensures'])} |")
-        elif clauses["ensures"]:
-            plain.append(f"`{name}`")
+        elif not clauses["ensures"]:
+            bare.append(f"`{name}`")
     lines = [f"## {crate}", ""]
     if rows:
         lines += ["| Call | Requires | Ensures |", "|---|---|---|", *rows, ""]
-    if plain:
-        lines += ["With one clause: " + ", ".join(plain) + ".", ""]
-    return "\n".join(lines) if rows or plain else ""
+    if bare:
+        lines += ["Without a clause: " + ", ".join(bare) + ".", ""]
+    return "\n".join(lines) if rows or bare else ""
 
 
 def page():

@@ -2,9 +2,8 @@
 """definitions.py [--write]: what docs/DEFINITIONS.md prints of the specs folders stands there. Run it at the top of the repository.
 
 A line `<!-- CRATE/FILE: NAME, NAME -->` is followed by a block with these definitions, each with the comment above it. Behind the
-line `<!-- index -->` stands by crate each file on which the printed definitions rest, with its opening sentence, and then the names
-of the other files that define something for others. With --write both are made anew; else they are compared, and the status is 1
-where they differ."""
+line `<!-- index -->` stands by crate each file on which the printed definitions rest, with its opening sentence. With --write both are
+made anew; else they are compared, and the status is 1 where they differ."""
 
 import pathlib
 import re
@@ -78,11 +77,9 @@ def index(page):
     lines, first = [], rested_on(page)
     for line in pathlib.Path("crates.txt").read_text().split("\n"):
         crate = line.split(":")[0]
-        files = [path for path in sorted(pathlib.Path("crates", crate, "specs").glob("*.antt")) if defines_for_others(path)]
-        if files and "#" not in crate:
-            rows = [f"- **{path.stem}**: {opening(path)}" for path in files if path in first]
-            others = ", ".join(path.stem for path in files if path not in first)
-            lines += [f"### {crate}", "", *rows, *([""] if rows and others else []), *([f"Others: {others}."] if others else []), ""]
+        files = [path for path in sorted(pathlib.Path("crates", crate, "specs").glob("*.antt")) if path in first and defines_for_others(path)]
+        if files:
+            lines += [f"### {crate}", "", *(f"- **{path.stem}**: {opening(path)}" for path in files), ""]
     return "\n".join(lines)
 
 
