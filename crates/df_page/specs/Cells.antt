@@ -26,7 +26,7 @@ fraction mean = signed_decimal mean.0 ++ (codes "/" ++ (signed_decimal mean.1 ++
 -- a mean, and behind it the decimal
 abbrev pub mean_tags : ℤ × ℤ → List Tagged
 mean_tags mean =
-    (codes "td class=\"number\"", fraction mean)
+    (codes "td class=\"mean\"", fraction mean)
     ∷ (codes "span class=\"decimal\"", mean_decimal mean) ∷ (codes "/span", []) ∷ (codes "/td", []) ∷ []
 
 -- a whole number

@@ -111,7 +111,7 @@ fn push_mean(alloc: Global, out: &mut Vec<u8>, mean: &Frac) -> Result<(), AllocE
     push_tags(
         out,
         &[
-            ("td class=\"number\"", fraction.as_str()),
+            ("td class=\"mean\"", fraction.as_str()),
             ("span class=\"decimal\"", decimal.as_str()),
             ("/span", ""),
             ("/td", ""),
