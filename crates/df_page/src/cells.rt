@@ -55,10 +55,7 @@ fn push_cell(
         CellRef::Null => push_null(out, column.is_number),
         CellRef::Int(n) => push_number(alloc, out, column, i128::from(n)),
         CellRef::Wide(n) => push_number(alloc, out, column, n),
-        CellRef::Text(text) => push_tags(
-            out,
-            &[("td", ""), ("bdi", text), ("/bdi", ""), ("/td", "")],
-        ),
+        CellRef::Text(text) => push_text(out, text),
         CellRef::Bool(true) => push_tags(out, &[("td", "true"), ("/td", "")]),
         CellRef::Bool(false) => push_tags(out, &[("td", "false"), ("/td", "")]),
         CellRef::Frac(mean) => push_mean(alloc, out, mean),
@@ -101,6 +98,12 @@ fn push_number(
     let tag = bar_tag(alloc, column, number)?;
     let mut digits = itoa::Buffer::new();
     push_tags(out, &[(tag.as_str(), digits.format(number)), ("/td", "")])
+}
+
+fn push_text(out: &mut Vec<u8>, text: &str) -> Result<(), AllocError>
+    ensures { OnOk result (out.new.items ≡ out.old.items ++ markup (cells.text_tags text.now)) }
+{
+    push_tags(out, &[("td", ""), ("bdi", text), ("/bdi", ""), ("/td", "")])
 }
 
 fn push_mean(alloc: Global, out: &mut Vec<u8>, mean: &Frac) -> Result<(), AllocError>
