@@ -1,0 +1,4 @@
+pub mod MarkupFacts
+pub mod MeanFacts
+pub mod ColumnFacts
+pub mod SectionFacts

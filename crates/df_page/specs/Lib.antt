@@ -1,0 +1,6 @@
+pub mod Markup
+pub mod Means
+pub mod Bars
+pub mod Cells
+pub mod Sections
+pub mod Pages
