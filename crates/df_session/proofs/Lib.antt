@@ -9,3 +9,4 @@ mod LoadFacts
 mod FramedFacts
 mod PlaceFacts
 mod WatchFacts
+mod ReportFacts

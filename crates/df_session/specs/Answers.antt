@@ -28,6 +28,7 @@ answer_text answer.Accepted = codes "ok\n"
 answer_text (answer.Told text) = text.items
 answer_text (answer.Load frame path) = []
 answer_text (answer.Export path table) = []
+answer_text (answer.Report path views) = []
 answer_text (answer.Watch asked view) = []
 answer_text (answer.Source path) = []
 answer_text answer.Ended = []
@@ -75,6 +76,8 @@ module _ (Keeps : Type 0) (Answers : Question → Result (Vec ℕ) Refusal → T
   IsAnswerAlone d (command.Load frame path) (Ok (answer.Load f p)) = (f ≡ frame.now) × (p ≡ path.now) × Keeps
   IsAnswerAlone d (command.Load frame path) (Err r) = (r ≡ refusal.Memory) × Keeps
   IsAnswerAlone d (command.Export view path) result = IsTableFor Keeps (Answers (question.Show view part.Whole format.Csv)) path.now result
+  IsAnswerAlone d (command.Report path views) (Ok (answer.Report file vs)) = (file ≡ path.now) × (vs ≡ views) × Keeps
+  IsAnswerAlone d (command.Report path views) (Err r) = (r ≡ refusal.Memory) × Keeps
   IsAnswerAlone d (command.Sql view) (Ok (answer.Told text)) = IsSome (plan_named d view.now) × Keeps
   IsAnswerAlone d (command.Sql view) (Err r) = IsRefusalOfSql (plan_named d view.now) r × Keeps
   IsAnswerAlone d (command.Watch asked view) (Ok (answer.Watch a v)) = (a ≡ asked) × (v ≡ view.now) × Keeps

@@ -53,6 +53,7 @@ abbrev pub format_words : Format → List (List ℕ)
 format_words format.Printed = []
 format_words format.Csv = codes "csv" ∷ []
 format_words format.Json = codes "json" ∷ []
+format_words format.Html = codes "html" ∷ []
 
 -- the words of a question
 abbrev pub IsQuestionOf : List (List ℕ) → Question → Type 0
@@ -81,6 +82,7 @@ IsCommandOf words (command.Question question) = IsQuestionOf words question
 IsCommandOf words (command.AppendNext frame) = words ≡ codes "append" ∷ frame.now ∷ []
 IsCommandOf words (command.Load frame path) = words ≡ codes "load" ∷ frame.now ∷ path.now ∷ []
 IsCommandOf words (command.Export view path) = words ≡ codes "export" ∷ view.now ∷ path.now ∷ []
+IsCommandOf words (command.Report path views) = words ≡ codes "report" ∷ path.now ∷ views
 IsCommandOf words (command.Define view source) =
     (word : List ℕ) × (rest : List (List ℕ)) × (words ≡ codes "define" ∷ view.now ∷ source.now ∷ word ∷ rest)
 IsCommandOf words (command.Sql view) = words ≡ codes "sql" ∷ view.now ∷ []

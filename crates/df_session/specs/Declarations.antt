@@ -63,6 +63,7 @@ IsOpening (command.Change change) = ⊤
 IsOpening (command.AppendNext frame) = ⊤
 IsOpening (command.Load frame path) = ⊤
 IsOpening (command.Export view path) = ⊤
+IsOpening (command.Report path views) = ⊤
 IsOpening (command.Define view source) = ⊤
 IsOpening (command.Source path) = ⊤
 IsOpening c = ⊥

@@ -16,5 +16,6 @@ pub mod Numbers
 pub mod Filling
 pub mod Loading
 pub mod Exported
+pub mod Reports
 pub mod ViewChanges
 pub mod Watching

@@ -6,6 +6,7 @@ use Rattle.df_print.specs.Printed.{printed}
 use Rattle.df_export.specs.CsvTables.{csv_of}
 use Rattle.df_export.specs.JsonLines.{json_of}
 use Rattle.df_export.specs.Numbered.{numbered_columns, numbered_rows}
+use Rattle.df_page.specs.Sections.{section_of}
 use Rattle.df_session.specs.Greetings.{plural_end}
 use Rattle.df_session.specs.Told.{numbers_line}
 use Rattle.df_session.specs.declared.command.Format.{Format}
@@ -42,14 +43,17 @@ part_line (part.From first count) total = around_line (min first total) (total -
 abbrev pub part_text : List ℕ → List (List ℕ × CellType) → Part → List (List Cell) → List ℕ
 part_text name schema part rows = printed name schema (part_rows part rows) ++ part_line part (length rows)
 
--- a part of a table in a format; of the other rows only the printed one tells
+-- a part of a table in a format; of the other rows the printed one tells, and the section of a page
 abbrev pub part_in : Format → List ℕ → List (List ℕ × CellType) → Part → List (List Cell) → List ℕ
 part_in format.Printed name schema part rows = part_text name schema part rows
 part_in format.Csv name schema part rows = csv_of schema (part_rows part rows)
 part_in format.Json name schema part rows = json_of schema (part_rows part rows)
+part_in format.Html name schema part rows = section_of name schema (part_rows part rows) (length rows)
 
--- the table of a frame in a format, with the numbers of its rows: printed below it, else in a column of their own
+-- the table of a frame in a format, with the numbers of its rows: printed below it, else in a column of their own; the section of a page
+-- has none
 abbrev pub numbered_in : Format → List ℕ → List (List ℕ × CellType) → List (List Cell) → List ℕ → List ℕ
 numbered_in format.Printed name schema rows numbers = printed name schema rows ++ numbers_line numbers
 numbered_in format.Csv name schema rows numbers = csv_of (numbered_columns schema) (numbered_rows numbers rows)
 numbered_in format.Json name schema rows numbers = json_of (numbered_columns schema) (numbered_rows numbers rows)
+numbered_in format.Html name schema rows numbers = section_of name schema rows (length rows)

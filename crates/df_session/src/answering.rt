@@ -14,7 +14,7 @@ use crate::refusal::{Mistake, Refusal};
 use crate::sql_views::sql_of_view;
 use crate::view_store::ViewStore;
 use csv::StringRecord;
-use df_value::Text;
+use df_value::{List, Text};
 use std::alloc::{AllocError, Global};
 
 /// What a command is answered, where it is not refused.
@@ -28,6 +28,8 @@ pub enum Answer {
     Load(Text, Text),
     /// Nothing: a file under this path is to have this table.
     Export(Text, Vec<u8>),
+    /// Nothing: a file under this path is to have a page of the views of these names, or without names of all views.
+    Report(Text, List<Text>),
     /// Nothing: this is asked about what changes do to the view of this name.
     Watch(Watching, Text),
     /// Nothing: the commands in the file under this path come next.
@@ -46,6 +48,7 @@ impl Answer {
             Answer::Told(text) => text.as_slice(),
             Answer::Load(..)
             | Answer::Export(..)
+            | Answer::Report(..)
             | Answer::Watch(..)
             | Answer::Source(_)
             | Answer::Ended => b"",
@@ -135,6 +138,7 @@ fn answer_alone<S: ViewStore>(
         }
         Command::Export(view, path) => export_of(alloc, definitions, store, view, path),
         Command::Load(frame, path) => Ok(load_of(alloc, frame, path)?),
+        Command::Report(path, views) => Ok(report_of(alloc, path, views)?),
         Command::Sql(view) => Ok(Answer::Told(sql_of_view(alloc, definitions, view)?)),
         Command::Watch(asked, view) => Ok(Answer::Watch(asked, Text::from_str(alloc, view)?)),
         Command::Source(path) => Ok(Answer::Source(Text::from_str(alloc, path)?)),
@@ -151,6 +155,18 @@ fn load_of(alloc: Global, frame: &str, path: &str) -> Result<Answer, AllocError>
     let frame = Text::from_str(alloc, frame)?;
     let path = Text::from_str(alloc, path)?;
     Ok(Answer::Load(frame, path))
+}
+
+fn report_of(alloc: Global, path: &str, views: List<Text>) -> Result<Answer, AllocError>
+    ensures { IfOk result (λ answer. answer ≡ Answer.Report path.now views) }
+{
+    match Text::from_str(alloc, path) {
+        Ok(path) => Ok(Answer::Report(path, views)),
+        Err(fault) => {
+            drop(views);
+            Err(fault)
+        }
+    }
 }
 
 // The table of a view as `show VIEW csv` writes it, for a file.

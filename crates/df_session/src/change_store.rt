@@ -1,6 +1,7 @@
 //! What a session asks of a store besides, to tell what changes do to its views.
 use crate::refusal::Refusal;
 use crate::view_store::ViewStore;
+use df_value::{List, Text};
 use std::alloc::Global;
 
 /// A store of views that knows what the last change did to each of them.
@@ -18,6 +19,9 @@ pub trait ChangeStore: ViewStore {
     /// Whether a view of a name is registered was answered so.
     ghost Finds: { Self → Self → Seq ℕ → Result Bool AnyRefusal → Type 0 };
 
+    /// The names of the views were answered so.
+    ghost Names: { Self → Self → Result (Seq (Seq ℕ)) AnyRefusal → Type 0 };
+
     /// This is the number of the last change.
     ghost Numbers: { Self → ℕ → Type 0 };
 
@@ -33,6 +37,10 @@ pub trait ChangeStore: ViewStore {
     /// Whether a view of this name is registered.
     fn has_view(&mut self, alloc: Global, view: &str) -> Result<bool, Refusal>
         ensures { Finds self.old self.new view.now result };
+
+    /// The names of the registered views, in their order.
+    fn view_names(&mut self, alloc: Global) -> Result<List<Text>, Refusal>
+        ensures { Names self.old self.new result };
 
     /// The number of the last change: how many were accepted. It takes no memory.
     fn change_number(&self) -> u64

@@ -5,8 +5,8 @@ ghost use Rattle.df_session.specs.Answers.{IsWordFault};
 ghost use Rattle.df_session.specs.Commands.{IsChangeOf, IsCommandOf, IsLineCount, IsPartOf, IsQuestionOf, IsRowNumber, format_words};
 
 use crate::refusal::{Mistake, Refusal};
-use df_value::List;
-use std::alloc::Global;
+use df_value::{List, Text};
+use std::alloc::{AllocError, Global};
 
 /// What a line asks for. Frames and views are named as in the document.
 #[derive(Drop)]
@@ -19,6 +19,8 @@ pub enum Command<'a> {
     Load(&'a str, &'a str),
     /// Writes the table of a view, as CSV, to a file: the view, and the path.
     Export(&'a str, &'a str),
+    /// Writes a page of the views of these names, in their order, or without names of all views, to a file, whose path stands first.
+    Report(&'a str, List<Text>),
     /// Adds a view behind all views so far: its name, and that of the frame that it begins with. Its steps stand behind
     /// these.
     Define(&'a str, &'a str),
@@ -106,6 +108,8 @@ pub enum Format {
     Csv,
     /// As lines of JSON.
     Json,
+    /// As a section of an HTML page.
+    Html,
 }
 
 /// The command that words say.
@@ -131,6 +135,7 @@ fn command_of<'a>(alloc: Global, name: &str, arguments: &[&'a str]) -> Result<Co
         "drop" => Ok(Command::Change(AskedChange::DropView(only(arguments)?))),
         "load" => Ok(read_load(arguments)?),
         "export" => Ok(read_export(arguments)?),
+        "report" => read_report(alloc, arguments),
         "define" => Ok(read_define(arguments)?),
         "sql" => Ok(Command::Sql(only(arguments)?)),
         "watch" => Ok(Command::Watch(Watching::Begin, only(arguments)?)),
@@ -196,6 +201,26 @@ fn read_export<'a>(arguments: &[&'a str]) -> Result<Command<'a>, Mistake>
         [_, _, ..] => Err(Mistake::ExtraWord),
         _ => Err(Mistake::MissingWord),
     }
+}
+
+fn read_report<'a>(alloc: Global, arguments: &[&'a str]) -> Result<Command<'a>, Refusal>
+    ensures said { IfOk result (IsCommandOf (codes "report" ∷ map (λ w. w.now) arguments.now)) }
+    ensures refused { IfErr result IsWordFault }
+{
+    match arguments {
+        [path, views @ ..] => Ok(Command::Report(path, texts_of(alloc, views)?)),
+        [] => Err(Refusal::Mistake(Mistake::MissingWord)),
+    }
+}
+
+fn texts_of(alloc: Global, words: &[&str]) -> Result<List<Text>, AllocError>
+    ensures { IfOk result (λ texts. texts ≡ map (λ w. w.now) words.now) }
+{
+    let mut texts = Vec::with_capacity(alloc, words.len())?;
+    for word in words {
+        texts.push(Text::from_str(alloc, word)?)?;
+    }
+    Ok(List::from_vec(texts))
 }
 
 fn read_define<'a>(arguments: &[&'a str]) -> Result<Command<'a>, Mistake>
@@ -265,6 +290,7 @@ fn split_format<'w, 'a>(words: &'w [&'a str]) -> (&'w [&'a str], Format)
     match words.split_last() {
         Some((&"csv", before)) => (before, Format::Csv),
         Some((&"json", before)) => (before, Format::Json),
+        Some((&"html", before)) => (before, Format::Html),
         _ => (words, Format::Printed),
     }
 }

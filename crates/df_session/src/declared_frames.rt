@@ -184,6 +184,7 @@ fn answer_other(
         | Command::AppendNext(_)
         | Command::Load(..)
         | Command::Export(..)
+        | Command::Report(..)
         | Command::Define(..)
         | Command::Source(_) => Ok(Declaration::Opens),
     }

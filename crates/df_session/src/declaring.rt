@@ -24,15 +24,15 @@ use std::alloc::Global;
 use std::io::{BufRead, Write};
 
 /// What a session without a document has until its store is opened.
-pub struct Declaring {
+pub struct Declaring<'a> {
     declared: DeclaredFrames,
     command: Vec<u8>,
     record: Vec<u8>,
-    options: SessionOptions,
+    options: SessionOptions<'a>,
 }
 
 // A body that owns one drops it by a call.
-impl Drop for Declaring {
+impl<'a> Drop for Declaring<'a> {
     fn drop(self) {
         let Declaring {
             declared,
@@ -65,8 +65,8 @@ pub enum Declared {
     End(SessionEnd),
 }
 
-impl Declaring {
-    pub fn new(alloc: Global, options: SessionOptions) -> Result<Declaring, ShellFault> {
+impl<'a> Declaring<'a> {
+    pub fn new(alloc: Global, options: SessionOptions<'a>) -> Result<Declaring<'a>, ShellFault> {
         let command = line_buffer(alloc)?;
         let record = line_buffer(alloc)?;
         Ok(Declaring {
@@ -217,7 +217,7 @@ fn declare_line(
 }
 
 // What comes behind a refusal.
-fn behind_refusal(options: SessionOptions) -> Step {
+fn behind_refusal(options: SessionOptions<'_>) -> Step {
     if options.bail {
         Step::End(SessionEnd::Refused)
     } else {
@@ -227,7 +227,7 @@ fn behind_refusal(options: SessionOptions) -> Step {
 
 fn tell<W: Write>(
     output: &mut W,
-    options: SessionOptions,
+    options: SessionOptions<'_>,
     answer: Answer,
 ) -> Result<Step, ShellFault> {
     match answer {

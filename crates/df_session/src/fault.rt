@@ -18,7 +18,7 @@ pub enum ShellFault {
     /// The document's frames are refused. Those of a document that opens are not.
     #[error("{0}")]
     Frames(NewFault),
-    /// The first rows or the views are refused. Those of a document that opens are not.
+    /// The first rows or the views are refused, which those of a document that opens are not; or a page of the views is.
     #[error("{0}")]
     Store(Refusal),
     /// A read of the commands failed.

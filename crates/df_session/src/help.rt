@@ -8,7 +8,7 @@ use std::alloc::{AllocError, Global};
 pub type CommandHelp = (&'static str, &'static str, &'static str);
 
 /// The commands, in the order in which `help` lists them. A command of several forms has an entry for each.
-pub const COMMANDS: [CommandHelp; 31] = [
+pub const COMMANDS: [CommandHelp; 32] = [
     (
         "frame",
         "frame NAME COLUMN TYPE ..    declares a frame of these columns; without a document, before all changes\n",
@@ -96,7 +96,7 @@ pub const COMMANDS: [CommandHelp; 31] = [
     ),
     (
         "show",
-        "show VIEW .. csv             these rows as CSV; with json as lines of JSON\n",
+        "show VIEW .. csv             these rows as CSV; with json as lines of JSON; with html as a section of a page\n",
         "    > show by_region csv\n    region,n,total\n    north,2,2\n    south,1,0\n    > show by_region 1 json\n    {\"region\":\"north\",\"n\":2,\"total\":2}\n",
     ),
     (
@@ -120,13 +120,18 @@ pub const COMMANDS: [CommandHelp; 31] = [
         "    > export by_region totals.csv\n    ok 2 rows\n",
     ),
     (
+        "report",
+        "report PATH [VIEW ..]        writes a page of all views, or of these, to a file: the first 1000 rows of each\n",
+        "    > report totals.html\n    ok 1 view\n",
+    ),
+    (
         "rows",
         "rows FRAME                   the table of a frame, and the numbers of its rows\n",
         "    > rows sales\n    sales (1 x 2)\n    region   qty\n    south   null\n    numbers 1\n",
     ),
     (
         "rows",
-        "rows FRAME csv               the rows with their numbers as CSV; with json as lines of JSON\n",
+        "rows FRAME csv               the rows with their numbers as CSV; with json as lines of JSON; with html, without numbers\n",
         "    > rows sales csv\n    number,region,qty\n    1,south,\n    > rows sales json\n    {\"number\":1,\"region\":\"south\",\"qty\":null}\n",
     ),
     (

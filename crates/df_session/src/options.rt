@@ -3,7 +3,9 @@ use crate::prompts::Prompts;
 
 /// How a session is held.
 #[derive(Clone, Copy, PartialEq, Eq)]
-pub struct SessionOptions {
+pub struct SessionOptions<'a> {
+    /// The name of the document, which stands above its pages.
+    pub title: &'a str,
     pub prompts: Prompts,
     /// Whether the first refusal of a command ends the session.
     pub bail: bool,

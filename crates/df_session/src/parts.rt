@@ -7,11 +7,12 @@ use crate::command::{Format, Part};
 use crate::prompts::plural_end;
 use crate::telling::print_rows;
 use df_export::{csv_table, json_lines, numbered_csv_table, numbered_json_lines};
+use df_page::view_section;
 use df_text::print_table;
 use df_value::{Row, Schema, Text};
 use std::alloc::{AllocError, Global};
 
-/// A part of the rows of a table in a format: printed, also how many rows lie around it.
+/// A part of the rows of a table in a format: printed, also how many rows lie around it, and in a page how many more there are.
 pub fn write_part(
     alloc: Global,
     name: &Text,
@@ -27,11 +28,12 @@ pub fn write_part(
         Format::Printed => print_part(alloc, name, schema, rows, part),
         Format::Csv => csv_table(alloc, schema, rows_in(part, rows)),
         Format::Json => json_lines(alloc, schema, rows_in(part, rows)),
+        Format::Html => view_section(alloc, name, schema, rows_in(part, rows), rows.len()),
     }
 }
 
 /// The table of a frame in a format, with the numbers of its rows: printed below it, else in a
-/// first column.
+/// first column. The section of a page has no numbers.
 pub fn write_rows(
     alloc: Global,
     name: &Text,
@@ -47,6 +49,7 @@ pub fn write_rows(
         Format::Printed => print_rows(alloc, name, schema, rows, numbers),
         Format::Csv => numbered_csv_table(alloc, schema, rows, numbers),
         Format::Json => numbered_json_lines(alloc, schema, rows, numbers),
+        Format::Html => view_section(alloc, name, schema, rows, rows.len()),
     }
 }
 

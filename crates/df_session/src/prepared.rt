@@ -3,10 +3,11 @@ use crate::buffers::Buffers;
 use crate::definitions::Definitions;
 use crate::fault::ShellFault;
 use crate::session::Beginning;
+use crate::writing::{Status, write_answer};
 use df_document::{Files, OpenedDocument, open_document, refused_lines};
 use df_value::{List, Piece};
 use std::alloc::Global;
-use std::io::Read;
+use std::io::{Read, Write};
 use std::thread::Threads;
 
 /// The records of a chunk of the first rows.
@@ -25,6 +26,13 @@ pub struct Prepared {
     pub refused: List<u8>,
     pub buffers: Buffers,
     pub beginning: Beginning,
+}
+
+impl Prepared {
+    /// Writes the lines of the chunks that are refused.
+    pub fn write_refused<W: Write>(&self, output: &mut W) -> Result<(), ShellFault> {
+        write_answer(output, false, Status::Ok, &[self.refused.as_slice()])
+    }
 }
 
 /// Opens a document, with the first rows of its frames in chunks of 1,000 records. At most 4 threads read a file.

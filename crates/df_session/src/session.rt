@@ -11,7 +11,7 @@ use crate::lines::{Line, read_line, without_end};
 use crate::options::{SessionEnd, SessionOptions};
 use crate::prompts::{COMMAND_PROMPT, Prompts, greeting};
 use crate::refusal::{Mistake, Refusal};
-use crate::turns::{Turn, export_table, load_file, turn_of, watch_view};
+use crate::turns::{Turn, export_table, load_file, report_views, turn_of, watch_view};
 use crate::watched_store::WatchedStore;
 use crate::words::{lines_behind, read_words};
 use crate::writing::{Status, refuse, write_all, write_answer, write_changes, write_prompt};
@@ -22,11 +22,11 @@ use std::io::{BufRead, BufReader, Read, Write};
 use std::thread::Threads;
 
 /// What a shell has while it answers.
-pub struct Session<S> {
+pub struct Session<'a, S> {
     pub definitions: Definitions,
     pub store: WatchedStore<S>,
     pub buffers: Buffers,
-    pub options: SessionOptions,
+    pub options: SessionOptions<'a>,
 }
 
 /// What a session begins with.
@@ -45,7 +45,7 @@ pub enum Beginning {
 pub fn answer_from<R: Threads + Sync, S: ChangeStore, F: Files + WriteFiles, I: BufRead, W: Write>(
     rt: &R,
     alloc: Global,
-    session: &mut Session<S>,
+    session: &mut Session<'_, S>,
     beginning: Beginning,
     refused: List<u8>,
     files: &mut F,
@@ -71,7 +71,7 @@ pub fn answer_from<R: Threads + Sync, S: ChangeStore, F: Files + WriteFiles, I: 
 
 fn greet<S, W: Write>(
     alloc: Global,
-    session: &Session<S>,
+    session: &Session<'_, S>,
     output: &mut W,
 ) -> Result<(), ShellFault> {
     match session.options.prompts {
@@ -83,7 +83,7 @@ fn greet<S, W: Write>(
 fn answer_all<R: Threads + Sync, S: ChangeStore, F: Files + WriteFiles, I: BufRead, W: Write>(
     rt: &R,
     alloc: Global,
-    session: &mut Session<S>,
+    session: &mut Session<'_, S>,
     files: &mut F,
     input: &mut I,
     output: &mut W,
@@ -102,7 +102,7 @@ fn answer_all<R: Threads + Sync, S: ChangeStore, F: Files + WriteFiles, I: BufRe
 fn follow<R: Threads + Sync, S: ChangeStore, F: Files + WriteFiles, W: Write>(
     rt: &R,
     alloc: Global,
-    session: &mut Session<S>,
+    session: &mut Session<'_, S>,
     files: &mut F,
     turn: Turn,
     output: &mut W,
@@ -113,6 +113,7 @@ fn follow<R: Threads + Sync, S: ChangeStore, F: Files + WriteFiles, W: Write>(
         Turn::Export(path, table) => {
             export_table(alloc, session.options, files, path, table, output)
         }
+        Turn::Report(path, views) => report_views(alloc, session, files, path, views, output),
         Turn::Watch(asked, view) => watch_view(alloc, session, asked, view, output),
         Turn::Source(path) => source(rt, alloc, session, files, &path, output),
         Turn::End | Turn::Quit => Ok(Some(SessionEnd::Whole)),
@@ -124,7 +125,7 @@ fn follow<R: Threads + Sync, S: ChangeStore, F: Files + WriteFiles, W: Write>(
 fn source<R: Threads + Sync, S: ChangeStore, F: Files + WriteFiles, W: Write>(
     rt: &R,
     alloc: Global,
-    session: &mut Session<S>,
+    session: &mut Session<'_, S>,
     files: &mut F,
     path: &Text,
     output: &mut W,
@@ -143,7 +144,7 @@ fn source<R: Threads + Sync, S: ChangeStore, F: Files + WriteFiles, W: Write>(
 fn answer_file<R: Threads + Sync, S: ChangeStore, F: Files + WriteFiles, W: Write>(
     rt: &R,
     alloc: Global,
-    session: &mut Session<S>,
+    session: &mut Session<'_, S>,
     files: &mut F,
     file: F::Reader,
     output: &mut W,
@@ -158,7 +159,7 @@ fn answer_file<R: Threads + Sync, S: ChangeStore, F: Files + WriteFiles, W: Writ
 fn answer_sourced<R: Threads + Sync, S: ChangeStore, F: Files + WriteFiles, I: BufRead, W: Write>(
     rt: &R,
     alloc: Global,
-    session: &mut Session<S>,
+    session: &mut Session<'_, S>,
     files: &mut F,
     input: &mut I,
     output: &mut W,
@@ -186,7 +187,7 @@ fn answer_sourced<R: Threads + Sync, S: ChangeStore, F: Files + WriteFiles, I: B
 fn take_sourced<R: Threads + Sync, S: ChangeStore, F: Files + WriteFiles, W: Write>(
     rt: &R,
     alloc: Global,
-    session: &mut Session<S>,
+    session: &mut Session<'_, S>,
     files: &mut F,
     turn: Turn,
     output: &mut W,
@@ -197,6 +198,7 @@ fn take_sourced<R: Threads + Sync, S: ChangeStore, F: Files + WriteFiles, W: Wri
         Turn::Export(path, table) => {
             export_table(alloc, session.options, files, path, table, output)
         }
+        Turn::Report(path, views) => report_views(alloc, session, files, path, views, output),
         Turn::Watch(asked, view) => watch_view(alloc, session, asked, view, output),
         Turn::Source(_) => {
             let nested = Refusal::Mistake(Mistake::NestedSource);
@@ -210,7 +212,7 @@ fn take_sourced<R: Threads + Sync, S: ChangeStore, F: Files + WriteFiles, W: Wri
 // Reads a line, and answers the command that it is.
 fn answer_next<S: ChangeStore, I: BufRead, W: Write>(
     alloc: Global,
-    session: &mut Session<S>,
+    session: &mut Session<'_, S>,
     input: &mut I,
     output: &mut W,
 ) -> Result<Turn, ShellFault> {
@@ -233,7 +235,7 @@ fn answer_next<S: ChangeStore, I: BufRead, W: Write>(
 // are watched.
 fn take_turn<S: ChangeStore, I: BufRead, W: Write>(
     alloc: Global,
-    session: &mut Session<S>,
+    session: &mut Session<'_, S>,
     input: &mut I,
     output: &mut W,
 ) -> Result<Turn, ShellFault> {
@@ -272,13 +274,14 @@ fn take_turn<S: ChangeStore, I: BufRead, W: Write>(
 fn tell<W: Write>(
     alloc: Global,
     output: &mut W,
-    options: SessionOptions,
+    options: SessionOptions<'_>,
     answer: Result<Answer, Refusal>,
 ) -> Result<Turn, ShellFault> {
     match answer {
         Ok(Answer::Ended) => Ok(Turn::Quit),
         Ok(Answer::Load(frame, path)) => Ok(Turn::Load(frame, path)),
         Ok(Answer::Export(path, table)) => Ok(Turn::Export(path, table)),
+        Ok(Answer::Report(path, views)) => Ok(Turn::Report(path, views)),
         Ok(Answer::Watch(asked, view)) => Ok(Turn::Watch(asked, view)),
         Ok(Answer::Source(path)) => Ok(Turn::Source(path)),
         Ok(answer) => {

@@ -5,11 +5,12 @@ use crate::exporting::{WriteFiles, export};
 use crate::fault::ShellFault;
 use crate::loading::load;
 use crate::options::{SessionEnd, SessionOptions};
+use crate::reporting::report;
 use crate::session::Session;
 use crate::watched_store::answer_watching;
 use crate::writing::{Status, refuse, write_answer, write_changes, write_loaded};
 use df_document::Files;
-use df_value::Text;
+use df_value::{List, Text};
 use std::alloc::Global;
 use std::io::Write;
 use std::thread::Threads;
@@ -23,6 +24,8 @@ pub enum Turn {
     Load(Text, Text),
     /// A file under this path, of this table.
     Export(Text, Vec<u8>),
+    /// A file under this path, of a page of the views of these names, or without names of all views.
+    Report(Text, List<Text>),
     /// This, which is asked about what changes do to the view of a name.
     Watch(Watching, Text),
     /// The commands in the file under this path.
@@ -39,7 +42,7 @@ pub enum Turn {
 pub fn load_file<R: Threads + Sync, S: ChangeStore, F: Files, W: Write>(
     rt: &R,
     alloc: Global,
-    session: &mut Session<S>,
+    session: &mut Session<'_, S>,
     files: &mut F,
     frame: Text,
     path: Text,
@@ -78,7 +81,7 @@ pub fn load_file<R: Threads + Sync, S: ChangeStore, F: Files, W: Write>(
 /// Writes a table to a file, and what came of it.
 pub fn export_table<F: WriteFiles, W: Write>(
     alloc: Global,
-    options: SessionOptions,
+    options: SessionOptions<'_>,
     files: &mut F,
     path: Text,
     table: Vec<u8>,
@@ -102,10 +105,46 @@ pub fn export_table<F: WriteFiles, W: Write>(
     }
 }
 
+/// Writes a page of views to a file, and what came of it.
+pub fn report_views<S: ChangeStore, F: WriteFiles, W: Write>(
+    alloc: Global,
+    session: &mut Session<'_, S>,
+    files: &mut F,
+    path: Text,
+    views: List<Text>,
+    output: &mut W,
+) -> Result<Option<SessionEnd>, ShellFault> {
+    let options = session.options;
+    let reported = report(
+        alloc,
+        &session.definitions,
+        &mut session.store.store,
+        files,
+        options.title,
+        path.as_str(),
+        views.as_slice(),
+    );
+    drop(path);
+    drop(views);
+    match reported {
+        Ok(told) => {
+            let written = write_answer(output, options.framed, Status::Ok, &[told.as_bytes()]);
+            drop(told);
+            written?;
+            Ok(None)
+        }
+        Err(refusal) => {
+            let written = refuse(alloc, output, options, &refusal);
+            drop(refusal);
+            written
+        }
+    }
+}
+
 /// Does what is asked about what changes do to a view, and writes the answer.
 pub fn watch_view<S: ChangeStore, W: Write>(
     alloc: Global,
-    session: &mut Session<S>,
+    session: &mut Session<'_, S>,
     asked: Watching,
     view: Text,
     output: &mut W,

@@ -61,7 +61,7 @@ pub fn write_prompt<W: Write>(
 pub fn write_refusal<W: Write>(
     alloc: Global,
     output: &mut W,
-    options: SessionOptions,
+    options: SessionOptions<'_>,
     refusal: &Refusal,
 ) -> Result<(), ShellFault> {
     match refusal_text(alloc, refusal) {
@@ -77,7 +77,7 @@ pub fn write_refusal<W: Write>(
 pub fn refuse<W: Write>(
     alloc: Global,
     output: &mut W,
-    options: SessionOptions,
+    options: SessionOptions<'_>,
     refusal: &Refusal,
 ) -> Result<Option<SessionEnd>, ShellFault> {
     write_refusal(alloc, output, options, refusal)?;
@@ -91,7 +91,7 @@ pub fn refuse<W: Write>(
 /// Writes what came of a load. It takes no memory, since rows have entered.
 pub fn write_loaded<W: Write>(
     output: &mut W,
-    options: SessionOptions,
+    options: SessionOptions<'_>,
     loaded: &Loaded,
 ) -> Result<(), ShellFault> {
     let cut: &[u8] = if loaded.is_cut() { b"memory\n" } else { b"" };
