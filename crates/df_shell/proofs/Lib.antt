@@ -5,3 +5,4 @@ pub mod CheckFacts
 pub mod NextNumberFacts
 pub mod MadeFacts
 pub mod ToldFacts
+pub mod PageFacts

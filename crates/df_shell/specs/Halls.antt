@@ -11,7 +11,7 @@ use Rattle.df_state.specs.declared.change.Change.TheVariants.{Append, Delete, Dr
 use Rattle.df_state.specs.declared.fault.CatalogueFault.TheVariants as fault
 use Rattle.df_state.specs.declared.state.State.{State}
 use Rattle.df_session.specs.Told.{IsTold}
-use Rattle.df_shell.specs.ToldChanges.{FindsIn}
+use Rattle.df_shell.specs.ToldChanges.{FindsIn, NamesIn}
 use Rattle.df_shell.specs.Versions.{refusal_with_hall, text_of_version}
 use Rattle.df_session.specs.declared.command.Question.{Question}
 use Rattle.df_session.specs.declared.definitions.Definitions.{Definitions}
@@ -81,6 +81,12 @@ IsAnswerOfHall old new d q result =
 abbrev pub IsFoundInHall : HallParts → HallParts → List ℕ → Result Bool Refusal → Type 0
 IsFoundInHall old new name result =
     ((v : ℕ × PictureParts) × IsTaken old new v × FindsIn v.1 name result)
+    ⊎ ((result ≡ Err (refusal.Version version.Missing)) × (new ≡ old))
+
+-- The names of the views were answered from the newest version; or there is none, and nothing changed.
+abbrev pub AreNamesInHall : HallParts → HallParts → Result (List (List ℕ)) Refusal → Type 0
+AreNamesInHall old new result =
+    ((v : ℕ × PictureParts) × IsTaken old new v × NamesIn v.1 result)
     ⊎ ((result ≡ Err (refusal.Version version.Missing)) × (new ≡ old))
 
 -- Desks with which a hall over frames of these schemas was closed: their shares are the books of every frame of a state that it may

@@ -7,3 +7,4 @@ pub mod Changing
 pub mod ToldChanges
 pub mod Opening
 pub mod NextNumbers
+pub mod Pages

@@ -5,7 +5,7 @@ use Rattle.std.specs.List.{list_any}
 use Rattle.df_column.specs.Tables.{TaggedRows}
 use Rattle.df_delta.specs.Deltas.{Changes}
 use Rattle.df_state.specs.Pictures.{PictureParts}
-use Rattle.df_state.specs.Reads.{last_changes_of, view_named}
+use Rattle.df_state.specs.Reads.{last_changes_of, view_named, view_names_of}
 use Rattle.df_state.specs.declared.state.CatalogueParts.{CatalogueParts}
 use Rattle.df_state.specs.declared.state.State.{State}
 use Rattle.df_catalogue.specs.KeptChanges.{tagged_table_of}
@@ -32,6 +32,11 @@ abbrev pub FindsView : State → List ℕ → Result Bool Refusal → Type 0
 FindsView s name (Ok found) = found ≡ is_some (view_named name s.views)
 FindsView s name (Err r) = ⊥
 
+-- the names of the views of a state
+abbrev pub NamesViews : State → Result (List (List ℕ)) Refusal → Type 0
+NamesViews s (Ok names) = names ≡ view_names_of s
+NamesViews s (Err r) = r ≡ refusal.Memory
+
 -- the number of the last change of a history
 abbrev pub last_number : List State → ℕ
 last_number told = length told - 1
@@ -47,3 +52,8 @@ TellsInHall told name (Err r) = r ≡ refusal.Memory
 abbrev pub FindsIn : PictureParts → List ℕ → Result Bool Refusal → Type 0
 FindsIn p name (Ok found) = found ≡ list_any (λ n. bytes_eq n name) (map (λ v. v.0) p.views)
 FindsIn p name (Err r) = r ≡ refusal.Memory
+
+-- the names of the views of a picture
+abbrev pub NamesIn : PictureParts → Result (List (List ℕ)) Refusal → Type 0
+NamesIn p (Ok names) = names ≡ map (λ v. v.0) p.views
+NamesIn p (Err r) = r ≡ refusal.Memory

@@ -9,13 +9,14 @@ ghost use Rattle.df_shell.specs.ToldChanges.{TellsInHall};
 ghost use Rattle.df_versions.specs.Histories.{AllowsAll};
 
 use crate::reading::tell_last;
-use crate::version_reading::{answer_from_version, has_view};
+use crate::version_reading::{answer_from_version, has_view, view_names};
 use df_catalogue::{CatalogueFault, Change, Desk, FrameChange, ViewChange};
 use df_hall::{Hall, Missing};
 use df_session::{
     ChangeStore, Definitions, Numbers, Question, Refusal, ShellFault, VersionFault, ViewStore,
     end_of,
 };
+use df_value::{List, Text};
 use df_versions::{ChangeFault, Naming, Reader, Told};
 use std::alloc::Global;
 use std::marker::Model;
@@ -255,7 +256,7 @@ impl<'r, R: Wait, Acc: Ledger, Del: Ledger, J: Naming> ViewStore for HallStore<'
 
 impl<'r, R: Wait, Acc: Ledger, Del: Ledger, J: Naming> ChangeStore
     for HallStore<'r, R, Acc, Del, J> {
-    ghost use Rattle.df_shell.specs.Halls.{IsFoundInHall};
+    ghost use Rattle.df_shell.specs.Halls.{AreNamesInHall, IsFoundInHall};
     ghost use Rattle.df_shell.specs.ToldChanges.{TellsInHall, last_number};
 
     // No clause says what the hall keeps.
@@ -264,6 +265,8 @@ impl<'r, R: Wait, Acc: Ledger, Del: Ledger, J: Naming> ChangeStore
     ghost Tells = { λ s name r. TellsInHall s.told name r };
 
     ghost Finds = { λ old new name r. IsFoundInHall old new name r };
+
+    ghost Names = { λ old new r. AreNamesInHall old new r };
 
     ghost Numbers = { λ s n. n ≡ last_number s.told };
 
@@ -281,6 +284,13 @@ impl<'r, R: Wait, Acc: Ledger, Del: Ledger, J: Naming> ChangeStore
     fn has_view(&mut self, alloc: Global, view: &str) -> Result<bool, Refusal> {
         match self.reader.snapshot() {
             Some(version) => has_view(alloc, version.as_ref(), view),
+            None => Err(Refusal::Version(VersionFault::Missing)),
+        }
+    }
+
+    fn view_names(&mut self, alloc: Global) -> Result<List<Text>, Refusal> {
+        match self.reader.snapshot() {
+            Some(version) => view_names(alloc, version.as_ref()),
             None => Err(Refusal::Version(VersionFault::Missing)),
         }
     }

@@ -16,6 +16,7 @@ use df_session::{
     ChangeStore, Definitions, Mistake, Numbers, Question, Refusal, RowCounts, ViewStore,
     describe_frames, describe_plan, describe_table, end_if_made, end_of,
 };
+use df_value::{List, Text};
 use std::alloc::Global;
 use std::sync::ledger::Ledger;
 
@@ -153,7 +154,7 @@ impl<Acc: Ledger, Del: Ledger> ViewStore for Store<Acc, Del> {
 
 impl<Acc: Ledger, Del: Ledger> ChangeStore for Store<Acc, Del> {
     ghost use Rattle.df_catalogue.specs.KeptChanges.{none_kept};
-    ghost use Rattle.df_shell.specs.ToldChanges.{FindsView, TellsLast};
+    ghost use Rattle.df_shell.specs.ToldChanges.{FindsView, NamesViews, TellsLast};
 
     ghost Turns = { λ old new keeps. (new.catalogue ≡ record old.catalogue {
       staged = None;
@@ -164,6 +165,9 @@ impl<Acc: Ledger, Del: Ledger> ChangeStore for Store<Acc, Del> {
     ghost Tells = { λ s name r. TellsLast s.catalogue s.change_number name r };
 
     ghost Finds = { λ old new name r. FindsView old.catalogue.state name r
+        × (new.catalogue ≡ old.catalogue) × (new.change_number ≡ old.change_number) };
+
+    ghost Names = { λ old new r. NamesViews old.catalogue.state r
         × (new.catalogue ≡ old.catalogue) × (new.change_number ≡ old.change_number) };
 
     ghost Numbers = { λ s n. n ≡ s.change_number };
@@ -178,6 +182,10 @@ impl<Acc: Ledger, Del: Ledger> ChangeStore for Store<Acc, Del> {
 
     fn has_view(&mut self, _alloc: Global, view: &str) -> Result<bool, Refusal> {
         Ok(self.catalogue.view_schema(view).is_some())
+    }
+
+    fn view_names(&mut self, alloc: Global) -> Result<List<Text>, Refusal> {
+        Ok(self.catalogue.view_names(alloc)?)
     }
 
     fn change_number(&self) -> u64 {

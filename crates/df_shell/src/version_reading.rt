@@ -4,7 +4,7 @@ ghost use Rattle.std.specs.Option.{option_copied};
 ghost use Rattle.df_state.specs.Pictures.{frame_len_in, view_rows_in};
 ghost use Rattle.df_session.specs.Asked.{frame_index_of, plan_named};
 ghost use Rattle.df_session.specs.Told.{IsMemory, IsTold, check_text, names_text};
-ghost use Rattle.df_shell.specs.ToldChanges.{FindsIn};
+ghost use Rattle.df_shell.specs.ToldChanges.{FindsIn, NamesIn};
 ghost use Rattle.df_shell.specs.Versions.{counted_text, differs_from, first_differing_in, numbered_text, refusal_with_hall, shown_text, text_of_index, text_of_version, version_line};
 
 use df_catalogue::{CatalogueFault, Desk};
@@ -12,7 +12,7 @@ use df_session::{
     Definitions, Format, Mistake, Part, Question, Refusal, RowCounts, books_of, describe_frames,
     describe_plan, describe_table, names_lines, verdict, write_part, write_rows,
 };
-use df_value::Text;
+use df_value::{List, Text};
 use df_versions::Version;
 use std::alloc::{AllocError, Global};
 use std::sync::ledger::Ledger;
@@ -127,6 +127,13 @@ pub fn has_view(alloc: Global, version: &Version, view: &str) -> Result<bool, Re
 {
     let names = version.view_names(alloc)?;
     Ok(names.as_slice().iter().any(|name| name.as_str() == view))
+}
+
+/// The names of the registered views, in their order.
+pub fn view_names(alloc: Global, version: &Version) -> Result<List<Text>, Refusal>
+    ensures { NamesIn version.now.1 result }
+{
+    Ok(version.view_names(alloc)?)
 }
 
 // The names of the views, a line each.

@@ -8,7 +8,8 @@ use df_document::{DocumentFault, Files, MOST_BYTES_OF_DOCUMENT, SystemFiles};
 use df_explain::explanation;
 use df_shell::{
     DocumentCheck, Prompts, SessionEnd, SessionOptions, ShellFault, check_document,
-    run_declared_shell, run_hall_shell, run_shell, shell_fault_text, write_document_sql,
+    run_declared_shell, run_hall_shell, run_shell, shell_fault_text, write_document_page,
+    write_document_sql,
 };
 use df_words::{CommandLine, read_command_line};
 use std::alloc::AllocError;
@@ -104,6 +105,20 @@ fn run_document<R: Threads + Wait + Sync>(
         write_document_sql(waiting, rt.alloc(), &mut document, &mut files, &mut output)?;
         return Ok(ExitCode::from(0));
     }
+    if let Some(page) = line.report {
+        let (alloc, title) = (rt.alloc(), title_of(line));
+        let mut output = rt.stdout();
+        write_document_page(
+            waiting,
+            alloc,
+            title,
+            &mut document,
+            &mut files,
+            page,
+            &mut output,
+        )?;
+        return Ok(ExitCode::from(0));
+    }
     let end = answer_commands(rt, waiting, &mut document, &mut files, line)?;
     Ok(code_of(end))
 }
@@ -175,7 +190,7 @@ fn answer_commands<R: Threads + Wait + Sync>(
 }
 
 // A terminal on both sides has someone who types, but where a program wants frames.
-fn options_at(rt: &HostRuntime, line: CommandLine<'_>) -> SessionOptions {
+fn options_at<'a>(rt: &HostRuntime, line: CommandLine<'a>) -> SessionOptions<'a> {
     let typed = rt.stdin().is_terminal() && rt.stdout().is_terminal();
     let prompts = if typed && !line.framed {
         Prompts::Shown
@@ -183,9 +198,21 @@ fn options_at(rt: &HostRuntime, line: CommandLine<'_>) -> SessionOptions {
         Prompts::Hidden
     };
     SessionOptions {
+        title: title_of(line),
         prompts,
         bail: line.bail,
         framed: line.framed,
+    }
+}
+
+// The name of the document: that of its file, without the folders before it. A session without a document has the program's.
+fn title_of<'a>(line: CommandLine<'a>) -> &'a str {
+    match line.views {
+        Some(path) => match path.rsplit_once('/') {
+            Some((_, name)) => name,
+            None => path,
+        },
+        None => "dfshell",
     }
 }
 
