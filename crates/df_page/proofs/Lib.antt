@@ -1,4 +1,9 @@
 pub mod MarkupFacts
+pub mod EscapeFacts
+pub mod TagFacts
+pub mod BarFacts
+pub mod RowFacts
 pub mod MeanFacts
 pub mod ColumnFacts
 pub mod SectionFacts
+pub mod PageFacts

@@ -1,7 +1,8 @@
 -- Rounding, with the whole part apart.
-use Rattle.std.proofs.Common.{◌≡◌, ◌+◌, ◌*◌, ◌/◌, ◌%◌, ◌<◌, ◌==◌, ◌∙◌, ℕ, Bool, true, false, nat_lt, refl, ap, sym, cond, arith}
-use Rattle.std.proofs.Math.Nat.{add-mul-div_left, add-mul-mod_self_left, div-add-mod}
-use Rattle.df_page.specs.Means.{nearest}
+use Rattle.std.proofs.Common.{◌≡◌, ◌+◌, ◌*◌, ◌/◌, ◌%◌, ◌<◌, ◌≢◌, ◌==◌, ◌∙◌, ℕ, Bool, true, false, nat_lt, refl, ap, sym, cond, arith}
+use Rattle.std.proofs.Math.Nat.{add-mul-div_left, add-mul-mod_self_left, div-add-mod, mod-lt}
+use Rattle.std.proofs.lemmas.Bool.Decides.{nat_tests}
+use Rattle.df_page.specs.Means.{IsNearest, nearest}
 
 abbrev chosen : Bool → Bool → Bool → ℕ → ℕ
 chosen low high even whole = cond low whole (cond high (whole + 1) (cond even whole (whole + 1)))
@@ -43,3 +44,24 @@ pub rounded_is : (s c t : ℕ) → 0 < c → t ≡ nearest (1000 * (s % c)) c �
 rounded_is s c t h e =
     let parts : 1000 * (s / c + t / 1000) + t % 1000 ≡ 1000 * (s / c) + t = omega arith in
     parts ∙ (ap (λ n. 1000 * (s / c) + n) e ∙ sym (nearest_whole s c h))
+
+near : (n d q r : ℕ) (low high even : Bool) → d * q + r ≡ n → r < d → nat_lt (2 * r) d ≡ low → nat_lt d (2 * r) ≡ high → (q % 2 == 0) ≡ even → IsNearest n d (chosen low high even q)
+near n d q r true high even e l f g h =
+    let low : 2 * r < d = grind (arith, nat_tests) in
+    record { not_above = omega arith; not_below = omega arith; even_above = λ k. absurd (omega arith); even_below = λ k. absurd (omega arith) }
+near n d q r false true even e l f g h =
+    let high : d < 2 * r = grind (arith, nat_tests) in
+    record { not_above = omega arith; not_below = omega arith; even_above = λ k. absurd (omega arith); even_below = λ k. absurd (omega arith) }
+near n d q r false false true e l f g h =
+    let half : 2 * r ≡ d = grind (arith, nat_tests) in
+    let same : q % 2 ≡ 0 = grind (arith, nat_tests) in
+    record { not_above = omega arith; not_below = omega arith; even_above = λ k. same; even_below = λ k. same }
+near n d q r false false false e l f g h =
+    let half : 2 * r ≡ d = grind (arith, nat_tests) in
+    let odd : q % 2 ≢ 0 = grind (arith, nat_tests) in
+    let same : (q + 1) % 2 ≡ 0 = omega arith in
+    record { not_above = omega arith; not_below = omega arith; even_above = λ k. same; even_below = λ k. same }
+
+-- what is rounded is nearest, and half is rounded to even
+pub nearest_is : (n d : ℕ) → 0 < d → IsNearest n d (nearest n d)
+nearest_is n d h = near n d (n / d) (n % d) _ _ _ (div-add-mod n d) (mod-lt n h) refl refl refl

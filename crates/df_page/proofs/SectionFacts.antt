@@ -1,12 +1,21 @@
--- A section, part by part.
-use Rattle.std.proofs.Common.{◌≡◌, ◌++◌, ◌∷◌, [], ℕ, List, length, codes, ap, ◌∙◌}
+-- A section, part by part, and what is read of it.
+use Rattle.std.proofs.Common.{◌≡◌, ◌++◌, ◌∷◌, [], ℕ, Bool, true, false, List, Some, None, inl, inr, refl, sym, length, map, flat_map, nat_lt, append_assoc, append-nil, codes, ap, ◌∙◌}
+use Rattle.std.specs.List.{enumerate_from, list_all}
+use Rattle.std.proofs.lemmas.Bool.{cases_Bool}
+use Rattle.std.proofs.lemmas.List.{length-map}
+use Rattle.std.proofs.lemmas.List.FromFn.{length-enumerate_from}
+use Rattle.df_value.specs.declared.cell.CellType.{CellType}
 use Rattle.df_value.specs.declared.cell.Cell.{Cell}
 use Rattle.df_value.specs.Schemas.{Columns}
 use Rattle.df_page.specs.declared.columns.Column.{Column}
-use Rattle.df_page.specs.Bars.{columns_of}
+use Rattle.df_page.specs.Bars.{column_at, columns_of, is_number}
+use Rattle.df_page.specs.Cells.{row_tags}
 use Rattle.df_page.specs.Markup.{Tagged, markup}
-use Rattle.df_page.specs.Sections.{more_tags, names_tags, opening_tags, rows_tags, section_of}
+use Rattle.df_page.specs.Sections.{more_tags, name_tag, name_tags, names_tags, opening_tags, rows_tags, section_of, section_tags}
+use Rattle.df_page.specs.Reading.{Shown, is_cell, is_cell_end, is_null_mark, is_row_end, rows_from, rows_read, shown_row, shown_table}
 use Rattle.df_page.proofs.MarkupFacts.{from_none, then}
+use Rattle.df_page.proofs.RowFacts.{each_are_tags, each_row_back, is_other, marked_text, row_are_tags, row_ended, skip}
+use Rattle.df_page.proofs.TagFacts.{all_both, is_tag, tags_back}
 
 abbrev parts : List ℕ → Columns → List Column → List (List Cell) → ℕ → List Tagged
 parts name schema columns rows total =
@@ -25,3 +34,104 @@ section_is name given schema found rows total columns slice start opened named f
     whole ∙ (ap (λ cs. markup (parts given found cs rows total)) (l ∙ c)
     ∙ (ap (λ found. markup (parts given found (columns_of found rows) rows total)) s
     ∙ ap (λ given. markup (parts given schema (columns_of schema rows) rows total)) n))
+
+name_is_cell : (number : Bool) → is_cell (name_tag number) ≡ true
+unfolding is_cell
+name_is_cell true = refl
+name_is_cell false = refl
+
+each_name_back : (row : List Shown) (schema : Columns) (tags : List Tagged) → rows_from row None (flat_map name_tags schema ++ tags) ≡ rows_from (row ++ map (λ c. Some c.0) schema) None tags
+unfolding is_cell_end is_null_mark
+each_name_back row [] tags = ap (λ r. rows_from r None tags) (sym (append-nil row))
+each_name_back row (c ∷ schema) tags =
+    let rest = flat_map name_tags schema in
+    ap (rows_from row None) (append_assoc (name_tags c) rest tags)
+    ∙ (marked_text row (name_tag (is_number c.1)) [] (codes "bdi") c.0 (codes "/bdi") (codes "/th") (rest ++ tags) (name_is_cell (is_number c.1)) refl refl refl refl refl
+    ∙ (each_name_back (row ++ Some c.0 ∷ []) schema tags ∙ ap (λ r. rows_from r None tags) (append_assoc row (Some c.0 ∷ []) (map (λ c. Some c.0) schema))))
+
+names_back : (schema : Columns) (tags : List Tagged) → rows_from [] None (names_tags schema ++ tags) ≡ map (λ c. Some c.0) schema ∷ rows_from [] None tags
+unfolding is_cell is_row_end
+names_back schema tags =
+    let names = flat_map name_tags schema in
+    let end : List Tagged = (codes "/tr", codes "\n") ∷ (codes "/thead", codes "\n") ∷ [] in
+    skip [] ((codes "thead", codes "\n") ∷ (codes "tr", []) ∷ []) ((names ++ end) ++ tags) refl
+    ∙ (ap (rows_from [] None) (append_assoc names end tags)
+    ∙ (each_name_back [] schema (end ++ tags)
+    ∙ (row_ended (map (λ c. Some c.0) schema) (codes "\n") ((codes "/thead", codes "\n") ∷ tags)
+    ∙ ap (λ l. map (λ c. Some c.0) schema ∷ l) (skip [] ((codes "/thead", codes "\n") ∷ []) tags refl))))
+
+rows_back : (columns : List Column) (rows : List (List Cell)) (tags : List Tagged) →
+    rows_from [] None (rows_tags columns rows ++ tags) ≡ map (shown_row (length columns)) rows ++ rows_from [] None tags
+unfolding is_cell is_row_end
+rows_back columns rows tags =
+    let all = flat_map (row_tags columns) rows in
+    let end : List Tagged = (codes "/tbody", codes "\n") ∷ (codes "/table", codes "\n") ∷ (codes "/div", codes "\n") ∷ [] in
+    skip [] ((codes "tbody", codes "\n") ∷ []) ((all ++ end) ++ tags) refl
+    ∙ (ap (rows_from [] None) (append_assoc all end tags)
+    ∙ (each_row_back columns rows (end ++ tags) ∙ ap (λ l. map (shown_row (length columns)) rows ++ l) (skip [] end tags refl)))
+
+more_are_other : (given total : ℕ) → list_all is_other (more_tags given total) ≡ true
+unfolding is_cell is_row_end
+more_are_other given total = elim (cases_Bool (nat_lt given total)) [
+  | inl some ↦ rw some refl
+  | inr none ↦ rw none refl
+]
+
+more_are_tags : (given total : ℕ) → list_all is_tag (more_tags given total) ≡ true
+more_are_tags given total = elim (cases_Bool (nat_lt given total)) [
+  | inl some ↦ rw some refl
+  | inr none ↦ rw none refl
+]
+
+name_are_tags : (number : Bool) (name : List ℕ) → list_all is_tag ((name_tag number, []) ∷ (codes "bdi", name) ∷ (codes "/bdi", []) ∷ (codes "/th", []) ∷ []) ≡ true
+name_are_tags true name = refl
+name_are_tags false name = refl
+
+length-columns_of : (schema : Columns) (rows : List (List Cell)) → length (columns_of schema rows) ≡ length schema
+length-columns_of schema rows = length-map (enumerate_from 0 schema) (λ c. column_at c.0 c.1.1 rows) ∙ length-enumerate_from 0 schema
+
+-- what is read of a section, with what stands behind it
+pub section_back : (name : List ℕ) (schema : Columns) (rows : List (List Cell)) (total : ℕ) (tags : List Tagged) →
+    rows_from [] None (section_tags name schema rows total ++ tags) ≡ shown_table schema rows ++ rows_from [] None tags
+unfolding is_cell is_row_end
+section_back name schema rows total tags =
+    let columns = columns_of schema rows in
+    let opening = opening_tags name total (length schema) in
+    let names = map (λ (c : List ℕ × CellType). Some c.0) schema in
+    let end : List Tagged = (codes "/section", codes "\n") ∷ [] in
+    let more = more_tags (length rows) total in
+    let filled = rows_tags columns rows in
+    let read = rows_from [] None in
+    let ending : read ((more ++ end) ++ tags) ≡ read tags =
+    ap read (append_assoc more end tags) ∙ (skip [] more (end ++ tags) (more_are_other (length rows) total) ∙ skip [] end tags refl) in
+    let filling : read ((filled ++ (more ++ end)) ++ tags) ≡ map (shown_row (length schema)) rows ++ read tags =
+    ap read (append_assoc filled (more ++ end) tags)
+    ∙ (rows_back columns rows ((more ++ end) ++ tags)
+    ∙ (ap (λ n. map (shown_row n) rows ++ read ((more ++ end) ++ tags)) (length-columns_of schema rows) ∙ ap (λ l. map (shown_row (length schema)) rows ++ l) ending)) in
+    ap read (append_assoc opening (names_tags schema ++ (filled ++ (more ++ end))) tags)
+    ∙ (skip [] opening ((names_tags schema ++ (filled ++ (more ++ end))) ++ tags) refl
+    ∙ (ap read (append_assoc (names_tags schema) (filled ++ (more ++ end)) tags)
+    ∙ (names_back schema ((filled ++ (more ++ end)) ++ tags) ∙ ap (λ l. names ∷ l) filling)))
+
+pub section_are_tags : (name : List ℕ) (schema : Columns) (rows : List (List Cell)) (total : ℕ) → list_all is_tag (section_tags name schema rows total) ≡ true
+section_are_tags name schema rows total =
+    let columns = columns_of schema rows in
+    let end : List Tagged = (codes "/section", codes "\n") ∷ [] in
+    let more = more_tags (length rows) total in
+    let filled = rows_tags columns rows in
+    let each_name = each_are_tags name_tags (λ c. name_are_tags (is_number c.1) c.0) schema in
+    let names : list_all is_tag (names_tags schema) ≡ true = all_both is_tag (flat_map name_tags schema) ((codes "/tr", codes "\n") ∷ (codes "/thead", codes "\n") ∷ []) each_name refl in
+    let each_row : list_all is_tag filled ≡ true =
+    all_both is_tag (flat_map (row_tags columns) rows) ((codes "/tbody", codes "\n") ∷ (codes "/table", codes "\n") ∷ (codes "/div", codes "\n") ∷ [])
+    (each_are_tags (row_tags columns) (row_are_tags columns) rows) refl in
+    all_both is_tag (opening_tags name total (length schema)) (names_tags schema ++ (filled ++ (more ++ end))) refl
+    (all_both is_tag (names_tags schema) (filled ++ (more ++ end)) names
+    (all_both is_tag filled (more ++ end) each_row (all_both is_tag more end (more_are_tags (length rows) total) refl)))
+
+-- of a section the table is read back
+pub table_back : (name : List ℕ) (schema : Columns) (rows : List (List Cell)) (total : ℕ) → rows_read (section_of name schema rows total) ≡ shown_table schema rows
+unfolding section_of rows_from
+table_back name schema rows total =
+    let tags = section_tags name schema rows total in
+    ap (rows_from [] None) (tags_back tags (section_are_tags name schema rows total) ∙ sym (append-nil tags))
+    ∙ (section_back name schema rows total [] ∙ append-nil (shown_table schema rows))

@@ -51,7 +51,7 @@ columns_of schema rows = map (λ c. column_at c.0 c.1.1 rows) (enumerate_from 0 
 abbrev pub thousandths : ℕ → ℕ → ℕ
 thousandths part whole = 1000 * part / max 1 whole
 
--- the width of a bar in thousandths of the widest of its column; from 2 ^ 118 on, both are counted in 1,024ths, which
+-- the width of a bar in thousandths of the widest of its column; from 2 ^ 118 on, both are counted in units of 1,024, which
 -- no eye sees
 abbrev pub bar_width : ℕ → ℕ → ℕ
 bar_width size greatest =

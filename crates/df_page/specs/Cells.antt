@@ -19,6 +19,10 @@ plain_tag false = codes "td"
 abbrev pub null_tags : Bool → List Tagged
 null_tags number = (plain_tag number, []) ∷ (codes "span class=\"null\"", codes "null") ∷ (codes "/span", []) ∷ (codes "/td", []) ∷ []
 
+-- a text, apart from what stands beside it where one of both is read from right to left
+abbrev pub text_tags : List ℕ → List Tagged
+text_tags t = (codes "td", []) ∷ (codes "bdi", t) ∷ (codes "/bdi", []) ∷ (codes "/td", []) ∷ []
+
 -- a mean as a fraction, with a space behind it
 abbrev pub fraction : ℤ × ℤ → List ℕ
 fraction mean = signed_decimal mean.0 ++ (codes "/" ++ (signed_decimal mean.1 ++ codes " "))
@@ -26,7 +30,7 @@ fraction mean = signed_decimal mean.0 ++ (codes "/" ++ (signed_decimal mean.1 ++
 -- a mean, and behind it the decimal
 abbrev pub mean_tags : ℤ × ℤ → List Tagged
 mean_tags mean =
-    (codes "td class=\"number\"", fraction mean)
+    (codes "td class=\"mean\"", fraction mean)
     ∷ (codes "span class=\"decimal\"", mean_decimal mean) ∷ (codes "/span", []) ∷ (codes "/td", []) ∷ []
 
 -- a whole number
@@ -38,7 +42,7 @@ abbrev pub cell_tags : Column → Cell → List Tagged
 cell_tags column cell.Null = null_tags column.is_number
 cell_tags column (cell.Int n) = number_tags column n
 cell_tags column (cell.Wide n) = number_tags column n
-cell_tags column (cell.Text t) = (codes "td", []) ∷ (codes "bdi", t) ∷ (codes "/bdi", []) ∷ (codes "/td", []) ∷ []
+cell_tags column (cell.Text t) = text_tags t
 cell_tags column (cell.Bool true) = (codes "td", codes "true") ∷ (codes "/td", []) ∷ []
 cell_tags column (cell.Bool false) = (codes "td", codes "false") ∷ (codes "/td", []) ∷ []
 cell_tags column (cell.Frac f) = mean_tags f

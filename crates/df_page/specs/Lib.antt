@@ -4,3 +4,4 @@ pub mod Bars
 pub mod Cells
 pub mod Sections
 pub mod Pages
+pub mod Reading

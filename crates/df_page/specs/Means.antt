@@ -1,5 +1,5 @@
 -- Means as decimals of three places.
-use Rattle.std.specs.Prelude.{◌==◌, ◌++◌, ◌+◌, ◌*◌, ◌/◌, ◌%◌, ◌&&◌, not, ℕ, ℤ, List, [], ◌∷◌, nat_lt, codes, decimal, unsigned_abs, if◌then◌else◌}
+use Rattle.std.specs.Prelude.{◌≡◌, ◌≤◌, ◌==◌, ◌++◌, ◌+◌, ◌*◌, ◌/◌, ◌%◌, ◌&&◌, not, ℕ, ℤ, List, [], ◌∷◌, nat_lt, codes, decimal, unsigned_abs, if◌then◌else◌}
 use Rattle.std.specs.Int.{is_negative}
 
 -- the whole number nearest to n / d, and of two that are as near the even one
@@ -29,3 +29,10 @@ thousandths_text n = decimal (n / 1000) ++ (codes "." ++ three_digits (n % 1000)
 -- a mean in decimal
 abbrev pub mean_decimal : ℤ × ℤ → List ℕ
 mean_decimal mean = sign_of mean.0 (mean_thousandths mean) ++ thousandths_text (mean_thousandths mean)
+
+-- what the nearest whole number to n / d is, and of two the even one
+pub record IsNearest (n d q : ℕ) : Type 0 where
+  pub not_above : 2 * (q * d) ≤ 2 * n + d
+  pub not_below : 2 * n ≤ 2 * (q * d) + d
+  pub even_above : 2 * (q * d) ≡ 2 * n + d → q % 2 ≡ 0
+  pub even_below : 2 * n ≡ 2 * (q * d) + d → q % 2 ≡ 0

@@ -1,5 +1,5 @@
 //! Bars behind whole numbers.
-ghost use Rattle.std.specs.Prelude.{◌≡◌, ◌<◌, ◌^◌, IfOk, string_bytes};
+ghost use Rattle.std.specs.Prelude.{◌≡◌, ◌<◌, ◌≤◌, ◌^◌, IfOk, string_bytes};
 ghost use Rattle.df_page.specs.Bars as bars;
 
 use crate::columns::Column;
@@ -28,7 +28,9 @@ fn side(has_negative: bool, is_negative: bool) -> &'static str
 }
 
 fn bar_width(size: u128, greatest: u128) -> u128
-    ensures { result ≡ bars.bar_width size greatest }
+    ensures value { result ≡ bars.bar_width size greatest }
+    ensures most { result ≤ 1000 }
+    ensures widest { size ≡ greatest → 0 < greatest → result ≡ 1000 }
 {
     if greatest < LARGE {
         thousandths(size.min(greatest), greatest)

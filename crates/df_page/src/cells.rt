@@ -55,10 +55,7 @@ fn push_cell(
         CellRef::Null => push_null(out, column.is_number),
         CellRef::Int(n) => push_number(alloc, out, column, i128::from(n)),
         CellRef::Wide(n) => push_number(alloc, out, column, n),
-        CellRef::Text(text) => push_tags(
-            out,
-            &[("td", ""), ("bdi", text), ("/bdi", ""), ("/td", "")],
-        ),
+        CellRef::Text(text) => push_text(out, text),
         CellRef::Bool(true) => push_tags(out, &[("td", "true"), ("/td", "")]),
         CellRef::Bool(false) => push_tags(out, &[("td", "false"), ("/td", "")]),
         CellRef::Frac(mean) => push_mean(alloc, out, mean),
@@ -103,6 +100,12 @@ fn push_number(
     push_tags(out, &[(tag.as_str(), digits.format(number)), ("/td", "")])
 }
 
+fn push_text(out: &mut Vec<u8>, text: &str) -> Result<(), AllocError>
+    ensures { OnOk result (out.new.items ≡ out.old.items ++ markup (cells.text_tags text.now)) }
+{
+    push_tags(out, &[("td", ""), ("bdi", text), ("/bdi", ""), ("/td", "")])
+}
+
 fn push_mean(alloc: Global, out: &mut Vec<u8>, mean: &Frac) -> Result<(), AllocError>
     ensures { OnOk result (out.new.items ≡ out.old.items ++ markup (cells.mean_tags mean.now)) }
 {
@@ -111,7 +114,7 @@ fn push_mean(alloc: Global, out: &mut Vec<u8>, mean: &Frac) -> Result<(), AllocE
     push_tags(
         out,
         &[
-            ("td class=\"number\"", fraction.as_str()),
+            ("td class=\"mean\"", fraction.as_str()),
             ("span class=\"decimal\"", decimal.as_str()),
             ("/span", ""),
             ("/td", ""),

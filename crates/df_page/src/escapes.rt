@@ -1,13 +1,20 @@
 //! Texts in HTML.
-ghost use Rattle.std.specs.Prelude.{◌≡◌, ◌++◌, OnOk};
+ghost use Rattle.std.specs.Prelude.{◌≡◌, ◌++◌, OnOk, true};
 ghost use Rattle.df_page.specs.Markup.{escaped, escaped_byte};
+ghost use Rattle.df_page.specs.Reading.{is_text, text_read};
 
 use std::alloc::AllocError;
 
-/// Appends a text, with entities in the place of what HTML would not read as text.
+/// Appends a text, with entities in the place of what HTML would not read as text: angle brackets, quotes, ampersands,
+/// and carriage returns, which a browser would take for line ends.
+///
+/// A zero byte is `&#0;`, which a browser reads as U+FFFD, since HTML cannot write it. Other control characters stand as
+/// they are, since a browser keeps them and shows none.
 #[tactic(auto, unfolding(crate::specs::Markup::escaped))]
 pub fn push_escaped(out: &mut Vec<u8>, text: &[u8]) -> Result<(), AllocError>
-    ensures { OnOk result (out.new.items ≡ out.old.items ++ escaped text.now) }
+    ensures value { OnOk result (out.new.items ≡ out.old.items ++ escaped text.now) }
+    ensures reads { text_read (escaped text.now) ≡ text.now }
+    ensures text { is_text (escaped text.now) ≡ true }
 {
     for byte in text {
         push_byte(out, *byte)?;

@@ -1,8 +1,7 @@
 //! Means as decimals.
-ghost use Rattle.std.specs.Prelude.{◌≡◌, ◌+◌, ◌*◌, ◌<◌, ◌≤◌, ◌^◌, IfOk, OnOk, string_bytes, unsigned_abs};
-ghost use Rattle.std.specs.Prelude.{◌++◌};
+ghost use Rattle.std.specs.Prelude.{◌≡◌, ◌+◌, ◌*◌, ◌<◌, ◌≤◌, ◌^◌, ◌++◌, IfOk, OnOk, string_bytes, unsigned_abs};
 ghost use Rattle.df_page.specs.Means as means;
-ghost use Rattle.df_page.specs.Means.{mean_thousandths, sign_of, three_digits};
+ghost use Rattle.df_page.specs.Means.{IsNearest, mean_thousandths, sign_of, three_digits};
 
 use df_value::Frac;
 use std::alloc::{AllocError, Global};
@@ -48,6 +47,8 @@ fn push_three_digits(text: &mut String, number: u128) -> Result<(), AllocError>
 fn round(mean: &Frac) -> Rounded
     ensures value { 1000 * result.whole + result.part ≡ mean_thousandths mean.now }
     ensures part { result.part < 1000 }
+    ensures nearest { IsNearest (1000 * unsigned_abs mean.now.0) (unsigned_abs mean.now.1)
+        (1000 * result.whole + result.part) }
 {
     let size = mean.sum().unsigned_abs();
     let count = count_of(mean);

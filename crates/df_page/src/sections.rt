@@ -1,6 +1,7 @@
 //! Views as sections of a page.
 ghost use Rattle.std.specs.Prelude.{◌≡◌, ◌++◌, IfOk, OnOk, flat_map, string_bytes};
 ghost use Rattle.df_page.specs.Markup.{markup};
+ghost use Rattle.df_page.specs.Reading.{rows_read, shown_table};
 ghost use Rattle.df_page.specs.Cells.{row_tags};
 ghost use Rattle.df_page.specs.Sections as sections;
 ghost use Rattle.df_page.specs.Sections.{more_tags, name_tags, names_tags, opening_tags, rows_tags, section_of, size_tags};
@@ -29,7 +30,8 @@ pub fn view_section(
     rows: &[Row],
     total: usize,
 ) -> Result<Vec<u8>, AllocError>
-    ensures { IfOk result (λ v. v.items ≡ section_of name.now schema.now rows.now total) }
+    ensures value { IfOk result (λ v. v.items ≡ section_of name.now schema.now rows.now total) }
+    ensures reads { IfOk result (λ v. rows_read v.items ≡ shown_table schema.now rows.now) }
 {
     let schema = schema.columns().as_slice();
     let columns = columns_of(alloc, schema, rows)?;
