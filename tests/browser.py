@@ -164,7 +164,8 @@ def compare(program, folder, document, opened):
     names = asked("views").split("\n")[:-1]
     asked("report p.html")
     page = opened.read(folder / "p.html")
-    check("the title", (page["title"], page["head"][0]), (document, document))
+    title = pathlib.PurePath(document).name
+    check("the title", (page["title"], page["head"][0]), (title, title))
     check("the elements", {*page["elements"]} - ELEMENTS, set())
     check("too wide by", max(page["tooWide"], 0), 0)
     check("the views", [section["name"] for section in page["sections"]], names)
@@ -213,10 +214,8 @@ def main():
     cells = 0
     with browser() as opened, tempfile.TemporaryDirectory() as name:
         folder = pathlib.Path(name)
-        for file in EXAMPLES.iterdir():
-            if file.is_file():
-                shutil.copy(file, folder)
-        examples = sorted(file.name for file in folder.glob("*.toml") if file.name != "bad_cell.toml")
+        shutil.copytree(EXAMPLES, folder / "examples")
+        examples = sorted(f"examples/{file.name}" for file in EXAMPLES.glob("*.toml") if file.name != "bad_cell.toml")
         for document in examples:
             cells += compare(program, folder, document, opened)
         for at in range(documents):

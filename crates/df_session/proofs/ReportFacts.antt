@@ -55,8 +55,8 @@ module _ {S : Type 0} (Answers : S → S → Question → Result (Vec ℕ) Refus
       IsRefusalOfSections Answers (name ∷ []) s n r → IsRefusalOfSections Answers (name ∷ names) s n r
   refused-first name names s n r (inl memory) = inl memory
   refused-first name names s n r (inr (inl here)) = inr (inl here)
-  refused-first name names s n r (inr (inr (mid, first, head, is, same))) =
-      inr (inr (mid, first, head, refused-memory names mid n r is same))
+  refused-first name names s n r (inr (inr (mid, first, head, last))) =
+      inr (inr (mid, first, head, refused-memory names mid n r last.0 last.1))
 
   -- a refusal behind sections
   refused-behind :
