@@ -15,7 +15,8 @@ use Rattle.df_state.specs.States.{IsLegal}
 use Rattle.df_jobs.specs.declared.refused.Refused.{Refused}
 use Rattle.df_jobs.specs.Jobs as jobs
 use Rattle.df_jobs.specs.Loaded.{AreLoaded}
-use Rattle.df_store.specs.Loads.{IsLeft, IsNotLeft, headings_of}
+use Rattle.df_store.specs.Headings.{headings_of}
+use Rattle.df_store.specs.Loads.{IsLeft, IsNotLeft}
 use Rattle.df_store.specs.declared.fault.LoadCause.{LoadCause}
 use Rattle.df_jobs.specs.Refused.{refusal}
 use Rattle.df_text.specs.declared.document.FrameSpec.{FrameSpec}

@@ -17,6 +17,7 @@ use Rattle.df_jobs.specs.declared.stop.Stop.{Stop}
 use Rattle.df_jobs.specs.declared.jobs.Outcome.{Outcome}
 use Rattle.df_store.specs.Faults.{IsCauseAtStart}
 use Rattle.df_store.specs.Grown.{HaveGrown, IsReachedByLoad}
+use Rattle.df_store.specs.Headings.{HasLastViews, HaveLastViews}
 use Rattle.df_store.proofs.GrownFacts.{grown-none}
 use Rattle.df_jobs.specs.Jobs.{AreOutcomes, IsOutcome, jobs_of}
 use Rattle.df_store.specs.Loads.{IsCauseAtEnd, IsCauseLeft, IsCauseNotLeft, IsCauseUnsettled, IsDifference, IsLeft, IsNotLeft, is_accounted, unaccounted_from}
@@ -53,6 +54,14 @@ module _ (schemas : List (List (List ℕ × CellType))) (chunks : List (List (�
         agreed = agreed before.0 before.1;
         grown = grown before.0 s before.1 ends;
       }
+
+  -- the views that were registered before stand last in it
+  registered-last :
+      (history last : List State) (s : State) → IsHistoryOver schemas history → HaveLastViews views history → HaveGrown chunks history last →
+      last_state last ≡ Some s → HasLastViews views s
+  registered-last history last s over registered grown ends =
+      let before = last-of-begun history over.begun in
+      let h = registered before.0 before.1 in record { others = h.others; are = (grown before.0 s before.1 ends).views ∙ h.are }
 
   -- one that has not begun
   reached-none : (s : State) → IsLastState schemas s → AgreeWithBooks desks s → IsReachedByLoad schemas chunks desks s
@@ -114,38 +123,41 @@ module _ (schemas : List (List (List ℕ × CellType))) (chunks : List (List (�
 
   cause-left :
       {V : Type 0} (items : V → List Outcome) (s : State) (entered : Result V Stop) (cause : LoadCause) (os : List Outcome) →
-      IfOk entered (λ v. items v ≡ os) → IsCauseAtEnd items (jobs_of chunks) views s entered cause → IsCauseLeft (jobs_of chunks) views os s cause
-  cause-left items s (Ok v) cause os is h = inr (inr (subst (λ (o : List Outcome). IsDifference (jobs_of chunks) o views s cause) is h))
-  cause-left items s (Err stop) cause os is h = inr (inl (stop, h))
+      IfOk entered (λ v. items v ≡ os) → HasLastViews views s → IsCauseAtEnd items (jobs_of chunks) views s entered cause →
+      IsCauseLeft (jobs_of chunks) views os s cause
+  cause-left items s (Ok v) cause os is registered h = inr (registered, inr (subst (λ (o : List Outcome). IsDifference (jobs_of chunks) o views s cause) is h))
+  cause-left items s (Err stop) cause os is registered h = inr (registered, inl (stop, h))
 
   -- what a load that came to its end left
   ended :
       {L V : Type 0} (state_of : L → State) (items : V → List Outcome) (back : List DeskParts) (entered : Result V Stop) (cause : LoadCause)
       (last : List State) (left : Option L) → parts_of back ≡ parts_of desks → HaveDone items chunks desks back entered →
-      ((s : State) → last_state last ≡ Some s → IsReachedByLoad schemas chunks desks s) →
+      ((s : State) → last_state last ≡ Some s → IsReachedByLoad schemas chunks desks s) → HaveLastViews views last →
       IfSome left (λ l. (last_state last ≡ Some (state_of l)) × IsSettledState schemas back (state_of l)) →
       IfSome left (λ l. IsCauseAtEnd items (jobs_of chunks) views (state_of l) entered cause) →
       IfNone left ((s : State) × (frame : ℕ) × (last_state last ≡ Some s) × IsUnsettledState schemas back s frame × IsCauseUnsettled frame cause) →
       MatchOption left (IsNotLeft schemas chunks views desks cause) (λ l. IsLeft schemas chunks views desks cause (state_of l))
-  ended state_of items back entered cause last (Some l) parts done reached settled is unsettled =
+  ended state_of items back entered cause last (Some l) parts done reached registered settled is unsettled =
       left-of back done.outcomes cause (state_of l) done.made done.accepted done.deleted settled.1 (reached (state_of l) settled.0)
-      (cause-left items (state_of l) entered cause done.outcomes done.all is)
-  ended state_of items back entered cause last None parts done reached settled is unsettled =
+      (cause-left items (state_of l) entered cause done.outcomes done.all (registered (state_of l) settled.0) is)
+  ended state_of items back entered cause last None parts done reached registered settled is unsettled =
       not-left-of back done.outcomes cause unsettled.0 unsettled.1 done.made parts done.accepted done.deleted unsettled.3
-      (reached unsettled.0 unsettled.2) (inr unsettled.4)
+      (reached unsettled.0 unsettled.2) (inr (registered unsettled.0 unsettled.2, unsettled.4))
 
   -- the same of its answer
   pub ended-so :
       {A F L V : Type 0} (state_of : L → State) (items : V → List Outcome) (cause_of : F → LoadCause) (left_of : F → Option L) (back : List DeskParts)
       (entered : Result V Stop) (result : Result A F) (history last : List State) → parts_of back ≡ parts_of desks → HaveDone items chunks desks back entered →
-      ((s : State) → last_state history ≡ Some s → AgreeWithBooks desks s) → IsHistoryOver schemas history → HaveGrown chunks history last →
+      ((s : State) → last_state history ≡ Some s → AgreeWithBooks desks s) → IsHistoryOver schemas history →
+      HaveLastViews views history → HaveGrown chunks history last →
       IfErr result (λ f. IfSome (left_of f) (λ l. (last_state last ≡ Some (state_of l)) × IsSettledState schemas back (state_of l))) →
       IfErr result (λ f. IfSome (left_of f) (λ l. IsCauseAtEnd items (jobs_of chunks) views (state_of l) entered (cause_of f))) →
       IfErr result (λ f. IfNone (left_of f) ((s : State) × (frame : ℕ) × (last_state last ≡ Some s) × IsUnsettledState schemas back s frame × IsCauseUnsettled frame (cause_of f))) →
       IfErr result (λ f. MatchOption (left_of f) (IsNotLeft schemas chunks views desks (cause_of f)) (λ l. IsLeft schemas chunks views desks (cause_of f) (state_of l)))
-  ended-so state_of items cause_of left_of back entered (Ok a) history last parts done agreed over grown settled is unsettled = tt
-  ended-so state_of items cause_of left_of back entered (Err f) history last parts done agreed over grown settled is unsettled =
-      ended state_of items back entered (cause_of f) last (left_of f) parts done (λ s ends. reached-last history last s agreed over grown ends) settled is unsettled
+  ended-so state_of items cause_of left_of back entered (Ok a) history last parts done agreed over registered grown settled is unsettled = tt
+  ended-so state_of items cause_of left_of back entered (Err f) history last parts done agreed over registered grown settled is unsettled =
+      ended state_of items back entered (cause_of f) last (left_of f) parts done (λ s ends. reached-last history last s agreed over grown ends)
+      (λ s ends. registered-last history last s over registered grown ends) settled is unsettled
 
 settled-one :
     {C : Type 0} (state_of : C → State) (schemas : List (List (List ℕ × CellType))) (desks : List DeskParts) (catalogue c : C) → c ≡ catalogue →

@@ -1,4 +1,4 @@
--- What a load adds to the rows that stood when its workers began: whole chunks.
+-- What a load adds to the rows that stood when its workers began: whole chunks. The views stay.
 use Rattle.std.specs.Prelude.{◌≡◌, ◌++◌, ℕ, All, List, Some, length, slice_get}
 use Rattle.std.specs.List.Sorted.{IsPermutation}
 use Rattle.df_value.specs.declared.cell.CellType.{CellType}
@@ -12,6 +12,7 @@ use Rattle.df_jobs.specs.Expected.{rows_at}
 use Rattle.df_jobs.specs.Jobs.{AreOutcomes}
 use Rattle.df_jobs.specs.Loaded.{chunk_rows}
 use Rattle.df_versions.specs.Histories.{IsLastState, last_state}
+use Rattle.df_store.specs.Headings.{headings_of}
 
 -- each frame has the rows that it had, and all rows of these outcomes that are of it; as the numbers of a frame rise, this says
 -- in which order they stand
@@ -19,11 +20,12 @@ pub record HaveRowsMore (entered : List Outcome) (before after : List FrameState
   pub count : length after ≡ length before
   pub rows : (frame : ℕ) (f g : FrameState) → slice_get before frame ≡ Some f → slice_get after frame ≡ Some g → IsPermutation (f.rows ++ rows_at frame entered) g.rows
 
--- what came to the frames from one state to another are chunks of these sources, each whole
+-- what came to the frames from one state to another are chunks of these sources, each whole, and the views are the same ones
 pub record HasGrown (chunks : List (List (ℕ × Piece))) (before after : State) : Type 0 where
   pub entered : List Outcome
   pub made : AreOutcomes chunks entered
   pub frames : HaveRowsMore entered before.frames after.frames
+  pub views : headings_of after ≡ headings_of before
 
 -- the same of the last states of two histories
 abbrev pub HaveGrown : List (List (ℕ × Piece)) → List State → List State → Type 0

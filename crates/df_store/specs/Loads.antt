@@ -1,5 +1,5 @@
 -- What a load answers.
-use Rattle.std.specs.Prelude.{◌≡◌, ◌≢◌, ◌⊎◌, ◌+◌, ◌==◌, ◌&&◌, ⊤, ℕ, Bool, List, [], ◌∷◌, length, map, sum_by, Option, Some, None, Result, Ok, Err, if◌then◌else◌, slice_get}
+use Rattle.std.specs.Prelude.{◌≡◌, ◌≢◌, ◌⊎◌, ◌+◌, ◌==◌, ◌&&◌, ⊤, ℕ, Bool, List, [], ◌∷◌, length, sum_by, Option, Some, None, Result, Ok, Err, if◌then◌else◌, slice_get}
 use Rattle.df_value.specs.declared.cell.CellType.{CellType}
 use Rattle.df_value.specs.Chunks.{ChunkParts}
 use Rattle.df_value.specs.declared.chunk.Piece.{Piece}
@@ -17,6 +17,7 @@ use Rattle.df_store.specs.declared.fault.LoadCause.TheVariants.{Refused, Memory,
 use Rattle.df_jobs.specs.declared.stop.Stop.{Stop}
 use Rattle.df_jobs.specs.declared.jobs.Outcome.{Outcome}
 use Rattle.df_store.specs.Faults.{IsCauseAtStart, cause_of_stop}
+use Rattle.df_store.specs.Headings.{HasLastViews, headings_of}
 use Rattle.df_store.specs.Grown.{IsReachedByLoad}
 use Rattle.df_jobs.specs.Jobs.{AreOutcomes, jobs_of}
 use Rattle.df_jobs.specs.Loaded.{AreLoaded, IsUnlike}
@@ -31,10 +32,6 @@ AllowsAppends allows = (frame : ℕ) (chunk : ChunkParts) → allows (Append fra
 pub record AllowsLoad (allows : Change → Type 0) : Type 0 where
   pub registers : (name : List ℕ) (plan : CheckedParts) → allows (Register name plan)
   pub appends : AllowsAppends allows
-
--- the views of a state, each by its name and its plan
-abbrev pub headings_of : State → List (List ℕ × CheckedParts)
-headings_of s = map (λ v. (v.name, v.plan)) s.views
 
 -- how many rows the good ones of these jobs bring to a frame
 abbrev pub rows_of_jobs : ℕ → List (ℕ × (ℕ × Piece)) → ℕ
@@ -76,15 +73,16 @@ IsCauseUnsettled frame (Lost job) = ⊥
 IsCauseUnsettled frame (Unlike other) = ⊥
 IsCauseUnsettled frame ViewsUnlike = ⊥
 
--- a load that left this state is refused for this: before its first job, where no chunk has entered; since workers were stopped
--- so; or for a difference between these outcomes, the views and the state
+-- a load that left this state is refused for this: before its first job, where no chunk has entered; or, where all views that were
+-- given are registered, since workers were stopped so, or for a difference between these outcomes, the views and the state
 abbrev pub IsCauseLeft : List (ℕ × (ℕ × Piece)) → List (List ℕ × CheckedParts) → List Outcome → State → LoadCause → Type 0
 IsCauseLeft jobs views outcomes s cause =
-    ((outcomes ≡ []) × IsCauseAtStart s views cause) ⊎ (((stop : Stop) × (cause ≡ cause_of_stop stop)) ⊎ IsDifference jobs outcomes views s cause)
+    ((outcomes ≡ []) × IsCauseAtStart s views cause)
+    ⊎ (HasLastViews views s × (((stop : Stop) × (cause ≡ cause_of_stop stop)) ⊎ IsDifference jobs outcomes views s cause))
 
 -- a load that left nothing, since this is the least frame of the state where the shares are not the books, is refused for this
 abbrev pub IsCauseNotLeft : List (List ℕ × CheckedParts) → List Outcome → State → ℕ → LoadCause → Type 0
-IsCauseNotLeft views outcomes s frame cause = ((outcomes ≡ []) × IsCauseAtStart s views cause) ⊎ IsCauseUnsettled frame cause
+IsCauseNotLeft views outcomes s frame cause = ((outcomes ≡ []) × IsCauseAtStart s views cause) ⊎ (HasLastViews views s × IsCauseUnsettled frame cause)
 
 -- whether the rows accepted through these desks and those of these outcomes are together the rows that a frame accepted, and
 -- the rows deleted through the desks those that were deleted from it

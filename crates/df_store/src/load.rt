@@ -1,6 +1,6 @@
 //! Loading: workers bring the chunks of sources into a hall, and what they left is compared with the
 //! sources once.
-ghost use Rattle.std.specs.Prelude.{◌≡◌, ◌<◌, ◌≤◌, [], ℕ, All, Err, IfErr, IfNone, IfOk, IfSome, IsErrAnd, IsOkAnd, MatchOption, None, Ok, Some, filter_map, length};
+ghost use Rattle.std.specs.Prelude.{◌≡◌, ◌<◌, ◌≤◌, [], ℕ, All, Err, IfErr, IfNone, IfOk, IfSome, IsErrAnd, IsOkAnd, MatchOption, None, Ok, OnErr, OnOk, Some, filter_map, length};
 ghost use Rattle.df_value.specs.Limits as limits;
 ghost use Rattle.df_state.specs.Desks.{AgreeWithBooks};
 ghost use Rattle.df_state.specs.States.{IsLegal};
@@ -9,6 +9,7 @@ ghost use Rattle.df_claims.specs.Seats.{AreAllSeats, IsSeatOf};
 ghost use Rattle.df_hall.specs.Closing as closing;
 ghost use Rattle.df_hall.specs.Rooms.{HasRoomFor, Holds};
 ghost use Rattle.df_store.specs.Faults.{IsCauseAtStart, IsCauseOfView, IsCauseOfViews};
+ghost use Rattle.df_store.specs.Headings.{HaveLastViews, IsRegistered, headings_of};
 ghost use Rattle.df_jobs.specs.Jobs.{AreOutcomes, chunks_of, jobs_of, most_jobs};
 ghost use Rattle.df_jobs.specs.Loaded.{AreLoaded};
 ghost use Rattle.df_store.specs.Loads as loads;
@@ -116,7 +117,7 @@ pub fn load_all<
         load.refused ≡ filter_map refusal (jobs_of (chunks_of S.made S.start_of sources.now))) }
     ensures shares { IfOk result (λ load. loads.AreShares desks.items
         (jobs_of (chunks_of S.made S.start_of sources.now)) load.catalogue.state) }
-    ensures views { IfOk result (λ load. loads.headings_of load.catalogue.state ≡ views.now) }
+    ensures views { IfOk result (λ load. headings_of load.catalogue.state ≡ views.now) }
     ensures totals { IfOk result (λ load.
         load.totals ≡ closing.totals_of load.catalogue.state) }
     ensures legal { IfOk result (λ load. IsLegal load.catalogue.state) }
@@ -173,6 +174,7 @@ fn run_load<
     requires history { catalogue ≡ B.history }
     requires chunks { B.chunks ≡ chunks_of S.made S.start_of work.now.sources.now }
     requires over { IsHistoryOver J.schemas catalogue }
+    requires registered { HaveLastViews views.now catalogue }
     requires agreed { (s : State) → last_state catalogue ≡ Some s → AgreeWithBooks desks.items s }
     requires room { HasRoomFor limits.most_frames room }
     requires empty { Holds room [] }
@@ -189,7 +191,7 @@ fn run_load<
         ≡ filter_map refusal (jobs_of (chunks_of S.made S.start_of work.now.sources.now))) }
     ensures shares { IfOk result (λ load. loads.AreShares desks.items
         (jobs_of (chunks_of S.made S.start_of work.now.sources.now)) load.catalogue.state) }
-    ensures views { IfOk result (λ load. loads.headings_of load.catalogue.state ≡ views.now) }
+    ensures views { IfOk result (λ load. headings_of load.catalogue.state ≡ views.now) }
     ensures totals { IfOk result (λ load.
         load.totals ≡ closing.totals_of load.catalogue.state) }
     ensures legal { IfOk result (λ load. IsLegal load.catalogue.state) }
@@ -227,6 +229,7 @@ fn begin<Acc: Ledger, Del: Ledger, J: Naming, R: Wait>(
     requires allowed { loads.AllowsLoad J.allows }
     requires jobs { jobs ≤ most_jobs }
     requires workers { (1 ≤ workers) × (workers ≤ 16) }
+    ensures registered { OnOk result (HaveLastViews views.now catalogue.new) }
     ensures count { IfOk result (λ begun. length begun.1.items ≡ workers) }
     ensures seats { IfOk result (λ begun. AreAllSeats begun.0 begun.1.items) }
     ensures cause { IfErr result (λ cause. (s : State) → last_state catalogue.new ≡ Some s
@@ -247,7 +250,8 @@ fn register_all<Acc: Ledger, Del: Ledger, J: Naming, R: Wait>(
     views: &[(Text, CheckedPlan)],
 ) -> Result<(), LoadCause>
     requires { loads.AllowsLoad J.allows }
-    ensures { IfErr result (λ cause. (s : State) → last_state catalogue.new ≡ Some s
+    ensures registered { OnOk result (HaveLastViews views.now catalogue.new) }
+    ensures cause { IfErr result (λ cause. (s : State) → last_state catalogue.new ≡ Some s
         → IsCauseOfViews s views.now cause) }
 {
     for at in 0..views.len() {
@@ -264,7 +268,9 @@ fn register_one<Acc: Ledger, Del: Ledger, J: Naming, R: Wait>(
     view: &(Text, CheckedPlan),
 ) -> Result<(), LoadCause>
     requires { loads.AllowsLoad J.allows }
-    ensures { IfErr result (λ cause. (s : State) → last_state catalogue.new ≡ Some s
+    ensures registered { OnOk result (IsRegistered view.now catalogue.old catalogue.new) }
+    ensures same { OnErr result (catalogue.new ≡ catalogue.old) }
+    ensures cause { IfErr result (λ cause. (s : State) → last_state catalogue.new ≡ Some s
         → IsCauseOfView s view.now cause) }
 {
     let name = view.0.copy(alloc)?;
@@ -332,7 +338,7 @@ fn finish<Acc: Ledger, Del: Ledger, J: Naming, S: Source, G: Gate, R: Threads + 
     ensures entered { IfOk result (λ _. IsOkAnd entered (λ os. (frame : ℕ) →
         entered_at frame os.items ≡ loads.rows_of_jobs frame
         (jobs_of (chunks_of S.made S.start_of work.now.sources.now)))) }
-    ensures views { IfOk result (λ load. loads.headings_of load.catalogue.state ≡ views.now) }
+    ensures views { IfOk result (λ load. headings_of load.catalogue.state ≡ views.now) }
     ensures totals { IfOk result (λ load.
         load.totals ≡ closing.totals_of load.catalogue.state) }
     ensures legal { IfOk result (λ load. IsLegal load.catalogue.state) }
