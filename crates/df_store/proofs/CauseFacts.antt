@@ -95,11 +95,12 @@ frames-of-last schemas s last legal = frames-long s legal ∙ ap length (schemas
 -- the frame that the cause of a load is about is one of those that were loaded
 pub cause-of-frames :
     {L : Type 0} (state_of : L → State) (schemas : List (List (List ℕ × CellType))) (chunks : List (List (ℕ × Piece))) (views : List (List ℕ × CheckedParts)) (desks : List DeskParts)
-    (cause : LoadCause) (left : Option L) → MatchOption left (IsNotLeft schemas chunks views desks cause) (λ l. IsLeft schemas chunks views desks cause (state_of l)) →
+    (cause : LoadCause) (told : List State) (left : Option L) →
+    MatchOption left (IsNotLeft schemas chunks views desks cause told) (λ l. IsLeft schemas chunks views desks cause told (state_of l)) →
     IsOfFrames (length schemas) cause
-cause-of-frames state_of schemas chunks views desks cause (Some l) is =
+cause-of-frames state_of schemas chunks views desks cause told (Some l) is =
     subst (λ (n : ℕ). IsOfFrames n cause) (frames-of-last schemas (state_of l) is.last is.legal) (left-of-frames (jobs_of chunks) views is.outcomes (state_of l) cause is.why)
-cause-of-frames state_of schemas chunks views desks cause None is =
+cause-of-frames state_of schemas chunks views desks cause told None is =
     let long = frames-of-last schemas is.state is.unsettled.last is.unsettled.legal in
     let within = missing-within is.gathered 0 is.state.frames is.frame is.unsettled.missing in
     not-left-of-frames (length schemas) views is.outcomes is.state is.frame cause (omega (arith, within, long)) is.why

@@ -109,9 +109,9 @@ pub record HaveWholeChunks (chunks : List (List (ℕ × Piece))) (frames : List 
 
 -- a load that was given the first desks of all frames, and was refused, leaves such frames
 pub left-of-fresh :
-    (schemas : List (List (List ℕ × CellType))) (chunks : List (List (ℕ × Piece))) (views : List (List ℕ × CheckedParts)) (cause : LoadCause) (s : State) →
-    IsLeft schemas chunks views (first_desks (length schemas)) cause s → HaveWholeChunks chunks s.frames
-left-of-fresh schemas chunks views cause s left = record {
+    (schemas : List (List (List ℕ × CellType))) (chunks : List (List (ℕ × Piece))) (views : List (List ℕ × CheckedParts)) (cause : LoadCause) (history : List State) (s : State) →
+    IsLeft schemas chunks views (first_desks (length schemas)) cause history s → HaveWholeChunks chunks s.frames
+left-of-fresh schemas chunks views cause history s left = record {
   entered = left.reached.grown.entered;
   made = left.reached.grown.made;
   rows = λ frame g at.

@@ -141,7 +141,11 @@ module _ (chunks : List (List (ℕ × Piece))) where
 
   -- a history has grown from itself
   pub grown-itself : (history : List State) → HaveGrown chunks history history
-  grown-itself history = λ s t first last. let same : s ≡ t = ap (λ o. unwrap_or o s) (sym first ∙ last) in subst (HasGrown chunks s) same (grown-none s)
+  grown-itself history = record {
+    later = [];
+    goes_on = sym (append-nil history);
+    states = λ s t first last. let same : s ≡ t = ap (λ o. unwrap_or o s) (sym first ∙ last) in subst (HasGrown chunks s) same (grown-none s);
+  }
 
   grown-one : (before s : State) (frame : ℕ) (c : ChunkParts) → HasGrown chunks before s → IsWhole chunks frame c → HasGrown chunks before (after s (Append frame c))
   grown-one before s frame c h whole = record {
@@ -158,9 +162,13 @@ module _ (chunks : List (List (ℕ × Piece))) where
         AnswersChange old floor (Append frame c) r → ChangesHistory old r new → HaveGrown chunks before new
     grown-by before old new floor frame c (Ok told) h whole answer changes =
         let step = stepped old new floor (Append frame c) told answer changes in
-        λ s t first last.
-        let same : after step.0 (Append frame c) ≡ t = ap (λ o. unwrap_or o t) (sym step.3 ∙ last) in
-        subst (HasGrown chunks s) same (grown-one s step.0 frame c (h s step.0 first step.1) whole)
+        let next = after step.0 (Append frame c) in record {
+          later = h.later ++ next ∷ [];
+          goes_on = step.2 ∙ (ap (λ (l : List State). l ++ next ∷ []) h.goes_on ∙ append_assoc before h.later (next ∷ []));
+          states = λ s t first last.
+              let same : next ≡ t = ap (λ o. unwrap_or o t) (sym step.3 ∙ last) in
+              subst (HasGrown chunks s) same (grown-one s step.0 frame c (h.states s step.0 first step.1) whole);
+        }
     grown-by before old new floor frame c (Err f) h whole answer changes = subst (HaveGrown chunks before) (sym changes.same) h
 
     -- the same of a change that appends the chunk

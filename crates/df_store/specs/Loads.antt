@@ -98,22 +98,22 @@ unaccounted_from desks outcomes frame (f ∷ fs) = if is_accounted desks outcome
 abbrev pub unaccounted_frame : List DeskParts → List Outcome → State → Option ℕ
 unaccounted_frame desks outcomes s = unaccounted_from desks outcomes 0 s.frames
 
--- a load that was refused for this left this state, which a hall over frames of these schemas may come to: of each frame the
--- books are as large as the shares of the desks that were given and the rows of some outcomes of jobs together
+-- a load that was refused for this left this state, with which the history of a hall over frames of these schemas ends: of each frame
+-- the books are as large as the shares of the desks that were given and the rows of some outcomes of jobs together
 pub record IsLeft (schemas : List (List (List ℕ × CellType))) (chunks : List (List (ℕ × Piece))) (views : List (List ℕ × CheckedParts)) (desks : List DeskParts)
-    (cause : LoadCause) (s : State) : Type 0 where
+    (cause : LoadCause) (history : List State) (s : State) : Type 0 where
   pub last : IsLastState schemas s
   pub legal : IsLegal s
   pub outcomes : List Outcome
   pub made : AreOutcomes chunks outcomes
   pub accounted : unaccounted_frame desks outcomes s ≡ None
-  pub reached : IsReachedByLoad schemas chunks desks s
+  pub reached : IsReachedByLoad schemas chunks desks history s
   pub why : IsCauseLeft (jobs_of chunks) views outcomes s cause
 
 -- one that was refused for this left nothing: its desks came back with all their parts and with the rows of some outcomes of jobs,
--- and there is a state that the load may reach, with whose books they agree over all frames, but not frame by frame
+-- and the history of the hall ends with a state with whose books they agree over all frames, but not frame by frame
 pub record IsNotLeft (schemas : List (List (List ℕ × CellType))) (chunks : List (List (ℕ × Piece))) (views : List (List ℕ × CheckedParts)) (desks : List DeskParts)
-    (cause : LoadCause) : Type 0 where
+    (cause : LoadCause) (history : List State) : Type 0 where
   pub outcomes : List Outcome
   pub made : AreOutcomes chunks outcomes
   pub gathered : List DeskParts
@@ -123,5 +123,5 @@ pub record IsNotLeft (schemas : List (List (List ℕ × CellType))) (chunks : Li
   pub state : State
   pub frame : ℕ
   pub unsettled : IsUnsettledState schemas gathered state frame
-  pub reached : IsReachedByLoad schemas chunks desks state
+  pub reached : IsReachedByLoad schemas chunks desks history state
   pub why : IsCauseNotLeft views outcomes state frame cause

@@ -1,6 +1,6 @@
 use Rattle.std.proofs.Common.{take}
 use Rattle.df_store.specs.Headings.{HaveLastViews}
-use Rattle.df_store.proofs.load.register_all.Given as goal
+use Rattle.df_store.proofs.registering.register_all.Given as goal
 
 -- the views before this one are registered
 abbrev pub invariant-loop-at : goal.invariant-loop-at
