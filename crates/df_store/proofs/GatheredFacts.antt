@@ -1,5 +1,5 @@
 -- A load whose desks were joined to one for each frame before its workers began: what it answers is of the desks that were given.
-use Rattle.std.proofs.Common.{◌≡◌, ℕ, ◌+◌, ◌==◌, ◌&&◌, ◌∙◌, List, [], ◌∷◌, length, refl, ap, sym, subst, arith}
+use Rattle.std.proofs.Common.{◌≡◌, ℕ, ◌+◌, ◌==◌, ◌&&◌, ◌∙◌, List, [], ◌∷◌, length, refl, ap, sym, arith}
 use Rattle.std.proofs.lemmas.List.Elements.{All-nil}
 use Rattle.std.specs.Prelude.{IfErr, IfOk, MatchOption, Option, Result, Err, None, Ok, Some, if◌then◌else◌}
 use Rattle.df_value.specs.declared.cell.CellType.{CellType}
@@ -7,8 +7,7 @@ use Rattle.df_value.specs.declared.chunk.Piece.{Piece}
 use Rattle.df_plan.specs.CheckedParts.{CheckedParts}
 use Rattle.df_frame.specs.declared.state.FrameState.{FrameState}
 use Rattle.df_state.specs.declared.state.State.{State}
-use Rattle.df_state.specs.Desks.{AgreeWithBooks, DeskParts, HaveAllParts, HaveSameSums, accepted_at, accepted_in, accepted_through, deleted_at, deleted_in, deleted_through, parts_of, parts_of_no_desk}
-use Rattle.df_state.specs.Ledgers as ledgers
+use Rattle.df_state.specs.Desks.{AgreeWithBooks, DeskParts, HaveAllParts, HaveSameSums, accepted_at, accepted_through, deleted_at, deleted_through, parts_of, parts_of_no_desk}
 use Rattle.df_jobs.specs.declared.jobs.Outcome.{Outcome}
 use Rattle.df_jobs.specs.Counted.{HaveDone, entered_at}
 use Rattle.df_jobs.specs.Jobs.{IsOutcome}

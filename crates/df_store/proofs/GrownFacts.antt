@@ -1,7 +1,6 @@
 -- A load whose chunks enter whole.
-use Rattle.std.proofs.Common.{◌≡◌, ◌≢◌, ℕ, zero, suc, ◌+◌, ◌==◌, ◌∙◌, Bool, true, false, List, [], ◌∷◌, ◌++◌, length, refl, ap, sym, subst, arith, not}
-use Rattle.std.specs.Prelude.{All, Option, None, Some, Result, Ok, Err, filter, flat_map, if◌then◌else◌, option_map, slice_get, unwrap_or, nat_lt}
-use Rattle.std.specs.List.{enumerate_from}
+use Rattle.std.proofs.Common.{◌≡◌, ◌≢◌, ℕ, zero, suc, ◌==◌, ◌∙◌, Bool, true, false, List, [], ◌∷◌, ◌++◌, length, refl, ap, sym, subst, arith, not}
+use Rattle.std.specs.Prelude.{All, Option, None, Some, Result, Ok, Err, filter, if◌then◌else◌, slice_get, unwrap_or, nat_lt}
 use Rattle.std.specs.List.Sorted.{IsPermutation}
 use Rattle.std.proofs.lemmas.Bool.{eqb-false, eqb-true}
 use Rattle.std.proofs.lemmas.Grind.{flat_map-append}
@@ -29,7 +28,6 @@ use Rattle.df_jobs.proofs.JoinedFacts.{joined-frame, joined-rows}
 use Rattle.df_jobs.proofs.JoinedRows.{rows-of-own}
 use Rattle.df_versions.specs.Answered.{AnswersChange, ChangesHistory}
 use Rattle.df_versions.specs.declared.fault.ChangeFault.{ChangeFault}
-use Rattle.df_versions.specs.Histories.{last_state}
 use Rattle.df_store.proofs.HeadingFacts.{headings-appended}
 use Rattle.df_store.proofs.StepFacts.{stepped}
 use Rattle.df_store.specs.Grown.{HasGrown, HaveGrown, HaveRowsMore, IsWhole}

@@ -12,7 +12,6 @@ use Rattle.df_state.specs.declared.state.ViewState.{ViewState}
 use Rattle.df_state.specs.Changes.{after, change_at, refreshed_views, view_over}
 use Rattle.df_state.proofs.ListFacts.{take-all, take-one-more}
 use Rattle.df_versions.specs.Answered.{AnswersChange, ChangesHistory}
-use Rattle.df_versions.specs.Histories.{last_state}
 use Rattle.df_store.specs.Headings.{HasLastViews, HaveLastViews, IsRegistered, headings_of}
 use Rattle.df_store.proofs.StepFacts.{stepped}
 

@@ -1,5 +1,5 @@
 -- What a change that is not refused makes of the last state of a history.
-use Rattle.std.proofs.Common.{◌≡◌, ℕ, ◌∙◌, List, [], ◌∷◌, ◌++◌, length, length-append, drop, get_or, ap, sym, subst, arith}
+use Rattle.std.proofs.Common.{◌≡◌, ℕ, ◌∙◌, List, [], ◌∷◌, ◌++◌, length, length-append, drop, get_or, refl, ap, sym, arith}
 use Rattle.std.specs.Prelude.{Ok, Some}
 use Rattle.std.proofs.lemmas.List.{append_assoc}
 use Rattle.df_state.specs.declared.change.Change.{Change}

@@ -8,7 +8,7 @@ use Rattle.df_frame.specs.declared.state.FrameState.{FrameState}
 use Rattle.df_state.specs.declared.change.Change.{Change}
 use Rattle.df_state.specs.declared.change.Change.TheVariants.{Append, Register}
 use Rattle.df_state.specs.declared.state.State.{State}
-use Rattle.df_state.specs.Desks.{AgreeWithBooks, DeskParts, accepted_at, deleted_at, parts_of}
+use Rattle.df_state.specs.Desks.{DeskParts, accepted_at, deleted_at, parts_of}
 use Rattle.df_state.specs.States.{IsLegal}
 use Rattle.df_versions.specs.Histories.{IsLastState}
 use Rattle.df_hall.specs.Closing.{IsUnsettledState}
