@@ -1,4 +1,4 @@
-use Rattle.std.proofs.Common.{◌<◌, length, subst}
+use Rattle.std.proofs.Common.{subst}
 use Rattle.df_jobs.specs.Jobs.{chunks_of, jobs_of}
 use Rattle.df_store.specs.Grown.{HaveGrown}
 use Rattle.df_store.proofs.LeftFacts.{ended-so, handed-outcomes, handed-rows}
