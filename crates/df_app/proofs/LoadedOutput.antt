@@ -21,7 +21,7 @@ use Rattle.df_plan.specs.Checks.{CheckResult, plan_check}
 use Rattle.df_state.specs.declared.state.State.{State}
 use Rattle.df_state.specs.States.{IsLegal}
 use Rattle.df_jobs.specs.Loaded.{AreLoaded}
-use Rattle.df_store.specs.Loads.{headings_of}
+use Rattle.df_store.specs.Headings.{headings_of}
 use Rattle.df_text.specs.declared.document.FrameSpec.{FrameSpec}
 use Rattle.df_state.specs.New.{new_fault}
 use Rattle.df_state.specs.declared.fault.NewFault.{NewFault}

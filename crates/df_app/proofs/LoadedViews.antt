@@ -19,7 +19,7 @@ use Rattle.df_frame.specs.Frames.{IsFrame, IsNumbered, rows_of}
 use Rattle.df_state.specs.Reads.{view_named, view_rows_of}
 use Rattle.df_state.specs.States.{IsLegal, IsPlanOver, tables_of_frames, value_over}
 use Rattle.df_jobs.specs.Loaded.{AreLoaded, IsLoaded, job_rows, made_rows}
-use Rattle.df_store.specs.Loads.{headings_of}
+use Rattle.df_store.specs.Headings.{headings_of}
 use Rattle.df_text.specs.declared.document.ViewSpec.{ViewSpec}
 use Rattle.df_document.specs.Sources.{pieces_of_sources}
 use Rattle.df_app.specs.Loading.{headings_in, jobs_of_sources, printed_in, rows_or_none}

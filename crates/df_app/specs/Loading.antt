@@ -15,7 +15,8 @@ use Rattle.df_state.specs.States.{IsLegal}
 use Rattle.df_jobs.specs.declared.refused.Refused.{Refused}
 use Rattle.df_jobs.specs.Jobs as jobs
 use Rattle.df_jobs.specs.Loaded.{AreLoaded}
-use Rattle.df_store.specs.Loads.{IsLeft, IsNotLeft, headings_of}
+use Rattle.df_store.specs.Headings.{headings_of}
+use Rattle.df_store.specs.Loads.{IsLeft, IsNotLeft}
 use Rattle.df_store.specs.declared.fault.LoadCause.{LoadCause}
 use Rattle.df_jobs.specs.Refused.{refusal}
 use Rattle.df_text.specs.declared.document.FrameSpec.{FrameSpec}
@@ -83,20 +84,22 @@ pub record IsOutputOfLoad (d : SourcedDocument) (o : Output) : Type 0 where
   pub text : o.text ≡ text_of_load state d.document.frames (headings_in d.document.views d.plans) refused
   pub ends : o.outcome ≡ outcome_of_load refused
 
--- a load of the sources of a document with its views, into fresh frames, that left this state, or nothing, is refused for this
-abbrev pub IsCauseOfLoad : SourcedDocument → Option State → LoadCause → Type 0
-IsCauseOfLoad d left cause =
+-- a load of the sources of a document with its views, into the fresh frames of a hall with this history, that left this state, or
+-- nothing, is refused for this
+abbrev pub IsCauseOfLoad : SourcedDocument → List State → Option State → LoadCause → Type 0
+IsCauseOfLoad d told left cause =
     let desks = first_desks (length d.document.frames) in
     let views = headings_in d.document.views d.plans in
-    MatchOption left (IsNotLeft (schemas_of d.document.frames) (numbered_chunks d.sources) views desks cause)
-    (λ s. IsLeft (schemas_of d.document.frames) (numbered_chunks d.sources) views desks cause s)
+    MatchOption left (IsNotLeft (schemas_of d.document.frames) (numbered_chunks d.sources) views desks cause told)
+    (λ s. IsLeft (schemas_of d.document.frames) (numbered_chunks d.sources) views desks cause told s)
 
 -- such a load is refused for the cause of which this is the one with the name of its frame
 pub record IsLoadRefused (d : SourcedDocument) (named : NamedLoadCause) : Type 0 where
   pub cause : LoadCause
   pub name : named_cause_of d.document.frames cause ≡ Some named
+  pub told : List State
   pub left : Option State
-  pub is : IsCauseOfLoad d left cause
+  pub is : IsCauseOfLoad d told left cause
 
 -- the fault of such a load: memory was refused, or it was
 abbrev pub IsFaultOfLoad : SourcedDocument → RunFault → Type 0

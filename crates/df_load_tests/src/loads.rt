@@ -107,8 +107,8 @@ fn accepted_in(totals: &Totals) -> Option<[u64; 2]> {
 }
 
 // Why the load is refused, if it is, and how many rows each frame has accepted in what it leaves.
-fn outcome<Acc: Ledger, Del: Ledger>(
-    answer: Result<Loaded<Acc, Del>, LoadFault<Acc, Del>>,
+fn outcome<Acc: Ledger, Del: Ledger, J: Naming>(
+    answer: Result<Loaded<Acc, Del>, LoadFault<Acc, Del, J>>,
 ) -> (Option<LoadCause>, Option<[u64; 2]>) {
     match answer {
         Ok(loaded) => {

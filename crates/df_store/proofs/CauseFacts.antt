@@ -1,6 +1,6 @@
 -- The frame that the cause of a load is about is one of those that were loaded.
 use Rattle.std.proofs.Common.{◌≡◌, ℕ, suc, ◌+◌, ◌<◌, ◌∙◌, Bool, true, false, List, [], ◌∷◌, length, ap, sym, subst, arith, inl, inr}
-use Rattle.std.specs.Prelude.{MatchOption, Option, Some, None, if◌then◌else◌}
+use Rattle.std.specs.Prelude.{◌⊎◌, MatchOption, Option, Some, None, if◌then◌else◌}
 use Rattle.df_value.specs.declared.cell.CellType.{CellType}
 use Rattle.df_value.specs.declared.chunk.Piece.{Piece}
 use Rattle.df_plan.specs.CheckedParts.{CheckedParts}
@@ -36,11 +36,11 @@ start-of-frames count s views (load.Refused f) is = tt
 start-of-frames count s views load.Memory is = tt
 start-of-frames count s views load.Spent is = tt
 start-of-frames count s views load.Ahead is = tt
-start-of-frames count s views (load.MissingDesk at) (inl e) = absurd (cc)
-start-of-frames count s views (load.MissingDesk at) (inr view) = absurd view.3
+start-of-frames count s views (load.MissingDesk at) (inl view) = absurd view.4
+start-of-frames count s views (load.MissingDesk at) (inr memory) = let e = memory.0 in absurd (cc)
 start-of-frames count s views (load.Lost job) is = tt
-start-of-frames count s views (load.Unlike at) (inl e) = absurd (cc)
-start-of-frames count s views (load.Unlike at) (inr view) = absurd view.3
+start-of-frames count s views (load.Unlike at) (inl view) = absurd view.4
+start-of-frames count s views (load.Unlike at) (inr memory) = let e = memory.0 in absurd (cc)
 start-of-frames count s views load.ViewsUnlike is = tt
 
 stop-of-frames : (count : ℕ) (s : Stop) → IsOfFrames count (cause_of_stop s)
@@ -60,12 +60,17 @@ difference-of-frames jobs outcomes views s (load.Lost job) is = tt
 difference-of-frames jobs outcomes views s (load.Unlike at) is = is.0.within
 difference-of-frames jobs outcomes views s load.ViewsUnlike is = tt
 
+end-of-frames :
+    (jobs : List (ℕ × (ℕ × Piece))) (views : List (List ℕ × CheckedParts)) (outcomes : List Outcome) (s : State) (cause : LoadCause) →
+    ((stop : Stop) × (cause ≡ cause_of_stop stop)) ⊎ IsDifference jobs outcomes views s cause → IsOfFrames (length s.frames) cause
+end-of-frames jobs views outcomes s cause (inl stopped) = subst (IsOfFrames (length s.frames)) (sym stopped.1) (stop-of-frames (length s.frames) stopped.0)
+end-of-frames jobs views outcomes s cause (inr difference) = difference-of-frames jobs outcomes views s cause difference
+
 left-of-frames :
     (jobs : List (ℕ × (ℕ × Piece))) (views : List (List ℕ × CheckedParts)) (outcomes : List Outcome) (s : State) (cause : LoadCause) →
     IsCauseLeft jobs views outcomes s cause → IsOfFrames (length s.frames) cause
 left-of-frames jobs views outcomes s cause (inl start) = start-of-frames (length s.frames) s views cause start.1
-left-of-frames jobs views outcomes s cause (inr (inl stopped)) = subst (IsOfFrames (length s.frames)) (sym stopped.1) (stop-of-frames (length s.frames) stopped.0)
-left-of-frames jobs views outcomes s cause (inr (inr difference)) = difference-of-frames jobs outcomes views s cause difference
+left-of-frames jobs views outcomes s cause (inr end) = end-of-frames jobs views outcomes s cause end.1
 
 unsettled-of-frames : (count frame : ℕ) (cause : LoadCause) → frame < count → IsCauseUnsettled frame cause → IsOfFrames count cause
 unsettled-of-frames count frame (load.Refused f) within is = tt
@@ -81,7 +86,7 @@ not-left-of-frames :
     (count : ℕ) (views : List (List ℕ × CheckedParts)) (outcomes : List Outcome) (s : State) (frame : ℕ) (cause : LoadCause) → frame < count →
     IsCauseNotLeft views outcomes s frame cause → IsOfFrames count cause
 not-left-of-frames count views outcomes s frame cause within (inl start) = start-of-frames count s views cause start.1
-not-left-of-frames count views outcomes s frame cause within (inr unsettled) = unsettled-of-frames count frame cause within unsettled
+not-left-of-frames count views outcomes s frame cause within (inr unsettled) = unsettled-of-frames count frame cause within unsettled.1
 
 -- a state that a hall may have come to has a frame for each schema
 frames-of-last : (schemas : List (List (List ℕ × CellType))) (s : State) → IsLastState schemas s → IsLegal s → length s.frames ≡ length schemas
@@ -90,11 +95,12 @@ frames-of-last schemas s last legal = frames-long s legal ∙ ap length (schemas
 -- the frame that the cause of a load is about is one of those that were loaded
 pub cause-of-frames :
     {L : Type 0} (state_of : L → State) (schemas : List (List (List ℕ × CellType))) (chunks : List (List (ℕ × Piece))) (views : List (List ℕ × CheckedParts)) (desks : List DeskParts)
-    (cause : LoadCause) (left : Option L) → MatchOption left (IsNotLeft schemas chunks views desks cause) (λ l. IsLeft schemas chunks views desks cause (state_of l)) →
+    (cause : LoadCause) (told : List State) (left : Option L) →
+    MatchOption left (IsNotLeft schemas chunks views desks cause told) (λ l. IsLeft schemas chunks views desks cause told (state_of l)) →
     IsOfFrames (length schemas) cause
-cause-of-frames state_of schemas chunks views desks cause (Some l) is =
+cause-of-frames state_of schemas chunks views desks cause told (Some l) is =
     subst (λ (n : ℕ). IsOfFrames n cause) (frames-of-last schemas (state_of l) is.last is.legal) (left-of-frames (jobs_of chunks) views is.outcomes (state_of l) cause is.why)
-cause-of-frames state_of schemas chunks views desks cause None is =
+cause-of-frames state_of schemas chunks views desks cause told None is =
     let long = frames-of-last schemas is.state is.unsettled.last is.unsettled.legal in
     let within = missing-within is.gathered 0 is.state.frames is.frame is.unsettled.missing in
     not-left-of-frames (length schemas) views is.outcomes is.state is.frame cause (omega (arith, within, long)) is.why

@@ -1,6 +1,6 @@
 -- What a load that was refused left of fresh frames: the rows of whole chunks alone.
-use Rattle.std.proofs.Common.{◌≡◌, ℕ, zero, suc, ◌+◌, ◌*◌, ◌<◌, ◌≤◌, ◌∙◌, List, [], ◌∷◌, ◌++◌, length, map, refl, ap, sym, subst, arith, not}
-use Rattle.std.specs.Prelude.{Option, Some, filter, slice_get, sum_by}
+use Rattle.std.proofs.Common.{◌≡◌, ℕ, zero, suc, ◌+◌, ◌*◌, ◌≤◌, ◌∙◌, List, [], ◌∷◌, ◌++◌, length, map, refl, ap, sym, subst, arith, not}
+use Rattle.std.specs.Prelude.{Some, filter, slice_get, sum_by}
 use Rattle.std.specs.List.{range_with_len}
 use Rattle.std.specs.List.Sorted.{IsPermutation}
 use Rattle.std.proofs.lemmas.List.{length-map}
@@ -16,10 +16,7 @@ use Rattle.df_state.specs.declared.change.Change.{Change}
 use Rattle.df_state.specs.declared.change.Change.TheVariants as change
 use Rattle.df_state.specs.declared.state.State.{State}
 use Rattle.df_state.specs.Changes.{after}
-use Rattle.df_state.specs.Desks.{AgreeWithBooks, DeskParts, HaveAllParts, accepted_in, accepted_through, first_desk, first_desks, parts_of, parts_of_no_desk}
-use Rattle.df_state.specs.Ledgers as ledgers
-use Rattle.df_state.specs.States.{IsLegal}
-use Rattle.df_state.proofs.DeskFacts.{frames-long}
+use Rattle.df_state.specs.Desks.{AgreeWithBooks, DeskParts, HaveAllParts, accepted_through, first_desk, first_desks, parts_of}
 use Rattle.df_state.proofs.ListFacts.{found, item-at}
 use Rattle.df_state.proofs.SoundFrames.{numbered-at}
 use Rattle.df_versions.specs.Histories.{IsHistoryOver, IsLastState, Steps, last_of, last_state}
@@ -28,7 +25,6 @@ use Rattle.df_jobs.specs.declared.jobs.Outcome.{Outcome}
 use Rattle.df_jobs.specs.Expected.{rows_at}
 use Rattle.df_jobs.specs.Jobs.{AreOutcomes}
 use Rattle.df_store.specs.declared.fault.LoadCause.{LoadCause}
-use Rattle.df_store.specs.Grown.{HasGrown}
 use Rattle.df_store.specs.Loads.{IsLeft}
 
 schemas-after : (s : State) (c : Change) → (after s c).schemas ≡ s.schemas
@@ -109,9 +105,9 @@ pub record HaveWholeChunks (chunks : List (List (ℕ × Piece))) (frames : List 
 
 -- a load that was given the first desks of all frames, and was refused, leaves such frames
 pub left-of-fresh :
-    (schemas : List (List (List ℕ × CellType))) (chunks : List (List (ℕ × Piece))) (views : List (List ℕ × CheckedParts)) (cause : LoadCause) (s : State) →
-    IsLeft schemas chunks views (first_desks (length schemas)) cause s → HaveWholeChunks chunks s.frames
-left-of-fresh schemas chunks views cause s left = record {
+    (schemas : List (List (List ℕ × CellType))) (chunks : List (List (ℕ × Piece))) (views : List (List ℕ × CheckedParts)) (cause : LoadCause) (history : List State) (s : State) →
+    IsLeft schemas chunks views (first_desks (length schemas)) cause history s → HaveWholeChunks chunks s.frames
+left-of-fresh schemas chunks views cause history s left = record {
   entered = left.reached.grown.entered;
   made = left.reached.grown.made;
   rows = λ frame g at.

@@ -1,5 +1,5 @@
 -- A load whose desks were joined to one for each frame before its workers began: what it answers is of the desks that were given.
-use Rattle.std.proofs.Common.{◌≡◌, ℕ, ◌+◌, ◌==◌, ◌&&◌, ◌∙◌, List, [], ◌∷◌, length, refl, ap, sym, subst, arith}
+use Rattle.std.proofs.Common.{◌≡◌, ℕ, ◌+◌, ◌==◌, ◌&&◌, ◌∙◌, List, [], ◌∷◌, length, refl, ap, sym, arith}
 use Rattle.std.proofs.lemmas.List.Elements.{All-nil}
 use Rattle.std.specs.Prelude.{IfErr, IfOk, MatchOption, Option, Result, Err, None, Ok, Some, if◌then◌else◌}
 use Rattle.df_value.specs.declared.cell.CellType.{CellType}
@@ -7,8 +7,7 @@ use Rattle.df_value.specs.declared.chunk.Piece.{Piece}
 use Rattle.df_plan.specs.CheckedParts.{CheckedParts}
 use Rattle.df_frame.specs.declared.state.FrameState.{FrameState}
 use Rattle.df_state.specs.declared.state.State.{State}
-use Rattle.df_state.specs.Desks.{AgreeWithBooks, DeskParts, HaveAllParts, HaveSameSums, accepted_at, accepted_in, accepted_through, deleted_at, deleted_in, deleted_through, parts_of, parts_of_no_desk}
-use Rattle.df_state.specs.Ledgers as ledgers
+use Rattle.df_state.specs.Desks.{AgreeWithBooks, DeskParts, HaveAllParts, HaveSameSums, accepted_at, accepted_through, deleted_at, deleted_through, parts_of, parts_of_no_desk}
 use Rattle.df_jobs.specs.declared.jobs.Outcome.{Outcome}
 use Rattle.df_jobs.specs.Counted.{HaveDone, entered_at}
 use Rattle.df_jobs.specs.Jobs.{IsOutcome}
@@ -62,22 +61,32 @@ module _ (desks joined : List DeskParts) (same : HaveSameSums desks joined) wher
 
   -- a load that was refused for it
   module _ (schemas : List (List (List ℕ × CellType))) (chunks : List (List (ℕ × Piece))) (views : List (List ℕ × CheckedParts)) where
-    reached-so : (s : State) → IsReachedByLoad schemas chunks joined s → IsReachedByLoad schemas chunks desks s
-    reached-so s h = record { before = h.before; began = h.began; agreed = agree-same h.before h.agreed; grown = h.grown }
+    reached-so : (history : List State) (s : State) → IsReachedByLoad schemas chunks joined history s → IsReachedByLoad schemas chunks desks history s
+    reached-so history s h = record {
+      over = h.over;
+      ends = h.ends;
+      before = h.before;
+      began = h.began;
+      later = h.later;
+      goes_on = h.goes_on;
+      agreed = agree-same h.before h.agreed;
+      grown = h.grown;
+    }
 
-    left-so : (cause : LoadCause) (s : State) → IsLeft schemas chunks views joined cause s → IsLeft schemas chunks views desks cause s
-    left-so cause s h = record {
+    left-so :
+        (cause : LoadCause) (history : List State) (s : State) → IsLeft schemas chunks views joined cause history s → IsLeft schemas chunks views desks cause history s
+    left-so cause history s h = record {
       last = h.last;
       legal = h.legal;
       outcomes = h.outcomes;
       made = h.made;
       accounted = sym (accounted-so h.outcomes 0 s.frames) ∙ h.accounted;
-      reached = reached-so s h.reached;
+      reached = reached-so history s h.reached;
       why = h.why;
     }
 
-    not-left-so : (cause : LoadCause) → IsNotLeft schemas chunks views joined cause → IsNotLeft schemas chunks views desks cause
-    not-left-so cause h = record {
+    not-left-so : (cause : LoadCause) (history : List State) → IsNotLeft schemas chunks views joined cause history → IsNotLeft schemas chunks views desks cause history
+    not-left-so cause history h = record {
       outcomes = h.outcomes;
       made = h.made;
       gathered = h.gathered;
@@ -87,24 +96,26 @@ module _ (desks joined : List DeskParts) (same : HaveSameSums desks joined) wher
       state = h.state;
       frame = h.frame;
       unsettled = h.unsettled;
-      reached = reached-so h.state h.reached;
+      reached = reached-so history h.state h.reached;
       why = h.why;
     }
 
     answer-so :
-        {L : Type 0} (state_of : L → State) (cause : LoadCause) (left : Option L) →
-        MatchOption left (IsNotLeft schemas chunks views joined cause) (λ l. IsLeft schemas chunks views joined cause (state_of l)) →
-        MatchOption left (IsNotLeft schemas chunks views desks cause) (λ l. IsLeft schemas chunks views desks cause (state_of l))
-    answer-so state_of cause (Some l) h = left-so cause (state_of l) h
-    answer-so state_of cause None h = not-left-so cause h
+        {L : Type 0} (state_of : L → State) (cause : LoadCause) (history : List State) (left : Option L) →
+        MatchOption left (IsNotLeft schemas chunks views joined cause history) (λ l. IsLeft schemas chunks views joined cause history (state_of l)) →
+        MatchOption left (IsNotLeft schemas chunks views desks cause history) (λ l. IsLeft schemas chunks views desks cause history (state_of l))
+    answer-so state_of cause history (Some l) h = left-so cause history (state_of l) h
+    answer-so state_of cause history None h = not-left-so cause history h
 
     -- the same of the answer
     pub gathered-left :
-        {A F L : Type 0} (state_of : L → State) (cause_of : F → LoadCause) (left_of : F → Option L) (result : Result A F) →
-        IfErr result (λ f. MatchOption (left_of f) (IsNotLeft schemas chunks views joined (cause_of f)) (λ l. IsLeft schemas chunks views joined (cause_of f) (state_of l))) →
-        IfErr result (λ f. MatchOption (left_of f) (IsNotLeft schemas chunks views desks (cause_of f)) (λ l. IsLeft schemas chunks views desks (cause_of f) (state_of l)))
-    gathered-left state_of cause_of left_of (Ok a) h = tt
-    gathered-left state_of cause_of left_of (Err f) h = answer-so state_of (cause_of f) (left_of f) h
+        {A F L : Type 0} (state_of : L → State) (cause_of : F → LoadCause) (told_of : F → List State) (left_of : F → Option L) (result : Result A F) →
+        IfErr result (λ f. MatchOption (left_of f) (IsNotLeft schemas chunks views joined (cause_of f) (told_of f))
+        (λ l. IsLeft schemas chunks views joined (cause_of f) (told_of f) (state_of l))) →
+        IfErr result (λ f. MatchOption (left_of f) (IsNotLeft schemas chunks views desks (cause_of f) (told_of f))
+        (λ l. IsLeft schemas chunks views desks (cause_of f) (told_of f) (state_of l)))
+    gathered-left state_of cause_of told_of left_of (Ok a) h = tt
+    gathered-left state_of cause_of told_of left_of (Err f) h = answer-so state_of (cause_of f) (told_of f) (left_of f) h
 
   pub gathered-shares :
       {L F : Type 0} (state_of : L → State) (jobs : List (ℕ × (ℕ × Piece))) (result : Result L F) → IfOk result (λ l. AreShares joined jobs (state_of l)) →

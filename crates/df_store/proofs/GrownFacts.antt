@@ -1,7 +1,6 @@
 -- A load whose chunks enter whole.
-use Rattle.std.proofs.Common.{◌≡◌, ◌≢◌, ℕ, zero, suc, ◌+◌, ◌==◌, ◌∙◌, Bool, true, false, List, [], ◌∷◌, ◌++◌, length, length-append, drop, get_or, refl, ap, sym, subst, arith, not}
-use Rattle.std.specs.Prelude.{All, Option, None, Some, Result, Ok, Err, filter, flat_map, if◌then◌else◌, option_map, slice_get, unwrap_or, nat_lt}
-use Rattle.std.specs.List.{enumerate_from}
+use Rattle.std.proofs.Common.{◌≡◌, ◌≢◌, ℕ, zero, suc, ◌==◌, ◌∙◌, Bool, true, false, List, [], ◌∷◌, ◌++◌, length, refl, ap, sym, subst, arith, not}
+use Rattle.std.specs.Prelude.{All, Option, None, Some, Result, Ok, Err, filter, if◌then◌else◌, slice_get, unwrap_or, nat_lt}
 use Rattle.std.specs.List.Sorted.{IsPermutation}
 use Rattle.std.proofs.lemmas.Bool.{eqb-false, eqb-true}
 use Rattle.std.proofs.lemmas.Grind.{flat_map-append}
@@ -29,8 +28,8 @@ use Rattle.df_jobs.proofs.JoinedFacts.{joined-frame, joined-rows}
 use Rattle.df_jobs.proofs.JoinedRows.{rows-of-own}
 use Rattle.df_versions.specs.Answered.{AnswersChange, ChangesHistory}
 use Rattle.df_versions.specs.declared.fault.ChangeFault.{ChangeFault}
-use Rattle.df_versions.specs.Histories.{last_state}
-use Rattle.df_versions.proofs.Histories.{last_state-more}
+use Rattle.df_store.proofs.HeadingFacts.{headings-appended}
+use Rattle.df_store.proofs.StepFacts.{stepped}
 use Rattle.df_store.specs.Grown.{HasGrown, HaveGrown, HaveRowsMore, IsWhole}
 
 -- a block put in moves no item but itself
@@ -125,23 +124,6 @@ module _ (frame : ℕ) (c : ChunkParts) (os : List Outcome) (of : All (λ o. o.f
           subst (λ n. IsPermutation (f.rows ++ rows_at n (entered ++ os)) g.rows) same
           (subst (λ y. IsPermutation (f.rows ++ rows_at frame (entered ++ os)) y.rows) (sym is) here)
 
-snoc-front : {T : Type 0} (xs ys : List T) (x y : T) → xs ++ x ∷ [] ≡ ys ++ y ∷ [] → xs ≡ ys
-snoc-front [] [] x y e = refl
-snoc-front [] (z ∷ zs) x y e = let many = ap length e in let more = length-append zs (y ∷ []) in absurd (omega (arith, many, more))
-snoc-front (z ∷ zs) [] x y e = let many = ap length e in let more = length-append zs (x ∷ []) in absurd (omega (arith, many, more))
-snoc-front (z ∷ zs) (w ∷ ws) x y e =
-    let head : z ≡ w = ap (λ l. get_or l 0 z) e in
-    let rest : zs ++ x ∷ [] ≡ ws ++ y ∷ [] = ap (drop 1) e in
-    ap (λ v. v ∷ zs) head ∙ ap (λ l. w ∷ l) (snoc-front zs ws x y rest)
-
--- two states behind others, one behind the other
-two-more : (before : List State) (s t : State) → before ++ s ∷ t ∷ [] ≡ (before ++ s ∷ []) ++ t ∷ []
-two-more before s t = sym (append_assoc before (s ∷ []) (t ∷ []))
-
--- histories that are the same but for their last state
-front-of : (before : List State) (s t : State) (old : List State) (u : State) → before ++ s ∷ t ∷ [] ≡ old ++ u ∷ [] → before ++ s ∷ [] ≡ old
-front-of before s t old u e = snoc-front (before ++ s ∷ []) old t u (sym (two-more before s t) ∙ e)
-
 -- where nothing came, no chunk entered
 none-more : (frames : List FrameState) → HaveRowsMore [] frames frames
 none-more frames = record {
@@ -153,17 +135,22 @@ none-more frames = record {
 
 module _ (chunks : List (List (ℕ × Piece))) where
   pub grown-none : (s : State) → HasGrown chunks s s
-  grown-none s = record { entered = []; made = All-nil (IsOutcome chunks); frames = none-more s.frames }
+  grown-none s = record { entered = []; made = All-nil (IsOutcome chunks); frames = none-more s.frames; views = refl }
 
   -- a history has grown from itself
   pub grown-itself : (history : List State) → HaveGrown chunks history history
-  grown-itself history = λ s t first last. let same : s ≡ t = ap (λ o. unwrap_or o s) (sym first ∙ last) in subst (HasGrown chunks s) same (grown-none s)
+  grown-itself history = record {
+    later = [];
+    goes_on = sym (append-nil history);
+    states = λ s t first last. let same : s ≡ t = ap (λ o. unwrap_or o s) (sym first ∙ last) in subst (HasGrown chunks s) same (grown-none s);
+  }
 
   grown-one : (before s : State) (frame : ℕ) (c : ChunkParts) → HasGrown chunks before s → IsWhole chunks frame c → HasGrown chunks before (after s (Append frame c))
   grown-one before s frame c h whole = record {
     entered = h.entered ++ whole.outcomes;
     made = All-append (IsOutcome chunks) h.entered whole.outcomes h.made whole.made;
     frames = frames-more frame c whole.outcomes whole.of_frame whole.rows h.entered before.frames s.frames h.frames;
+    views = headings-appended s frame c ∙ h.views;
   }
 
   module _ {J : Type 0} where
@@ -172,15 +159,14 @@ module _ (chunks : List (List (ℕ × Piece))) where
         (before old new : List State) (floor frame : ℕ) (c : ChunkParts) (r : Result (List State) (ChangeFault J)) → HaveGrown chunks before old → IsWhole chunks frame c →
         AnswersChange old floor (Append frame c) r → ChangesHistory old r new → HaveGrown chunks before new
     grown-by before old new floor frame c (Ok told) h whole answer changes =
-        let at = answer.accepted.1 in
-        let both : at.0 ++ at.1 ∷ after at.1 (Append frame c) ∷ [] ≡ old ++ changes.longer.0 ∷ [] = sym at.3 ∙ changes.longer.1 in
-        let front : (at.0 ++ at.1 ∷ []) ≡ old = front-of at.0 at.1 (after at.1 (Append frame c)) old changes.longer.0 both in
-        let ends : last_state new ≡ Some (after at.1 (Append frame c)) =
-        ap last_state (changes.told ∙ (at.3 ∙ two-more at.0 at.1 (after at.1 (Append frame c)))) ∙ last_state-more (at.0 ++ at.1 ∷ []) (after at.1 (Append frame c)) in
-        let was : last_state old ≡ Some at.1 = ap last_state (sym front) ∙ last_state-more at.0 at.1 in
-        λ s t first last.
-        let same : after at.1 (Append frame c) ≡ t = ap (λ o. unwrap_or o t) (sym ends ∙ last) in
-        subst (HasGrown chunks s) same (grown-one s at.1 frame c (h s at.1 first was) whole)
+        let step = stepped old new floor (Append frame c) told answer changes in
+        let next = after step.0 (Append frame c) in record {
+          later = h.later ++ next ∷ [];
+          goes_on = step.2 ∙ (ap (λ (l : List State). l ++ next ∷ []) h.goes_on ∙ append_assoc before h.later (next ∷ []));
+          states = λ s t first last.
+              let same : next ≡ t = ap (λ o. unwrap_or o t) (sym step.3 ∙ last) in
+              subst (HasGrown chunks s) same (grown-one s step.0 frame c (h.states s step.0 first step.1) whole);
+        }
     grown-by before old new floor frame c (Err f) h whole answer changes = subst (HaveGrown chunks before) (sym changes.same) h
 
     -- the same of a change that appends the chunk

@@ -1,5 +1,6 @@
 -- What a load that was refused leaves.
 use Rattle.std.proofs.Common.{◌≡◌, ℕ, ◌+◌, ◌<◌, ◌==◌, ◌&&◌, ◌∙◌, List, [], ◌∷◌, length, refl, ap, sym, subst, arith, inl, inr}
+use Rattle.std.proofs.lemmas.List.{append-nil}
 use Rattle.std.proofs.lemmas.List.Elements.{All-nil}
 use Rattle.std.specs.Prelude.{IfErr, IfNone, IfOk, IfSome, IsErrAnd, MatchOption, Option, Result, Err, None, Ok, Some, if◌then◌else◌}
 use Rattle.core.specs.Result.{result_ok}
@@ -17,6 +18,7 @@ use Rattle.df_jobs.specs.declared.stop.Stop.{Stop}
 use Rattle.df_jobs.specs.declared.jobs.Outcome.{Outcome}
 use Rattle.df_store.specs.Faults.{IsCauseAtStart}
 use Rattle.df_store.specs.Grown.{HaveGrown, IsReachedByLoad}
+use Rattle.df_store.specs.Headings.{HasLastViews, HaveLastViews}
 use Rattle.df_store.proofs.GrownFacts.{grown-none}
 use Rattle.df_jobs.specs.Jobs.{AreOutcomes, IsOutcome, jobs_of}
 use Rattle.df_store.specs.Loads.{IsCauseAtEnd, IsCauseLeft, IsCauseNotLeft, IsCauseUnsettled, IsDifference, IsLeft, IsNotLeft, is_accounted, unaccounted_from}
@@ -45,25 +47,48 @@ module _ (schemas : List (List (List ℕ × CellType))) (chunks : List (List (�
   -- a load whose workers began with a history with whose books the desks agree reaches the last state of the history that grew from it
   reached-last :
       (history last : List State) (s : State) → ((s : State) → last_state history ≡ Some s → AgreeWithBooks desks s) → IsHistoryOver schemas history →
-      HaveGrown chunks history last → last_state last ≡ Some s → IsReachedByLoad schemas chunks desks s
-  reached-last history last s agreed over grown ends =
+      IsHistoryOver schemas last → HaveGrown chunks history last → last_state last ≡ Some s → IsReachedByLoad schemas chunks desks last s
+  reached-last history last s agreed over lawful grown ends =
       let before = last-of-begun history over.begun in record {
+        over = lawful;
+        ends = ends;
         before = before.0;
         began = record { history = history; over = over; last = before.1 };
+        later = grown.later;
+        goes_on = grown.goes_on;
         agreed = agreed before.0 before.1;
-        grown = grown before.0 s before.1 ends;
+        grown = grown.states before.0 s before.1 ends;
       }
 
+  -- the views that were registered before stand last in it
+  registered-last :
+      (history last : List State) (s : State) → IsHistoryOver schemas history → HaveLastViews views history → HaveGrown chunks history last →
+      last_state last ≡ Some s → HasLastViews views s
+  registered-last history last s over registered grown ends =
+      let before = last-of-begun history over.begun in
+      let h = registered before.0 before.1 in record { others = h.others; are = (grown.states before.0 s before.1 ends).views ∙ h.are }
+
   -- one that has not begun
-  reached-none : (s : State) → IsLastState schemas s → AgreeWithBooks desks s → IsReachedByLoad schemas chunks desks s
-  reached-none s last agreed = record { before = s; began = last; agreed = agreed; grown = grown-none chunks s }
+  reached-none :
+      (history : List State) (s : State) → IsHistoryOver schemas history → last_state history ≡ Some s → AgreeWithBooks desks s →
+      IsReachedByLoad schemas chunks desks history s
+  reached-none history s over ends agreed = record {
+    over = over;
+    ends = ends;
+    before = s;
+    began = record { history = history; over = over; last = ends };
+    later = [];
+    goes_on = sym (append-nil history);
+    agreed = agreed;
+    grown = grown-none chunks s;
+  }
 
   left-of :
-      (back : List DeskParts) (os : List Outcome) (cause : LoadCause) (s : State) → AreOutcomes chunks os →
+      (back : List DeskParts) (os : List Outcome) (cause : LoadCause) (history : List State) (s : State) → AreOutcomes chunks os →
       ((frame : ℕ) → accepted_at frame back ≡ accepted_at frame desks + entered_at frame os) → ((frame : ℕ) → deleted_at frame back ≡ deleted_at frame desks) →
-      IsSettledState schemas back s → IsReachedByLoad schemas chunks desks s → IsCauseLeft (jobs_of chunks) views os s cause →
-      IsLeft schemas chunks views desks cause s
-  left-of back os cause s made accepted deleted settled reached is = record {
+      IsSettledState schemas back s → IsReachedByLoad schemas chunks desks history s → IsCauseLeft (jobs_of chunks) views os s cause →
+      IsLeft schemas chunks views desks cause history s
+  left-of back os cause history s made accepted deleted settled reached is = record {
     last = settled.last;
     legal = settled.legal;
     outcomes = os;
@@ -74,11 +99,11 @@ module _ (schemas : List (List (List ℕ × CellType))) (chunks : List (List (�
   }
 
   not-left-of :
-      (back : List DeskParts) (os : List Outcome) (cause : LoadCause) (s : State) (frame : ℕ) → AreOutcomes chunks os → parts_of back ≡ parts_of desks →
+      (back : List DeskParts) (os : List Outcome) (cause : LoadCause) (history : List State) (s : State) (frame : ℕ) → AreOutcomes chunks os → parts_of back ≡ parts_of desks →
       ((frame : ℕ) → accepted_at frame back ≡ accepted_at frame desks + entered_at frame os) → ((frame : ℕ) → deleted_at frame back ≡ deleted_at frame desks) →
-      IsUnsettledState schemas back s frame → IsReachedByLoad schemas chunks desks s → IsCauseNotLeft views os s frame cause →
-      IsNotLeft schemas chunks views desks cause
-  not-left-of back os cause s frame made parts accepted deleted unsettled reached is = record {
+      IsUnsettledState schemas back s frame → IsReachedByLoad schemas chunks desks history s → IsCauseNotLeft views os s frame cause →
+      IsNotLeft schemas chunks views desks cause history
+  not-left-of back os cause history s frame made parts accepted deleted unsettled reached is = record {
     outcomes = os;
     made = made;
     gathered = back;
@@ -98,54 +123,71 @@ module _ (schemas : List (List (List ℕ × CellType))) (chunks : List (List (�
   nothing-entered : (frame : ℕ) → accepted_at frame desks ≡ accepted_at frame desks + entered_at frame []
   nothing-entered frame = let none : entered_at frame [] ≡ 0 = refl in omega (arith, none)
 
-  -- a load that was given up before its first job
-  pub given-up :
-      {L : Type 0} (state_of : L → State) (history : List State) (cause : LoadCause) (left : Option L) →
+  given-up-so :
+      {L : Type 0} (state_of : L → State) (history : List State) (cause : LoadCause) (left : Option L) → IsHistoryOver schemas history →
       ((s : State) → last_state history ≡ Some s → IsCauseAtStart s views cause) →
       IfSome left (λ l. (last_state history ≡ Some (state_of l)) × AgreeWithBooks desks (state_of l) × IsSettledState schemas desks (state_of l)) →
       IfNone left ((s : State) × (frame : ℕ) × (last_state history ≡ Some s) × IsUnsettledState schemas desks s frame) →
-      MatchOption left (IsNotLeft schemas chunks views desks cause) (λ l. IsLeft schemas chunks views desks cause (state_of l))
-  given-up state_of history cause (Some l) is settled unsettled =
-      left-of desks [] cause (state_of l) no-outcomes nothing-entered (λ frame. refl) settled.2 (reached-none (state_of l) settled.2.last settled.1)
-      (inl (refl, is (state_of l) settled.0))
-  given-up state_of history cause None is settled unsettled =
-      not-left-of desks [] cause unsettled.0 unsettled.1 no-outcomes refl nothing-entered (λ frame. refl) unsettled.3
-      (reached-none unsettled.0 unsettled.3.last unsettled.3.books) (inl (refl, is unsettled.0 unsettled.2))
+      MatchOption left (IsNotLeft schemas chunks views desks cause history) (λ l. IsLeft schemas chunks views desks cause history (state_of l))
+  given-up-so state_of history cause (Some l) over is settled unsettled =
+      left-of desks [] cause history (state_of l) no-outcomes nothing-entered (λ frame. refl) settled.2
+      (reached-none history (state_of l) over settled.0 settled.1) (inl (refl, is (state_of l) settled.0))
+  given-up-so state_of history cause None over is settled unsettled =
+      not-left-of desks [] cause history unsettled.0 unsettled.1 no-outcomes refl nothing-entered (λ frame. refl) unsettled.3
+      (reached-none history unsettled.0 over unsettled.2 unsettled.3.books) (inl (refl, is unsettled.0 unsettled.2))
+
+  -- a load that was given up before its first job
+  pub given-up :
+      {L : Type 0} (state_of : L → State) (history told : List State) (cause : LoadCause) (left : Option L) → IsHistoryOver schemas history →
+      told ≡ history → ((s : State) → last_state history ≡ Some s → IsCauseAtStart s views cause) →
+      IfSome left (λ l. (last_state history ≡ Some (state_of l)) × AgreeWithBooks desks (state_of l) × IsSettledState schemas desks (state_of l)) →
+      IfNone left ((s : State) × (frame : ℕ) × (last_state history ≡ Some s) × IsUnsettledState schemas desks s frame) →
+      MatchOption left (IsNotLeft schemas chunks views desks cause told) (λ l. IsLeft schemas chunks views desks cause told (state_of l))
+  given-up state_of history told cause left over same is settled unsettled =
+      subst (λ (h : List State). MatchOption left (IsNotLeft schemas chunks views desks cause h) (λ l. IsLeft schemas chunks views desks cause h (state_of l)))
+      (sym same) (given-up-so state_of history cause left over is settled unsettled)
 
   cause-left :
       {V : Type 0} (items : V → List Outcome) (s : State) (entered : Result V Stop) (cause : LoadCause) (os : List Outcome) →
-      IfOk entered (λ v. items v ≡ os) → IsCauseAtEnd items (jobs_of chunks) views s entered cause → IsCauseLeft (jobs_of chunks) views os s cause
-  cause-left items s (Ok v) cause os is h = inr (inr (subst (λ (o : List Outcome). IsDifference (jobs_of chunks) o views s cause) is h))
-  cause-left items s (Err stop) cause os is h = inr (inl (stop, h))
+      IfOk entered (λ v. items v ≡ os) → HasLastViews views s → IsCauseAtEnd items (jobs_of chunks) views s entered cause →
+      IsCauseLeft (jobs_of chunks) views os s cause
+  cause-left items s (Ok v) cause os is registered h = inr (registered, inr (subst (λ (o : List Outcome). IsDifference (jobs_of chunks) o views s cause) is h))
+  cause-left items s (Err stop) cause os is registered h = inr (registered, inl (stop, h))
 
   -- what a load that came to its end left
   ended :
       {L V : Type 0} (state_of : L → State) (items : V → List Outcome) (back : List DeskParts) (entered : Result V Stop) (cause : LoadCause)
       (last : List State) (left : Option L) → parts_of back ≡ parts_of desks → HaveDone items chunks desks back entered →
-      ((s : State) → last_state last ≡ Some s → IsReachedByLoad schemas chunks desks s) →
+      ((s : State) → last_state last ≡ Some s → IsReachedByLoad schemas chunks desks last s) → HaveLastViews views last →
       IfSome left (λ l. (last_state last ≡ Some (state_of l)) × IsSettledState schemas back (state_of l)) →
       IfSome left (λ l. IsCauseAtEnd items (jobs_of chunks) views (state_of l) entered cause) →
       IfNone left ((s : State) × (frame : ℕ) × (last_state last ≡ Some s) × IsUnsettledState schemas back s frame × IsCauseUnsettled frame cause) →
-      MatchOption left (IsNotLeft schemas chunks views desks cause) (λ l. IsLeft schemas chunks views desks cause (state_of l))
-  ended state_of items back entered cause last (Some l) parts done reached settled is unsettled =
-      left-of back done.outcomes cause (state_of l) done.made done.accepted done.deleted settled.1 (reached (state_of l) settled.0)
-      (cause-left items (state_of l) entered cause done.outcomes done.all is)
-  ended state_of items back entered cause last None parts done reached settled is unsettled =
-      not-left-of back done.outcomes cause unsettled.0 unsettled.1 done.made parts done.accepted done.deleted unsettled.3
-      (reached unsettled.0 unsettled.2) (inr unsettled.4)
+      MatchOption left (IsNotLeft schemas chunks views desks cause last) (λ l. IsLeft schemas chunks views desks cause last (state_of l))
+  ended state_of items back entered cause last (Some l) parts done reached registered settled is unsettled =
+      left-of back done.outcomes cause last (state_of l) done.made done.accepted done.deleted settled.1 (reached (state_of l) settled.0)
+      (cause-left items (state_of l) entered cause done.outcomes done.all (registered (state_of l) settled.0) is)
+  ended state_of items back entered cause last None parts done reached registered settled is unsettled =
+      not-left-of back done.outcomes cause last unsettled.0 unsettled.1 done.made parts done.accepted done.deleted unsettled.3
+      (reached unsettled.0 unsettled.2) (inr (registered unsettled.0 unsettled.2, unsettled.4))
 
   -- the same of its answer
   pub ended-so :
-      {A F L V : Type 0} (state_of : L → State) (items : V → List Outcome) (cause_of : F → LoadCause) (left_of : F → Option L) (back : List DeskParts)
-      (entered : Result V Stop) (result : Result A F) (history last : List State) → parts_of back ≡ parts_of desks → HaveDone items chunks desks back entered →
-      ((s : State) → last_state history ≡ Some s → AgreeWithBooks desks s) → IsHistoryOver schemas history → HaveGrown chunks history last →
+      {A F L V : Type 0} (state_of : L → State) (items : V → List Outcome) (cause_of : F → LoadCause) (told_of : F → List State) (left_of : F → Option L)
+      (back : List DeskParts) (entered : Result V Stop) (result : Result A F) (history last : List State) → parts_of back ≡ parts_of desks → HaveDone items chunks desks back entered →
+      ((s : State) → last_state history ≡ Some s → AgreeWithBooks desks s) → IsHistoryOver schemas history →
+      HaveLastViews views history → IsHistoryOver schemas last → HaveGrown chunks history last →
       IfErr result (λ f. IfSome (left_of f) (λ l. (last_state last ≡ Some (state_of l)) × IsSettledState schemas back (state_of l))) →
       IfErr result (λ f. IfSome (left_of f) (λ l. IsCauseAtEnd items (jobs_of chunks) views (state_of l) entered (cause_of f))) →
       IfErr result (λ f. IfNone (left_of f) ((s : State) × (frame : ℕ) × (last_state last ≡ Some s) × IsUnsettledState schemas back s frame × IsCauseUnsettled frame (cause_of f))) →
-      IfErr result (λ f. MatchOption (left_of f) (IsNotLeft schemas chunks views desks (cause_of f)) (λ l. IsLeft schemas chunks views desks (cause_of f) (state_of l)))
-  ended-so state_of items cause_of left_of back entered (Ok a) history last parts done agreed over grown settled is unsettled = tt
-  ended-so state_of items cause_of left_of back entered (Err f) history last parts done agreed over grown settled is unsettled =
-      ended state_of items back entered (cause_of f) last (left_of f) parts done (λ s ends. reached-last history last s agreed over grown ends) settled is unsettled
+      IfErr result (λ f. told_of f ≡ last) →
+      IfErr result (λ f. MatchOption (left_of f) (IsNotLeft schemas chunks views desks (cause_of f) (told_of f))
+      (λ l. IsLeft schemas chunks views desks (cause_of f) (told_of f) (state_of l)))
+  ended-so state_of items cause_of told_of left_of back entered (Ok a) history last parts done agreed over registered lawful grown settled is unsettled same = tt
+  ended-so state_of items cause_of told_of left_of back entered (Err f) history last parts done agreed over registered lawful grown settled is unsettled same =
+      subst (λ (h : List State). MatchOption (left_of f) (IsNotLeft schemas chunks views desks (cause_of f) h)
+      (λ l. IsLeft schemas chunks views desks (cause_of f) h (state_of l))) (sym same)
+      (ended state_of items back entered (cause_of f) last (left_of f) parts done (λ s ends. reached-last history last s agreed over lawful grown ends)
+      (λ s ends. registered-last history last s over registered grown ends) settled is unsettled)
 
 settled-one :
     {C : Type 0} (state_of : C → State) (schemas : List (List (List ℕ × CellType))) (desks : List DeskParts) (catalogue c : C) → c ≡ catalogue →

@@ -2,9 +2,11 @@ pub mod BatchFacts
 pub mod Crosses
 pub mod GatheredFacts
 pub mod GrownFacts
+pub mod HeadingFacts
 pub mod LoadFacts
 pub mod LeftFacts
 pub mod FreshFacts
 pub mod CauseFacts
 pub mod RegisterFacts
+pub mod StepFacts
 pub mod ViewFacts

@@ -1,6 +1,6 @@
 -- Why the registration of a view, before any chunk is made, gives a load up.
 use Rattle.std.proofs.Common.{◌≡◌, ◌∙◌, ℕ, List, ap, arith, subst, sym, Err, Some}
-use Rattle.std.specs.Prelude.{slice_get, unwrap_or}
+use Rattle.std.specs.Prelude.{slice_get, take, unwrap_or}
 use Rattle.df_plan.specs.CheckedParts.{CheckedParts}
 use Rattle.df_state.specs.Refusals.{refusal_of}
 use Rattle.df_state.specs.declared.change.Change.TheVariants.{Register}
@@ -12,6 +12,7 @@ use Rattle.df_versions.specs.declared.fault.ChangeFault.TheVariants as change
 use Rattle.df_versions.proofs.Histories.{last_state-more}
 use Rattle.df_store.specs.declared.fault.LoadCause.{LoadCause}
 use Rattle.df_store.specs.Faults.{IsCauseOfView, IsCauseOfViews, cause_of_register}
+use Rattle.df_store.specs.Headings.{HasLastViews}
 
 module _ {J : Type 0} where
   of-reason :
@@ -37,8 +38,8 @@ module _ {J : Type 0} where
       (subst (λ (n : List ℕ). IsReason {J = J} old floor (Register n plan) f) is answer.refused) in
       subst (IsCauseOfView s view) (sym e) (of-reason old floor s view f none (ap last_state (sym changes.same) ∙ ends) why)
 
--- one of the views was not
+-- one of the views was not, behind those before it
 pub of-views :
     (s : State) (views : List (List ℕ × CheckedParts)) (at : ℕ) (view : List ℕ × CheckedParts) (cause : LoadCause) → slice_get views at ≡ Some view →
-    IsCauseOfView s view cause → IsCauseOfViews s views cause
-of-views s views at view cause given h = (at, view, given, h)
+    HasLastViews (take at views) s → IsCauseOfView s view cause → IsCauseOfViews s views cause
+of-views s views at view cause given last h = (at, view, given, last, h)

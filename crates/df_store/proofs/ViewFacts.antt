@@ -9,7 +9,7 @@ use Rattle.df_state.specs.declared.state.State.{State}
 use Rattle.df_state.specs.declared.state.ViewState.{ViewState}
 use Rattle.df_state.specs.Reads.{view_names_of, view_plan_of}
 use Rattle.df_state.proofs.ListFacts.{found}
-use Rattle.df_store.specs.Loads.{headings_of}
+use Rattle.df_store.specs.Headings.{headings_of}
 use Rattle.df_state.proofs.ListFacts.{length-mapped, map-at, none-past, past, same-items}
 
 name-at : (P : List ℕ → Type 0) (vs : List ViewState) (k : ℕ) (v : ViewState) → AllByRecursion P (map (λ w. w.name) vs) → slice_get vs k ≡ Some v → P v.name

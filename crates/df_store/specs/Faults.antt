@@ -1,5 +1,5 @@
 -- Which faults the registration of a view and a load of workers are answered with, and which of several comes first.
-use Rattle.std.specs.Prelude.{◌≡◌, ◌<◌, ◌⊎◌, ⊤, ℕ, List, Some, slice_get}
+use Rattle.std.specs.Prelude.{◌≡◌, ◌<◌, ◌⊎◌, ⊤, ℕ, List, Some, slice_get, take}
 use Rattle.df_plan.specs.CheckedParts.{CheckedParts}
 use Rattle.df_state.specs.Refusals.{refusal_of}
 use Rattle.df_state.specs.declared.change.Change.TheVariants.{Register}
@@ -8,6 +8,7 @@ use Rattle.df_versions.specs.declared.fault.ChangeFault.{ChangeFault}
 use Rattle.df_versions.specs.declared.fault.ChangeFault.TheVariants as change
 use Rattle.df_store.specs.declared.fault.LoadCause.{LoadCause}
 use Rattle.df_store.specs.declared.fault.LoadCause.TheVariants as load
+use Rattle.df_store.specs.Headings.{HasLastViews}
 use Rattle.df_jobs.specs.declared.stop.Stop.{Stop}
 use Rattle.df_jobs.specs.declared.stop.Stop.TheVariants as stop
 
@@ -29,13 +30,16 @@ IsCauseOfView s view (load.Lost job) = ⊥
 IsCauseOfView s view (load.Unlike frame) = ⊥
 IsCauseOfView s view load.ViewsUnlike = ⊥
 
--- the registration of one of these views is given up for this in this state
+-- the registration of one of these views is given up for this in this state, where those before it stand last: it is the first that
+-- was not registered
 abbrev pub IsCauseOfViews : State → List (List ℕ × CheckedParts) → LoadCause → Type 0
-IsCauseOfViews s views cause = (at : ℕ) × (view : List ℕ × CheckedParts) × (slice_get views at ≡ Some view) × IsCauseOfView s view cause
+IsCauseOfViews s views cause =
+    (at : ℕ) × (view : List ℕ × CheckedParts) × (slice_get views at ≡ Some view) × HasLastViews (take at views) s × IsCauseOfView s view cause
 
--- what comes before the first job is given up for this: memory, or the registration of one of the views in this state
+-- what comes before the first job is given up for this in this state: the registration of one of the views, or memory once all of
+-- them are registered
 abbrev pub IsCauseAtStart : State → List (List ℕ × CheckedParts) → LoadCause → Type 0
-IsCauseAtStart s views cause = (cause ≡ load.Memory) ⊎ IsCauseOfViews s views cause
+IsCauseAtStart s views cause = IsCauseOfViews s views cause ⊎ ((cause ≡ load.Memory) × HasLastViews views s)
 
 -- the cause of a load that a worker's stop is
 abbrev pub cause_of_stop : Stop → LoadCause

@@ -1,4 +1,4 @@
--- What a load adds to the rows that stood when its workers began: whole chunks.
+-- What a load adds to the rows that stood when its workers began: whole chunks. The views stay.
 use Rattle.std.specs.Prelude.{◌≡◌, ◌++◌, ℕ, All, List, Some, length, slice_get}
 use Rattle.std.specs.List.Sorted.{IsPermutation}
 use Rattle.df_value.specs.declared.cell.CellType.{CellType}
@@ -11,7 +11,8 @@ use Rattle.df_jobs.specs.declared.jobs.Outcome.{Outcome}
 use Rattle.df_jobs.specs.Expected.{rows_at}
 use Rattle.df_jobs.specs.Jobs.{AreOutcomes}
 use Rattle.df_jobs.specs.Loaded.{chunk_rows}
-use Rattle.df_versions.specs.Histories.{IsLastState, last_state}
+use Rattle.df_versions.specs.Histories.{IsHistoryOver, IsLastState, last_state}
+use Rattle.df_store.specs.Headings.{headings_of}
 
 -- each frame has the rows that it had, and all rows of these outcomes that are of it; as the numbers of a frame rise, this says
 -- in which order they stand
@@ -19,21 +20,30 @@ pub record HaveRowsMore (entered : List Outcome) (before after : List FrameState
   pub count : length after ≡ length before
   pub rows : (frame : ℕ) (f g : FrameState) → slice_get before frame ≡ Some f → slice_get after frame ≡ Some g → IsPermutation (f.rows ++ rows_at frame entered) g.rows
 
--- what came to the frames from one state to another are chunks of these sources, each whole
+-- what came to the frames from one state to another are chunks of these sources, each whole, and the views are the same ones
 pub record HasGrown (chunks : List (List (ℕ × Piece))) (before after : State) : Type 0 where
   pub entered : List Outcome
   pub made : AreOutcomes chunks entered
   pub frames : HaveRowsMore entered before.frames after.frames
+  pub views : headings_of after ≡ headings_of before
 
--- the same of the last states of two histories
-abbrev pub HaveGrown : List (List (ℕ × Piece)) → List State → List State → Type 0
-HaveGrown chunks before after = (s t : State) → last_state before ≡ Some s → last_state after ≡ Some t → HasGrown chunks s t
+-- a history went on, and the same holds of its last state then and now
+pub record HaveGrown (chunks : List (List (ℕ × Piece))) (before after : List State) : Type 0 where
+  pub later : List State
+  pub goes_on : after ≡ before ++ later
+  pub states : (s t : State) → last_state before ≡ Some s → last_state after ≡ Some t → HasGrown chunks s t
 
--- a load of these chunks that was given these desks may reach this state of a hall over frames of these schemas: its workers began
--- with a state that the hall may have come to, with whose books the desks agreed, and what came to the frames since are whole chunks
-pub record IsReachedByLoad (schemas : List (List (List ℕ × CellType))) (chunks : List (List (ℕ × Piece))) (desks : List DeskParts) (s : State) : Type 0 where
+-- a load of these chunks that was given these desks reached this state, with which the history of a hall over frames of these schemas
+-- ends: its workers began with an earlier state of that history, with whose books the desks agreed, and what came to the frames
+-- since are whole chunks
+pub record IsReachedByLoad (schemas : List (List (List ℕ × CellType))) (chunks : List (List (ℕ × Piece))) (desks : List DeskParts) (history : List State) (s : State) :
+    Type 0 where
+  pub over : IsHistoryOver schemas history
+  pub ends : last_state history ≡ Some s
   pub before : State
   pub began : IsLastState schemas before
+  pub later : List State
+  pub goes_on : history ≡ began.history ++ later
   pub agreed : AgreeWithBooks desks before
   pub grown : HasGrown chunks before s
 

@@ -1,5 +1,6 @@
 pub mod Incoming
 pub mod Batches
+pub mod Headings
 pub mod Grown
 pub mod Loads
 pub mod Faults

@@ -1,5 +1,5 @@
 -- What a load answers.
-use Rattle.std.specs.Prelude.{◌≡◌, ◌≢◌, ◌⊎◌, ◌+◌, ◌==◌, ◌&&◌, ⊤, ℕ, Bool, List, [], ◌∷◌, length, map, sum_by, Option, Some, None, Result, Ok, Err, if◌then◌else◌, slice_get}
+use Rattle.std.specs.Prelude.{◌≡◌, ◌≢◌, ◌⊎◌, ◌+◌, ◌==◌, ◌&&◌, ⊤, ℕ, Bool, List, [], ◌∷◌, length, sum_by, Option, Some, None, Result, Ok, Err, if◌then◌else◌, slice_get}
 use Rattle.df_value.specs.declared.cell.CellType.{CellType}
 use Rattle.df_value.specs.Chunks.{ChunkParts}
 use Rattle.df_value.specs.declared.chunk.Piece.{Piece}
@@ -8,7 +8,7 @@ use Rattle.df_frame.specs.declared.state.FrameState.{FrameState}
 use Rattle.df_state.specs.declared.change.Change.{Change}
 use Rattle.df_state.specs.declared.change.Change.TheVariants.{Append, Register}
 use Rattle.df_state.specs.declared.state.State.{State}
-use Rattle.df_state.specs.Desks.{AgreeWithBooks, DeskParts, accepted_at, deleted_at, parts_of}
+use Rattle.df_state.specs.Desks.{DeskParts, accepted_at, deleted_at, parts_of}
 use Rattle.df_state.specs.States.{IsLegal}
 use Rattle.df_versions.specs.Histories.{IsLastState}
 use Rattle.df_hall.specs.Closing.{IsUnsettledState}
@@ -17,6 +17,7 @@ use Rattle.df_store.specs.declared.fault.LoadCause.TheVariants.{Refused, Memory,
 use Rattle.df_jobs.specs.declared.stop.Stop.{Stop}
 use Rattle.df_jobs.specs.declared.jobs.Outcome.{Outcome}
 use Rattle.df_store.specs.Faults.{IsCauseAtStart, cause_of_stop}
+use Rattle.df_store.specs.Headings.{HasLastViews, headings_of}
 use Rattle.df_store.specs.Grown.{IsReachedByLoad}
 use Rattle.df_jobs.specs.Jobs.{AreOutcomes, jobs_of}
 use Rattle.df_jobs.specs.Loaded.{AreLoaded, IsUnlike}
@@ -31,10 +32,6 @@ AllowsAppends allows = (frame : ℕ) (chunk : ChunkParts) → allows (Append fra
 pub record AllowsLoad (allows : Change → Type 0) : Type 0 where
   pub registers : (name : List ℕ) (plan : CheckedParts) → allows (Register name plan)
   pub appends : AllowsAppends allows
-
--- the views of a state, each by its name and its plan
-abbrev pub headings_of : State → List (List ℕ × CheckedParts)
-headings_of s = map (λ v. (v.name, v.plan)) s.views
 
 -- how many rows the good ones of these jobs bring to a frame
 abbrev pub rows_of_jobs : ℕ → List (ℕ × (ℕ × Piece)) → ℕ
@@ -76,15 +73,16 @@ IsCauseUnsettled frame (Lost job) = ⊥
 IsCauseUnsettled frame (Unlike other) = ⊥
 IsCauseUnsettled frame ViewsUnlike = ⊥
 
--- a load that left this state is refused for this: before its first job, where no chunk has entered; since workers were stopped
--- so; or for a difference between these outcomes, the views and the state
+-- a load that left this state is refused for this: before its first job, where no chunk has entered; or, where all views that were
+-- given are registered, since workers were stopped so, or for a difference between these outcomes, the views and the state
 abbrev pub IsCauseLeft : List (ℕ × (ℕ × Piece)) → List (List ℕ × CheckedParts) → List Outcome → State → LoadCause → Type 0
 IsCauseLeft jobs views outcomes s cause =
-    ((outcomes ≡ []) × IsCauseAtStart s views cause) ⊎ (((stop : Stop) × (cause ≡ cause_of_stop stop)) ⊎ IsDifference jobs outcomes views s cause)
+    ((outcomes ≡ []) × IsCauseAtStart s views cause)
+    ⊎ (HasLastViews views s × (((stop : Stop) × (cause ≡ cause_of_stop stop)) ⊎ IsDifference jobs outcomes views s cause))
 
 -- a load that left nothing, since this is the least frame of the state where the shares are not the books, is refused for this
 abbrev pub IsCauseNotLeft : List (List ℕ × CheckedParts) → List Outcome → State → ℕ → LoadCause → Type 0
-IsCauseNotLeft views outcomes s frame cause = ((outcomes ≡ []) × IsCauseAtStart s views cause) ⊎ IsCauseUnsettled frame cause
+IsCauseNotLeft views outcomes s frame cause = ((outcomes ≡ []) × IsCauseAtStart s views cause) ⊎ (HasLastViews views s × IsCauseUnsettled frame cause)
 
 -- whether the rows accepted through these desks and those of these outcomes are together the rows that a frame accepted, and
 -- the rows deleted through the desks those that were deleted from it
@@ -100,22 +98,22 @@ unaccounted_from desks outcomes frame (f ∷ fs) = if is_accounted desks outcome
 abbrev pub unaccounted_frame : List DeskParts → List Outcome → State → Option ℕ
 unaccounted_frame desks outcomes s = unaccounted_from desks outcomes 0 s.frames
 
--- a load that was refused for this left this state, which a hall over frames of these schemas may come to: of each frame the
--- books are as large as the shares of the desks that were given and the rows of some outcomes of jobs together
+-- a load that was refused for this left this state, with which the history of a hall over frames of these schemas ends: of each frame
+-- the books are as large as the shares of the desks that were given and the rows of some outcomes of jobs together
 pub record IsLeft (schemas : List (List (List ℕ × CellType))) (chunks : List (List (ℕ × Piece))) (views : List (List ℕ × CheckedParts)) (desks : List DeskParts)
-    (cause : LoadCause) (s : State) : Type 0 where
+    (cause : LoadCause) (history : List State) (s : State) : Type 0 where
   pub last : IsLastState schemas s
   pub legal : IsLegal s
   pub outcomes : List Outcome
   pub made : AreOutcomes chunks outcomes
   pub accounted : unaccounted_frame desks outcomes s ≡ None
-  pub reached : IsReachedByLoad schemas chunks desks s
+  pub reached : IsReachedByLoad schemas chunks desks history s
   pub why : IsCauseLeft (jobs_of chunks) views outcomes s cause
 
 -- one that was refused for this left nothing: its desks came back with all their parts and with the rows of some outcomes of jobs,
--- and there is a state that the load may reach, with whose books they agree over all frames, but not frame by frame
+-- and the history of the hall ends with a state with whose books they agree over all frames, but not frame by frame
 pub record IsNotLeft (schemas : List (List (List ℕ × CellType))) (chunks : List (List (ℕ × Piece))) (views : List (List ℕ × CheckedParts)) (desks : List DeskParts)
-    (cause : LoadCause) : Type 0 where
+    (cause : LoadCause) (history : List State) : Type 0 where
   pub outcomes : List Outcome
   pub made : AreOutcomes chunks outcomes
   pub gathered : List DeskParts
@@ -125,5 +123,5 @@ pub record IsNotLeft (schemas : List (List (List ℕ × CellType))) (chunks : Li
   pub state : State
   pub frame : ℕ
   pub unsettled : IsUnsettledState schemas gathered state frame
-  pub reached : IsReachedByLoad schemas chunks desks state
+  pub reached : IsReachedByLoad schemas chunks desks history state
   pub why : IsCauseNotLeft views outcomes state frame cause

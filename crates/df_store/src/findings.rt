@@ -2,6 +2,7 @@
 ghost use Rattle.std.specs.Prelude.{◌≡◌, ◌<◌, ℕ, IfErr, IfNone, IfOk, IfSome, filter_map, length, map};
 ghost use Rattle.df_jobs.specs.Jobs.{AreBegun, AreOutcomes, chunks_of, job_of, jobs_of};
 ghost use Rattle.df_jobs.specs.Loaded.{AreLoaded, IsUnlike};
+ghost use Rattle.df_store.specs.Headings.{headings_of};
 ghost use Rattle.df_store.specs.Loads as loads;
 ghost use Rattle.df_jobs.specs.Refused.{refusal};
 ghost use Rattle.df_jobs.specs.Counted.{entered_at};
@@ -37,7 +38,7 @@ pub(crate) fn compare<Acc: Ledger, Del: Ledger, S: Source, G: Gate, R: Threads +
         refused ≡ filter_map refusal (jobs_of (chunks_of S.made S.start_of work.now.sources.now))) }
     ensures entered { IfOk result (λ _. (frame : ℕ) → entered_at frame outcomes.items
         ≡ loads.rows_of_jobs frame (jobs_of (chunks_of S.made S.start_of work.now.sources.now))) }
-    ensures views { IfOk result (λ _. loads.headings_of catalogue.now.state ≡ views.now) }
+    ensures views { IfOk result (λ _. headings_of catalogue.now.state ≡ views.now) }
     ensures difference { IfErr result (λ cause.
         loads.IsDifference (jobs_of (chunks_of S.made S.start_of work.now.sources.now))
         outcomes.items views.now catalogue.now.state cause) }

@@ -11,6 +11,7 @@ mod findings;
 mod load;
 mod loading;
 mod pool;
+mod registering;
 mod views;
 mod waiting;
 mod working;

@@ -5,10 +5,10 @@ ghost use Rattle.df_value.specs.Limits as limits;
 ghost use Rattle.df_state.specs.Desks.{AgreeWithBooks};
 ghost use Rattle.df_state.specs.States.{IsLegal};
 ghost use Rattle.df_state.specs.declared.state.State.{State};
-ghost use Rattle.df_claims.specs.Seats.{AreAllSeats, IsSeatOf};
+ghost use Rattle.df_claims.specs.Seats.{IsSeatOf};
 ghost use Rattle.df_hall.specs.Closing as closing;
 ghost use Rattle.df_hall.specs.Rooms.{HasRoomFor, Holds};
-ghost use Rattle.df_store.specs.Faults.{IsCauseAtStart, IsCauseOfView, IsCauseOfViews};
+ghost use Rattle.df_store.specs.Headings.{HaveLastViews, headings_of};
 ghost use Rattle.df_jobs.specs.Jobs.{AreOutcomes, chunks_of, jobs_of, most_jobs};
 ghost use Rattle.df_jobs.specs.Loaded.{AreLoaded};
 ghost use Rattle.df_store.specs.Loads as loads;
@@ -21,12 +21,13 @@ use crate::fault::LoadCause;
 use crate::findings::compare;
 use crate::loading::{Beginning, LoadingHall};
 use crate::pool::do_jobs;
-use df_catalogue::{Catalogue, Desk, ViewChange};
-use df_claims::{ClaimSeat, Claims};
+use crate::registering::begin;
+use df_catalogue::{Catalogue, Desk};
+use df_claims::ClaimSeat;
 use df_hall::{Hall, Totals, TotalsRoom, Unsettled, VersionedCatalogue, settle};
 use df_jobs::{Gate, Outcome, Refused, Stop, Work, job_count};
 use df_plan::CheckedPlan;
-use df_value::{Duplicate, List, Source, Text};
+use df_value::{List, Source, Text};
 use df_versions::{Naming, Told};
 use std::alloc::Global;
 use std::marker::Brand;
@@ -61,17 +62,24 @@ impl<Acc: Ledger, Del: Ledger> Drop for Loaded<Acc, Del> {
 }
 
 /// A load that was refused.
-pub struct LoadFault<Acc: Ledger, Del: Ledger> {
+pub struct LoadFault<Acc: Ledger, Del: Ledger, J: Naming> {
     pub cause: LoadCause,
     /// What the load left, whole chunks, with its totals; none exactly where the gathered shares of the desks are not the books.
     pub left: Option<(Catalogue<Acc, Del>, Totals)>,
+    /// The history of the hall. It ends with the state that is left, or else with that of whose books the shares are not.
+    pub told: Told<J>,
 }
 
 // A body that owns one drops it by a call.
-impl<Acc: Ledger, Del: Ledger> Drop for LoadFault<Acc, Del> {
+impl<Acc: Ledger, Del: Ledger, J: Naming> Drop for LoadFault<Acc, Del, J> {
     fn drop(self) {
-        let LoadFault { cause: _, left } = self;
+        let LoadFault {
+            cause: _,
+            left,
+            told,
+        } = self;
         drop(left);
+        drop(told);
     }
 }
 
@@ -105,7 +113,7 @@ pub fn load_all<
     sources: &[S],
     workers: usize,
     gate: &G,
-) -> Result<Loaded<Acc, Del>, LoadFault<Acc, Del>>
+) -> Result<Loaded<Acc, Del>, LoadFault<Acc, Del, J>>
     requires allowed { loads.AllowsLoad J.allows }
     requires sources { length sources.now ≡ length J.schemas }
     requires jobs { length (jobs_of (chunks_of S.made S.start_of sources.now))
@@ -116,16 +124,16 @@ pub fn load_all<
         load.refused ≡ filter_map refusal (jobs_of (chunks_of S.made S.start_of sources.now))) }
     ensures shares { IfOk result (λ load. loads.AreShares desks.items
         (jobs_of (chunks_of S.made S.start_of sources.now)) load.catalogue.state) }
-    ensures views { IfOk result (λ load. loads.headings_of load.catalogue.state ≡ views.now) }
+    ensures views { IfOk result (λ load. headings_of load.catalogue.state ≡ views.now) }
     ensures totals { IfOk result (λ load.
         load.totals ≡ closing.totals_of load.catalogue.state) }
     ensures legal { IfOk result (λ load. IsLegal load.catalogue.state) }
     ensures state { IfOk result (λ load. IsLastState J.schemas load.catalogue.state) }
     ensures left { IfErr result (λ fault. MatchOption fault.left
         (loads.IsNotLeft J.schemas (chunks_of S.made S.start_of sources.now) views.now
-        desks.items fault.cause)
+        desks.items fault.cause fault.told)
         (λ left. loads.IsLeft J.schemas (chunks_of S.made S.start_of sources.now) views.now
-        desks.items fault.cause left.0.state)) }
+        desks.items fault.cause fault.told left.0.state)) }
     ensures left_totals { IfErr result (λ fault. IfSome fault.left (λ left.
         left.1 ≡ closing.totals_of left.0.state)) }
 {
@@ -168,11 +176,12 @@ fn run_load<
     seats: Vec<ClaimSeat>,
     desks: Vec<Desk<Acc, Del>>,
     views: &[(Text, CheckedPlan)],
-) -> Result<Loaded<Acc, Del>, LoadFault<Acc, Del>>
+) -> Result<Loaded<Acc, Del>, LoadFault<Acc, Del, J>>
     requires allowed { loads.AllowsAppends J.allows }
     requires history { catalogue ≡ B.history }
     requires chunks { B.chunks ≡ chunks_of S.made S.start_of work.now.sources.now }
     requires over { IsHistoryOver J.schemas catalogue }
+    requires registered { HaveLastViews views.now catalogue }
     requires agreed { (s : State) → last_state catalogue ≡ Some s → AgreeWithBooks desks.items s }
     requires room { HasRoomFor limits.most_frames room }
     requires empty { Holds room [] }
@@ -189,16 +198,16 @@ fn run_load<
         ≡ filter_map refusal (jobs_of (chunks_of S.made S.start_of work.now.sources.now))) }
     ensures shares { IfOk result (λ load. loads.AreShares desks.items
         (jobs_of (chunks_of S.made S.start_of work.now.sources.now)) load.catalogue.state) }
-    ensures views { IfOk result (λ load. loads.headings_of load.catalogue.state ≡ views.now) }
+    ensures views { IfOk result (λ load. headings_of load.catalogue.state ≡ views.now) }
     ensures totals { IfOk result (λ load.
         load.totals ≡ closing.totals_of load.catalogue.state) }
     ensures legal { IfOk result (λ load. IsLegal load.catalogue.state) }
     ensures state { IfOk result (λ load. IsLastState J.schemas load.catalogue.state) }
     ensures left { IfErr result (λ fault. MatchOption fault.left
         (loads.IsNotLeft J.schemas (chunks_of S.made S.start_of work.now.sources.now) views.now
-        desks.items fault.cause)
+        desks.items fault.cause fault.told)
         (λ left. loads.IsLeft J.schemas (chunks_of S.made S.start_of work.now.sources.now)
-        views.now desks.items fault.cause left.0.state)) }
+        views.now desks.items fault.cause fault.told left.0.state)) }
     ensures left_totals { IfErr result (λ fault. IfSome fault.left (λ left.
         left.1 ≡ closing.totals_of left.0.state)) }
 {
@@ -215,71 +224,6 @@ fn run_load<
     )
 }
 
-// Registers copies of the views, and numbers the jobs for so many workers.
-fn begin<Acc: Ledger, Del: Ledger, J: Naming, R: Wait>(
-    rt: &R,
-    alloc: Global,
-    catalogue: &mut VersionedCatalogue<Acc, Del, J>,
-    views: &[(Text, CheckedPlan)],
-    jobs: u64,
-    workers: usize,
-) -> Result<(Claims, Vec<ClaimSeat>), LoadCause>
-    requires allowed { loads.AllowsLoad J.allows }
-    requires jobs { jobs ≤ most_jobs }
-    requires workers { (1 ≤ workers) × (workers ≤ 16) }
-    ensures count { IfOk result (λ begun. length begun.1.items ≡ workers) }
-    ensures seats { IfOk result (λ begun. AreAllSeats begun.0 begun.1.items) }
-    ensures cause { IfErr result (λ cause. (s : State) → last_state catalogue.new ≡ Some s
-        → IsCauseAtStart s views.now cause) }
-{
-    register_all(rt, alloc, catalogue, views)?;
-    match Claims::new(alloc, jobs, workers) {
-        Ok(begun) => Ok(begun),
-        Err(_) => Err(LoadCause::Memory),
-    }
-}
-
-// Registers copies of the views, in their order.
-fn register_all<Acc: Ledger, Del: Ledger, J: Naming, R: Wait>(
-    rt: &R,
-    alloc: Global,
-    catalogue: &mut VersionedCatalogue<Acc, Del, J>,
-    views: &[(Text, CheckedPlan)],
-) -> Result<(), LoadCause>
-    requires { loads.AllowsLoad J.allows }
-    ensures { IfErr result (λ cause. (s : State) → last_state catalogue.new ≡ Some s
-        → IsCauseOfViews s views.now cause) }
-{
-    for at in 0..views.len() {
-        register_one(rt, alloc, catalogue, &views[at])?;
-    }
-    Ok(())
-}
-
-// Registers a copy of a view. No reader learns of it, so that nothing needs to be told.
-fn register_one<Acc: Ledger, Del: Ledger, J: Naming, R: Wait>(
-    rt: &R,
-    alloc: Global,
-    catalogue: &mut VersionedCatalogue<Acc, Del, J>,
-    view: &(Text, CheckedPlan),
-) -> Result<(), LoadCause>
-    requires { loads.AllowsLoad J.allows }
-    ensures { IfErr result (λ cause. (s : State) → last_state catalogue.new ≡ Some s
-        → IsCauseOfView s view.now cause) }
-{
-    let name = view.0.copy(alloc)?;
-    let plan = view.1.copy(alloc)?;
-    let change = ViewChange::Register(name, plan);
-    let nothing: Option<Told<J>> = None;
-    match catalogue.change_views(rt, alloc, change, nothing.as_ref()) {
-        Ok(told) => {
-            drop(told);
-            Ok(())
-        }
-        Err(fault) => Err(LoadCause::of_register(fault)),
-    }
-}
-
 // The fault of a load of which no chunk has entered.
 fn given_up<Acc: Ledger, Del: Ledger, J: Naming, R: Wait>(
     rt: &R,
@@ -287,7 +231,7 @@ fn given_up<Acc: Ledger, Del: Ledger, J: Naming, R: Wait>(
     room: TotalsRoom,
     desks: Vec<Desk<Acc, Del>>,
     cause: LoadCause,
-) -> LoadFault<Acc, Del>
+) -> LoadFault<Acc, Del, J>
     requires room { HasRoomFor limits.most_frames room }
     requires empty { Holds room [] }
     ensures cause { result.cause ≡ cause }
@@ -298,11 +242,30 @@ fn given_up<Acc: Ledger, Del: Ledger, J: Naming, R: Wait>(
         × (last_state catalogue ≡ Some s)
         × closing.IsUnsettledState J.schemas desks.items s frame) }
     ensures totals { IfSome result.left (λ left. left.1 ≡ closing.totals_of left.0.state) }
+    ensures told { result.told ≡ catalogue }
+    ensures over { IsHistoryOver J.schemas catalogue }
 {
+    let (catalogue, told) = ended(rt, catalogue);
     LoadFault {
         cause,
-        left: settle(catalogue.end(rt), desks, room).ok(),
+        left: settle(catalogue, desks, room).ok(),
+        told,
     }
+}
+
+// The catalogue and its history. Readers get no version from then on.
+fn ended<Acc: Ledger, Del: Ledger, J: Naming, R: Wait>(
+    rt: &R,
+    catalogue: VersionedCatalogue<Acc, Del, J>,
+) -> (Catalogue<Acc, Del>, Told<J>)
+    ensures state { last_state catalogue ≡ Some result.0.state }
+    ensures over { IsHistoryOver J.schemas catalogue }
+    ensures told { result.1 ≡ catalogue }
+{
+    let (catalogue, publisher) = catalogue.into_parts();
+    let told = publisher.told();
+    publisher.end(rt);
+    (catalogue, told)
 }
 
 // Compares what the workers left, and closes the catalogue.
@@ -314,7 +277,7 @@ fn finish<Acc: Ledger, Del: Ledger, J: Naming, S: Source, G: Gate, R: Threads + 
     work: &Work<S, G>,
     views: &[(Text, CheckedPlan)],
     entered: Result<Vec<Outcome>, Stop>,
-) -> Result<Loaded<Acc, Del>, LoadFault<Acc, Del>>
+) -> Result<Loaded<Acc, Del>, LoadFault<Acc, Del, J>>
     requires room { HasRoomFor limits.most_frames room }
     requires empty { Holds room [] }
     requires workers { 0 < work.now.workers }
@@ -332,7 +295,7 @@ fn finish<Acc: Ledger, Del: Ledger, J: Naming, S: Source, G: Gate, R: Threads + 
     ensures entered { IfOk result (λ _. IsOkAnd entered (λ os. (frame : ℕ) →
         entered_at frame os.items ≡ loads.rows_of_jobs frame
         (jobs_of (chunks_of S.made S.start_of work.now.sources.now)))) }
-    ensures views { IfOk result (λ load. loads.headings_of load.catalogue.state ≡ views.now) }
+    ensures views { IfOk result (λ load. headings_of load.catalogue.state ≡ views.now) }
     ensures totals { IfOk result (λ load.
         load.totals ≡ closing.totals_of load.catalogue.state) }
     ensures legal { IfOk result (λ load. IsLegal load.catalogue.state) }
@@ -348,39 +311,47 @@ fn finish<Acc: Ledger, Del: Ledger, J: Naming, S: Source, G: Gate, R: Threads + 
         × (last_state catalogue ≡ Some s)
         × closing.IsUnsettledState J.schemas desks.items s frame
         × loads.IsCauseUnsettled frame fault.cause)) }
+    ensures told { IfErr result (λ fault. fault.told ≡ catalogue) }
+    ensures over { IsHistoryOver J.schemas catalogue }
     ensures left_totals { IfErr result (λ fault. IfSome fault.left (λ left.
         left.1 ≡ closing.totals_of left.0.state)) }
 {
-    let catalogue = catalogue.end(rt);
+    let (catalogue, told) = ended(rt, catalogue);
     let findings = match entered {
         Ok(outcomes) => compare(rt, &catalogue, work, views, outcomes),
         Err(stop) => Err(LoadCause::from(stop)),
     };
-    conclude(settle(catalogue, desks, room), findings)
+    conclude(settle(catalogue, desks, room), findings, told)
 }
 
 // What the load answers, once the hall was closed or could not be.
-fn conclude<Acc: Ledger, Del: Ledger>(
+fn conclude<Acc: Ledger, Del: Ledger, J: Naming>(
     settled: Result<(Catalogue<Acc, Del>, Totals), Unsettled<Acc, Del>>,
     findings: Result<List<Refused>, LoadCause>,
-) -> Result<Loaded<Acc, Del>, LoadFault<Acc, Del>>
+    told: Told<J>,
+) -> Result<Loaded<Acc, Del>, LoadFault<Acc, Del, J>>
     ensures loaded { IfOk result (λ load. settled ≡ Ok (load.catalogue, load.totals)) }
     ensures refused { IfOk result (λ load. findings ≡ Ok load.refused) }
     ensures left { IfErr result (λ fault. IfSome fault.left (λ left. settled ≡ Ok left)) }
     ensures cause { IfErr result (λ fault. IfSome fault.left (λ _. findings ≡ Err fault.cause)) }
     ensures missing { IfErr result (λ fault. IfNone fault.left (IsErrAnd settled (λ unsettled.
         loads.IsCauseUnsettled unsettled.frame fault.cause))) }
+    ensures told { IfErr result (λ fault. fault.told ≡ told) }
 {
     match settled {
         Ok((catalogue, totals)) => match findings {
-            Ok(refused) => Ok(Loaded {
-                catalogue,
-                totals,
-                refused,
-            }),
+            Ok(refused) => {
+                drop(told);
+                Ok(Loaded {
+                    catalogue,
+                    totals,
+                    refused,
+                })
+            }
             Err(cause) => Err(LoadFault {
                 cause,
                 left: Some((catalogue, totals)),
+                told,
             }),
         },
         Err(unsettled) => {
@@ -389,7 +360,11 @@ fn conclude<Acc: Ledger, Del: Ledger>(
                 _ => LoadCause::MissingDesk(unsettled.frame),
             };
             drop(unsettled);
-            Err(LoadFault { cause, left: None })
+            Err(LoadFault {
+                cause,
+                left: None,
+                told,
+            })
         }
     }
 }

@@ -2,7 +2,7 @@
 ghost use Rattle.std.specs.Prelude.{◌≡◌, ◌↔◌, IsTrue, Some};
 ghost use Rattle.df_state.specs.Reads as reads;
 ghost use Rattle.df_state.specs.States.{IsLegal};
-ghost use Rattle.df_store.specs.Loads as loads;
+ghost use Rattle.df_store.specs.Headings.{headings_of};
 
 use df_catalogue::Catalogue;
 use df_plan::CheckedPlan;
@@ -17,7 +17,7 @@ pub(crate) fn are_views<Acc: Ledger, Del: Ledger>(
 ) -> bool
     requires names { names.now ≡ reads.view_names_of catalogue.now.state }
     requires legal { IsLegal catalogue.now.state }
-    ensures { IsTrue result ↔ (loads.headings_of catalogue.now.state ≡ views.now) }
+    ensures { IsTrue result ↔ (headings_of catalogue.now.state ≡ views.now) }
 {
     let names = names.as_slice();
     if names.len() != views.len() {

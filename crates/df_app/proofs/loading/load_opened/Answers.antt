@@ -36,12 +36,12 @@ returns-in-Ok-clause-output g c =
 pub of-requires : goal.of-requires
 of-requires g c =
     let frames = c.as_slice-frames.result.now in
-    cause-of-document (λ l. l.0.state) frames g.J.Naming.schemas _ _ _ c.in-Err.fault.cause c.in-Err.fault.left
+    cause-of-document (λ l. l.0.state) frames g.J.Naming.schemas _ _ _ c.in-Err.fault.cause c.in-Err.fault.told c.in-Err.fault.left
     (c.requires.frames ∙ ap schemas_of (sym c.as_slice-frames.ensures)) c.in-Err.ensures.left
 
 pub returns-clause-fault : goal.returns-clause-fault
 returns-clause-fault g c =
     load-refused (λ l. l.0.state) c.args.sourced.now c.as_slice-frames.result.now g.J.Naming.schemas _ c.as_slice.result.now c.named-hall.result.1.items
-    c.in-Err.fault.cause c.in-Err.fault.left c.in_ok-of-in-Err.field-0 c.as_slice-frames.ensures c.requires.frames
+    c.in-Err.fault.cause c.in-Err.fault.told c.in-Err.fault.left c.in_ok-of-in-Err.field-0 c.as_slice-frames.ensures c.requires.frames
     (ap numbered_chunks c.as_slice-sources.ensures) (c.as_slice.ensures.value ∙ c.requires.views)
     (c.named-hall.ensures.desks ∙ c.requires.desks) c.in-Err.ensures.left c.in_ok-of-in-Err.ensures

@@ -1,4 +1,4 @@
-use Rattle.std.proofs.Common.{◌≡◌, ◌<◌, ◌∙◌, length, length-set, arith, rules}
+use Rattle.std.proofs.Common.{◌∙◌, length-set, arith}
 use Rattle.df_store.specs.Batches.{IsBatch}
 use Rattle.df_store.proofs.BatchFacts.{first-left, rest-left}
 use Rattle.df_store.proofs.entering.enter_batches.Goals as goal

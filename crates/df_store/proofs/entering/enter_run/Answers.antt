@@ -1,4 +1,4 @@
-use Rattle.std.proofs.Common.{◌≡◌, ◌++◌, ◌∙◌, ap, length, rules, subst}
+use Rattle.std.proofs.Common.{◌≡◌, ◌++◌, length, rules, subst}
 use Rattle.std.specs.Prelude.{if◌then◌else◌}
 use Rattle.df_jobs.specs.Counted.{HaveAccepted}
 use Rattle.df_jobs.proofs.JoinedFacts.{joined-counted}

@@ -1,4 +1,4 @@
-use Rattle.std.proofs.Common.{◌<◌, length, subst}
+use Rattle.std.proofs.Common.{subst}
 use Rattle.df_jobs.specs.Jobs.{chunks_of, jobs_of}
 use Rattle.df_store.specs.Grown.{HaveGrown}
 use Rattle.df_store.proofs.LeftFacts.{ended-so, handed-outcomes, handed-rows}
@@ -24,6 +24,6 @@ returns-clause-left g c =
     let last = c.into_catalogue.result in
     let grown : HaveGrown chunks c.args.catalogue last =
     rw c.requires.history (subst (λ cs. HaveGrown cs g.B.Beginning.history last) c.requires.chunks c.into_catalogue.ensures) in
-    ended-so g.J.Naming.schemas chunks c.args.views.now c.args.desks.items (λ l. l.0.state) (λ os. os.items) (λ f. f.cause) (λ f. f.left)
+    ended-so g.J.Naming.schemas chunks c.args.views.now c.args.desks.items (λ l. l.0.state) (λ os. os.items) (λ f. f.cause) (λ f. f.told) (λ f. f.left)
     c.do_jobs-desks.result.0.items c.do_jobs-desks.result.1 c.finish.result c.args.catalogue last c.do_jobs-desks.ensures.parts c.do_jobs-desks.ensures.done
-    c.requires.agreed c.requires.over grown end.left end.cause end.not_left
+    c.requires.agreed c.requires.over c.requires.registered end.over grown end.left end.cause end.not_left end.told

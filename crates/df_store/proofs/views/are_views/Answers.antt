@@ -2,7 +2,7 @@ use Rattle.std.proofs.Common.{◌≡◌, ◌∙◌, IsTrue, ap, refl, sym, subst
 use Rattle.std.specs.Prelude.{Some, slice_get}
 use mathlib.Core.Logic.{inl, inr}
 use Rattle.df_state.specs.Reads.{view_names_of}
-use Rattle.df_store.specs.Loads.{headings_of}
+use Rattle.df_store.specs.Headings.{headings_of}
 use Rattle.df_state.proofs.ListFacts.{last-or-before, looked-up}
 use Rattle.df_store.proofs.ViewFacts.{heading-given, heading-same, headings-same}
 use Rattle.df_store.proofs.views.are_views.Goals as goal

@@ -1,6 +1,6 @@
 use Rattle.std.proofs.Common.{◌≡◌, ◌<◌, ℕ}
 use Rattle.std.specs.Prelude.{slice_get}
-use Rattle.df_store.specs.Loads.{headings_of}
+use Rattle.df_store.specs.Headings.{headings_of}
 use Rattle.df_store.proofs.views.are_views.Given as goal
 
 abbrev pub invariant-loop-at : goal.invariant-loop-at
