@@ -40,7 +40,7 @@ TESTS = [
     ("explanations.py", "dfshell", [], ["fault"], r"want "),
     ("shell_words.py", "dfshell", [], ["status", "complaint"], r""),
     ("tables.py", "dfshell", ["20261129"], ["nothing", "field", *ENDS], r""),
-    ("pages.py", "dfshell", ["20261129"], ["nothing", "field", *ENDS], r""),
+    ("pages.py", "dfshell", ["20261129"], ["field", *ENDS], r""),
     ("framed.py", "dfshell", ["1", "100"], ["status"], r"otherwise: "),
     ("watching.py", "dfshell", ["20261129", "4"], ["nothing", "field", "ok", *ENDS], r"^session of seed "),
 ]
