@@ -8,8 +8,7 @@ use df_document::{DocumentFault, Files, MOST_BYTES_OF_DOCUMENT, SystemFiles};
 use df_explain::explanation;
 use df_shell::{
     DocumentCheck, Prompts, SessionEnd, SessionOptions, ShellFault, check_document,
-    run_declared_shell, run_hall_shell, run_shell, shell_fault_text, write_document_page,
-    write_document_sql,
+    run_declared_shell, run_hall_shell, run_shell, shell_fault_text, write_document_sql,
 };
 use df_words::{CommandLine, read_command_line};
 use std::alloc::AllocError;
@@ -103,20 +102,6 @@ fn run_document<R: Threads + Wait + Sync>(
     if line.sql {
         let mut output = rt.stdout();
         write_document_sql(waiting, rt.alloc(), &mut document, &mut files, &mut output)?;
-        return Ok(ExitCode::from(0));
-    }
-    if let Some(page) = line.report {
-        let (alloc, title) = (rt.alloc(), title_of(line));
-        let mut output = rt.stdout();
-        write_document_page(
-            waiting,
-            alloc,
-            title,
-            &mut document,
-            &mut files,
-            page,
-            &mut output,
-        )?;
         return Ok(ExitCode::from(0));
     }
     let end = answer_commands(rt, waiting, &mut document, &mut files, line)?;
