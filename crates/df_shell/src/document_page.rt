@@ -1,7 +1,6 @@
 //! The page of a document, without a session.
-ghost use Rattle.std.specs.Prelude.{◌≡◌, OnOk};
+ghost use Rattle.std.specs.Prelude.{◌≡◌};
 ghost use Rattle.df_state.specs.Ledgers as ledgers;
-ghost use Rattle.df_shell.specs.Pages.{page_of_state};
 
 use crate::opening::open_store;
 use crate::store::Store;
@@ -85,10 +84,7 @@ fn report_all<Acc: Ledger, Del: Ledger, F: WriteFiles>(
     files: &mut F,
     title: &str,
     path: &str,
-) -> Result<(), ShellFault>
-    ensures { OnOk result (F.Writes files.old files.new path.now
-        (page_of_state title.now store.entry.change_number store.entry.catalogue.state)) }
-{
+) -> Result<(), ShellFault> {
     let mut store = store;
     let reported = report(alloc, definitions, &mut store, files, title, path, &[]);
     drop(store);
