@@ -1,5 +1,5 @@
 #!/usr/bin/env python3
-"""pages.py PROGRAM [SEED]: the pages of `report` and of `--report`, read by Python's html.parser.
+"""pages.py PROGRAM [SEED]: the pages of `report`, read by Python's html.parser.
 
 Random tables, whose texts and names have tags, entities, quotes and line ends in them, stand in a page. Its cells are those that
 `show VIEW csv` and `show VIEW json` tell, its decimals and bars those of Python's exact fractions, and every tag is closed. A page
@@ -205,11 +205,7 @@ def one(program, folder, random):
     check("one view", [section.name for section in Page(one_page).sections], names[1:])
     shown = asked(f"show {names[1]} 1000 html")
     check("show html", shown in one_page and shown.startswith("<section") and shown.endswith("</section>\n"), True)
-    # Without a session, the same page.
-    run = subprocess.run([program, "--report", "p2.html", title], cwd=folder, capture_output=True)
-    check("--report", (run.stdout, run.stderr, run.returncode), (b"", b"", 0))
-    check("--report", (folder / "p2.html").read_bytes(), (folder / "p.html").read_bytes())
-    check("files", sorted(file.name for file in folder.iterdir()), sorted([title, "t.csv", "p.html", "one.html", "p2.html"]))
+    check("files", sorted(file.name for file in folder.iterdir()), sorted([title, "t.csv", "p.html", "one.html"]))
 
 
 def orders(program, folder):
@@ -239,19 +235,15 @@ def refused(program, folder):
     cases = [("old.html v none w", "C8"), ("old.html", "W2"), ("new.html", "W2"), ("held.html", "W1"), ("none/new.html", "W1"), ("folder", "W3")]
     for words, code in cases:
         limit = tables.small_files if code == "W2" else None
-        for arguments, typed in [(["d.toml"], f"report {words}\nviews\n"), (["--report", words, "d.toml"], "")]:
-            if code == "C8" and not typed:
-                continue
-            run = subprocess.run([program, *arguments], cwd=folder, input=typed.encode(), capture_output=True, preexec_fn=limit)
-            told = run.stdout if typed else run.stderr.removeprefix(b"dfshell: ")
-            check(words, (told.decode().split(":")[0], run.returncode), (code, 0 if typed else 2))
-            check(words, run.stdout.decode().split("\n")[1:], ["v", "w", ""] if typed else [])
-            check(words, {file.name: file.read_text() for file in folder.iterdir() if file.is_file()}, files)
-            check(words, list((folder / "folder").iterdir()), [])
+        typed = f"report {words}\nviews\n".encode()
+        run = subprocess.run([program, "d.toml"], cwd=folder, input=typed, capture_output=True, preexec_fn=limit)
+        check(words, (run.stdout.decode().split(":")[0], run.returncode), (code, 0))
+        check(words, run.stdout.decode().split("\n")[1:], ["v", "w", ""])
+        check(words, {file.name: file.read_text() for file in folder.iterdir() if file.is_file()}, files)
+        check(words, list((folder / "folder").iterdir()), [])
     with tempfile.TemporaryDirectory() as name:
         count = allocations(program, folder, files, sessions.failing_library(name), os.path.join(name, "counts"))
-    check("no document", subprocess.run([program, "--report", "x.html"], cwd=folder, capture_output=True).returncode, 2)
-    return 2 * len(cases) - 1, count
+    return len(cases), count
 
 
 def allocations(program, folder, files, library, counts):
@@ -260,7 +252,7 @@ def allocations(program, folder, files, library, counts):
     check("written", tables.answers(program, folder, ["d.toml"], "report whole.html\n"), "ok 2 views\n")
     whole, count = (folder / "whole.html").read_text(), 0
     (folder / "whole.html").unlink()
-    for words, typed, ends in [(["d.toml"], b"report old.html\n", b"ok 2 views\n"), (["--report", "old.html", "d.toml"], b"", b"")]:
+    for words, typed, ends in [(["d.toml"], b"report old.html\n", b"ok 2 views\n")]:
         variables = {**os.environ, "LD_PRELOAD": library}
         subprocess.run([program, *words], cwd=folder, input=typed, capture_output=True, env={**variables, "COUNTS": counts}, check=True)
         for number in range(1, int(pathlib.Path(counts).read_text().split()[0]) + 1):
