@@ -33,13 +33,14 @@ const AFTER_HELP: &str = r#"Commands, one a line of standard input:
   show VIEW                    the table of a view
   show VIEW COUNT              its first COUNT rows, and how many more there are
   show VIEW from ROW COUNT     COUNT rows from row ROW on, the first being 0, and how many lie around them
-  show VIEW .. csv             these rows as CSV; with json as lines of JSON
+  show VIEW .. csv             these rows as CSV; with json as lines of JSON; with html as a section of a page
   watch VIEW                   writes behind each change of rows what it does to a view, in lines of CSV
   unwatch VIEW                 writes it no longer
   changes VIEW                 what the last change of rows did to a view that is watched
   export VIEW PATH             writes the table of a view to a file, as CSV, whole or not at all
+  report PATH [VIEW ..]        writes a page of all views, or of these, to a file: the first 1000 rows of each
   rows FRAME                   the table of a frame, and the numbers of its rows
-  rows FRAME csv               the rows with their numbers as CSV; with json as lines of JSON
+  rows FRAME csv               the rows with their numbers as CSV; with json as lines of JSON; with html, without numbers
   books FRAME                  how many rows were accepted and deleted, and how many there are
   check                        whether each view has the rows that its plan gives: same, or differs and a view
   work                         what the views counted at the last change of rows; not with --hall
