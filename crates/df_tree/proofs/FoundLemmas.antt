@@ -6,7 +6,7 @@ use Rattle.std.proofs.Math.Seq.{take-suc, split_at, get_or-append_seam}
 use Rattle.df_tree.specs.Laws.{MonoidLaws, total}
 use denote.Param.Weighed.{at_most}
 use Rattle.df_tree.specs.Leaves.{leaves_of_parts, items, rank_above}
-use Rattle.df_tree.specs.Finds.{IsFirst, IsFound, IsReached}
+use Rattle.df_tree.specs.Finds.{IsFirst, IsFirstWithSum, IsFound, IsReached}
 use Rattle.df_tree.proofs.LeafLemmas.{items-append, items-three, leaves-append, take-within}
 use Rattle.df_tree.proofs.Sums.{further, left_total, total-append}
 
@@ -107,15 +107,16 @@ module _ {I M : Type 0} (none : M) (plus : M → M → M) (f : I → M) (laws : 
       pub reached_now : (k : List (List I × ℕ) × ℕ) → k ≡ get_or ks at k → passes (plus sum (total none plus f (items {I = I} k.0))) ≡ true
       reached_now k e = ap (λ k. passes (plus sum (total none plus f (items {I = I} k.0)))) (part_is k e) ∙ r.now
 
-      found_in : (i : ℕ) → IsFound {I = I} {M = M} none plus f passes sum (items {I = I} r.part.0) i → IsFound {I = I} {M = M} none plus f passes before (items {I = I} (leaves_of_parts {I = I} ks)) (skipped + i)
-      found_in i d = record {
+      found_in : (i : ℕ) (s : M) → IsFound {I = I} {M = M} none plus f passes sum (items {I = I} r.part.0) i s → IsFound {I = I} {M = M} none plus f passes before (items {I = I} (leaves_of_parts {I = I} ks)) (skipped + i) s
+      found_in i s d = record {
         within = within_all i d.within;
+        sum_is = d.sum_is ∙ sym (sum_at i (skipped + i) refl (omega (arith, d.within)));
         not_yet = ap passes (sum_at i (skipped + i) refl (omega (arith, d.within))) ∙ d.not_yet;
         now = ap passes (sum_at (i + 1) (skipped + i + 1) (omega arith) (omega (arith, d.within))) ∙ d.now;
       }
 
-      pub found_at : (k : List (List I × ℕ) × ℕ) → k ≡ get_or ks at k → (i : ℕ) → IsFound {I = I} {M = M} none plus f passes sum (items {I = I} k.0) i → IsFound {I = I} {M = M} none plus f passes before (items {I = I} (leaves_of_parts {I = I} ks)) (skipped + i)
-      found_at k e i d = found_in i (subst (λ k. IsFound {I = I} {M = M} none plus f passes sum (items {I = I} k.0) i) (part_is k e) d)
+      pub found_at : (k : List (List I × ℕ) × ℕ) → k ≡ get_or ks at k → (i : ℕ) (s : M) → IsFound {I = I} {M = M} none plus f passes sum (items {I = I} k.0) i s → IsFound {I = I} {M = M} none plus f passes before (items {I = I} (leaves_of_parts {I = I} ks)) (skipped + i) s
+      found_at k e i s d = found_in i s (subst (λ k. IsFound {I = I} {M = M} none plus f passes sum (items {I = I} k.0) i s) (part_is k e) d)
 
     -- the first one, where the sum passes on once it passes
     module _ (stays : (x y : M) → passes x ≡ true → passes (plus x y) ≡ true) where
@@ -124,9 +125,12 @@ module _ {I M : Type 0} (none : M) (plus : M → M → M) (f : I → M) (laws : 
           let cut : take k xs ++ drop k (take at xs) ≡ take at xs = ap (λ l. l ++ drop k (take at xs)) (sym (take-shorter xs k at h)) ∙ take-append-drop k (take at xs) in
           ap passes (ap (total none plus f) (sym cut) ∙ total-append none plus f laws (take k xs) (drop k (take at xs))) ∙ stays _ _ q
 
-      pub first_found : (xs : List I) (at : ℕ) → IsFound {I = I} {M = M} none plus f passes none xs at → IsFirst {I = I} {M = M} none plus f passes xs at
-      first_found xs at d = record {
-        within = d.within;
-        before = λ k h. false_unless (passes (total none plus f (take k xs))) (λ q. true_or_false _ (still xs k at h q) (ap passes (sym (left_total none plus f laws (take at xs))) ∙ d.not_yet));
-        now = ap passes (sym (left_total none plus f laws (take (at + 1) xs))) ∙ d.now;
+      pub first_found : (xs : List I) (at : ℕ) (sum : M) → IsFound {I = I} {M = M} none plus f passes none xs at sum → IsFirstWithSum {I = I} {M = M} none plus f passes xs at sum
+      first_found xs at sum d = record {
+        first = record {
+          within = d.within;
+          before = λ k h. false_unless (passes (total none plus f (take k xs))) (λ q. true_or_false _ (still xs k at h q) (ap passes (sym (left_total none plus f laws (take at xs))) ∙ d.not_yet));
+          now = ap passes (sym (left_total none plus f laws (take (at + 1) xs))) ∙ d.now;
+        };
+        sum_is = d.sum_is ∙ left_total none plus f laws (take at xs);
       }

@@ -10,3 +10,5 @@ pub mod LevelLemmas
 pub mod FoundLemmas
 pub mod JoinLemmas
 pub mod CutLemmas
+pub mod PartitionLemmas
+pub mod Crossing

@@ -4,7 +4,7 @@ use Rattle.std.specs.Prelude.{get_or, slice_set}
 use Rattle.std.specs.List.{insert, remove}
 use Rattle.std.proofs.lemmas.List.{length-map, length-set}
 use Rattle.std.proofs.lemmas.List.Edits.{length-insert, length-remove}
-use Rattle.df_tree.specs.Leaves.{items, one_more, room_at, rooms, same, total, Edited, Ready, Taken}
+use Rattle.df_tree.specs.Leaves.{items, one_more, room_at, rooms, same, total, Edited, Kept, Ready, Reserved, Taken}
 use Rattle.df_tree.proofs.LeafLemmas.{get_or-past, get_or-within}
 use Rattle.df_tree.proofs.PlanLemmas.{ready_agree, ready_join, ready_split, same_above, same_below, same_past, total_agree, total_one_more}
 
@@ -107,6 +107,10 @@ room-same : {X : Type 0} (xs : List X) (s i : ℕ) → i < length xs → get_or 
 room-same [] s i h = absurd (omega (arith, h))
 room-same (x ∷ xs) s zero h = refl
 room-same (x ∷ xs) s (suc i) h = room-same xs s i (omega (arith, h))
+
+same_self : (i : ℕ) → same i i ≡ 1
+same_self zero = refl
+same_self (suc i) = same_self i
 
 module _ {I : Type 0} where
   -- at first nothing is planned
@@ -228,3 +232,10 @@ module _ {I : Type 0} where
             omega (arith, z, y, w))
             both.1.1,
       )))
+
+  -- what was reserved beside an item is room there
+  pub reserved_room : (old new : List (List I × ℕ)) (index : ℕ) → index < length (items {I = I} old) → Kept {I = I} old new → Reserved {I = I} old new index → 1 < room_at {I = I} new index
+  reserved_room old new index h k r =
+      let n = ap length k.items in
+      let one = same_self index in
+      ready_room (one_more (λ i. 0) index) new index (omega (arith, n, h)) (omega (arith, one)) (r.ready (λ i. 0) (ready_nothing old))

@@ -9,9 +9,15 @@ pub record IsFirst {I M : Type 0} (none : M) (plus : M → M → M) (f : I → M
   pub before : (k : ℕ) → k ≤ at → passes (total none plus f (take k xs)) ≡ false
   pub now : passes (total none plus f (take (at + 1) xs)) ≡ true
 
--- with that item the sum of it, of those before it, and of what is before all of them passes
-pub record IsFound {I M : Type 0} (none : M) (plus : M → M → M) (f : I → M) (passes : M → Bool) (before : M) (xs : List I) (at : ℕ) : Type 0 where
+-- and those before it add up to this sum
+pub record IsFirstWithSum {I M : Type 0} (none : M) (plus : M → M → M) (f : I → M) (passes : M → Bool) (xs : List I) (at : ℕ) (sum : M) : Type 0 where
+  pub first : IsFirst {I = I} {M = M} none plus f passes xs at
+  pub sum_is : sum ≡ total none plus f (take at xs)
+
+-- with that item the sum of it, of those before it, and of what is before all of them passes; without it they have this sum
+pub record IsFound {I M : Type 0} (none : M) (plus : M → M → M) (f : I → M) (passes : M → Bool) (before : M) (xs : List I) (at : ℕ) (sum : M) : Type 0 where
   pub within : at < length xs
+  pub sum_is : sum ≡ plus before (total none plus f (take at xs))
   pub not_yet : passes (plus before (total none plus f (take at xs))) ≡ false
   pub now : passes (plus before (total none plus f (take (at + 1) xs))) ≡ true
 

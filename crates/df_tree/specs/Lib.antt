@@ -5,3 +5,4 @@ pub mod Leaves
 pub mod Spots
 pub mod Finds
 pub mod Puts
+pub mod Partitions

@@ -1,13 +1,16 @@
 //! Full nodes are halved.
-ghost use Rattle.std.specs.Prelude.{◌≡◌, ◌<◌, ◌≤◌, ◌+◌, ◌∷◌, ◌-◌, min, vec_capacity, [], MatchResult, length, vec_len, IfOk};
+ghost use Rattle.std.specs.Prelude.{◌≡◌, ◌<◌, ◌≤◌, ◌+◌, ◌∷◌, ◌-◌, min, vec_capacity, [], MatchResult, length, vec_len, IfErr, IfOk};
+ghost use Rattle.std.specs.Arc.{arc_value};
 ghost use Rattle.df_tree.specs.Level.{AreLevel, IsHalved, IsLevel, IsLevelLink, MayBeHalved};
-ghost use Rattle.df_tree.specs.Leaves.{items, rank_above, rank_of, rank_of_link, leaves_of, leaves_of_link, leaves_of_parts, IsOwned, Kept};
+ghost use Rattle.df_tree.specs.Leaves.{alike_node, items, rank_above, rank_of, rank_of_link, leaves_of, leaves_of_link, leaves_of_parts, IsOwned, Kept};
 
 use crate::copying::copied_node;
 use crate::item::Item;
 use crate::seq::{Link, Node, Seq};
 use crate::totals::{count_of, measure_in, measure_of_items, rank_in};
 use std::alloc::{AllocError, Global};
+use std::mem::replace;
+use std::sync::Arc;
 
 /// At most so many items or parts are in a node that is not to be halved.
 pub(crate) const WIDTH: usize = 8;
@@ -123,7 +126,37 @@ pub(crate) fn halve_at<I: Item>(
     }
 }
 
-/// Copies the node behind this link, where it is shared.
+/// Moves the node to where its owner edits it; where memory is refused it stays.
+fn boxed_node<I: Item>(alloc: Global, node: &mut Node<I>) -> Result<Box<Node<I>>, AllocError>
+    ensures { MatchResult result (λ b. b.value ≡ node.old) (λ _. node.new ≡ node.old) }
+{
+    let taken = replace(node, Node::Items(Vec::new(alloc), 0));
+    match Box::new(alloc, taken) {
+        Ok(own) => Ok(own),
+        Err(failed) => {
+            *node = failed.value;
+            Err(AllocError)
+        }
+    }
+}
+
+/// The node, taken out where no other sequence has it, and else copied.
+fn own_node<I: Item>(alloc: Global, node: &mut Arc<Node<I>>) -> Result<Box<Node<I>>, AllocError>
+    requires { IsLevel (arc_value node.old) }
+    ensures alike { IfOk result (λ b. alike_node b.value ≡ alike_node (arc_value node.old)) }
+    ensures level { IfOk result (λ b. IsLevel b.value) }
+    ensures stays { IfErr result (λ _. arc_value node.new ≡ arc_value node.old) }
+{
+    match Arc::get_mut(node) {
+        Some(inner) => boxed_node(alloc, inner),
+        None => {
+            let copy = copied_node(alloc, node)?;
+            Ok(Box::new(alloc, copy)?)
+        }
+    }
+}
+
+/// Makes the node behind this link one that is owned.
 pub(crate) fn own<I: Item>(alloc: Global, link: &mut Link<I>) -> Result<(), AllocError>
     requires { IsLevelLink link.old }
     ensures kept { Kept (leaves_of_link link.old) (leaves_of_link link.new) }
@@ -131,9 +164,9 @@ pub(crate) fn own<I: Item>(alloc: Global, link: &mut Link<I>) -> Result<(), Allo
     ensures level { IsLevelLink link.new }
     ensures owned { IfOk result (λ _. IsOwned link.new) }
 {
-    if let Link::Shared(node) = &*link {
-        let copy = copied_node(alloc, node)?;
-        *link = Link::Own(Box::new(alloc, copy)?);
+    if let Link::Shared(node) = link {
+        let own = own_node(alloc, node)?;
+        *link = Link::Own(own);
     }
     Ok(())
 }

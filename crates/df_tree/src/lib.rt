@@ -2,6 +2,7 @@
 //! in place where room was reserved.
 #![tactic(auto)]
 
+mod changing;
 mod copying;
 mod cutting;
 mod editing;
@@ -10,12 +11,15 @@ mod halving;
 mod item;
 mod joining;
 mod making;
+mod partition;
 mod replacing;
 mod reserving;
 mod seq;
+mod sharing;
 mod spot;
 mod totals;
 
-pub use finding::Test;
+pub use finding::{Before, Test};
 pub use item::{Item, Monoid};
+pub use partition::Predicate;
 pub use seq::Seq;

@@ -1,5 +1,6 @@
 //! A sequence of items as a tree of wide nodes.
-ghost use Rattle.std.specs.Prelude.{◌≡◌, ◌<◌, ℕ, Some, length, slice_get};
+ghost use Rattle.std.specs.Prelude.{◌≡◌, ◌-◌, ◌<◌, ℕ, Some, length, slice_get};
+ghost use Rattle.std.specs.Option.{option_copied};
 ghost use Rattle.df_tree.specs.Laws.{total};
 ghost use Rattle.df_tree.specs.Level.{IsLevel};
 ghost use Rattle.df_tree.specs.Leaves.{alike, alike_node, items_in};
@@ -134,5 +135,15 @@ impl<I: Item> Seq<I> {
                 parts[spot.at].get(spot.rest)
             }
         }
+    }
+
+    /// The last item, if there is one.
+    pub fn last(&self) -> Option<&I>
+        ensures { option_copied result ≡ slice_get (items_in self.now) (length (items_in self.now) - 1) }
+    {
+        if self.count == 0 {
+            return None;
+        }
+        Some(self.get(self.count - 1))
     }
 }
