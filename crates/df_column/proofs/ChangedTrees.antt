@@ -1,5 +1,5 @@
 -- The rows and types of a tree of which both sides and what stands between them are known.
-use Rattle.std.proofs.Common.{◌≡◌, ℕ, ◌≤◌, List, [], ◌∷◌, ◌++◌, append-nil, append_assoc, length, map, drop, take, refl, sym, ap, subst, ◌∙◌, arith}
+use Rattle.std.proofs.Common.{◌≡◌, ℕ, ◌≤◌, List, [], ◌∷◌, ◌++◌, append-nil, append_assoc, map, drop, take, sym, ap, subst, ◌∙◌}
 use Rattle.std.specs.Prelude.{T}
 use Rattle.df_value.specs.declared.cell.Cell.{Cell}
 use Rattle.df_value.specs.declared.cell.CellType.{CellType}
@@ -11,13 +11,7 @@ use Rattle.df_column.specs.Tables.{entry_change}
 use Rattle.df_column.specs.Tags.{tag_cmp}
 use Rattle.df_column.specs.declared.entry.Entry.{Entry}
 use Rattle.df_column.specs.declared.tag.Tag.{Tag}
-use Rattle.df_column.proofs.BlockListLemmas.{leaves_append}
-use Rattle.df_column.proofs.LeafTreeLemmas.{node_blocks}
 use Rattle.df_column.proofs.SharedLemmas.{changed_between, rows_append, types_append, types_front, types_rest}
-
-pub nothing_changed : (rows : List (Tag × List Cell)) (es : List Entry) → length es ≡ 0 → after_changes tag_cmp rows (map entry_change es) ≡ rows
-nothing_changed rows [] h = refl
-nothing_changed rows (e ∷ es) h = absurd (omega (arith, h))
 
 rows_parts : (a b d : List BlockParts) → rows_of_blocks (a ++ (b ++ d)) ≡ rows_of_blocks a ++ (rows_of_blocks b ++ rows_of_blocks d)
 rows_parts a b d = rows_append a (b ++ d) ∙ ap (λ rs. rows_of_blocks a ++ rs) (rows_append b d)
@@ -79,23 +73,3 @@ only_types dtypes added none made e h = h.types (subst (AreOfDtypes dtypes) (sym
 -- a tree of one leaf
 pub only_blocks : (leaves : List (List BlockParts)) (leaf new : List BlockParts) → leaves ≡ leaf ∷ [] → leaf ≡ new → blocks_of_leaves leaves ≡ new
 only_blocks leaves leaf new is e = ap blocks_of_leaves is ∙ append-nil leaf ∙ e
-
--- one leaf between both sides
-module _ (ls ms all : List (List BlockParts)) (l : List BlockParts) (is : all ≡ ls ++ l ∷ ms) where
-  pub rows_linked : rows_of_blocks (blocks_of_leaves all) ≡ rows_of_blocks (blocks_of_leaves ls) ++ (rows_of_blocks l ++ rows_of_blocks (blocks_of_leaves ms))
-  rows_linked = rows_cut (blocks_of_leaves all) (blocks_of_leaves ls) l (blocks_of_leaves ms) (node_blocks ls ms l all (sym is))
-
-  pub types_linked : (dtypes : List CellType) → AreOfDtypes dtypes l → AreOfDtypes dtypes (blocks_of_leaves ls) → AreOfDtypes dtypes (blocks_of_leaves ms) → AreOfDtypes dtypes (blocks_of_leaves all)
-  types_linked dtypes own left right =
-      subst (AreOfDtypes dtypes) (sym (node_blocks ls ms l all (sym is))) (types_parts dtypes (blocks_of_leaves ls) l (blocks_of_leaves ms) left own right)
-
--- leaves between both sides
-module _ (ls ks ms all : List (List BlockParts)) (is : all ≡ ls ++ (ks ++ ms)) where
-  cut : blocks_of_leaves all ≡ blocks_of_leaves ls ++ (blocks_of_leaves ks ++ blocks_of_leaves ms)
-  cut = ap blocks_of_leaves is ∙ leaves_append ls (ks ++ ms) ∙ ap (λ bs. blocks_of_leaves ls ++ bs) (leaves_append ks ms)
-
-  pub rows_spliced : rows_of_blocks (blocks_of_leaves all) ≡ rows_of_blocks (blocks_of_leaves ls) ++ (rows_of_blocks (blocks_of_leaves ks) ++ rows_of_blocks (blocks_of_leaves ms))
-  rows_spliced = rows_cut (blocks_of_leaves all) (blocks_of_leaves ls) (blocks_of_leaves ks) (blocks_of_leaves ms) cut
-
-  pub types_spliced : (dtypes : List CellType) → AreOfDtypes dtypes (blocks_of_leaves ks) → AreOfDtypes dtypes (blocks_of_leaves ls) → AreOfDtypes dtypes (blocks_of_leaves ms) → AreOfDtypes dtypes (blocks_of_leaves all)
-  types_spliced dtypes own left right = subst (AreOfDtypes dtypes) (sym cut) (types_parts dtypes (blocks_of_leaves ls) (blocks_of_leaves ks) (blocks_of_leaves ms) left own right)

@@ -1,17 +1,17 @@
--- Tables may go to another thread, and threads may share them. The nodes of the tree of leaves stand behind an Arc, which
--- crosses where its contents both cross and may be shared: so the knot of the tree wants, beside each lemma of Send, that
--- of Sync.
-use denote.RattleType.{RattleType}
+-- Tables may go to another thread, and threads may share them.
 use denote.Param.Send.{IsSend, IsSync, sendable}
 use Rattle.std.proofs.Crossing.{crosses}
-use Rattle.std.specs.contracts.alloc.Global as Global
-use Rattle.std.specs.contracts.sync.Arc as Arc
-use Rattle.std.specs.contracts.impls.GlobalAllocator.TheImpl.{ghosts}
 use Rattle.df_value.proofs.schema.Schema.TheSendSync as schema
+use Rattle.df_tree.proofs.Crossing.{seq_send, seq_sync}
 use Rattle.df_column.proofs.leaf.Leaf.TheSendSync as leaf
 use Rattle.df_column.proofs.run.Run.TheSendSync as run
-use Rattle.df_column.proofs.leaf_tree.Node.TheLaws.TheKnot as leaf_tree
+use Rattle.df_column.specs.contracts.leaf_totals.Totals as Totals
+use Rattle.df_column.specs.contracts.leaf_totals.TotalsMonoid.TheImpl as totals_monoid
+use Rattle.df_column.specs.contracts.shared_leaf.SharedLeaf as SharedLeaf
+use Rattle.df_column.specs.contracts.shared_leaf.SharedLeaf.TheInside as SharedLeafInside
+use Rattle.df_column.specs.contracts.shared_leaf.SharedLeafItem.TheImpl as leaf_item
 use Rattle.df_column.specs.contracts.leaf_tree.LeafTree as LeafTree
+use Rattle.df_column.specs.contracts.leaf_tree.LeafTree.TheInside as LeafTreeInside
 use Rattle.df_column.specs.contracts.leaves.Leaves as Leaves
 use Rattle.df_column.specs.contracts.leaves.Leaves.TheInside as LeavesInside
 use Rattle.df_column.specs.contracts.block_list.BlockList as BlockList
@@ -19,25 +19,39 @@ use Rattle.df_column.specs.contracts.block_list.BlockList.TheInside as BlockList
 use Rattle.df_column.specs.contracts.table.Table as Table
 use Rattle.df_column.specs.contracts.table.Table.TheInside as TableInside
 
-arc_send : (R : RattleType) → IsSend R → IsSync R → IsSend (Arc.the_row R Global.the_row ghosts)
-arc_send R s t = search (sendable, crosses) depth 20
+leaf_inside_send : IsSend SharedLeafInside.the_row
+leaf_inside_send = search (sendable, crosses, leaf.the_send, leaf.the_sync) depth 20
 
-arc_sync : (R : RattleType) → IsSend R → IsSync R → IsSync (Arc.the_row R Global.the_row ghosts)
-arc_sync R s t = search (sendable, crosses) depth 20
+leaf_inside_sync : IsSync SharedLeafInside.the_row
+leaf_inside_sync = search (sendable, crosses, leaf.the_send, leaf.the_sync) depth 20
 
-tree_send : IsSend (LeafTree.the_field).row
-tree_send = leaf_tree.both_send-LeafTree arc_send
-    (leaf_tree.both_send-Node (search (sendable, crosses, leaf.the_send, leaf.the_sync) depth 20) (search sendable depth 20) (search sendable depth 20) arc_send
-    (search (sendable, crosses, leaf.the_send, leaf.the_sync) depth 20) (search sendable depth 20) (search sendable depth 20) arc_sync)
-    (leaf_tree.both_sync-Node (search (sendable, crosses, leaf.the_send, leaf.the_sync) depth 20) (search sendable depth 20) (search sendable depth 20) arc_send
-    (search (sendable, crosses, leaf.the_send, leaf.the_sync) depth 20) (search sendable depth 20) (search sendable depth 20) arc_sync)
+leaf_send : IsSend SharedLeaf.the_row
+leaf_send = let i = leaf_inside_send in search sendable depth 20
 
-tree_sync : IsSync (LeafTree.the_field).row
-tree_sync = leaf_tree.both_sync-LeafTree arc_sync
-    (leaf_tree.both_send-Node (search (sendable, crosses, leaf.the_send, leaf.the_sync) depth 20) (search sendable depth 20) (search sendable depth 20) arc_send
-    (search (sendable, crosses, leaf.the_send, leaf.the_sync) depth 20) (search sendable depth 20) (search sendable depth 20) arc_sync)
-    (leaf_tree.both_sync-Node (search (sendable, crosses, leaf.the_send, leaf.the_sync) depth 20) (search sendable depth 20) (search sendable depth 20) arc_send
-    (search (sendable, crosses, leaf.the_send, leaf.the_sync) depth 20) (search sendable depth 20) (search sendable depth 20) arc_sync)
+leaf_sync : IsSync SharedLeaf.the_row
+leaf_sync = let i = leaf_inside_sync in search sendable depth 20
+
+totals_send : IsSend Totals.the_row
+totals_send = search sendable depth 20
+
+totals_sync : IsSync Totals.the_row
+totals_sync = search sendable depth 20
+
+tree_inside_send : IsSend LeafTreeInside.the_row
+tree_inside_send =
+    let s = seq_send SharedLeaf.the_row Totals.the_row leaf_item.ghosts totals_monoid.ghosts leaf_send leaf_sync totals_send totals_sync in
+    search (sendable, crosses) depth 20
+
+tree_inside_sync : IsSync LeafTreeInside.the_row
+tree_inside_sync =
+    let s = seq_sync SharedLeaf.the_row Totals.the_row leaf_item.ghosts totals_monoid.ghosts leaf_send leaf_sync totals_send totals_sync in
+    search (sendable, crosses) depth 20
+
+tree_send : IsSend LeafTree.the_row
+tree_send = let i = tree_inside_send in search sendable depth 20
+
+tree_sync : IsSync LeafTree.the_row
+tree_sync = let i = tree_inside_sync in search sendable depth 20
 
 leaves_inside_send : IsSend LeavesInside.the_row
 leaves_inside_send = let t = tree_send in search sendable depth 20

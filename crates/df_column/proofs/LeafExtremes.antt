@@ -33,15 +33,11 @@ block_further e bs low k i b first best next le lt is so_far made =
     ∙ ap (λ rs. further e old (extreme_of e (cells_at (Some i) (map (λ r. r.1) rs)))) (append-nil (block_rows b)) in
     made ∙ ap (λ o. further e o own) so_far ∙ further_of_three e first old own ∙ ap (further e first) (sym more)
 
--- those of three runs
-pub extreme_of_three : (e : Extreme) (all a b d : List BlockParts) (i : ℕ) (first x y z : Option Cell) → all ≡ a ++ (b ++ d) → x ≡ further e first (extreme_cell e a i) → y ≡ further e x (extreme_cell e b i) → z ≡ further e y (extreme_cell e d i)
-    → z ≡ further e first (extreme_cell e all i)
-extreme_of_three e all a b d i first x y z cut one two three =
-    let f = further e first (extreme_cell e a i) in
-    let both : y ≡ further e f (extreme_cell e b i) = two ∙ ap (λ o. further e o (extreme_cell e b i)) one in
-    three ∙ ap (λ o. further e o (extreme_cell e d i)) both
-    ∙ further_of_three e f (extreme_cell e b i) (extreme_cell e d i) ∙ further_of_three e first (extreme_cell e a i) (further e (extreme_cell e b i) (extreme_cell e d i))
-    ∙ ap (further e first) (ap (further e (extreme_cell e a i)) (sym (extreme_both e b d i)) ∙ sym (extreme_both e a (b ++ d) i) ∙ ap (λ bs. extreme_cell e bs i) (sym cut))
+-- those of two runs
+pub extreme_of_two : (e : Extreme) (all a b : List BlockParts) (i : ℕ) (first x y : Option Cell) → all ≡ a ++ b → x ≡ further e first (extreme_cell e a i) → y ≡ further e x (extreme_cell e b i) → y ≡ further e first (extreme_cell e all i)
+extreme_of_two e all a b i first x y cut one two =
+    two ∙ ap (λ o. further e o (extreme_cell e b i)) one ∙ further_of_three e first (extreme_cell e a i) (extreme_cell e b i)
+    ∙ ap (further e first) (sym (extreme_both e a b i) ∙ ap (λ bs. extreme_cell e bs i) (sym cut))
 
 -- one column more of those whose extremes are there
 pub cells_more : (e : Extreme) (bs : List BlockParts) (cells : List (Option Cell)) (c : Option Cell) (n : ℕ) → length cells ≡ n → AreExtremeCells e bs cells → c ≡ extreme_cell e bs n → AreExtremeCells e bs (cells ++ c ∷ [])

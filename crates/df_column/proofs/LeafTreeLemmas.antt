@@ -1,39 +1,44 @@
--- Blocks that stand in a tree of leaves, and what is counted in them.
-use Rattle.std.proofs.Common.{◌≡◌, ℕ, zero, suc, ◌+◌, ◌<◌, ◌≤◌, ◌%◌, ◌^◌, List, [], ◌∷◌, ◌++◌, length, take, drop, refl, sym, ap, subst, ◌∙◌, arith, append_assoc, length-append}
-use Rattle.std.proofs.Math.Seq.{take-append-add, take-nil}
-use Rattle.std.proofs.lemmas.List.{take-append-drop, take-append-le}
-use Rattle.df_column.specs.BlockLists.{IsRunAt, blocks_of_leaves, rows_in}
+-- Leaves of a tree: their blocks, what is counted in them, and where one of them stands.
+use Rattle.std.proofs.Common.{◌≡◌, ℕ, zero, suc, ◌+◌, ◌<◌, ◌≤◌, ◌^◌, Bool, true, false, List, [], ◌∷◌, ◌++◌, length, take, drop, get_or, nat_lt, refl, sym, ap, ◌∙◌, arith, length-append}
+use Rattle.std.specs.Prelude.{Option, Some, slice_get}
+use Rattle.df_tree.specs.Leaves.{items_in}
+use Rattle.std.proofs.Math.Seq.{take-append-add, take-nil, take-suc}
+use Rattle.std.proofs.lemmas.Bool.{ltb-false, ltb-true}
+use Rattle.std.proofs.lemmas.List.{take-append-drop}
+use Rattle.std.proofs.lemmas.Option.{get_or_from_slice_get}
+use Rattle.df_column.specs.BlockLists.{HaveRows, IsRunAt, blocks_of_leaves, rows_in}
 use Rattle.df_column.specs.Blocks.{BlockParts}
-use Rattle.df_column.specs.LeafTotals.{AreTotals, IsRunOfRow}
+use Rattle.df_tree.specs.Finds.{IsFirstWithSum}
+use Rattle.df_tree.specs.Laws.{total}
+use Rattle.df_column.specs.LeafTotals.{IsRunOfRow, both_totals, capped, no_totals, totals_of}
+use Rattle.df_column.specs.LeafTrees.{AreFull, IsBefore, leaves_in}
 use Rattle.df_column.specs.declared.leaf_totals.Totals.{Totals}
-use Rattle.df_column.proofs.BlockListLemmas.{few_blocks, leaves_append, rows_both, some_append}
-use Rattle.df_column.proofs.ListParts.{drop_front}
+use Rattle.df_column.proofs.BlockListLemmas.{few_blocks, leaf_behind, leaves_append, rows_both, some_append}
+use Rattle.df_column.proofs.LeafTotalFacts.{totals_together}
+use Rattle.df_column.proofs.ListParts.{all_taken, drop_front}
 
--- the blocks of a node
-pub node_blocks : (ls ms : List (List BlockParts)) (l : List BlockParts) (all : List (List BlockParts)) → ls ++ l ∷ ms ≡ all → blocks_of_leaves all ≡ blocks_of_leaves ls ++ (l ++ blocks_of_leaves ms)
-node_blocks ls ms l all is = ap blocks_of_leaves (sym is) ∙ leaves_append ls (l ∷ ms)
+-- leaves that have blocks with rows
+pub full_rows : (ls : List (List BlockParts)) → AreFull ls → HaveRows (blocks_of_leaves ls)
+full_rows [] h = tt
+full_rows (l ∷ ls) h = some_append l (blocks_of_leaves ls) h.0.1 (full_rows ls h.1)
 
--- the sum of three numbers that are known modulo 2^64
-three : (a b c x y z t : ℕ) → x ≡ a % 2 ^ 64 → y ≡ b % 2 ^ 64 → z ≡ c % 2 ^ 64 → t ≡ (x + y + z) % 2 ^ 64 → t ≡ (a + (b + c)) % 2 ^ 64
-three a b c x y z t p q r s = omega arith
+pub full_append : (ls ms : List (List BlockParts)) → AreFull ls → AreFull ms → AreFull (ls ++ ms)
+full_append [] ms p q = q
+full_append (l ∷ ls) ms p q = (p.0, full_append ls ms p.1 q)
 
-length_parted : (a b d : List BlockParts) → length (a ++ (b ++ d)) ≡ length a + (length b + length d)
-length_parted a b d = let x = length-append a (b ++ d) in let y = length-append b d in omega (arith, x, y)
+pub full_take : (n : ℕ) (ls : List (List BlockParts)) → AreFull ls → AreFull (take n ls)
+full_take zero ls h = tt
+full_take (suc n) [] h = tt
+full_take (suc n) (l ∷ ls) h = (h.0, full_take n ls h.1)
 
-rows_parted : (a b d : List BlockParts) → rows_in (a ++ (b ++ d)) ≡ rows_in a + (rows_in b + rows_in d)
-rows_parted a b d = let x = rows_both a (b ++ d) in let y = rows_both b d in omega (arith, x, y)
+pub full_drop : (n : ℕ) (ls : List (List BlockParts)) → AreFull ls → AreFull (drop n ls)
+full_drop zero ls h = h
+full_drop (suc n) [] h = tt
+full_drop (suc n) (l ∷ ls) h = full_drop n ls h.1
 
--- what is counted in a leaf and in both sides of it
-pub totals_are : (ls ms : List (List BlockParts)) (l : List BlockParts) (s own t r : Totals) → AreTotals (blocks_of_leaves ls) s → AreTotals l own → AreTotals (blocks_of_leaves ms) t
-    → r.blocks ≡ (s.blocks + own.blocks + t.blocks) % 2 ^ 64 → r.rows ≡ (s.rows + own.rows + t.rows) % 2 ^ 64 → AreTotals (blocks_of_leaves (ls ++ l ∷ ms)) r
-totals_are ls ms l s own t r left middle right bs rs =
-    let a = blocks_of_leaves ls in
-    let d = blocks_of_leaves ms in
-    subst (λ all. AreTotals all r) (sym (leaves_append ls (l ∷ ms))) record {
-      some = some_append a (l ++ d) left.some (some_append l d middle.some right.some);
-      blocks_are = three (length a) (length l) (length d) s.blocks own.blocks t.blocks r.blocks left.blocks_are middle.blocks_are right.blocks_are bs ∙ ap (λ k. k % 2 ^ 64) (sym (length_parted a l d));
-      rows_are = three (rows_in a) (rows_in l) (rows_in d) s.rows own.rows t.rows r.rows left.rows_are middle.rows_are right.rows_are rs ∙ ap (λ k. k % 2 ^ 64) (sym (rows_parted a l d));
-    }
+pub count_leaves : (ls : List (List BlockParts)) → AreFull ls → length ls ≤ length (blocks_of_leaves ls)
+count_leaves [] h = omega arith
+count_leaves (l ∷ ls) h = let n = length-append l (blocks_of_leaves ls) in let m = count_leaves ls h.1 in omega (arith, n, m, h.0.0)
 
 -- few rows are counted exactly
 pub record IsExact (bs : List BlockParts) (t : Totals) : Type 0 where
@@ -41,104 +46,67 @@ pub record IsExact (bs : List BlockParts) (t : Totals) : Type 0 where
   pub rows : t.rows ≡ rows_in bs
   pub few : length bs ≤ 2 ^ 60
 
-pub exact : (bs : List BlockParts) (t : Totals) → AreTotals bs t → rows_in bs ≤ 2 ^ 60 → IsExact bs t
-exact bs t h few =
-    let n = few_blocks bs h.some in
-    let b = h.blocks_are in
-    let r = h.rows_are in
+pub exact : (bs : List BlockParts) (t : Totals) → t ≡ totals_of bs → HaveRows bs → rows_in bs ≤ 2 ^ 60 → IsExact bs t
+exact bs t is some few =
+    let n = few_blocks bs some in
+    let b : t.blocks ≡ capped (length bs) = ap (λ t. t.blocks) is in
+    let r : t.rows ≡ capped (rows_in bs) = ap (λ t. t.rows) is in
     record { blocks = omega (arith, n, b, few); rows = omega (arith, r, few); few = omega (arith, n, few) }
 
--- the parts of few rows
-pub record AreParts (all a b d : List BlockParts) : Type 0 where
-  pub blocks : length all ≡ length a + (length b + length d)
-  pub rows : rows_in all ≡ rows_in a + (rows_in b + rows_in d)
+-- the parts of blocks
+length_parted : (a b d : List BlockParts) → length (a ++ (b ++ d)) ≡ length a + (length b + length d)
+length_parted a b d = let x = length-append a (b ++ d) in let y = length-append b d in omega (arith, x, y)
 
-pub parts : (all a b d : List BlockParts) → all ≡ a ++ (b ++ d) → AreParts all a b d
-parts all a b d e = record { blocks = ap length e ∙ length_parted a b d; rows = ap rows_in e ∙ rows_parted a b d }
+rows_parted : (a b d : List BlockParts) → rows_in (a ++ (b ++ d)) ≡ rows_in a + (rows_in b + rows_in d)
+rows_parted a b d = let x = rows_both a (b ++ d) in let y = rows_both b d in omega (arith, x, y)
 
--- the number of leaves in both sides
-pub fewer : (ls ms all : List (List BlockParts)) (l : List BlockParts) → ls ++ l ∷ ms ≡ all → length all ≡ length ls + (1 + length ms)
-fewer ls ms all l is = let n = length-append ls (l ∷ ms) in let e = ap length is in omega (arith, n, e)
+-- the blocks of the first leaves, and of those behind them
+pub taken_leaves : (n : ℕ) (ls : List (List BlockParts)) → blocks_of_leaves ls ≡ blocks_of_leaves (take n ls) ++ blocks_of_leaves (drop n ls)
+taken_leaves n ls = ap blocks_of_leaves (sym (take-append-drop n ls)) ∙ leaves_append (take n ls) (drop n ls)
 
--- a run in one side, or between both
-pub run_left : (all a b d run : List BlockParts) (at place : ℕ) → all ≡ a ++ (b ++ d) → IsRunAt a at run place → IsRunAt all at run place
-run_left all a b d run at place e h = record {
-  front = h.front;
-  rest = h.rest ++ (b ++ d);
-  cut = e ∙ ap (λ bs. bs ++ (b ++ d)) h.cut ∙ append_assoc h.front _ (b ++ d) ∙ ap (λ bs. h.front ++ bs) (append_assoc run h.rest (b ++ d));
-  at_is = h.at_is;
-  inside = h.inside;
-}
+pub first_blocks : (n : ℕ) (ls : List (List BlockParts)) (m : ℕ) → m ≡ length (blocks_of_leaves (take n ls)) → blocks_of_leaves (take n ls) ≡ take m (blocks_of_leaves ls)
+first_blocks n ls m is =
+    let front = blocks_of_leaves (take n ls) in
+    let back = blocks_of_leaves (drop n ls) in
+    let e : m ≡ length front + 0 = omega (arith, is) in
+    sym (ap (take m) (taken_leaves n ls) ∙ ap (λ k. take k (front ++ back)) e ∙ take-append-add front back 0 ∙ append-nil front)
+  where
+    append-nil : (xs : List BlockParts) → xs ++ [] ≡ xs
+    append-nil [] = refl
+    append-nil (x ∷ xs) = ap (λ ys. x ∷ ys) (append-nil xs)
 
-pub run_here : (all a b d : List BlockParts) (at place : ℕ) → all ≡ a ++ (b ++ d) → at ≡ length a + place → place < length b → IsRunAt all at b place
-run_here all a b d at place e is lt = record { front = a; rest = d; cut = e; at_is = is; inside = lt }
+pub last_blocks : (n : ℕ) (ls : List (List BlockParts)) (m : ℕ) → m ≡ length (blocks_of_leaves (take n ls)) → blocks_of_leaves (drop n ls) ≡ drop m (blocks_of_leaves ls)
+last_blocks n ls m is =
+    let front = blocks_of_leaves (take n ls) in
+    let back = blocks_of_leaves (drop n ls) in
+    sym (ap (drop m) (taken_leaves n ls) ∙ drop_front front back m 0 (omega (arith, is)))
 
-pub run_right : (all a b d run : List BlockParts) (at off place : ℕ) → all ≡ a ++ (b ++ d) → at ≡ length a + (length b + off) → IsRunAt d off run place → IsRunAt all at run place
-run_right all a b d run at off place e is h =
-    let n = length-append a b in
-    let m = length-append (a ++ b) h.front in
+-- a leaf at an index, with the blocks before it and those behind it
+pub record IsLeafOf (ls : List (List BlockParts)) (at : ℕ) (leaf : List BlockParts) : Type 0 where
+  pub cut : blocks_of_leaves ls ≡ blocks_of_leaves (take at ls) ++ (leaf ++ blocks_of_leaves (drop (at + 1) ls))
+  pub next : blocks_of_leaves (take (at + 1) ls) ≡ blocks_of_leaves (take at ls) ++ leaf
+  pub rest : drop at ls ≡ leaf ∷ drop (at + 1) ls
+  pub blocks : length (blocks_of_leaves ls) ≡ length (blocks_of_leaves (take at ls)) + (length leaf + length (blocks_of_leaves (drop (at + 1) ls)))
+  pub rows : rows_in (blocks_of_leaves ls) ≡ rows_in (blocks_of_leaves (take at ls)) + (rows_in leaf + rows_in (blocks_of_leaves (drop (at + 1) ls)))
+
+dropped_at : (ls : List (List BlockParts)) (at : ℕ) (leaf : List BlockParts) → at < length ls → get_or ls at leaf ≡ leaf → drop at ls ≡ leaf ∷ drop (suc at) ls
+dropped_at [] at leaf h is = absurd (omega (arith, h))
+dropped_at (l ∷ ls) zero leaf h is = ap (λ k. k ∷ ls) is
+dropped_at (l ∷ ls) (suc at) leaf h is = dropped_at ls at leaf (omega (arith, h)) is
+
+pub leaf_at : (ls : List (List BlockParts)) (at : ℕ) (leaf : List BlockParts) → at < length ls → slice_get ls at ≡ Some leaf → IsLeafOf ls at leaf
+leaf_at ls at leaf h found =
+    let here : get_or ls at leaf ≡ leaf = get_or_from_slice_get ls at leaf leaf found in
+    let a : suc at ≡ at + 1 = omega arith in
+    let rest : drop at ls ≡ leaf ∷ drop (at + 1) ls = dropped_at ls at leaf h here ∙ ap (λ n. leaf ∷ drop n ls) a in
+    let taken : take (at + 1) ls ≡ take at ls ++ leaf ∷ [] = ap (λ n. take n ls) (sym a) ∙ take-suc ls at leaf h ∙ ap (λ l. take at ls ++ l ∷ []) here in
+    let cut = taken_leaves at ls ∙ ap (λ ms. blocks_of_leaves (take at ls) ++ blocks_of_leaves ms) rest in
     record {
-      front = (a ++ b) ++ h.front;
-      rest = h.rest;
-      cut = e ∙ sym (append_assoc a b d) ∙ ap (λ bs. (a ++ b) ++ bs) h.cut ∙ sym (append_assoc (a ++ b) h.front _);
-      at_is = let i = h.at_is in omega (arith, n, m, is, i);
-      inside = h.inside;
-    }
-
--- the first blocks, and those behind them
-pub taken_left : (all a b d : List BlockParts) (n : ℕ) → all ≡ a ++ (b ++ d) → n ≤ length a → take n a ≡ take n all
-taken_left all a b d n e le = sym (ap (take n) e ∙ take-append-le n a (b ++ d) le)
-
-pub taken_right : (all a b d : List BlockParts) (n m : ℕ) → all ≡ a ++ (b ++ d) → n ≡ length a + (length b + m) → a ++ (b ++ take m d) ≡ take n all
-taken_right all a b d n m e is =
-    sym (ap (take n) e ∙ ap (λ k. take k (a ++ (b ++ d))) is ∙ take-append-add a (b ++ d) (length b + m) ∙ ap (λ bs. a ++ bs) (take-append-add b d m))
-
-drop_le : (a b : List BlockParts) (n : ℕ) → n ≤ length a → drop n (a ++ b) ≡ drop n a ++ b
-drop_le a b zero le = refl
-drop_le [] b (suc n) le = absurd (omega arith)
-drop_le (x ∷ a) b (suc n) le = drop_le a b n (omega arith)
-
-pub dropped_left : (all a b d : List BlockParts) (n : ℕ) → all ≡ a ++ (b ++ d) → n ≤ length a → drop n a ++ (b ++ d) ≡ drop n all
-dropped_left all a b d n e le = sym (ap (drop n) e ∙ drop_le a (b ++ d) n le)
-
-pub dropped_right : (all a b d : List BlockParts) (n m : ℕ) → all ≡ a ++ (b ++ d) → n ≡ length a + (length b + m) → drop m d ≡ drop n all
-dropped_right all a b d n m e is = sym (ap (drop n) e ∙ drop_front a (b ++ d) n (length b + m) is ∙ drop_front b d (length b + m) m refl)
-
--- a row in one side, or between both
-pub row_left : (all a b d run : List BlockParts) (row : ℕ) (before : Totals) → all ≡ a ++ (b ++ d) → IsRunOfRow a row run before → IsRunOfRow all row run before
-row_left all a b d run row before e h = record {
-  front = h.front;
-  rest = h.rest ++ (b ++ d);
-  cut = e ∙ ap (λ bs. bs ++ (b ++ d)) h.cut ∙ append_assoc h.front _ (b ++ d) ∙ ap (λ bs. h.front ++ bs) (append_assoc run h.rest (b ++ d));
-  blocks_are = h.blocks_are;
-  rows_are = h.rows_are;
-  begins = h.begins;
-  ends = h.ends;
-}
-
-pub row_here : (all a b d : List BlockParts) (row : ℕ) (before : Totals) → all ≡ a ++ (b ++ d) → IsExact a before → rows_in a ≤ row → row < rows_in a + rows_in b → IsRunOfRow all row b before
-row_here all a b d row before e x low high = record { front = a; rest = d; cut = e; blocks_are = x.blocks; rows_are = x.rows; begins = low; ends = high }
-
-pub row_right : (all a b d run : List BlockParts) (row off : ℕ) (before between sum : Totals) (blocks rows : ℕ) → all ≡ a ++ (b ++ d) → IsExact all sum → IsExact a before → blocks ≡ length b → rows ≡ rows_in b
-    → row ≡ rows_in a + (rows_in b + off) → IsRunOfRow d off run between → (out : Totals) → out.blocks ≡ (before.blocks + blocks + between.blocks) % 2 ^ 64 → out.rows ≡ (before.rows + rows + between.rows) % 2 ^ 64 → rows_in all ≤ 2 ^ 60
-    → IsRunOfRow all row run out
-row_right all a b d run row off before between sum blocks rows e whole x nb nr is h out bs rs few =
-    let la = length-append a b in
-    let lf = length-append (a ++ b) h.front in
-    let ra = rows_both a b in
-    let rf = rows_both (a ++ b) h.front in
-    let all_blocks = ap length (e ∙ ap (λ ds. a ++ (b ++ ds)) h.cut) ∙ length_parted a b (h.front ++ (run ++ h.rest)) in
-    let all_rows = ap rows_in (e ∙ ap (λ ds. a ++ (b ++ ds)) h.cut) ∙ rows_parted a b (h.front ++ (run ++ h.rest)) in
-    let inner_blocks = length-append h.front (run ++ h.rest) in
-    let inner_rows = rows_both h.front (run ++ h.rest) in
-    record {
-      front = (a ++ b) ++ h.front;
-      rest = h.rest;
-      cut = e ∙ sym (append_assoc a b d) ∙ ap (λ ds. (a ++ b) ++ ds) h.cut ∙ sym (append_assoc (a ++ b) h.front _);
-      blocks_are = omega (arith, la, lf, bs, nb, x.blocks, h.blocks_are, all_blocks, inner_blocks, whole.few);
-      rows_are = omega (arith, ra, rf, rs, nr, x.rows, h.rows_are, all_rows, inner_rows, few);
-      begins = omega (arith, ra, rf, is, h.begins);
-      ends = omega (arith, ra, rf, is, h.ends);
+      cut = cut;
+      next = ap blocks_of_leaves taken ∙ leaf_behind (take at ls) leaf;
+      rest = rest;
+      blocks = ap length cut ∙ length_parted (blocks_of_leaves (take at ls)) leaf (blocks_of_leaves (drop (at + 1) ls));
+      rows = ap rows_in cut ∙ rows_parted (blocks_of_leaves (take at ls)) leaf (blocks_of_leaves (drop (at + 1) ls));
     }
 
 -- a part of few rows has few rows
@@ -155,3 +123,89 @@ pub taken_behind : (bs : List BlockParts) (n m : ℕ) → take m (drop n bs) ≡
 taken_behind bs zero m = let e : m ≡ 0 + m = omega arith in ap (λ k. take k bs) e
 taken_behind [] (suc n) m = take-nil m ∙ sym (ap (drop (suc n)) (take-nil (suc n + m)))
 taken_behind (b ∷ bs) (suc n) m = let e : suc (n + m) ≡ suc n + m = omega arith in taken_behind bs n m ∙ ap (λ k. drop (suc n) (take k (b ∷ bs))) e
+
+-- the leaves before the one in which a block stands
+pub front_rows : (n : ℕ) (ls : List (List BlockParts)) → rows_in (blocks_of_leaves (take n ls)) ≤ rows_in (blocks_of_leaves ls)
+front_rows n ls = let e = ap rows_in (taken_leaves n ls) ∙ rows_both (blocks_of_leaves (take n ls)) (blocks_of_leaves (drop n ls)) in omega (arith, e)
+
+pub front_blocks : (n : ℕ) (ls : List (List BlockParts)) → length (blocks_of_leaves (take n ls)) ≤ length (blocks_of_leaves ls)
+front_blocks n ls = let e = ap length (taken_leaves n ls) ∙ length-append (blocks_of_leaves (take n ls)) (blocks_of_leaves (drop n ls)) in omega (arith, e)
+
+-- what stands before is counted exactly, where there are few rows
+pub exact_before : (ls : List (List BlockParts)) (n : ℕ) (t : Totals) → AreFull ls → rows_in (blocks_of_leaves ls) ≤ 2 ^ 60 → t ≡ totals_of (blocks_of_leaves (take n ls)) → IsExact (blocks_of_leaves (take n ls)) t
+exact_before ls n t full few is = let m = front_rows n ls in exact (blocks_of_leaves (take n ls)) t is (full_rows (take n ls) (full_take n ls full)) (omega (arith, m, few))
+
+-- what a test of the number of blocks, or of rows, finds
+pub record HasPassed (ls : List (List BlockParts)) (at most : ℕ) (f : List BlockParts → ℕ) : Type 0 where
+  pub not_yet : f (blocks_of_leaves (take at ls)) ≤ most
+  pub now : at < length ls → most < f (blocks_of_leaves (take (at + 1) ls))
+  pub reached : most < f (blocks_of_leaves ls) → at < length ls
+
+within_all : (ls : List (List BlockParts)) (at most : ℕ) (f : List BlockParts → ℕ) → f (blocks_of_leaves (take at ls)) ≤ most → most < f (blocks_of_leaves ls) → at < length ls
+within_all ls at most f not_yet more = by_case (nat_lt at (length ls)) refl where
+  by_case : (b : Bool) → nat_lt at (length ls) ≡ b → at < length ls
+  by_case true e = ltb-true at (length ls) e
+  by_case false e = let n = ap (λ ms. f (blocks_of_leaves ms)) (all_taken ls at (ltb-false at (length ls) e)) in absurd (omega (arith, n, not_yet, more))
+
+pub few_leaves : (ls : List (List BlockParts)) → AreFull ls → rows_in (blocks_of_leaves ls) ≤ 2 ^ 60 → length ls ≤ 2 ^ 60
+few_leaves ls full few =
+    let n = count_leaves ls full in
+    let m = few_blocks (blocks_of_leaves ls) (full_rows ls full) in
+    omega (arith, n, m, few)
+
+pub few_length : (ls : List (List BlockParts)) (n : ℕ) → AreFull ls → rows_in (blocks_of_leaves ls) ≤ 2 ^ 60 → length (blocks_of_leaves (take n ls)) ≤ 2 ^ 60
+few_length ls n full few =
+    let m = front_rows n ls in
+    let b = few_blocks (blocks_of_leaves (take n ls)) (full_rows (take n ls) (full_take n ls full)) in
+    omega (arith, m, b, few)
+
+pub more_blocks : (ls : List (List BlockParts)) (at most : ℕ) (before : Totals) → AreFull ls → rows_in (blocks_of_leaves ls) ≤ 2 ^ 60 → IsBefore (λ sum. nat_lt most (capped sum.blocks)) ls at before → HasPassed ls at most length
+more_blocks ls at most before full few h =
+    let x = exact_before ls at before full few h.before_is in
+    let m = few_length ls (at + 1) full few in
+    let now : at < length ls → most < length (blocks_of_leaves (take (at + 1) ls)) = λ lt. let p = ltb-true _ _ (h.now lt) in omega (arith, p, m) in
+    let not_yet : length (blocks_of_leaves (take at ls)) ≤ most = let p = ltb-false _ _ h.not_yet in omega (arith, p, x.blocks, x.few) in
+    record { not_yet = not_yet; now = now; reached = within_all ls at most length not_yet }
+
+pub more_rows : (ls : List (List BlockParts)) (at most : ℕ) (before : Totals) → AreFull ls → rows_in (blocks_of_leaves ls) ≤ 2 ^ 60 → IsBefore (λ sum. nat_lt most (capped sum.rows)) ls at before → HasPassed ls at most rows_in
+more_rows ls at most before full few h =
+    let x = exact_before ls at before full few h.before_is in
+    let m = front_rows (at + 1) ls in
+    let k = front_rows at ls in
+    let now : at < length ls → most < rows_in (blocks_of_leaves (take (at + 1) ls)) = λ lt. let p = ltb-true _ _ (h.now lt) in omega (arith, p, m, few) in
+    let not_yet : rows_in (blocks_of_leaves (take at ls)) ≤ most = let p = ltb-false _ _ h.not_yet in omega (arith, p, x.rows, k, few) in
+    record { not_yet = not_yet; now = now; reached = within_all ls at most rows_in not_yet }
+
+-- the run of a leaf that a block stands in
+pub run_in_leaf : (ls : List (List BlockParts)) (at n place : ℕ) (leaf : List BlockParts) → IsLeafOf ls at leaf → n ≡ length (blocks_of_leaves (take at ls)) + place → place < length leaf → IsRunAt (blocks_of_leaves ls) n leaf place
+run_in_leaf ls at n place leaf h is lt = record { front = blocks_of_leaves (take at ls); rest = blocks_of_leaves (drop (at + 1) ls); cut = h.cut; at_is = is; inside = lt }
+
+-- and that a row stands in
+pub row_in_leaf : (ls : List (List BlockParts)) (at row : ℕ) (leaf : List BlockParts) (before : Totals) → IsLeafOf ls at leaf → IsExact (blocks_of_leaves (take at ls)) before → rows_in (blocks_of_leaves (take at ls)) ≤ row → row < rows_in (blocks_of_leaves (take at ls)) + rows_in leaf → IsRunOfRow (blocks_of_leaves ls) row leaf before
+row_in_leaf ls at row leaf before h x low high = record { front = blocks_of_leaves (take at ls); rest = blocks_of_leaves (drop (at + 1) ls); cut = h.cut; blocks_are = x.blocks; rows_are = x.rows; begins = low; ends = high }
+
+-- what a search finds
+pub found_first : (passes : Totals → Bool) (ls : List (List BlockParts)) (at : ℕ) (before : Totals) → IsFirstWithSum no_totals both_totals totals_of passes ls at before → IsBefore passes ls at before
+found_first passes ls at before h = record {
+  within = omega (arith, h.first.within);
+  before_is = h.sum_is ∙ totals_together (take at ls);
+  not_yet = ap passes h.sum_is ∙ h.first.before at (omega arith);
+  now = λ lt. ap passes (sym (totals_together (take (at + 1) ls))) ∙ h.first.now;
+}
+
+pub found_none : (passes : Totals → Bool) (ls : List (List BlockParts)) (at : ℕ) (all : Totals) → at ≡ length ls → all ≡ total no_totals both_totals totals_of ls → passes (total no_totals both_totals totals_of ls) ≡ false → IsBefore passes ls at all
+found_none passes ls at all is sum h = record {
+  within = omega (arith, is);
+  before_is = sum ∙ totals_together ls ∙ ap (λ ms. totals_of (blocks_of_leaves ms)) (sym (all_taken ls at (omega (arith, is))));
+  not_yet = ap passes sum ∙ h;
+  now = λ lt. absurd (omega (arith, lt, is));
+}
+
+-- the leaves of a sequence that is there
+pub some_leaves : (o : Option (List (List (List BlockParts) × ℕ) × ℕ)) (s : List (List (List BlockParts) × ℕ) × ℕ) (ls : List (List BlockParts)) → o ≡ Some s → leaves_in o ≡ ls → items_in {I = List BlockParts} s ≡ ls
+some_leaves o s ls is view = sym (ap leaves_in is) ∙ view
+
+pub only_one : (ls : List (List BlockParts)) (leaf : List BlockParts) → length ls ≡ 1 → slice_get ls 0 ≡ Some leaf → ls ≡ leaf ∷ []
+only_one [] leaf n found = absurd (omega (arith, n))
+only_one (l ∷ []) leaf n found = ap (λ k. k ∷ []) (get_or_from_slice_get (l ∷ []) 0 leaf leaf found)
+only_one (l ∷ m ∷ ls) leaf n found = absurd (omega (arith, n))

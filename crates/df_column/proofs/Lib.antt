@@ -29,6 +29,7 @@ pub mod LeafEnds
 mod TagBlocks
 mod TagPlaces
 mod RowTagLemmas
+pub mod LeafTotalFacts
 pub mod LeafTreeLemmas
 pub mod Crossing
 pub mod LeafExtremes
@@ -43,6 +44,8 @@ mod UnlikeTypes
 mod ChangedParts
 mod ChangedTrees
 mod ChangedNodes
+mod LeafOrder
+mod ChangedLeaves
 pub mod MergeLemmas
 pub mod TextPlaces
 mod KnownLemmas

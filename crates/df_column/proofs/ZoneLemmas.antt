@@ -174,11 +174,6 @@ tags_more index value rows more all old out after e so_far made =
     made ∙ ap (λ ts. ts ++ tags_above index value more) so_far ∙ append_assoc old (tags_above index value rows) (tags_above index value more)
     ∙ ap (λ ts. old ++ ts) (sym (tags-append index value rows more)) ∙ ap (λ es. old ++ tags_above index value es) (sym e)
 
-pub tags_of_three : (index : Option ℕ) (value : Cell) (rows a b d : List (Tag × List Cell)) (old x y z : List Tag) → rows ≡ a ++ (b ++ d) → x ≡ old ++ tags_above index value a → y ≡ x ++ tags_above index value b → z ≡ y ++ tags_above index value d
-    → z ≡ old ++ tags_above index value rows
-tags_of_three index value rows a b d old x y z e one two three =
-    tags_more index value (a ++ b) d rows old y z (e ∙ sym (append_assoc a b d)) (tags_more index value a b (a ++ b) old x y refl one two) three
-
 -- where the greatest cell is not above a value, no cell is
 pub none_above_cell : (value g : Cell) (cells : List Cell) → is_gt (cell_cmp g value) ≡ false → Some g ≡ extreme_of extreme.Greatest cells → T (list_all (λ c. not (is_above value c)) cells)
 none_above_cell value g cells h is =

@@ -1,14 +1,24 @@
 -- What is counted in blocks that stand in leaves.
-use Rattle.std.specs.Prelude.{◌≡◌, ℕ, ◌+◌, ◌<◌, ◌≤◌, ◌%◌, ◌^◌, List, ◌++◌, length}
-use Rattle.df_column.specs.BlockLists.{HaveRows, rows_in}
+use Rattle.std.specs.Prelude.{◌≡◌, ℕ, ◌+◌, ◌-◌, ◌<◌, ◌≤◌, ◌^◌, List, ◌++◌, length, min}
+use Rattle.df_column.specs.BlockLists.{rows_in}
 use Rattle.df_column.specs.Blocks.{BlockParts}
 use Rattle.df_column.specs.declared.leaf_totals.Totals.{Totals}
 
--- how many blocks there are, and how many rows they have, modulo 2^64; each block has rows
-pub record AreTotals (blocks : List BlockParts) (t : Totals) : Type 0 where
-  pub some : HaveRows blocks
-  pub blocks_are : t.blocks ≡ length blocks % 2 ^ 64
-  pub rows_are : t.rows ≡ rows_in blocks % 2 ^ 64
+-- a number, or the greatest one of 64 bits where it is above that
+abbrev pub capped : ℕ → ℕ
+capped n = min n (2 ^ 64 - 1)
+
+-- how many blocks there are, and how many rows they have
+abbrev pub totals_of : List BlockParts → Totals
+totals_of blocks = record { blocks = capped (length blocks); rows = capped (rows_in blocks) }
+
+-- of no blocks
+abbrev pub no_totals : Totals
+no_totals = record { blocks = 0; rows = 0 }
+
+-- of some blocks and of others
+abbrev pub both_totals : Totals → Totals → Totals
+both_totals s t = record { blocks = capped (s.blocks + t.blocks); rows = capped (s.rows + t.rows) }
 
 -- the row at an index of all rows of these blocks stands in a run of them, and so much stands before the run
 pub record IsRunOfRow (blocks : List BlockParts) (row : ℕ) (run : List BlockParts) (before : Totals) : Type 0 where

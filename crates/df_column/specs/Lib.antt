@@ -21,6 +21,7 @@ pub mod TableBlocks
 pub mod RowRuns
 pub mod Extremes
 pub mod LeafTotals
+pub mod LeafTotalLaws
 pub mod SharedLeaves
 pub mod LeafTrees
 pub mod TreeChanges

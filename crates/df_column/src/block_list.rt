@@ -23,7 +23,6 @@ use crate::extremes::Extreme;
 use crate::leaf::Leaf;
 use crate::leaves::{Leaves, Stretch};
 use crate::run::{Run, Spot, end_behind};
-use crate::shared_leaf::SharedLeaf;
 use crate::tag::{Tag, begins_behind};
 use df_value::Cell;
 use std::alloc::{AllocError, Global};
@@ -392,6 +391,5 @@ fn with_leaf(alloc: Global, leaves: Leaves, run: Run) -> Result<Leaves, AllocErr
     requires some { 0 < length run }
     ensures { IfOk result (λ l. l ≡ leaves ++ run) }
 {
-    let leaf = SharedLeaf::new(alloc, Leaf::new(alloc, run)?)?;
-    leaves.pushed(alloc, &leaf)
+    leaves.pushed(alloc, Leaf::new(alloc, run)?)
 }

@@ -1,395 +1,199 @@
-//! A tree of leaves, which is balanced by heights.
-ghost use Rattle.std.specs.Prelude.{◌≡◌, ◌≤◌, ◌++◌, ◌∷◌, ◌^◌, [], IfOk, IfSome, drop, length, take};
-ghost use Rattle.df_column.specs.BlockLists.{rows_in};
-ghost use Rattle.df_column.specs.LeafTotals.{AreTotals};
-ghost use Rattle.df_column.specs.LeafTrees.{blocks_in, leaves_of};
+//! Leaves in order, as a tree of wide nodes.
+ghost use Rattle.std.specs.Prelude.{◌≡◌, ◌<◌, ◌≤◌, ◌++◌, ◌∷◌, ◌^◌, [], IfOk, Some, T, drop, false, length, slice_get, take};
+ghost use Rattle.std.specs.FinMap.{is_sorted};
+ghost use Rattle.df_column.specs.BlockLists.{blocks_of_leaves, rows_in};
+ghost use Rattle.df_column.specs.Blocks.{rows_of_blocks};
+ghost use Rattle.df_column.specs.LeafTotals.{no_totals, totals_of};
+ghost use Rattle.df_column.specs.LeafTrees.{AreFull, IsBefore, leaves_in, reaches};
+ghost use Rattle.df_column.specs.Tags.{tag_cmp};
+ghost use Rattle.df_tree.specs.Leaves.{items_in};
+ghost use Rattle.df_tree.specs.Partitions.{IsPlace};
 
-use crate::leaf_totals::Totals;
+use crate::leaf::Leaf;
+use crate::leaf_totals::{MoreBlocks, Totals};
 use crate::shared_leaf::SharedLeaf;
+use crate::tag::Tag;
+use df_tree::{Before, Predicate, Seq, Test};
 use std::alloc::{AllocError, Global};
 use std::marker::Model;
-use std::sync::Arc;
 
 mod changes;
 mod reads;
 
-/// Leaves in order. Trees share the nodes that they have in common.
-#[cycle(leaf_tree)]
-pub enum LeafTree {
-    Empty,
-    Fork(Arc<Node>),
+/// Leaves in order. Trees share the nodes that they have in common. Contracts see the blocks of each leaf.
+pub struct LeafTree {
+    leaves: Option<Seq<SharedLeaf>>,
 }
 
 // A body that owns one drops it by a call.
 impl Drop for LeafTree {
-    #[cycle(leaf_tree_drop)]
     fn drop(self) {
-        match self {
-            LeafTree::Empty => {}
-            LeafTree::Fork(node) => drop(node),
-        }
+        let LeafTree { leaves } = self;
+        drop(leaves);
     }
 }
 
-/// A leaf between those before it and those behind it, and how many blocks and rows there are in all. Contracts see the
-/// blocks of each leaf.
-#[cycle(leaf_tree)]
-pub struct Node {
-    left: LeafTree,
-    leaf: SharedLeaf,
-    right: LeafTree,
-    height: u8,
-    totals: Totals,
-}
-
-// A body that owns one drops it by a call.
-impl Drop for Node {
-    #[cycle(leaf_tree_drop)]
-    fn drop(self) {
-        let Node {
-            left,
-            leaf,
-            right,
-            height: _,
-            totals: _,
-        } = self;
-        drop(left);
-        drop(leaf);
-        drop(right);
-    }
-}
-
-impl Model for Node {
-    ghost use Rattle.std.specs.Prelude.{List, ◌++◌, ◌∷◌, length};
+impl Model for LeafTree {
+    ghost use Rattle.std.specs.Prelude.{List};
     ghost use Rattle.df_column.specs.Blocks.{BlockParts};
-    ghost use Rattle.std.proofs.Common.{arith, length-append};
+    ghost use Rattle.df_column.specs.LeafTrees.{AreFull, leaves_in};
 
     ghost Value = { List (List BlockParts) };
 
-    ghost use Rattle.df_column.specs.BlockLists.{blocks_of_leaves};
-    ghost use Rattle.df_column.specs.LeafTotals.{AreTotals};
-    ghost use Rattle.df_column.specs.LeafTrees.{leaves_of};
+    ghost view = { λ t. leaves_in t.leaves };
 
-    ghost view = { λ n. leaves_of n.left ++ n.leaf ∷ leaves_of n.right };
-
-    ghost invariant = { λ n. AreTotals (blocks_of_leaves (leaves_of n.left ++ n.leaf ∷ leaves_of n.right)) n.totals };
-
-    ghost size = { length };
-
-    ghost size_decreases = { λ a h. Prim.grind (arith, length-append) };
+    ghost invariant = { λ t. AreFull (leaves_in t.leaves) };
 }
 
-/// The first leaf of a tree, and the others.
-#[derive(Drop)]
-struct Parted {
-    leaf: SharedLeaf,
-    rest: LeafTree,
-}
-
-/// The tree of these leaves, which takes both sides as they are.
-fn fork(
-    alloc: Global,
-    left: &LeafTree,
-    leaf: &SharedLeaf,
-    right: &LeafTree,
-) -> Result<LeafTree, AllocError>
-    ensures { IfOk result (λ t. leaves_of t ≡ leaves_of left.now ++ leaf.now ∷ leaves_of right.now) }
+/// How many leaves stand before the one with which the totals pass a test, or all, and what these add up to.
+fn found_before<T: Test<Totals>>(leaves: &Seq<SharedLeaf>, test: &T) -> Before<Totals>
+    requires { T.passes test.now no_totals ≡ false }
+    ensures { IsBefore (T.passes test.now) (items_in leaves.now) result.count result.sum }
 {
-    // No tree that fits in memory is as high as a `u8` can say.
-    let height = left.height().max(right.height()).saturating_add(1);
-    let own = leaf.totals();
-    let totals = left.totals().with(own.blocks, own.rows, right.totals());
-    let node = Node {
-        left: left.share()?,
-        leaf: leaf.share()?,
-        right: right.share()?,
-        height,
-        totals,
-    };
-    Ok(LeafTree::Fork(Arc::new(alloc, node)?))
-}
-
-/// The tree of these leaves, where the left side is too high.
-fn lean_right(
-    alloc: Global,
-    left: &Node,
-    leaf: &SharedLeaf,
-    right: &LeafTree,
-) -> Result<LeafTree, AllocError>
-    ensures { IfOk result (λ t. leaves_of t ≡ left.now ++ leaf.now ∷ leaves_of right.now) }
-{
-    match &left.right {
-        LeafTree::Fork(middle) if left.left.height() < left.right.height() => {
-            let middle: &Node = middle;
-            let below = fork(alloc, &left.left, &left.leaf, &middle.left)?;
-            let above = fork(alloc, &middle.right, leaf, right)?;
-            fork(alloc, &below, &middle.leaf, &above)
-        }
-        inner => {
-            let above = fork(alloc, inner, leaf, right)?;
-            fork(alloc, &left.left, &left.leaf, &above)
-        }
+    match leaves.find_with_sum(test) {
+        Some(found) => found,
+        None => Before {
+            count: leaves.len(),
+            sum: leaves.measure(),
+        },
     }
 }
 
-/// The tree of these leaves, where the right side is too high.
-fn lean_left(
+/// The leaves of two sequences, one behind the other.
+fn joined_leaves(
     alloc: Global,
-    left: &LeafTree,
-    leaf: &SharedLeaf,
-    right: &Node,
-) -> Result<LeafTree, AllocError>
-    ensures { IfOk result (λ t. leaves_of t ≡ leaves_of left.now ++ leaf.now ∷ right.now) }
+    front: &Option<Seq<SharedLeaf>>,
+    behind: &Option<Seq<SharedLeaf>>,
+) -> Result<Option<Seq<SharedLeaf>>, AllocError>
+    ensures { IfOk result (λ o. leaves_in o ≡ leaves_in front.now ++ leaves_in behind.now) }
 {
-    match &right.left {
-        LeafTree::Fork(middle) if right.right.height() < right.left.height() => {
-            let middle: &Node = middle;
-            let below = fork(alloc, left, leaf, &middle.left)?;
-            let above = fork(alloc, &middle.right, &right.leaf, &right.right)?;
-            fork(alloc, &below, &middle.leaf, &above)
-        }
-        inner => {
-            let below = fork(alloc, left, leaf, inner)?;
-            fork(alloc, &below, &right.leaf, &right.right)
-        }
+    match (front, behind) {
+        (Some(front), Some(behind)) => Ok(Some(front.joined(alloc, behind)?)),
+        (Some(only), None) | (None, Some(only)) => Ok(Some(only.copied(alloc)?)),
+        (None, None) => Ok(None),
     }
 }
 
-/// Whether a tree is by more than one node higher than another.
-fn is_too_high(tree: &LeafTree, other: &LeafTree) -> bool {
-    tree.height() > other.height().saturating_add(1)
-}
+/// Whether a leaf begins not behind a tag.
+#[derive(Clone, Copy)]
+struct Reaches(Tag);
 
-/// The tree of these leaves. It is balanced where both sides are, and their heights differ by at most two.
-fn balanced(
-    alloc: Global,
-    left: &LeafTree,
-    leaf: &SharedLeaf,
-    right: &LeafTree,
-) -> Result<LeafTree, AllocError>
-    ensures { IfOk result (λ t. leaves_of t ≡ leaves_of left.now ++ leaf.now ∷ leaves_of right.now) }
-{
-    match (left, right) {
-        (LeafTree::Fork(node), _) if is_too_high(left, right) => lean_right(
-            alloc, node, leaf, right,
-        ),
-        (_, LeafTree::Fork(node)) if is_too_high(right, left) => lean_left(alloc, left, leaf, node),
-        _ => fork(alloc, left, leaf, right),
-    }
-}
+impl Predicate<SharedLeaf> for Reaches {
+    ghost holds = { λ p leaf. reaches p.0 leaf };
 
-/// The tree of these leaves. New are only nodes on the right border of the left side, down to where it is at most by one
-/// higher than the right one, and those that are turned.
-fn linked_below_left(
-    alloc: Global,
-    left: &LeafTree,
-    leaf: &SharedLeaf,
-    right: &LeafTree,
-) -> Result<LeafTree, AllocError>
-    ensures { IfOk result (λ t. leaves_of t ≡ leaves_of left.now ++ leaf.now ∷ leaves_of right.now) }
-{
-    match left {
-        LeafTree::Fork(node) if is_too_high(left, right) => {
-            let node: &Node = node;
-            let below = linked_below_left(alloc, &node.right, leaf, right)?;
-            balanced(alloc, &node.left, &node.leaf, &below)
-        }
-        _ => fork(alloc, left, leaf, right),
-    }
-}
-
-/// The tree of these leaves. New are only nodes on the left border of the right side, down to where it is at most by one
-/// higher than the left one, and those that are turned.
-fn linked_below_right(
-    alloc: Global,
-    left: &LeafTree,
-    leaf: &SharedLeaf,
-    right: &LeafTree,
-) -> Result<LeafTree, AllocError>
-    ensures { IfOk result (λ t. leaves_of t ≡ leaves_of left.now ++ leaf.now ∷ leaves_of right.now) }
-{
-    match right {
-        LeafTree::Fork(node) if is_too_high(right, left) => {
-            let node: &Node = node;
-            let below = linked_below_right(alloc, left, leaf, &node.left)?;
-            balanced(alloc, &below, &node.leaf, &node.right)
-        }
-        _ => fork(alloc, left, leaf, right),
-    }
-}
-
-/// The tree of these leaves, of two trees of any heights.
-fn linked(
-    alloc: Global,
-    left: &LeafTree,
-    leaf: &SharedLeaf,
-    right: &LeafTree,
-) -> Result<LeafTree, AllocError>
-    ensures { IfOk result (λ t. leaves_of t ≡ leaves_of left.now ++ leaf.now ∷ leaves_of right.now) }
-{
-    if left.height() < right.height() {
-        linked_below_right(alloc, left, leaf, right)
-    } else {
-        linked_below_left(alloc, left, leaf, right)
-    }
-}
-
-/// The tree of these leaves, of three trees of any heights.
-fn joined_three(
-    alloc: Global,
-    left: &LeafTree,
-    middle: &LeafTree,
-    right: &LeafTree,
-) -> Result<LeafTree, AllocError>
-    ensures { IfOk result (λ t. leaves_of t ≡ leaves_of left.now ++ (leaves_of middle.now ++ leaves_of right.now)) }
-{
-    match middle.only_leaf() {
-        Some(leaf) => linked(alloc, left, leaf, right),
-        None => {
-            let behind = middle.joined(alloc, right)?;
-            left.joined(alloc, &behind)
-        }
-    }
-}
-
-/// The first of the leaves of a node, and the others.
-fn split_first(alloc: Global, node: &Node) -> Result<Parted, AllocError>
-    ensures { IfOk result (λ p. p.leaf ∷ leaves_of p.rest ≡ node.now) }
-{
-    match &node.left {
-        LeafTree::Empty => Ok(Parted {
-            leaf: node.leaf.share()?,
-            rest: node.right.share()?,
-        }),
-        LeafTree::Fork(left) => {
-            let first = split_first(alloc, left)?;
-            let rest = balanced(alloc, &first.rest, &node.leaf, &node.right)?;
-            Ok(Parted {
-                leaf: first.leaf,
-                rest,
-            })
-        }
+    fn holds(&self, leaf: &SharedLeaf) -> bool {
+        leaf.first_tag() <= self.0
     }
 }
 
 impl LeafTree {
-    /// The number of nodes on the longest way down.
-    fn height(&self) -> u8 {
-        match self {
-            LeafTree::Empty => 0,
-            LeafTree::Fork(node) => {
-                let node: &Node = node;
-                node.height
-            }
-        }
-    }
-
-    /// The leaf, if there is just one.
-    fn only_leaf(&self) -> Option<&SharedLeaf>
-        ensures { IfSome result (λ l. leaves_of self.now ≡ l.now ∷ []) }
+    /// No leaves.
+    pub fn new() -> LeafTree
+        ensures { result ≡ [] }
     {
-        let LeafTree::Fork(node) = self else {
-            return None;
-        };
-        let node: &Node = node;
-        match (&node.left, &node.right) {
-            (LeafTree::Empty, LeafTree::Empty) => Some(&node.leaf),
-            _ => None,
-        }
+        LeafTree { leaves: None }
     }
 
-    /// How many blocks there are, and how many rows they have, modulo 2^64.
+    /// A leaf alone.
+    pub fn of_leaf(alloc: Global, leaf: Leaf) -> Result<LeafTree, AllocError>
+        ensures { IfOk result (λ t. t ≡ leaf ∷ []) }
+    {
+        let leaf = SharedLeaf::new(alloc, leaf)?;
+        let mut run = Vec::with_capacity(alloc, 1)?;
+        run.push(leaf)?;
+        let leaves = Some(Seq::from_items(alloc, run)?);
+        Ok(LeafTree { leaves })
+    }
+
+    /// How many blocks there are, and how many rows they have, or 2^64 - 1 where there are more.
     pub fn totals(&self) -> Totals
-        ensures { AreTotals (blocks_in self.now) result }
+        ensures totals { result ≡ totals_of (blocks_of_leaves self.now) }
+        ensures full { AreFull (self.now) }
     {
-        match self {
-            LeafTree::Empty => Totals { blocks: 0, rows: 0 },
-            LeafTree::Fork(node) => {
-                let node: &Node = node;
-                node.totals
-            }
+        match &self.leaves {
+            Some(leaves) => leaves.measure(),
+            None => Totals { blocks: 0, rows: 0 },
         }
     }
 
-    /// The same tree once more. It takes no memory.
-    pub fn share(&self) -> Result<LeafTree, AllocError>
-        ensures { IfOk result (λ t. leaves_of t ≡ leaves_of self.now) }
+    /// The same tree once more.
+    fn share(&self, alloc: Global) -> Result<LeafTree, AllocError>
+        ensures { IfOk result (λ t. t ≡ self.now) }
     {
-        match self {
-            LeafTree::Empty => Ok(LeafTree::Empty),
-            LeafTree::Fork(node) => Ok(LeafTree::Fork(Arc::try_clone(node)?)),
-        }
+        let leaves = match &self.leaves {
+            Some(leaves) => Some(leaves.copied(alloc)?),
+            None => None,
+        };
+        Ok(LeafTree { leaves })
     }
 
-    /// The tree with this leaf behind it.
-    pub fn pushed(&self, alloc: Global, leaf: &SharedLeaf) -> Result<LeafTree, AllocError>
-        ensures { IfOk result (λ t. leaves_of t ≡ leaves_of self.now ++ leaf.now ∷ []) }
+    /// The leaf at this index.
+    fn leaf(&self, at: usize) -> &SharedLeaf
+        requires { at < length (self.now) }
+        ensures { slice_get (self.now) at ≡ Some result.now }
     {
-        linked(alloc, self, leaf, &LeafTree::Empty)
+        let Some(leaves) = &self.leaves else {
+            unreachable!();
+        };
+        leaves.get(at)
+    }
+
+    /// How many leaves begin not behind the tag, and what they add up to.
+    fn leaves_up_to(&self, tag: Tag) -> Before<Totals>
+        requires { T (is_sorted tag_cmp (rows_of_blocks (blocks_of_leaves self.now))) }
+        ensures place { IsPlace (reaches tag) (self.now) result.count }
+        ensures sum { result.sum ≡ totals_of (blocks_of_leaves (take result.count (self.now))) }
+        ensures full { AreFull (self.now) }
+    {
+        match &self.leaves {
+            Some(leaves) => leaves.before(&Reaches(tag)),
+            None => Before {
+                count: 0,
+                sum: Totals { blocks: 0, rows: 0 },
+            },
+        }
     }
 
     /// The tree with the leaves of another one behind it.
     pub fn joined(&self, alloc: Global, other: &LeafTree) -> Result<LeafTree, AllocError>
-        ensures { IfOk result (λ t. leaves_of t ≡ leaves_of self.now ++ leaves_of other.now) }
+        ensures { IfOk result (λ t. t ≡ self.now ++ other.now) }
     {
-        match (self, other) {
-            (LeafTree::Empty, _) => other.share(),
-            (_, LeafTree::Empty) => self.share(),
-            (_, LeafTree::Fork(node)) => {
-                let first = split_first(alloc, node)?;
-                linked(alloc, self, &first.leaf, &first.rest)
-            }
-        }
+        let leaves = joined_leaves(alloc, &self.leaves, &other.leaves)?;
+        Ok(LeafTree { leaves })
     }
 
     /// As many of the first leaves as have at most so many blocks together, and how many blocks these have.
     pub fn first(&self, alloc: Global, most: usize) -> Result<(LeafTree, usize), AllocError>
-        requires { rows_in (blocks_in self.now) ≤ 2 ^ 60 }
-        ensures blocks { IfOk result (λ v. blocks_in v.0 ≡ take v.1 (blocks_in self.now)) }
-        ensures within { IfOk result (λ v. v.1 ≤ length (blocks_in self.now)) }
+        requires { rows_in (blocks_of_leaves self.now) ≤ 2 ^ 60 }
+        ensures blocks { IfOk result (λ v. blocks_of_leaves v.0 ≡ take v.1 (blocks_of_leaves self.now)) }
+        ensures within { IfOk result (λ v. v.1 ≤ length (blocks_of_leaves self.now)) }
         ensures most { IfOk result (λ v. v.1 ≤ most) }
     {
-        let LeafTree::Fork(node) = self else {
-            return Ok((LeafTree::Empty, 0));
+        let Some(leaves) = &self.leaves else {
+            return Ok((LeafTree::new(), 0));
         };
-        let node: &Node = node;
-        if node.totals.blocks <= most {
-            return Ok((self.share()?, node.totals.blocks));
-        }
-        let before = node.left.totals().blocks;
-        let end = before + node.leaf.totals().blocks;
-        if most < end {
-            let (front, many) = node.left.first(alloc, most)?;
-            return Ok((front, many));
-        }
-        let (rest, more) = node.right.first(alloc, most - end)?;
-        let tree = linked(alloc, &node.left, &node.leaf, &rest)?;
-        Ok((tree, end + more))
+        let found = found_before(leaves, &MoreBlocks(most));
+        let leaves = Some(leaves.first(alloc, found.count)?);
+        Ok((LeafTree { leaves }, found.sum.blocks))
     }
 
     /// The leaves that begin behind at least so many blocks, and how many blocks stand before them.
     pub fn behind(&self, alloc: Global, least: usize) -> Result<(LeafTree, usize), AllocError>
-        requires few { rows_in (blocks_in self.now) ≤ 2 ^ 60 }
-        requires in_range { least ≤ length (blocks_in self.now) }
-        ensures blocks { IfOk result (λ v. blocks_in v.0 ≡ drop v.1 (blocks_in self.now)) }
-        ensures within { IfOk result (λ v. v.1 ≤ length (blocks_in self.now)) }
+        requires few { rows_in (blocks_of_leaves self.now) ≤ 2 ^ 60 }
+        requires in_range { least ≤ length (blocks_of_leaves self.now) }
+        ensures blocks { IfOk result (λ v. blocks_of_leaves v.0 ≡ drop v.1 (blocks_of_leaves self.now)) }
+        ensures within { IfOk result (λ v. v.1 ≤ length (blocks_of_leaves self.now)) }
         ensures least { IfOk result (λ v. least ≤ v.1) }
     {
-        let LeafTree::Fork(node) = self else {
-            return Ok((LeafTree::Empty, 0));
+        let Some(leaves) = &self.leaves else {
+            return Ok((LeafTree::new(), 0));
         };
-        let node: &Node = node;
         if least == 0 {
-            return Ok((self.share()?, 0));
+            return Ok((self.share(alloc)?, 0));
         }
-        let before = node.left.totals().blocks;
-        if least <= before {
-            let (rest, start) = node.left.behind(alloc, least)?;
-            let tree = linked(alloc, &rest, &node.leaf, &node.right)?;
-            return Ok((tree, start));
-        }
-        let end = before + node.leaf.totals().blocks;
-        let (others, more) = node.right.behind(alloc, least.saturating_sub(end))?;
-        Ok((others, end + more))
+        let found = found_before(leaves, &MoreBlocks(least - 1));
+        let end = found.sum.blocks + leaves.get(found.count).run().len();
+        let leaves = Some(leaves.behind(alloc, found.count + 1)?);
+        Ok((LeafTree { leaves }, end))
     }
 }

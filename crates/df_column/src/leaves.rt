@@ -2,10 +2,9 @@
 ghost use Rattle.std.specs.Prelude.{◌≡◌, ◌<◌, ◌≤◌, ◌+◌, ◌-◌, ◌++◌, ◌^◌, [], IfNone, IfOk, IfSome, List, T, drop, length, map, take};
 ghost use Rattle.std.specs.FinMap as finite;
 ghost use Rattle.std.specs.FinMap.Entries.{below_all};
-ghost use Rattle.df_column.specs.BlockLists.{HaveRows, IsRunAt, extreme_cell, rows_in};
+ghost use Rattle.df_column.specs.BlockLists.{HaveRows, IsRunAt, blocks_of_leaves, extreme_cell, rows_in};
 ghost use Rattle.df_column.specs.Blocks.{AreOfDtypes, BlockParts, ends_of, rows_of_blocks};
 ghost use Rattle.df_column.specs.Columns.{column_cells, dtype_of_column};
-ghost use Rattle.df_column.specs.LeafTrees.{blocks_in};
 ghost use Rattle.df_column.specs.Extremes as extremes;
 ghost use Rattle.df_column.specs.Pools.{start_at};
 ghost use Rattle.df_column.specs.Rows.{AreNewRows, are_even};
@@ -17,9 +16,9 @@ ghost use Rattle.df_column.specs.TreeChanges.{AreChangedFrom};
 use crate::column::Column;
 use crate::entry::Entry;
 use crate::extremes::Extreme;
+use crate::leaf::Leaf;
 use crate::leaf_tree::LeafTree;
 use crate::run::{Run, Spot, end_behind};
-use crate::shared_leaf::SharedLeaf;
 use crate::tag::Tag;
 use df_value::Cell;
 use std::alloc::{AllocError, Global};
@@ -34,14 +33,13 @@ pub struct Leaves {
 impl Model for Leaves {
     ghost use Rattle.std.specs.Prelude.{List, ◌≤◌, ◌^◌};
     ghost use Rattle.df_column.specs.Blocks.{BlockParts};
-    ghost use Rattle.df_column.specs.BlockLists.{rows_in};
-    ghost use Rattle.df_column.specs.LeafTrees.{blocks_in};
+    ghost use Rattle.df_column.specs.BlockLists.{blocks_of_leaves, rows_in};
 
     ghost Value = { List BlockParts };
 
-    ghost view = { λ l. blocks_in l.tree };
+    ghost view = { λ l. blocks_of_leaves l.tree };
 
-    ghost invariant = { λ l. rows_in (blocks_in l.tree) ≤ 2 ^ 60 };
+    ghost invariant = { λ l. rows_in (blocks_of_leaves l.tree) ≤ 2 ^ 60 };
 }
 
 /// Some leaves of a list, with the indexes of their first block and of the one behind the last.
@@ -58,7 +56,7 @@ impl Leaves {
         ensures { result ≡ [] }
     {
         Leaves {
-            tree: LeafTree::Empty,
+            tree: LeafTree::new(),
         }
     }
 
@@ -81,7 +79,7 @@ impl Leaves {
 
     /// The tree that they stand in.
     pub fn tree(&self) -> &LeafTree
-        ensures { blocks_in result.now ≡ self.now }
+        ensures { blocks_of_leaves result.now ≡ self.now }
     {
         &self.tree
     }
@@ -137,7 +135,7 @@ impl Leaves {
 
     /// The tree that they stand in.
     pub fn into_tree(self) -> LeafTree
-        ensures { blocks_in result ≡ self }
+        ensures { blocks_of_leaves result ≡ self }
     {
         self.tree
     }
@@ -163,11 +161,12 @@ impl Leaves {
     }
 
     /// The leaves with this one behind them.
-    pub fn pushed(&self, alloc: Global, leaf: &SharedLeaf) -> Result<Leaves, AllocError>
-        requires { rows_in self.now + rows_in leaf.now ≤ 2 ^ 60 }
-        ensures { IfOk result (λ l. l ≡ self.now ++ leaf.now) }
+    pub fn pushed(&self, alloc: Global, leaf: Leaf) -> Result<Leaves, AllocError>
+        requires { rows_in self.now + rows_in leaf ≤ 2 ^ 60 }
+        ensures { IfOk result (λ l. l ≡ self.now ++ leaf) }
     {
-        let tree = self.tree.pushed(alloc, leaf)?;
+        let last = LeafTree::of_leaf(alloc, leaf)?;
+        let tree = self.tree.joined(alloc, &last)?;
         Ok(Leaves { tree })
     }
 

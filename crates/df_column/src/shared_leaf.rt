@@ -1,13 +1,15 @@
 //! Leaves that several trees share.
-ghost use Rattle.std.specs.Prelude.{◌≡◌, IfOk};
+ghost use Rattle.std.specs.Prelude.{◌≡◌, ◌∷◌, [], IfOk};
 ghost use Rattle.df_column.specs.Blocks.{rows_of_blocks};
 ghost use Rattle.df_column.specs.Changes.{IsHead};
-ghost use Rattle.df_column.specs.LeafTotals.{AreTotals};
+ghost use Rattle.df_column.specs.LeafTotals.{totals_of};
+ghost use Rattle.df_column.specs.LeafTrees.{AreFull};
 
 use crate::leaf::Leaf;
 use crate::leaf_totals::Totals;
 use crate::run::Run;
 use crate::tag::Tag;
+use df_tree::Item;
 use std::alloc::{AllocError, Global};
 use std::marker::Model;
 use std::sync::Arc;
@@ -45,10 +47,31 @@ impl Model for SharedLeaf {
     ghost invariant = { λ s. IsSharedLeaf (arc_value s.leaf) s.first s.totals };
 }
 
+impl Item for SharedLeaf {
+    type Measure = Totals;
+
+    ghost measure = { totals_of };
+
+    // The leaf is not read.
+    fn measure(&self) -> Totals {
+        self.totals
+    }
+
+    // It takes no memory.
+    fn share(&self, _alloc: Global) -> Result<SharedLeaf, AllocError> {
+        Ok(SharedLeaf {
+            leaf: Arc::try_clone(&self.leaf)?,
+            first: self.first,
+            totals: self.totals,
+        })
+    }
+}
+
 impl SharedLeaf {
     /// The leaf, to be shared.
     pub fn new(alloc: Global, leaf: Leaf) -> Result<SharedLeaf, AllocError>
-        ensures { IfOk result (λ s. s ≡ leaf) }
+        ensures leaf { IfOk result (λ s. s ≡ leaf) }
+        ensures full { IfOk result (λ s. AreFull (s ∷ [])) }
     {
         let first = leaf.first_tag();
         let run = leaf.run();
@@ -64,29 +87,11 @@ impl SharedLeaf {
         })
     }
 
-    /// The same leaf once more. It takes no memory.
-    pub fn share(&self) -> Result<SharedLeaf, AllocError>
-        ensures { IfOk result (λ s. s ≡ self.now) }
-    {
-        Ok(SharedLeaf {
-            leaf: Arc::try_clone(&self.leaf)?,
-            first: self.first,
-            totals: self.totals,
-        })
-    }
-
     /// The tag of the first row. The leaf is not read.
     pub fn first_tag(&self) -> Tag
         ensures { IsHead (rows_of_blocks self.now) result }
     {
         self.first
-    }
-
-    /// How many blocks there are, and how many rows they have, modulo 2^64. The leaf is not read.
-    pub fn totals(&self) -> Totals
-        ensures { AreTotals self.now result }
-    {
-        self.totals
     }
 
     /// The leaf.

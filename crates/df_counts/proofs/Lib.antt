@@ -1,7 +1,9 @@
 pub mod Orders
 pub mod Lookups
 pub mod Edits
-mod Sums
+mod TotalSums
+mod PlaceLemmas
 mod Greatest
 mod Outcomes
 pub mod Rises
+pub mod Crossing

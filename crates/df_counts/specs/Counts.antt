@@ -1,5 +1,5 @@
 -- Counts: how many rows have each value of a column, by rising value. Null is no value.
-use Rattle.std.specs.Prelude.{◌≡◌, ℕ, zero, suc, ◌+◌, ◌%◌, ◌^◌, List, [], ◌∷◌, Option, Some, None, unwrap_or, if◌then◌else◌}
+use Rattle.std.specs.Prelude.{◌≡◌, ℕ, zero, suc, ◌+◌, ◌%◌, ◌^◌, List, Option, Some, None, unwrap_or, if◌then◌else◌}
 use Rattle.std.specs.FinMap.{find}
 use Rattle.df_value.specs.CellOrder.{cell_cmp}
 use Rattle.df_value.specs.declared.cell.Cell.{Cell}
@@ -31,9 +31,3 @@ raised_count counts r = (unwrap_or (find cell_cmp r.0 counts) 0 + r.1) % 2 ^ 64
 -- the change of the counts that a rise makes
 abbrev pub count_change : List (Cell × ℕ) → Cell × ℕ → Cell × Change ℕ
 count_change counts r = (r.0, record { old = find cell_cmp r.0 counts; new = some_count (raised_count counts r) })
-
--- the value of the last count, if there is one
-abbrev pub last_value : List (Cell × ℕ) → Option Cell
-last_value [] = None
-last_value (e ∷ []) = Some e.0
-last_value (e ∷ f ∷ es) = last_value (f ∷ es)

@@ -6,10 +6,13 @@ ghost use Rattle.std.specs.FinMap.{find as entry_of, is_sorted};
 ghost use Rattle.df_value.specs.CellOrder.{cell_cmp};
 ghost use Rattle.df_value.specs.declared.cell.Cell.{Cell as AnyCell};
 ghost use Rattle.df_column.specs.Changes.{after_changes, edit};
+ghost use Rattle.df_tree.specs.Leaves.{items_in};
 ghost use Rattle.df_counts.specs.Counts.{count_change, some_count};
 
+use crate::entries::{find, set_count};
 use crate::order::is_less;
-use crate::subtree::Subtree;
+use crate::value_count::{IsBelow, ValueCount};
+use df_tree::Seq;
 use df_value::Cell;
 use std::alloc::{AllocError, Global};
 use std::collections::BTreeMap;
@@ -20,14 +23,14 @@ use std::marker::Model;
 /// To change a count makes counts beside these ones. Both share all nodes but those on the way to the value, whose number
 /// goes by the logarithm of the number of values.
 pub struct Counts {
-    root: Subtree,
+    entries: Option<Entries>,
 }
 
 // A body that owns one drops it by a call.
 impl Drop for Counts {
     fn drop(self) {
-        let Counts { root } = self;
-        drop(root);
+        let Counts { entries } = self;
+        drop(entries);
     }
 }
 
@@ -39,11 +42,25 @@ impl Model for Counts {
 
     ghost Value = { List (AnyCell × ℕ) };
 
-    ghost use Rattle.df_counts.specs.Subtrees.{entries_of};
+    ghost use Rattle.df_counts.specs.Entries.{entries_of};
 
-    ghost view = { λ c. entries_of c.root };
+    ghost view = { λ c. entries_of c.entries };
 
-    ghost invariant = { λ c. T (is_sorted cell_cmp (entries_of c.root)) };
+    ghost invariant = { λ c. T (is_sorted cell_cmp (entries_of c.entries)) };
+}
+
+/// Values with their counts, by rising value, and where their memory is from.
+struct Entries {
+    alloc: Global,
+    seq: Seq<ValueCount>,
+}
+
+// A body that owns one drops it by a call.
+impl Drop for Entries {
+    fn drop(self) {
+        let Entries { alloc: _, seq } = self;
+        drop(seq);
+    }
 }
 
 impl Counts {
@@ -51,8 +68,27 @@ impl Counts {
     pub fn new() -> Counts
         ensures { result ≡ [] }
     {
-        Counts {
-            root: Subtree::Empty,
+        Counts { entries: None }
+    }
+
+    /// The counts of these entries. Their nodes are shared, so that a copy takes no memory.
+    fn of_entries(alloc: Global, mut seq: Seq<ValueCount>) -> Result<Counts, AllocError>
+        requires { T (is_sorted cell_cmp (items_in seq)) }
+        ensures { IfOk result (λ t. t ≡ items_in seq) }
+    {
+        seq.make_shared(alloc)?;
+        let entries = Some(Entries { alloc, seq });
+        Ok(Counts { entries })
+    }
+
+    /// A copy of the entries, to be edited.
+    fn copied_entries(&self, alloc: Global) -> Result<Seq<ValueCount>, AllocError>
+        ensures same { IfOk result (λ k. items_in k ≡ self.now) }
+        ensures sorted { IfOk result (λ k. T (is_sorted cell_cmp (items_in k))) }
+    {
+        match &self.entries {
+            None => Seq::empty(alloc),
+            Some(entries) => entries.seq.copied(alloc),
         }
     }
 
@@ -60,15 +96,25 @@ impl Counts {
     pub fn share(&self) -> Result<Counts, AllocError>
         ensures { IfOk result (λ t. t ≡ self.now) }
     {
-        let root = self.root.share()?;
-        Ok(Counts { root })
+        match &self.entries {
+            None => Ok(Counts { entries: None }),
+            Some(entries) => {
+                let alloc = entries.alloc;
+                let seq = entries.seq.copied(alloc)?;
+                let entries = Some(Entries { alloc, seq });
+                Ok(Counts { entries })
+            }
+        }
     }
 
     /// How many rows have this value, if one has it.
     pub fn find(&self, value: &Cell) -> Option<u64>
         ensures { result ≡ entry_of cell_cmp value.now self.now }
     {
-        self.root.find(value)
+        match &self.entries {
+            None => None,
+            Some(entries) => find(&entries.seq, value),
+        }
     }
 
     /// How many rows have this value.
@@ -82,33 +128,39 @@ impl Counts {
     pub fn with_count(&self, alloc: Global, value: &Cell, count: u64) -> Result<Counts, AllocError>
         ensures { IfOk result (λ t. t ≡ edit cell_cmp self.now value.now (some_count count)) }
     {
-        if count == 0 {
-            let root = self.root.remove(alloc, value)?;
-            return Ok(Counts { root });
-        }
-        let root = self.root.insert(alloc, value, count)?;
-        Ok(Counts { root })
+        let mut seq = self.copied_entries(alloc)?;
+        set_count(&mut seq, alloc, value, count)?;
+        Counts::of_entries(alloc, seq)
     }
 
     /// The number of values, modulo 2^64.
     pub fn values(&self) -> u64
         ensures { result ≡ length self.now % 2 ^ 64 }
     {
-        self.root.totals().values
+        match &self.entries {
+            None => 0,
+            Some(entries) => entries.seq.measure().values,
+        }
     }
 
     /// The number of values that are less than this one, modulo 2^64.
     pub fn values_below(&self, value: &Cell) -> u64
         ensures { result ≡ sum_by (λ e. if is_lt (cell_cmp e.0 value.now) then 1 else 0) self.now % 2 ^ 64 }
     {
-        self.root.totals_below(value).values
+        match &self.entries {
+            None => 0,
+            Some(entries) => entries.seq.measure_before(&IsBelow { value }).values,
+        }
     }
 
     /// The number of rows whose value is less than this one, modulo 2^64.
     pub fn rows_below(&self, value: &Cell) -> u64
         ensures { result ≡ sum_by (λ e. if is_lt (cell_cmp e.0 value.now) then e.1 else 0) self.now % 2 ^ 64 }
     {
-        self.root.totals_below(value).rows
+        match &self.entries {
+            None => 0,
+            Some(entries) => entries.seq.measure_before(&IsBelow { value }).rows,
+        }
     }
 
     /// Whether no value is above this one.
@@ -117,10 +169,34 @@ impl Counts {
             → is_some (entry_of cell_cmp v self.now) ≡ true
             → is_lt (cell_cmp value.now v) ≡ false }
     {
-        match self.root.last() {
-            Some(last) => !is_less(value, last),
+        match &self.entries {
             None => true,
+            Some(entries) => match entries.seq.last() {
+                Some(last) => !is_less(value, last.value.get()),
+                None => true,
+            },
         }
+    }
+
+    /// Raises the counts of these values in entries that hold these counts.
+    fn raise(
+        &self,
+        entries: &mut Seq<ValueCount>,
+        alloc: Global,
+        rises: &BTreeMap<Cell, u64>,
+    ) -> Result<(), AllocError>
+        requires same { items_in entries.old ≡ self.now }
+        requires sorted { T (is_sorted cell_cmp (items_in entries.old)) }
+        ensures rising { IfOk result (λ _. T (is_sorted cell_cmp rises.now.entries)) }
+        ensures stays { IfOk result (λ _. T (is_sorted cell_cmp (items_in entries.new))) }
+        ensures counts { IfOk result (λ _. items_in entries.new ≡ after_changes cell_cmp self.now
+            (map (count_change self.now) rises.now.entries)) }
+    {
+        for (value, rise) in rises.iter() {
+            let count = self.count(value).wrapping_add(*rise);
+            set_count(entries, alloc, value, count)?;
+        }
+        Ok(())
     }
 
     /// The counts after these rises, modulo 2^64. A value whose count becomes 0 goes.
@@ -130,12 +206,8 @@ impl Counts {
         ensures counts { IfOk result (λ t. t ≡ after_changes cell_cmp self.now
             (map (count_change self.now) rises.now.entries)) }
     {
-        let root = self.root.share()?;
-        let mut counts = Counts { root };
-        for (value, rise) in rises.iter() {
-            let count = self.count(value).wrapping_add(*rise);
-            counts = counts.with_count(alloc, value, count)?;
-        }
-        Ok(counts)
+        let mut seq = self.copied_entries(alloc)?;
+        self.raise(&mut seq, alloc, rises)?;
+        Counts::of_entries(alloc, seq)
     }
 }

@@ -1,11 +1,12 @@
 //! How many rows have each value of a column.
 //!
-//! [`Counts`] are a search tree, of which a change of one value makes only the nodes on the way to that value anew.
+//! [`Counts`] are a sequence by rising value, of which a change of one value makes only the nodes on the way to that value anew.
 #![tactic(auto)]
 
 mod counts;
+mod entries;
 mod order;
-mod subtree;
 mod totals;
+mod value_count;
 
 pub use counts::Counts;

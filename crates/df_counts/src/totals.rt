@@ -1,5 +1,8 @@
 //! Numbers of values and of rows.
-ghost use Rattle.std.specs.Prelude.{◌≡◌, ◌+◌, ◌%◌, ◌^◌};
+ghost use Rattle.df_counts.specs.Totals.{no_totals, sum_of};
+ghost use Rattle.df_counts.specs.TotalsLaws.{totals_laws};
+
+use df_tree::Monoid;
 
 /// How many values there are, and how many rows have them, both modulo 2^64.
 #[derive(Clone, Copy)]
@@ -8,15 +11,21 @@ pub struct Totals {
     pub rows: u64,
 }
 
-impl Totals {
-    /// These and those of other values, and one value more that so many rows have.
-    pub fn with(self, count: u64, others: Totals) -> Totals
-        ensures values { result.values ≡ (self.values + 1 + others.values) % 2 ^ 64 }
-        ensures rows { result.rows ≡ (self.rows + count + others.rows) % 2 ^ 64 }
-    {
+impl Monoid for Totals {
+    ghost none = { no_totals };
+
+    ghost plus = { sum_of };
+
+    fn none() -> Totals {
+        Totals { values: 0, rows: 0 }
+    }
+
+    fn plus(self, other: Totals) -> Totals {
         Totals {
-            values: self.values.wrapping_add(1).wrapping_add(others.values),
-            rows: self.rows.wrapping_add(count).wrapping_add(others.rows),
+            values: self.values.wrapping_add(other.values),
+            rows: self.rows.wrapping_add(other.rows),
         }
     }
+
+    ghost laws = { totals_laws };
 }

@@ -6,6 +6,8 @@ use Rattle.df_value.proofs.row.Row.TheSendSync as row
 use Rattle.df_value.proofs.schema.Schema.TheSendSync as schema
 use Rattle.df_value.proofs.text.Text.TheSendSync as text
 use Rattle.df_column.proofs.Crossing.{table_send}
+use Rattle.df_counts.proofs.Crossing.{counts_send}
+use Rattle.df_join.proofs.Crossing.{tree_table_send}
 use Rattle.df_ops.proofs.agg.Agg.TheSendSync as agg
 use Rattle.df_nodes.specs.contracts.row_operator.RowOperator as RowOperator
 use Rattle.df_nodes.specs.contracts.filter.LiveFilter as LiveFilter
@@ -24,7 +26,6 @@ use Rattle.df_join.specs.contracts.rule.JoinRule as JoinRule
 use Rattle.df_join.specs.contracts.join.LiveJoin as LiveJoin
 use Rattle.df_join.specs.contracts.join.StagedJoin as StagedJoin
 use Rattle.df_hall.proofs.CrossingPlans.{pair_send, physical_field_send, physical_send}
-use Rattle.df_hall.proofs.CrossingTrees.{counts_send, tree_table_send}
 
 operator_send : IsSend (RowOperator.the_field).row
 operator_send = let p = physical_send in let f = physical_field_send in search (sendable, crosses, list.the_send) depth 20

@@ -4,7 +4,6 @@ pub mod LastChangeFacts
 pub mod FirstFacts
 pub mod TotalsFacts
 pub mod CrossingPlans
-pub mod CrossingTrees
 pub mod CrossingNodes
 pub mod CrossingViews
 pub mod Crosses

@@ -27,7 +27,7 @@ use Rattle.df_join.specs.Keyed.{IsIndexOf, LeadsTo, group_of, staged_or, table_o
 use Rattle.df_join.specs.Probes.{Grows, probes}
 use Rattle.df_join.specs.RowNotes.{AreSides, Leads, NewFit, joined_by_key}
 use Rattle.df_join.specs.Rules.{Cells}
-use Rattle.df_join.specs.Sides.{AreInputs, AreScans, IsAsBefore, IsOver, IsRowTag, LeadsOver, LeadsToBoth, is_one, join_output}
+use Rattle.df_join.specs.Sides.{AreInputs, AreScans, IsAsBefore, IsOver, IsRowTag, IsStagedAsBefore, LeadsOver, LeadsToBoth, is_one, join_output}
 use Rattle.df_join.specs.Spread.{HasKeys, IsLeftTag, IsRightTag, IsTagOver}
 use Rattle.df_join.specs.declared.join.LiveJoin.{LiveJoin}
 use Rattle.df_join.specs.declared.join.StagedJoin.{StagedJoin}
@@ -132,6 +132,20 @@ index_again : (indices : List (Option ℕ)) (old new : Members) (t : TaggedRows)
 index_again indices old new t empty same over = record {
   empty = ap (λ e. e.rows) empty ∙ over.empty;
   at = λ k. ap (λ (es : List (Cells × TableParts)). lookup (row_eq k) es) same ∙ over.at k ∙ ap (λ (e : TableParts). table_or_none e.schema (group_of indices k t)) (sym empty);
+}
+
+staged_again : (indices : List (Option ℕ)) (members : Members) (old new : KeyedTables) (t : TaggedRows) → IsUnchanged old.tables new.tables → LeadsTo indices members old t → LeadsTo indices members new t
+staged_again indices members old new t same over = record {
+  empty = over.empty;
+  at = λ k. ap (λ (es : List (Cells × TableParts)). staged_or (lookup (row_eq k) es) (get row_eq members.keyed.tables k)) same ∙ over.at k;
+}
+
+-- the same tables lead to the same rows
+pub staged_both_again : (join : LiveJoin) (old new : StagedJoin) → IsStagedAsBefore old new → (l r : TaggedRows) → LeadsToBoth join old l r → LeadsToBoth join new l r
+staged_both_again join old new same l r h = record {
+  scans = h.scans;
+  left = staged_again join.rule.indices.left join.left old.left new.left l same.left h.left;
+  right = staged_again join.rule.indices.right join.right old.right new.right r same.right h.right;
 }
 
 module _ (old new : LiveJoin) (same : IsAsBefore old new) where

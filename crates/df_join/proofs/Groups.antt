@@ -1,12 +1,12 @@
 -- The rows of a key, in tables and as they are staged.
-use Rattle.std.proofs.Common.{◌≡◌, ℕ, Bool, true, false, cond, List, [], ◌∷◌, ◌++◌, Option, Some, None, Result, Ok, Err, OnOk, IsOk, refl, sym, ap, subst, ◌∙◌}
-use Rattle.std.specs.Prelude.{◌==◌}
+use Rattle.std.proofs.Common.{◌≡◌, ℕ, zero, suc, Bool, true, false, cond, List, [], ◌∷◌, ◌++◌, map, Option, Some, None, Result, Ok, Err, OnOk, IsOk, refl, sym, ap, subst, ◌∙◌}
+use Rattle.std.specs.Prelude.{◌==◌, slice_get}
 use Rattle.std.specs.Map.{lookup}
 use Rattle.std.specs.Option.{option_and_then}
 use Rattle.std.specs.Ordering.{eq_by_cmp}
 use Rattle.std.proofs.lemmas.Bool.{eqb-true}
 use Rattle.std.specs.FinMap as finite
-use Rattle.indexmap.specs.IndexMap.{IndexMap, get}
+use Rattle.indexmap.specs.IndexMap.{IndexMap, get, set_value_at}
 use Rattle.df_value.specs.Rows.{row_eq}
 use Rattle.df_value.specs.RowEq.{row_eq-Decides}
 use Rattle.df_value.specs.declared.cell.CellType.{CellType}
@@ -150,6 +150,12 @@ module _ {S : Type 0} where
             ∙ lookup_last rest.entries key m k (popped k ∙ ap (λ b. cond b None (get row_eq staged k)) b) (swap k key ∙ b)))
         | false ↦ λ b. refl
       ] refl
+
+-- what is written back as it was changes nothing
+pub same_value_at : {K X : Type 0} (es : List (K × X)) (i : ℕ) (w : X) → Some w ≡ slice_get (map (λ e. e.1) es) i → set_value_at es i w ≡ es
+same_value_at [] i w e = refl
+same_value_at (x ∷ es) zero w e = let same : w ≡ x.1 = cc e in ap (λ w. (x.0, w) ∷ es) same
+same_value_at (x ∷ es) (suc i) w e = ap (λ es. x ∷ es) (same_value_at es i w e)
 
 pub on_ok_here : {A E P : Type 0} (r : Result A E) → OnOk r P → IsOk r → P
 on_ok_here (Ok a) p is = p

@@ -16,4 +16,5 @@ pub mod Replaced
 pub mod Both
 pub mod JoinRows
 pub mod Counted
-mod Subtrees
+mod Places
+pub mod Crossing

@@ -1,5 +1,5 @@
 -- How what is staged follows the changes of its side.
-use Rattle.std.proofs.Common.{◌≡◌, ◌≤◌, ◌<◌, ◌+◌, ℕ, Bool, true, false, cond, List, [], ◌∷◌, map, length, drop, get_or, Option, None, Result, Ok, Err, OnOk, IfOk, refl, sym, ap, subst, ◌∙◌, drop-cons, add-one}
+use Rattle.std.proofs.Common.{◌≡◌, ◌≤◌, ◌<◌, ◌+◌, ℕ, Bool, true, false, cond, List, [], ◌∷◌, map, length, drop, get_or, Option, None, Result, Ok, Err, MatchResult, OnOk, IfOk, refl, sym, ap, subst, ◌∙◌, drop-cons, add-one}
 use Rattle.std.specs.Prelude.{T, ◌==◌}
 use Rattle.std.specs.Option.{IfSome}
 use Rattle.std.proofs.Math.ListN.{drop_of_length-le}
@@ -52,6 +52,10 @@ set_twice t k v w = finite.same_map tag_total tag_same _ _ (λ q.
 pub on_ok_then : {A E P Q : Type 0} (r : Result A E) → OnOk r P → (P → Q) → OnOk r Q
 on_ok_then (Ok a) p f = f p
 on_ok_then (Err e) p f = tt
+
+pub on_match : {A E P R : Type 0} (Q : Type 0) (r : Result A E) → MatchResult r (λ _. P) (λ _. Q) → (P → R) → OnOk r R
+on_match Q (Ok a) p f = f p
+on_match Q (Err e) p f = tt
 
 pub if_ok_then : {A E : Type 0} {P Q : A → Type 0} (r : Result A E) → IfOk r P → ((a : A) → P a → Q a) → IfOk r Q
 if_ok_then (Ok a) p f = f a p

@@ -1,4 +1,5 @@
-pub mod Subtrees
+pub mod GreatestTags
+pub mod Places
 pub mod Spread
 pub mod Joined
 pub mod Rules

@@ -71,3 +71,8 @@ pub record IsAsBefore (old new : LiveJoin) : Type 0 where
   pub right_empty : new.right.empty ≡ old.right.empty
   pub left : IsUnchanged old.left.keyed.tables new.left.keyed.tables
   pub right : IsUnchanged old.right.keyed.tables new.right.keyed.tables
+
+-- the same tables are staged
+pub record IsStagedAsBefore (old new : StagedJoin) : Type 0 where
+  pub left : IsUnchanged old.left.tables new.left.tables
+  pub right : IsUnchanged old.right.tables new.right.tables

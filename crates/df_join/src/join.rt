@@ -14,7 +14,7 @@ ghost use Rattle.df_join.specs.Probes.{Grows, probes as probe_count, probes_made
 ghost use Rattle.df_join.specs.Keyed.{LeadsTo};
 ghost use Rattle.df_join.specs.RowNotes.{Leads, joined_by_key};
 ghost use Rattle.df_join.specs.Sides as sides;
-ghost use Rattle.df_join.specs.Sides.{AreInputs, AreScans, IsAsBefore, LeadsToBoth, is_one, join_output};
+ghost use Rattle.df_join.specs.Sides.{AreInputs, AreScans, IsAsBefore, IsStagedAsBefore, LeadsToBoth, is_one, join_output};
 ghost use Rattle.df_join.specs.Spread.{HasKeys, IsTagOver};
 
 mod left;
@@ -180,11 +180,15 @@ impl LiveJoin {
         }
     }
 
-    /// Makes the room that a commit of what is staged needs.
-    fn make_room(&mut self, staged: &StagedJoin) -> Result<(), AllocError>
+    /// Makes the room that a commit of what is staged needs, and each staged table one that is copied at once, as the next
+    /// change copies it.
+    fn make_ready(&mut self, staged: &mut StagedJoin) -> Result<(), AllocError>
         ensures before { IsAsBefore self.old self.new }
-        ensures room { OnOk result (sides.HasRoomFor self.new staged.now) }
+        ensures staged { IsStagedAsBefore staged.old staged.new }
+        ensures room { OnOk result (sides.HasRoomFor self.new staged.new) }
     {
+        staged.left.make_shared(self.alloc)?;
+        staged.right.make_shared(self.alloc)?;
         self.left.make_room(&staged.left)?;
         self.right.make_room(&staged.right)
     }
@@ -214,8 +218,8 @@ impl TwoSidedNode for LiveJoin {
         right: &Delta,
         meter: &mut Meter,
     ) -> Result<(StagedJoin, Delta), AllocError> {
-        let (staged, changes) = self.changes(left, right, &mut meter.probes)?;
-        self.make_room(&staged)?;
+        let (mut staged, changes) = self.changes(left, right, &mut meter.probes)?;
+        self.make_ready(&mut staged)?;
         Ok((staged, changes))
     }
 

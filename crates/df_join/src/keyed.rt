@@ -65,6 +65,27 @@ impl KeyedTables {
         }
     }
 
+    /// Makes the table at an index one that is copied at once.
+    fn share_at(&mut self, alloc: Global, index: usize) -> Result<(), AllocError>
+        ensures { IsUnchanged self.old.tables self.new.tables }
+    {
+        match self.tables.get_index_mut(index) {
+            Some(table) => table.make_shared(alloc),
+            None => Ok(()),
+        }
+    }
+
+    /// Makes each table one that is copied at once.
+    pub fn make_shared(&mut self, alloc: Global) -> Result<(), AllocError>
+        ensures { IsUnchanged self.old.tables self.new.tables }
+    {
+        let count = self.tables.len();
+        for index in 0..count {
+            self.share_at(alloc, index)?;
+        }
+        Ok(())
+    }
+
     /// Makes the room that `put_all` needs.
     pub fn make_room(&mut self, staged: &KeyedTables) -> Result<(), AllocError>
         ensures tables { IsUnchanged self.old.tables self.new.tables }

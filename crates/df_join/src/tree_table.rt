@@ -1,32 +1,36 @@
-//! Tables whose rows stand in a search tree.
+//! Tables whose rows stand in a sequence that finds them by tag.
 ghost use Rattle.std.specs.Prelude.{◌≡◌, ◌==◌, IfOk, Some, None};
 ghost use Rattle.std.specs.FinMap as finite;
 ghost use Rattle.df_column.specs.Changes.{set_at};
 
-mod subtree;
+mod edits;
+mod tagged_row;
 
 use df_column::Tag;
+use df_tree::Seq;
 use df_value::{Duplicate, Row, Schema, Shared};
+use edits::{put_row, take_row};
 use std::alloc::{AllocError, Global};
 use std::marker::Model;
-use subtree::Subtree;
+use tagged_row::TaggedRow;
 
 /// Rows by rising tags, of a schema that no row is checked against. Contracts see them as they see a
 /// [`Table`](df_column::Table).
 ///
-/// To put a row there or to take one away goes by the logarithm of the number of rows. A shared table stays as it is: what is
-/// changed is a copy of the nodes on the way to the row.
+/// To put a row there or to take one away goes by the logarithm of the number of rows, and is done in place where no other
+/// table has the row's neighbours. A table that was made shared is copied at once; one that was changed since then is copied
+/// node by node, as far as it was changed.
 pub struct TreeTable {
     schema: Shared<Schema>,
-    root: Subtree,
+    rows: Seq<TaggedRow>,
 }
 
 // A body that owns one drops it by a call.
 impl Drop for TreeTable {
     fn drop(self) {
-        let TreeTable { schema, root } = self;
+        let TreeTable { schema, rows } = self;
         drop(schema);
-        drop(root);
+        drop(rows);
     }
 }
 
@@ -35,16 +39,16 @@ impl Model for TreeTable {
     ghost use Rattle.std.specs.FinMap as finite;
     ghost use Rattle.df_column.specs.Tables.{TableParts, table_code};
     ghost use Rattle.df_column.specs.Tags.{tag_cmp};
-    ghost use Rattle.df_join.specs.Subtrees.{rows_of};
+    ghost use Rattle.df_tree.specs.Leaves.{items_in};
 
     ghost Value = { TableParts };
 
     ghost coded = { table_code };
 
     ghost view = { λ t. record
-        { schema = t.schema; rows = finite.from_sorted (rows_of t.root) } };
+        { schema = t.schema; rows = finite.from_sorted (items_in t.rows) } };
 
-    ghost invariant = { λ t. T (finite.is_sorted tag_cmp (rows_of t.root)) };
+    ghost invariant = { λ t. T (finite.is_sorted tag_cmp (items_in t.rows)) };
 }
 
 impl TreeTable {
@@ -53,9 +57,11 @@ impl TreeTable {
         ensures schema { IfOk result (λ t. t.schema ≡ schema) }
         ensures rows { IfOk result (λ t. t.rows ≡ finite.empty) }
     {
+        let mut rows = Seq::empty(alloc)?;
+        rows.make_shared(alloc)?;
         Ok(TreeTable {
             schema: Shared::new(alloc, schema)?,
-            root: Subtree::Empty,
+            rows,
         })
     }
 
@@ -63,16 +69,23 @@ impl TreeTable {
     pub fn is_empty(&self) -> bool
         ensures { result ≡ (finite.len self.now.rows == 0) }
     {
-        self.root.is_empty()
+        self.rows.len() == 0
     }
 
-    /// The same table once more. It takes no memory.
+    /// The same table once more. It takes no memory where the table was made shared.
     pub fn share(&self, alloc: Global) -> Result<TreeTable, AllocError>
         ensures { IfOk result (λ t. t ≡ self.now) }
     {
         let schema = self.schema.copy(alloc)?;
-        let root = self.root.share()?;
-        Ok(TreeTable { schema, root })
+        let rows = self.rows.copied(alloc)?;
+        Ok(TreeTable { schema, rows })
+    }
+
+    /// Makes the table one that is copied at once.
+    pub fn make_shared(&mut self, alloc: Global) -> Result<(), AllocError>
+        ensures { self.new ≡ self.old }
+    {
+        self.rows.make_shared(alloc)
     }
 
     /// The table with this row at the tag.
@@ -80,9 +93,9 @@ impl TreeTable {
         ensures { IfOk result (λ t. t ≡ record
             { schema = self.schema; rows = set_at self.rows tag (Some row) }) }
     {
-        let TreeTable { schema, root } = self;
-        let root = root.with_row(alloc, tag, row)?;
-        Ok(TreeTable { schema, root })
+        let TreeTable { schema, mut rows } = self;
+        put_row(&mut rows, alloc, TaggedRow::new(tag, row))?;
+        Ok(TreeTable { schema, rows })
     }
 
     /// The table without the row at the tag, if there is one.
@@ -90,17 +103,21 @@ impl TreeTable {
         ensures { IfOk result (λ t. t ≡ record
             { schema = self.schema; rows = set_at self.rows tag None }) }
     {
-        let TreeTable { schema, root } = self;
-        let root = root.without_row(alloc, tag)?;
-        Ok(TreeTable { schema, root })
+        let TreeTable { schema, mut rows } = self;
+        take_row(&mut rows, alloc, tag)?;
+        Ok(TreeTable { schema, rows })
     }
 
     /// The tags with copies of their rows, by rising tag.
     pub fn tagged_rows(&self, alloc: Global) -> Result<Vec<(Tag, Row)>, AllocError>
         ensures { IfOk result (λ v. v.items ≡ finite.entries self.now.rows) }
     {
-        let mut out = Vec::new(alloc);
-        self.root.push_rows(alloc, &mut out)?;
+        let count = self.rows.len();
+        let mut out = Vec::with_capacity(alloc, count)?;
+        for index in 0..count {
+            let row = self.rows.get(index);
+            out.push((row.tag(), row.row().copy(alloc)?))?;
+        }
         Ok(out)
     }
 }

@@ -2,10 +2,10 @@ use Rattle.std.proofs.Common.{◌≡◌, ◌∙◌, ◌++◌, T, ap, drop, map, 
 use Rattle.std.specs.FinMap.{is_sorted}
 use Rattle.std.specs.Option.{IfSome}
 use Rattle.std.proofs.lemmas.Result.{IfOk-weaker}
+use Rattle.df_column.specs.BlockLists.{blocks_of_leaves}
 use Rattle.df_column.specs.Blocks.{AreOfDtypes, rows_of_blocks}
 use Rattle.df_column.specs.Changes.{after_changes}
 use Rattle.df_column.specs.Columns.{dtype_of_column}
-use Rattle.df_column.specs.LeafTrees.{blocks_in, leaves_of}
 use Rattle.df_column.specs.Tables.{entry_change}
 use Rattle.df_column.specs.Tags.{tag_cmp}
 use Rattle.df_column.proofs.ChangedTrees.{only_blocks, only_rows, only_types, rows_replaced, types_replaced}
@@ -28,13 +28,13 @@ returns-in-Some-clause-rows c =
     let made = c.in_ok-made.made in
     let added = after_changes tag_cmp (rows_of_blocks (drop low (take high old))) (map entry_change c.args.entries.now) in
     let edited = subst (λ o. IfSome o (λ l. l ≡ take low c.args.leaf.now ++ (made ++ drop high c.args.leaf.now))) c.in-Some.is c.in_ok-edited.ensures in
-    IfOk-weaker c.pushed.result _ _
-    (λ tree h. let is : blocks_in tree ≡ take low old ++ (made ++ drop high old) =
-    only_blocks (leaves_of tree) c.in_ok-edited-2.edited _ h (c.in_ok-edited-2.ensures ∙ edited ∙ ap (λ bs. take low bs ++ (made ++ drop high bs)) (sym own)) in
-    rows_replaced old made (blocks_in tree) low high c.args.entries.now c.reached-high.ensures.ordered c.untouched-low.ensures.apart c.reached-high.ensures.apart
+    IfOk-weaker c.of_leaf.result _ _
+    (λ tree h. let is : blocks_of_leaves tree ≡ take low old ++ (made ++ drop high old) =
+    only_blocks (tree) c.in-Some.edited _ h (edited ∙ ap (λ bs. take low bs ++ (made ++ drop high bs)) (sym own)) in
+    rows_replaced old made (blocks_of_leaves tree) low high c.args.entries.now c.reached-high.ensures.ordered c.untouched-low.ensures.apart c.reached-high.ensures.apart
     (only_rows dtypes added c.new-none.result made c.new-none.ensures c.in_ok-made.ensures) is
     ∙ ap (λ bs. after_changes tag_cmp (rows_of_blocks bs) (map entry_change c.args.entries.now)) own)
-    c.pushed.ensures
+    c.of_leaf.ensures
 
 pub returns-in-Some-clause-types : goal.returns-in-Some-clause-types
 returns-in-Some-clause-types c =
@@ -46,12 +46,12 @@ returns-in-Some-clause-types c =
     let made = c.in_ok-made.made in
     let added = after_changes tag_cmp (rows_of_blocks (drop low (take high old))) (map entry_change c.args.entries.now) in
     let edited = subst (λ o. IfSome o (λ l. l ≡ take low c.args.leaf.now ++ (made ++ drop high c.args.leaf.now))) c.in-Some.is c.in_ok-edited.ensures in
-    IfOk-weaker c.pushed.result _ _
-    (λ tree h. let is : blocks_in tree ≡ take low old ++ (made ++ drop high old) =
-    only_blocks (leaves_of tree) c.in_ok-edited-2.edited _ h (c.in_ok-edited-2.ensures ∙ edited ∙ ap (λ bs. take low bs ++ (made ++ drop high bs)) (sym own)) in
-    types_replaced dtypes old made (blocks_in tree) low high (subst (AreOfDtypes dtypes) (sym own) c.requires.types)
+    IfOk-weaker c.of_leaf.result _ _
+    (λ tree h. let is : blocks_of_leaves tree ≡ take low old ++ (made ++ drop high old) =
+    only_blocks (tree) c.in-Some.edited _ h (edited ∙ ap (λ bs. take low bs ++ (made ++ drop high bs)) (sym own)) in
+    types_replaced dtypes old made (blocks_of_leaves tree) low high (subst (AreOfDtypes dtypes) (sym own) c.requires.types)
     (only_types dtypes added c.new-none.result made c.new-none.ensures c.in_ok-made.ensures) is)
-    c.pushed.ensures
+    c.of_leaf.ensures
 
 pub returns-clause-rows : goal.returns-clause-rows
 returns-clause-rows c =
@@ -63,7 +63,7 @@ returns-clause-rows c =
     let made = c.in_ok-made.made in
     let added = after_changes tag_cmp (rows_of_blocks (drop low (take high old))) (map entry_change c.args.entries.now) in
     IfOk-weaker c.leaves_with.result _ _
-    (λ tree h. rows_replaced old made (blocks_in tree) low high c.args.entries.now c.reached-high.ensures.ordered c.untouched-low.ensures.apart c.reached-high.ensures.apart
+    (λ tree h. rows_replaced old made (blocks_of_leaves tree) low high c.args.entries.now c.reached-high.ensures.ordered c.untouched-low.ensures.apart c.reached-high.ensures.apart
     (only_rows dtypes added c.new-none.result made c.new-none.ensures c.in_ok-made.ensures) h
     ∙ ap (λ bs. after_changes tag_cmp (rows_of_blocks bs) (map entry_change c.args.entries.now)) own)
     c.leaves_with.ensures
@@ -78,6 +78,6 @@ returns-clause-types c =
     let made = c.in_ok-made.made in
     let added = after_changes tag_cmp (rows_of_blocks (drop low (take high old))) (map entry_change c.args.entries.now) in
     IfOk-weaker c.leaves_with.result _ _
-    (λ tree h. types_replaced dtypes old made (blocks_in tree) low high (subst (AreOfDtypes dtypes) (sym own) c.requires.types)
+    (λ tree h. types_replaced dtypes old made (blocks_of_leaves tree) low high (subst (AreOfDtypes dtypes) (sym own) c.requires.types)
     (only_types dtypes added c.new-none.result made c.new-none.ensures c.in_ok-made.ensures) h)
     c.leaves_with.ensures

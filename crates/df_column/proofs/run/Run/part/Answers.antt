@@ -1,4 +1,4 @@
-use Rattle.std.proofs.Common.{◌∙◌, ◌++◌, [], ap, arith, drop, length, take}
+use Rattle.std.proofs.Common.{◌∙◌, ◌++◌, ap, arith, drop, length, take}
 use Rattle.std.proofs.lemmas.Result.{IfOk-weaker}
 use Rattle.df_column.specs.Blocks.{rows_of_blocks}
 use Rattle.df_column.proofs.run.Run.part.Goals as goal

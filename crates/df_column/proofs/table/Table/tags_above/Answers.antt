@@ -2,7 +2,7 @@ use Rattle.std.proofs.Common.{◌≡◌, ◌++◌, ◌∙◌, [], Some, ap, sym}
 use Rattle.std.specs.FinMap as finite
 use Rattle.df_column.specs.Blocks.{rows_of_blocks}
 use Rattle.df_column.specs.Extremes.{tags_above}
-use Rattle.df_column.specs.LeafTrees.{blocks_in}
+use Rattle.df_column.specs.BlockLists.{blocks_of_leaves}
 use Rattle.df_column.proofs.SharedLemmas.{rows_append}
 use Rattle.df_column.proofs.ZoneLemmas.{no_tags, tags_more}
 use Rattle.df_column.proofs.table.Table.tags_above.Goals as goal
@@ -21,5 +21,5 @@ returns c =
     let all : rows ≡ front ++ back = sym (ap rows_of_blocks c.parts.ensures ∙ c.blocks-2.ensures.rows) ∙ rows_append leaves c.parts.result.1.now in
     let tree = ap (λ bs. tags_above (Some c.in-Some.index) c.args.value.now (rows_of_blocks bs)) c.tree.ensures in
     tags_more (Some c.in-Some.index) c.args.value.now front back rows [] c.push_tags_above.new.tags.items c.push_tags_in_run.new.tags.items all
-    (c.in_ok-push_tags_above.ensures ∙ ap (λ ts. ts ++ tags_above (Some c.in-Some.index) c.args.value.now (rows_of_blocks (blocks_in c.tree.result.now))) c.new-tags.ensures.items ∙ tree) c.in_ok-push_tags_in_run.ensures
+    (c.in_ok-push_tags_above.ensures ∙ ap (λ ts. ts ++ tags_above (Some c.in-Some.index) c.args.value.now (rows_of_blocks (blocks_of_leaves c.tree.result.now))) c.new-tags.ensures.items ∙ tree) c.in_ok-push_tags_in_run.ensures
     ∙ ap (λ i. tags_above i c.args.value.now rows) (sym c.in-Some.is)

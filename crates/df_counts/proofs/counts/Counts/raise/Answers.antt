@@ -1,0 +1,25 @@
+use Rattle.std.proofs.Common.{◌≡◌, ℕ, ◌∷◌, refl, subst, sym}
+use Rattle.std.specs.Prelude.{T}
+use Rattle.std.specs.FinMap.{is_sorted}
+use Rattle.std.specs.Map.Iter.{deref_pair}
+use Rattle.std.proofs.lemmas.Map.Iter.{rest_more}
+use Rattle.df_value.specs.declared.cell.Cell.{Cell}
+use Rattle.df_value.specs.CellOrder.{cell_cmp, cell_cmp_total}
+use Rattle.df_tree.specs.Leaves.{items_in}
+use Rattle.df_counts.proofs.Edits.{sorted_edit}
+use Rattle.df_counts.proofs.Rises.{keys_rise, raised_more}
+use Rattle.df_counts.proofs.counts.Counts.raise.Goals as goal
+
+pub loop-value-preserved : goal.loop-value-preserved
+loop-value-preserved c =
+    let item : Cell × ℕ = (c.in-Some.value.now, c.in-Some.rise.now) in
+    let all : c.loop-value.value-iterator ≡ item ∷ c.next.new.self = rest_more deref_pair _ _ c.next.result (c.in-Some.value, c.in-Some.rise) c.in-Some.is c.next.ensures.steps in
+    record {
+      can_next = tt;
+      is_finite = tt;
+      sorted = subst (λ es. T (is_sorted cell_cmp es)) (sym c.in_ok-set_count.ensures) (sorted_edit cell_cmp_total _ item.0 _ c.loop-value.invariant.sorted);
+      leads = raised_more c.args.self.now (items_in c.loop-value.entries) (items_in c.set_count.new.entries) _ c.next.new.self _ item.0 item.1 c.count.result _ all c.count.ensures refl c.in_ok-set_count.ensures c.loop-value.invariant.leads;
+    }
+
+pub returns-clause-rising : goal.returns-clause-rising
+returns-clause-rising c = keys_rise cell_cmp c.args.rises.now.entries c.iter-value-items.ensures.ordered
