@@ -1,5 +1,5 @@
 -- An escaped text is read back, and has no byte that would begin or end a tag.
-use Rattle.std.proofs.Common.{◌≡◌, ◌++◌, ◌∷◌, [], ◌∙◌, ℕ, Bool, true, false, List, None, inl, inr, refl, ap, sym, subst, append_assoc, append-nil, codes, flat_map}
+use Rattle.std.proofs.Common.{◌≡◌, ◌++◌, ◌∷◌, [], ◌∙◌, ℕ, true, false, List, None, inl, inr, refl, ap, sym, subst, append_assoc, append-nil, codes, flat_map}
 use Rattle.std.specs.Prelude.{◌==◌, not}
 use Rattle.std.specs.List.{list_all}
 use Rattle.std.proofs.lemmas.Bool.{cases_Bool, eqb-true}

@@ -1,5 +1,5 @@
 -- Tags, some behind others.
-use Rattle.std.proofs.Common.{◌≡◌, ◌++◌, ◌∷◌, [], ◌+◌, ◌<◌, ◌≤◌, ℕ, List, Result, Ok, Err, refl, ap, sym, ◌∙◌, append_assoc, append-nil, take, get_or, flat_map, length, arith}
+use Rattle.std.proofs.Common.{◌≡◌, ◌++◌, [], ◌+◌, ◌<◌, ◌≤◌, ℕ, List, Result, Ok, Err, refl, ap, sym, ◌∙◌, append_assoc, append-nil, take, get_or, flat_map, length, arith}
 use Rattle.std.specs.Prelude.{OnOk}
 use Rattle.std.specs.List.{enumerate_from}
 use Rattle.std.proofs.lemmas.Grind.{flat_map-append}

@@ -4,7 +4,7 @@ use Rattle.std.specs.List.{list_all}
 use Rattle.df_value.specs.declared.cell.Cell.{Cell}
 use Rattle.df_value.specs.Schemas.{Columns}
 use Rattle.df_page.specs.Markup.{Tagged, markup}
-use Rattle.df_page.specs.Pages.{end_of, end_tags, first_tags, head_of, head_tags, page_of, reload_tags, title_tags}
+use Rattle.df_page.specs.Pages.{end_of, end_tags, head_of, head_tags, page_of}
 use Rattle.df_page.specs.Reading.{is_cell, is_row_end, rows_from, rows_read, shown_table}
 use Rattle.df_page.specs.Sections.{section_of, section_tags}
 use Rattle.df_page.proofs.MarkupFacts.{markup-append}

@@ -1,5 +1,5 @@
 -- The cells of rows are read back.
-use Rattle.std.proofs.Common.{◌≡◌, ◌++◌, ◌∷◌, [], ◌∙◌, ◌+◌, ◌<◌, ◌≤◌, ◌^◌, ℕ, ℤ, Bool, true, false, zero, suc, List, Option, Some, None, inl, inr, refl, ap, sym, length, map, get_or, append_assoc, append-nil, flat_map, codes, decimal, unsigned_abs, arith}
+use Rattle.std.proofs.Common.{◌≡◌, ◌++◌, ◌∷◌, [], ◌∙◌, ◌+◌, ◌<◌, ◌≤◌, ℕ, ℤ, Bool, true, false, suc, List, Some, None, refl, ap, sym, length, map, get_or, append_assoc, append-nil, flat_map, codes, decimal, unsigned_abs, arith}
 use Rattle.std.specs.Prelude.{◌==◌, ◌&&◌, not}
 use Rattle.std.specs.Int.{is_negative}
 use Rattle.std.specs.List.{enumerate_from, list_all, range_with_len}

@@ -1,6 +1,6 @@
 -- What a reader finds in HTML: tags, the texts between them, and the rows of tables.
 use Rattle.std.specs.Prelude.{◌==◌, ◌||◌, ◌&&◌, ◌++◌, not, ℕ, Bool, true, false, List, [], ◌∷◌, Option, Some, None, length, drop, map, bytes_eq, codes, if◌then◌else◌}
-use Rattle.std.specs.List.{list_all, range_with_len, take_while}
+use Rattle.std.specs.List.{range_with_len, take_while}
 use Rattle.std.specs.Fmt.{signed_decimal}
 use Rattle.df_value.specs.declared.cell.Cell.{Cell}
 use Rattle.df_value.specs.declared.cell.Cell.TheVariants as cell

@@ -28,7 +28,7 @@ th { position: sticky; top: 0; z-index: 1; background: var(--head); border-botto
 .bar { background-image: linear-gradient(to right, var(--bar) calc(var(--w) * 0.1%), transparent 0) }
 .positive { background-image: linear-gradient(to right, transparent calc(50% - 0.5px), var(--zero) 0, var(--zero) calc(50% + 0.5px), transparent 0), linear-gradient(to right, transparent 50%, var(--bar) 0, var(--bar) calc(50% + var(--w) * 0.05%), transparent 0) }
 .negative { background-image: linear-gradient(to right, transparent calc(50% - 0.5px), var(--zero) 0, var(--zero) calc(50% + 0.5px), transparent 0), linear-gradient(to left, transparent 50%, var(--negative) 0, var(--negative) calc(50% + var(--w) * 0.05%), transparent 0) }
-.null { color: var(--dim); font-style: italic; opacity: 0.8 }
+.null { color: var(--dim); font-style: italic }
 .mean { color: var(--dim) }
 .decimal { color: var(--ink) }
 @media (max-width: 40rem) {

@@ -10,3 +10,4 @@ mod FramedFacts
 mod PlaceFacts
 mod WatchFacts
 mod ReportFacts
+mod FollowFacts

@@ -1,5 +1,5 @@
 -- The sections of pages, one more of them, and why there are none.
-use Rattle.std.proofs.Common.{◌≡◌, ◌∙◌, ◌<◌, ◌≤◌, ◌+◌, ◌++◌, ℕ, List, [], ◌∷◌, ap, append_assoc, arith, drop, flat_map, get_or, inl, inr, length, refl, subst, sym, take}
+use Rattle.std.proofs.Common.{◌≡◌, ◌∙◌, ◌<◌, ◌≤◌, ◌+◌, ◌++◌, ℕ, Bool, List, [], ◌∷◌, ap, append_assoc, arith, drop, flat_map, get_or, inl, inr, length, refl, subst, sym, take}
 use Rattle.std.specs.Prelude.{IfErr, Result, Ok, Err}
 use Rattle.std.specs.Global.{Vec}
 use Rattle.std.proofs.lemmas.List.{flat_map_more, take-append-drop, take_more}
@@ -84,10 +84,11 @@ module _ {S F : Type 0}
   where
     -- views that are named
     pub named-report :
-        (title path : List ℕ) (views : List (List ℕ)) (s n : S) (f g : F) (text : List ℕ) → 1 ≤ length views →
-        IsWritten Answers Names Numbers Writes title path views s n f g text → IsReport Answers Names Numbers Writes title path views s n f g text
-    named-report title path [] s n f g text some h = absurd (omega (arith, some))
-    named-report title path (v ∷ views) s n f g text some h = h
+        (title : List ℕ) (reload : Bool) (path : List ℕ) (views : List (List ℕ)) (s n : S) (f g : F) (text : List ℕ) → 1 ≤ length views →
+        IsWritten Answers Names Numbers Writes title reload path views s n f g text →
+        IsReport Answers Names Numbers Writes title reload path views s n f g text
+    named-report title reload path [] s n f g text some h = absurd (omega (arith, some))
+    named-report title reload path (v ∷ views) s n f g text some h = h
 
     pub named-refusal :
         (views : List (List ℕ)) (s n : S) (f g : F) (r : Refusal) → 1 ≤ length views →

@@ -83,6 +83,8 @@ IsCommandOf words (command.AppendNext frame) = words ≡ codes "append" ∷ fram
 IsCommandOf words (command.Load frame path) = words ≡ codes "load" ∷ frame.now ∷ path.now ∷ []
 IsCommandOf words (command.Export view path) = words ≡ codes "export" ∷ view.now ∷ path.now ∷ []
 IsCommandOf words (command.Report path views) = words ≡ codes "report" ∷ path.now ∷ views
+IsCommandOf words (command.Follow path views) = words ≡ codes "follow" ∷ path.now ∷ views
+IsCommandOf words (command.Unfollow path) = words ≡ codes "unfollow" ∷ path.now ∷ []
 IsCommandOf words (command.Define view source) =
     (word : List ℕ) × (rest : List (List ℕ)) × (words ≡ codes "define" ∷ view.now ∷ source.now ∷ word ∷ rest)
 IsCommandOf words (command.Sql view) = words ≡ codes "sql" ∷ view.now ∷ []

@@ -64,15 +64,17 @@ IsOpening (command.AppendNext frame) = ⊤
 IsOpening (command.Load frame path) = ⊤
 IsOpening (command.Export view path) = ⊤
 IsOpening (command.Report path views) = ⊤
+IsOpening (command.Follow path views) = ⊤
 IsOpening (command.Define view source) = ⊤
 IsOpening (command.Source path) = ⊤
 IsOpening c = ⊥
 
--- the commands that ask: before a store is opened, there is no view that could be watched
+-- the commands that ask: before a store is opened, there is no view that could be watched, and no page that follows it
 abbrev pub IsAsking : Command → Type 0
 IsAsking (command.Question question) = ⊤
 IsAsking (command.Sql view) = ⊤
 IsAsking (command.Watch asked view) = ⊤
+IsAsking (command.Unfollow path) = ⊤
 IsAsking c = ⊥
 
 -- What words come to that declare no frame: a question is left to a store of the declared frames, and so is what may change one.

@@ -17,5 +17,6 @@ pub mod Filling
 pub mod Loading
 pub mod Exported
 pub mod Reports
+pub mod Following
 pub mod ViewChanges
 pub mod Watching

@@ -1,5 +1,5 @@
 -- Pages of views in files: which views a page has, what the store answers for each, and what is told of a page that is written.
-use Rattle.std.specs.Prelude.{◌≡◌, ◌⊎◌, ◌++◌, ℕ, false, List, [], ◌∷◌, Result, Ok, Err, codes, decimal, flat_map, length}
+use Rattle.std.specs.Prelude.{◌≡◌, ◌⊎◌, ◌++◌, ℕ, Bool, List, [], ◌∷◌, Result, Ok, Err, codes, decimal, flat_map, length}
 use Rattle.std.specs.Borrow.{Bor}
 use Rattle.std.specs.Global.{Vec}
 use Rattle.df_page.specs.Pages.{page_of}
@@ -49,11 +49,11 @@ module _ {S : Type 0} (Answers : S → S → Question → Result (Vec ℕ) Refus
 
 -- by how a store answers questions, and which number of the last change it answers
 module _ {S : Type 0} (Answers : S → S → Question → Result (Vec ℕ) Refusal → Type 0) (Numbers : S → ℕ → Type 0) where
-  -- the page of these views, in this order, under a title and the number of the last change
-  abbrev pub IsPageOf : List ℕ → List (List ℕ) → S → S → List ℕ → Type 0
-  IsPageOf title names old new page =
+  -- the page of these views, in this order, under a title and the number of the last change; a browser loads it again, if it is to
+  abbrev pub IsPageOf : List ℕ → Bool → List (List ℕ) → S → S → List ℕ → Type 0
+  IsPageOf title reload names old new page =
       (number : ℕ) × (sections : List (List ℕ)) × Numbers old number × AreSections Answers names old new sections
-      × (page ≡ page_of title number false sections)
+      × (page ≡ page_of title number reload sections)
 
 -- and also which names of views it answers, and how files are written
 module _ {S F : Type 0}
@@ -63,15 +63,16 @@ module _ {S F : Type 0}
     (Writes : F → F → List ℕ → List ℕ → Type 0)
   where
     -- The page of these views stands under the path, and how many they are is told.
-    abbrev pub IsWritten : List ℕ → List ℕ → List (List ℕ) → S → S → F → F → List ℕ → Type 0
-    IsWritten title path names old new before after text =
-        (page : List ℕ) × IsPageOf Answers Numbers title names old new page × Writes before after path page × (text ≡ reported_text (length names))
+    abbrev pub IsWritten : List ℕ → Bool → List ℕ → List (List ℕ) → S → S → F → F → List ℕ → Type 0
+    IsWritten title reload path names old new before after text =
+        (page : List ℕ) × IsPageOf Answers Numbers title reload names old new page × Writes before after path page × (text ≡ reported_text (length names))
 
     -- The page of the views that are named, or where none is, of all.
-    abbrev pub IsReport : List ℕ → List ℕ → List (List ℕ) → S → S → F → F → List ℕ → Type 0
-    IsReport title path [] old new before after text =
-        (mid : S) × (names : List (List ℕ)) × Names old mid (Ok names) × IsWritten title path names mid new before after text
-    IsReport title path (name ∷ names) old new before after text = IsWritten title path (name ∷ names) old new before after text
+    abbrev pub IsReport : List ℕ → Bool → List ℕ → List (List ℕ) → S → S → F → F → List ℕ → Type 0
+    IsReport title reload path [] old new before after text =
+        (mid : S) × (names : List (List ℕ)) × Names old mid (Ok names) × IsWritten title reload path names mid new before after text
+    IsReport title reload path (name ∷ names) old new before after text =
+        IsWritten title reload path (name ∷ names) old new before after text
 
     -- A refusal of a page of these views: there is none, and no file is touched; or why its file is not written.
     abbrev pub IsUnwritten : List (List ℕ) → S → S → F → F → Refusal → Type 0

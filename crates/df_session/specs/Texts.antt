@@ -39,6 +39,7 @@ mistake_text mistake.LateFrame = codes "a frame is declared before all changes: 
 mistake_text mistake.OnlyWithHall = codes "only with --hall"
 mistake_text mistake.NotWithHall = codes "not with --hall"
 mistake_text mistake.NotWatched = codes "the view is not watched: watch begins it"
+mistake_text mistake.NotFollowed = codes "the path is not followed: follow begins it"
 mistake_text mistake.NoChange = codes "the last change was none of rows, or came before the watch"
 
 -- the code of a catalogue's fault, the number that it is about, and both in words

@@ -30,6 +30,10 @@ pub enum Answer {
     Export(Text, Vec<u8>),
     /// Nothing: a file under this path is to have a page of the views of these names, or without names of all views.
     Report(Text, List<Text>),
+    /// Nothing: such a page is to follow the store.
+    Follow(Text, List<Text>),
+    /// Nothing: the page in the file under this path follows the store no longer.
+    Unfollow(Text),
     /// Nothing: this is asked about what changes do to the view of this name.
     Watch(Watching, Text),
     /// Nothing: the commands in the file under this path come next.
@@ -49,6 +53,8 @@ impl Answer {
             Answer::Load(..)
             | Answer::Export(..)
             | Answer::Report(..)
+            | Answer::Follow(..)
+            | Answer::Unfollow(_)
             | Answer::Watch(..)
             | Answer::Source(_)
             | Answer::Ended => b"",
@@ -139,6 +145,8 @@ fn answer_alone<S: ViewStore>(
         Command::Export(view, path) => export_of(alloc, definitions, store, view, path),
         Command::Load(frame, path) => Ok(load_of(alloc, frame, path)?),
         Command::Report(path, views) => Ok(report_of(alloc, path, views)?),
+        Command::Follow(path, views) => Ok(follow_of(alloc, path, views)?),
+        Command::Unfollow(path) => Ok(Answer::Unfollow(Text::from_str(alloc, path)?)),
         Command::Sql(view) => Ok(Answer::Told(sql_of_view(alloc, definitions, view)?)),
         Command::Watch(asked, view) => Ok(Answer::Watch(asked, Text::from_str(alloc, view)?)),
         Command::Source(path) => Ok(Answer::Source(Text::from_str(alloc, path)?)),
@@ -162,6 +170,18 @@ fn report_of(alloc: Global, path: &str, views: List<Text>) -> Result<Answer, All
 {
     match Text::from_str(alloc, path) {
         Ok(path) => Ok(Answer::Report(path, views)),
+        Err(fault) => {
+            drop(views);
+            Err(fault)
+        }
+    }
+}
+
+fn follow_of(alloc: Global, path: &str, views: List<Text>) -> Result<Answer, AllocError>
+    ensures { IfOk result (λ answer. answer ≡ Answer.Follow path.now views) }
+{
+    match Text::from_str(alloc, path) {
+        Ok(path) => Ok(Answer::Follow(path, views)),
         Err(fault) => {
             drop(views);
             Err(fault)

@@ -21,6 +21,10 @@ pub enum Command<'a> {
     Export(&'a str, &'a str),
     /// Writes a page of the views of these names, in their order, or without names of all views, to a file, whose path stands first.
     Report(&'a str, List<Text>),
+    /// Writes such a page, and from now on anew behind changes.
+    Follow(&'a str, List<Text>),
+    /// Writes the page in the file under a path no longer.
+    Unfollow(&'a str),
     /// Adds a view behind all views so far: its name, and that of the frame that it begins with. Its steps stand behind
     /// these.
     Define(&'a str, &'a str),
@@ -136,6 +140,8 @@ fn command_of<'a>(alloc: Global, name: &str, arguments: &[&'a str]) -> Result<Co
         "load" => Ok(read_load(arguments)?),
         "export" => Ok(read_export(arguments)?),
         "report" => read_report(alloc, arguments),
+        "follow" => read_follow(alloc, arguments),
+        "unfollow" => Ok(Command::Unfollow(only(arguments)?)),
         "define" => Ok(read_define(arguments)?),
         "sql" => Ok(Command::Sql(only(arguments)?)),
         "watch" => Ok(Command::Watch(Watching::Begin, only(arguments)?)),
@@ -209,6 +215,16 @@ fn read_report<'a>(alloc: Global, arguments: &[&'a str]) -> Result<Command<'a>, 
 {
     match arguments {
         [path, views @ ..] => Ok(Command::Report(path, texts_of(alloc, views)?)),
+        [] => Err(Refusal::Mistake(Mistake::MissingWord)),
+    }
+}
+
+fn read_follow<'a>(alloc: Global, arguments: &[&'a str]) -> Result<Command<'a>, Refusal>
+    ensures said { IfOk result (IsCommandOf (codes "follow" ∷ map (λ w. w.now) arguments.now)) }
+    ensures refused { IfErr result IsWordFault }
+{
+    match arguments {
+        [path, views @ ..] => Ok(Command::Follow(path, texts_of(alloc, views)?)),
         [] => Err(Refusal::Mistake(Mistake::MissingWord)),
     }
 }

@@ -170,7 +170,9 @@ fn answer_other(
         (map (λ w. w.now) words.now) result }
 {
     match read_command(alloc, words)? {
-        Command::Question(_) | Command::Sql(_) | Command::Watch(..) => Ok(Declaration::Asked),
+        Command::Question(_) | Command::Sql(_) | Command::Watch(..) | Command::Unfollow(_) => {
+            Ok(Declaration::Asked)
+        }
         Command::Help => {
             let told = list_commands(alloc, commands)?;
             Ok(Declaration::Answered(Answer::Told(told)))
@@ -185,6 +187,7 @@ fn answer_other(
         | Command::Load(..)
         | Command::Export(..)
         | Command::Report(..)
+        | Command::Follow(..)
         | Command::Define(..)
         | Command::Source(_) => Ok(Declaration::Opens),
     }

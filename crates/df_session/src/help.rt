@@ -8,7 +8,7 @@ use std::alloc::{AllocError, Global};
 pub type CommandHelp = (&'static str, &'static str, &'static str);
 
 /// The commands, in the order in which `help` lists them. A command of several forms has an entry for each.
-pub const COMMANDS: [CommandHelp; 32] = [
+pub const COMMANDS: [CommandHelp; 34] = [
     (
         "frame",
         "frame NAME COLUMN TYPE ..    declares a frame of these columns; without a document, before all changes\n",
@@ -123,6 +123,16 @@ pub const COMMANDS: [CommandHelp; 32] = [
         "report",
         "report PATH [VIEW ..]        writes a page of all views, or of these, to a file: the first 1000 rows of each\n",
         "    > report totals.html\n    ok 1 view\n",
+    ),
+    (
+        "follow",
+        "follow PATH [VIEW ..]        writes such a page now and behind changes, at most once a second; a browser loads it again\n",
+        "    > follow totals.html\n    ok 1 view\n",
+    ),
+    (
+        "unfollow",
+        "unfollow PATH                writes the page no longer\n",
+        "    > unfollow totals.html\n    ok\n",
     ),
     (
         "rows",

@@ -97,6 +97,9 @@ pub enum Mistake {
     /// What changes do to a view is asked, which is not watched.
     #[error("the view is not watched")]
     NotWatched,
+    /// No page under this path follows the store.
+    #[error("the path is not followed")]
+    NotFollowed,
     /// The last change was none of rows, or came before the first watch.
     #[error("the last change was none of rows")]
     NoChange,

@@ -56,6 +56,7 @@ fn mistake_text(mistake: Mistake) -> &'static str
         Mistake::OnlyWithHall => "only with --hall",
         Mistake::NotWithHall => "not with --hall",
         Mistake::NotWatched => "the view is not watched: watch begins it",
+        Mistake::NotFollowed => "the path is not followed: follow begins it",
         Mistake::NoChange => "the last change was none of rows, or came before the watch",
     }
 }

@@ -17,25 +17,27 @@ use std::alloc::{AllocError, Global};
 const MOST_ROWS: usize = 1000;
 
 /// Writes a page of these views, in their order, or without views of all, to a file, and tells how many they are. Of each it
-/// has at most 1,000 rows. Where a view is unknown, or memory is refused, no file is touched.
+/// has at most 1,000 rows. With `reload` a browser loads it again and again. Where a view is unknown, or memory is refused, no
+/// file is touched.
 pub fn report<S: ChangeStore, F: WriteFiles>(
     alloc: Global,
     definitions: &Definitions,
     store: &mut S,
     files: &mut F,
     title: &str,
+    reload: bool,
     path: &str,
     views: &[Text],
 ) -> Result<String, Refusal>
     ensures written { IfOk result (λ text. IsReport (λ old new. S.Answers old new definitions.now)
-        S.Names S.Numbers F.Writes title.now path.now views.now store.old store.new
+        S.Names S.Numbers F.Writes title.now reload path.now views.now store.old store.new
         files.old files.new (string_bytes text)) }
     ensures refused { IfErr result (IsRefusalOfReport (λ old new. S.Answers old new definitions.now)
         S.Names S.Numbers F.Writes views.now store.old store.new files.old files.new) }
 {
     match views {
-        [] => report_all(alloc, definitions, store, files, title, path),
-        _ => report_named(alloc, definitions, store, files, title, path, views),
+        [] => report_all(alloc, definitions, store, files, title, reload, path),
+        _ => report_named(alloc, definitions, store, files, title, reload, path, views),
     }
 }
 
@@ -45,17 +47,18 @@ fn report_all<S: ChangeStore, F: WriteFiles>(
     store: &mut S,
     files: &mut F,
     title: &str,
+    reload: bool,
     path: &str,
 ) -> Result<String, Refusal>
     ensures written { IfOk result (λ text. IsReport (λ old new. S.Answers old new definitions.now)
-        S.Names S.Numbers F.Writes title.now path.now [] store.old store.new
+        S.Names S.Numbers F.Writes title.now reload path.now [] store.old store.new
         files.old files.new (string_bytes text)) }
     ensures refused { IfErr result (IsRefusalOfReport (λ old new. S.Answers old new definitions.now)
         S.Names S.Numbers F.Writes [] store.old store.new files.old files.new) }
 {
     let names = store.view_names(alloc)?;
     let views = names.as_slice();
-    let reported = report_named(alloc, definitions, store, files, title, path, views);
+    let reported = report_named(alloc, definitions, store, files, title, reload, path, views);
     drop(names);
     reported
 }
@@ -66,18 +69,19 @@ fn report_named<S: ChangeStore, F: WriteFiles>(
     store: &mut S,
     files: &mut F,
     title: &str,
+    reload: bool,
     path: &str,
     views: &[Text],
 ) -> Result<String, Refusal>
     ensures written { IfOk result (λ text. IsWritten (λ old new. S.Answers old new definitions.now)
-        S.Names S.Numbers F.Writes title.now path.now views.now store.old store.new
+        S.Names S.Numbers F.Writes title.now reload path.now views.now store.old store.new
         files.old files.new (string_bytes text)) }
     ensures refused { IfErr result (IsUnwritten (λ old new. S.Answers old new definitions.now)
         S.Names S.Numbers F.Writes views.now store.old store.new files.old files.new) }
 {
     // Made first, so that nothing is refused behind the file.
     let told = views_told(alloc, views.len())?;
-    let page = page_of_views(alloc, definitions, store, title, views)?;
+    let page = page_of_views(alloc, definitions, store, title, reload, views)?;
     files.write_whole(alloc, path, page.as_slice())?;
     Ok(told)
 }
@@ -95,14 +99,15 @@ fn page_of_views<S: ChangeStore>(
     definitions: &Definitions,
     store: &mut S,
     title: &str,
+    reload: bool,
     views: &[Text],
 ) -> Result<Vec<u8>, Refusal>
     ensures made { IfOk result (λ page. IsPageOf (λ old new. S.Answers old new definitions.now)
-        S.Numbers title.now views.now store.old store.new page.items) }
+        S.Numbers title.now reload views.now store.old store.new page.items) }
     ensures refused { IfErr result (IsRefusalOfSections (λ old new. S.Answers old new definitions.now)
         views.now store.old store.new) }
 {
-    let mut page = page_head(alloc, title, store.change_number(), false)?;
+    let mut page = page_head(alloc, title, store.change_number(), reload)?;
     push_sections(alloc, definitions, store, views, &mut page)?;
     page.extend_from_slice(page_end().as_bytes())?;
     Ok(page)

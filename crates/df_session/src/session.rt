@@ -6,12 +6,16 @@ use crate::change_store::ChangeStore;
 use crate::definitions::Definitions;
 use crate::exporting::WriteFiles;
 use crate::fault::ShellFault;
+use crate::followed::FollowedPages;
 use crate::help::COMMANDS;
 use crate::lines::{Line, read_line, without_end};
 use crate::options::{SessionEnd, SessionOptions};
 use crate::prompts::{COMMAND_PROMPT, Prompts, greeting};
 use crate::refusal::{Mistake, Refusal};
-use crate::turns::{Turn, export_table, load_file, report_views, turn_of, watch_view};
+use crate::turns::{
+    Turn, export_table, follow_store, load_file, report_views, turn_of, unfollow_store, watch_view,
+    write_behind,
+};
 use crate::watched_store::WatchedStore;
 use crate::words::{lines_behind, read_words};
 use crate::writing::{Status, refuse, write_all, write_answer, write_changes, write_prompt};
@@ -19,12 +23,15 @@ use df_document::Files;
 use df_value::{List, Text};
 use std::alloc::Global;
 use std::io::{BufRead, BufReader, Read, Write};
+use std::rt::Clock;
 use std::thread::Threads;
 
 /// What a shell has while it answers.
 pub struct Session<'a, S> {
     pub definitions: Definitions,
     pub store: WatchedStore<S>,
+    /// The pages that follow the store.
+    pub followed: FollowedPages,
     pub buffers: Buffers,
     pub options: SessionOptions<'a>,
 }
@@ -42,7 +49,13 @@ pub enum Beginning {
 
 /// Writes the first lines, those of the refused chunks among them, and answers the commands. A session that begins with a
 /// command in its buffers answers it in place of the first lines. None: it goes on, behind the question that it began with.
-pub fn answer_from<R: Threads + Sync, S: ChangeStore, F: Files + WriteFiles, I: BufRead, W: Write>(
+pub fn answer_from<
+    R: Threads + Clock + Sync,
+    S: ChangeStore,
+    F: Files + WriteFiles,
+    I: BufRead,
+    W: Write,
+>(
     rt: &R,
     alloc: Global,
     session: &mut Session<'_, S>,
@@ -60,13 +73,18 @@ pub fn answer_from<R: Threads + Sync, S: ChangeStore, F: Files + WriteFiles, I: 
         }
         Beginning::Question | Beginning::Command => {
             let turn = take_turn(alloc, session, input, output)?;
-            let end = follow(rt, alloc, session, files, turn, output)?;
+            let end = complete(rt, alloc, session, files, turn, output)?;
             if end.is_some() || beginning == Beginning::Question {
                 return Ok(end);
             }
         }
     }
-    answer_all(rt, alloc, session, files, input, output)
+    let answered = answer_all(rt, alloc, session, files, input, output);
+    if answered.is_err() {
+        // The last changes before a fault are not lost to the pages.
+        drop(write_behind(rt, alloc, session, files, false, output));
+    }
+    answered
 }
 
 fn greet<S, W: Write>(
@@ -80,7 +98,13 @@ fn greet<S, W: Write>(
     }
 }
 
-fn answer_all<R: Threads + Sync, S: ChangeStore, F: Files + WriteFiles, I: BufRead, W: Write>(
+fn answer_all<
+    R: Threads + Clock + Sync,
+    S: ChangeStore,
+    F: Files + WriteFiles,
+    I: BufRead,
+    W: Write,
+>(
     rt: &R,
     alloc: Global,
     session: &mut Session<'_, S>,
@@ -89,8 +113,7 @@ fn answer_all<R: Threads + Sync, S: ChangeStore, F: Files + WriteFiles, I: BufRe
     output: &mut W,
 ) -> Result<Option<SessionEnd>, ShellFault> {
     for _ in 0..u64::MAX {
-        let turn = answer_next(alloc, session, input, output)?;
-        let end = follow(rt, alloc, session, files, turn, output)?;
+        let end = answer_command(rt, alloc, session, files, input, output)?;
         if end.is_some() {
             return Ok(end);
         }
@@ -98,8 +121,31 @@ fn answer_all<R: Threads + Sync, S: ChangeStore, F: Files + WriteFiles, I: BufRe
     Ok(Some(SessionEnd::Whole))
 }
 
+// Answers a command, and writes the pages that follow the store. Some: so the session has ended.
+fn answer_command<
+    R: Threads + Clock + Sync,
+    S: ChangeStore,
+    F: Files + WriteFiles,
+    I: BufRead,
+    W: Write,
+>(
+    rt: &R,
+    alloc: Global,
+    session: &mut Session<'_, S>,
+    files: &mut F,
+    input: &mut I,
+    output: &mut W,
+) -> Result<Option<SessionEnd>, ShellFault> {
+    let before = session.store.store.change_number();
+    let turn = answer_next(alloc, session, input, output)?;
+    let end = complete(rt, alloc, session, files, turn, output)?;
+    let is_change = session.store.store.change_number() != before;
+    write_behind(rt, alloc, session, files, is_change, output)?;
+    Ok(end)
+}
+
 // Does what comes behind a command. Some: so the session has ended.
-fn follow<R: Threads + Sync, S: ChangeStore, F: Files + WriteFiles, W: Write>(
+fn complete<R: Threads + Clock + Sync, S: ChangeStore, F: Files + WriteFiles, W: Write>(
     rt: &R,
     alloc: Global,
     session: &mut Session<'_, S>,
@@ -114,6 +160,10 @@ fn follow<R: Threads + Sync, S: ChangeStore, F: Files + WriteFiles, W: Write>(
             export_table(alloc, session.options, files, path, table, output)
         }
         Turn::Report(path, views) => report_views(alloc, session, files, path, views, output),
+        Turn::Follow(path, views) => {
+            follow_store(rt, alloc, session, files, path, views, output)
+        }
+        Turn::Unfollow(path) => unfollow_store(rt, alloc, session, files, path, output),
         Turn::Watch(asked, view) => watch_view(alloc, session, asked, view, output),
         Turn::Source(path) => source(rt, alloc, session, files, &path, output),
         Turn::End | Turn::Quit => Ok(Some(SessionEnd::Whole)),
@@ -122,7 +172,7 @@ fn follow<R: Threads + Sync, S: ChangeStore, F: Files + WriteFiles, W: Write>(
 }
 
 // Answers the commands in a file, without prompts. Some: one of them ends the session.
-fn source<R: Threads + Sync, S: ChangeStore, F: Files + WriteFiles, W: Write>(
+fn source<R: Threads + Clock + Sync, S: ChangeStore, F: Files + WriteFiles, W: Write>(
     rt: &R,
     alloc: Global,
     session: &mut Session<'_, S>,
@@ -141,7 +191,7 @@ fn source<R: Threads + Sync, S: ChangeStore, F: Files + WriteFiles, W: Write>(
     end
 }
 
-fn answer_file<R: Threads + Sync, S: ChangeStore, F: Files + WriteFiles, W: Write>(
+fn answer_file<R: Threads + Clock + Sync, S: ChangeStore, F: Files + WriteFiles, W: Write>(
     rt: &R,
     alloc: Global,
     session: &mut Session<'_, S>,
@@ -156,7 +206,13 @@ fn answer_file<R: Threads + Sync, S: ChangeStore, F: Files + WriteFiles, W: Writ
 }
 
 // The commands of a file name no further file.
-fn answer_sourced<R: Threads + Sync, S: ChangeStore, F: Files + WriteFiles, I: BufRead, W: Write>(
+fn answer_sourced<
+    R: Threads + Clock + Sync,
+    S: ChangeStore,
+    F: Files + WriteFiles,
+    I: BufRead,
+    W: Write,
+>(
     rt: &R,
     alloc: Global,
     session: &mut Session<'_, S>,
@@ -165,10 +221,16 @@ fn answer_sourced<R: Threads + Sync, S: ChangeStore, F: Files + WriteFiles, I: B
     output: &mut W,
 ) -> Result<Option<SessionEnd>, ShellFault> {
     for _ in 0..u64::MAX {
+        let before = session.store.store.change_number();
         match answer_next(alloc, session, input, output) {
-            Ok(Turn::End) => return Ok(None),
+            Ok(Turn::End) => {
+                write_behind(rt, alloc, session, files, false, output)?;
+                return Ok(None);
+            }
             Ok(turn) => {
                 let end = take_sourced(rt, alloc, session, files, turn, output)?;
+                let is_change = session.store.store.change_number() != before;
+                write_behind(rt, alloc, session, files, is_change, output)?;
                 if end.is_some() {
                     return Ok(end);
                 }
@@ -184,7 +246,7 @@ fn answer_sourced<R: Threads + Sync, S: ChangeStore, F: Files + WriteFiles, I: B
 }
 
 // Does what comes behind a command of a file.
-fn take_sourced<R: Threads + Sync, S: ChangeStore, F: Files + WriteFiles, W: Write>(
+fn take_sourced<R: Threads + Clock + Sync, S: ChangeStore, F: Files + WriteFiles, W: Write>(
     rt: &R,
     alloc: Global,
     session: &mut Session<'_, S>,
@@ -199,6 +261,10 @@ fn take_sourced<R: Threads + Sync, S: ChangeStore, F: Files + WriteFiles, W: Wri
             export_table(alloc, session.options, files, path, table, output)
         }
         Turn::Report(path, views) => report_views(alloc, session, files, path, views, output),
+        Turn::Follow(path, views) => {
+            follow_store(rt, alloc, session, files, path, views, output)
+        }
+        Turn::Unfollow(path) => unfollow_store(rt, alloc, session, files, path, output),
         Turn::Watch(asked, view) => watch_view(alloc, session, asked, view, output),
         Turn::Source(_) => {
             let nested = Refusal::Mistake(Mistake::NestedSource);
@@ -282,6 +348,8 @@ fn tell<W: Write>(
         Ok(Answer::Load(frame, path)) => Ok(Turn::Load(frame, path)),
         Ok(Answer::Export(path, table)) => Ok(Turn::Export(path, table)),
         Ok(Answer::Report(path, views)) => Ok(Turn::Report(path, views)),
+        Ok(Answer::Follow(path, views)) => Ok(Turn::Follow(path, views)),
+        Ok(Answer::Unfollow(path)) => Ok(Turn::Unfollow(path)),
         Ok(Answer::Watch(asked, view)) => Ok(Turn::Watch(asked, view)),
         Ok(Answer::Source(path)) => Ok(Turn::Source(path)),
         Ok(answer) => {

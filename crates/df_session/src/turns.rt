@@ -3,8 +3,11 @@ use crate::change_store::ChangeStore;
 use crate::command::Watching;
 use crate::exporting::{WriteFiles, export};
 use crate::fault::ShellFault;
+use crate::followed::Moment;
+use crate::following::{follow, write_followed};
 use crate::loading::load;
 use crate::options::{SessionEnd, SessionOptions};
+use crate::refusal::{Mistake, Refusal};
 use crate::reporting::report;
 use crate::session::Session;
 use crate::watched_store::answer_watching;
@@ -13,6 +16,7 @@ use df_document::Files;
 use df_value::{List, Text};
 use std::alloc::Global;
 use std::io::Write;
+use std::rt::Clock;
 use std::thread::Threads;
 
 /// What comes behind a command.
@@ -26,6 +30,10 @@ pub enum Turn {
     Export(Text, Vec<u8>),
     /// A file under this path, of a page of the views of these names, or without names of all views.
     Report(Text, List<Text>),
+    /// Such a page, which is to follow the store.
+    Follow(Text, List<Text>),
+    /// The page in the file under this path, which is to follow the store no longer.
+    Unfollow(Text),
     /// This, which is asked about what changes do to the view of a name.
     Watch(Watching, Text),
     /// The commands in the file under this path.
@@ -90,19 +98,7 @@ pub fn export_table<F: WriteFiles, W: Write>(
     let exported = export(alloc, files, path.as_str(), table.as_slice());
     drop(path);
     drop(table);
-    match exported {
-        Ok(told) => {
-            let written = write_answer(output, options.framed, Status::Ok, &[told.as_bytes()]);
-            drop(told);
-            written?;
-            Ok(None)
-        }
-        Err(refusal) => {
-            let written = refuse(alloc, output, options, &refusal);
-            drop(refusal);
-            written
-        }
-    }
+    write_outcome(alloc, options, exported, output)
 }
 
 /// Writes a page of views to a file, and what came of it.
@@ -121,12 +117,104 @@ pub fn report_views<S: ChangeStore, F: WriteFiles, W: Write>(
         &mut session.store.store,
         files,
         options.title,
+        false,
         path.as_str(),
         views.as_slice(),
     );
     drop(path);
     drop(views);
-    match reported {
+    write_outcome(alloc, options, reported, output)
+}
+
+/// Writes a page that is to follow the store, and what came of it.
+pub fn follow_store<R: Clock, S: ChangeStore, F: WriteFiles, W: Write>(
+    rt: &R,
+    alloc: Global,
+    session: &mut Session<'_, S>,
+    files: &mut F,
+    path: Text,
+    views: List<Text>,
+    output: &mut W,
+) -> Result<Option<SessionEnd>, ShellFault> {
+    let options = session.options;
+    let begun = follow(
+        alloc,
+        &session.definitions,
+        &mut session.store.store,
+        files,
+        &mut session.followed,
+        options.title,
+        milliseconds(rt),
+        path,
+        views,
+    );
+    write_outcome(alloc, options, begun, output)
+}
+
+/// Has the page under a path follow the store no longer, and writes the answer, and behind it the page once more, if there was a
+/// change since.
+pub fn unfollow_store<R: Clock, S: ChangeStore, F: WriteFiles, W: Write>(
+    rt: &R,
+    alloc: Global,
+    session: &mut Session<'_, S>,
+    files: &mut F,
+    path: Text,
+    output: &mut W,
+) -> Result<Option<SessionEnd>, ShellFault> {
+    let options = session.options;
+    if !session.followed.is_followed(path.as_str()) {
+        drop(path);
+        let not_followed = Refusal::Mistake(Mistake::NotFollowed);
+        return refuse(alloc, output, options, &not_followed);
+    }
+    let written = match write_answer(output, options.framed, Status::Ok, &[b"ok\n"]) {
+        Ok(()) => write_behind(rt, alloc, session, files, false, output),
+        Err(fault) => Err(fault),
+    };
+    session.followed.end(path.as_str());
+    drop(path);
+    written?;
+    Ok(None)
+}
+
+/// Writes the pages that follow the store behind a command, where they are to be written, and why one is not.
+pub fn write_behind<R: Clock, S: ChangeStore, F: WriteFiles, W: Write>(
+    rt: &R,
+    alloc: Global,
+    session: &mut Session<'_, S>,
+    files: &mut F,
+    is_change: bool,
+    output: &mut W,
+) -> Result<(), ShellFault> {
+    let now = milliseconds(rt);
+    write_followed(
+        alloc,
+        &session.definitions,
+        &mut session.store.store,
+        files,
+        &mut session.followed,
+        session.options.title,
+        Moment { is_change, now },
+        output,
+    )
+}
+
+// The time, in milliseconds of a clock that does not go back. None: it cannot be read.
+fn milliseconds<R: Clock>(rt: &R) -> Option<u128> {
+    match rt.monotonic() {
+        Ok(time) => Some(time.as_millis()),
+        Err(_) => None,
+    }
+}
+
+// Writes what was told of a file, or why it was not written.
+fn write_outcome<W: Write>(
+    alloc: Global,
+    options: SessionOptions<'_>,
+    outcome: Result<String, Refusal>,
+    output: &mut W,
+) -> Result<Option<SessionEnd>, ShellFault> {
+    match outcome {
         Ok(told) => {
             let written = write_answer(output, options.framed, Status::Ok, &[told.as_bytes()]);
             drop(told);

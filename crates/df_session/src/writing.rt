@@ -179,8 +179,8 @@ fn write_missed_line<W: Write>(
     write_all(output, b" 0\n")
 }
 
-// Writes parts that follow one another, and what the output keeps back.
-fn write_whole<W: Write>(output: &mut W, parts: &[&[u8]]) -> Result<(), ShellFault>
+/// Writes parts that follow one another, and what the output keeps back.
+pub fn write_whole<W: Write>(output: &mut W, parts: &[&[u8]]) -> Result<(), ShellFault>
     ensures { OnOk result (Appends (W.contents output.old) (W.contents output.new)
         (flat_map (λ part. part.now) parts.now)) }
 {

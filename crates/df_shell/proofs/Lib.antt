@@ -5,4 +5,3 @@ pub mod CheckFacts
 pub mod NextNumberFacts
 pub mod MadeFacts
 pub mod ToldFacts
-pub mod PageFacts

@@ -7,4 +7,3 @@ pub mod Changing
 pub mod ToldChanges
 pub mod Opening
 pub mod NextNumbers
-pub mod Pages

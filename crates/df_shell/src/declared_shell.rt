@@ -7,13 +7,19 @@ use df_session::{
 };
 use std::alloc::Global;
 use std::io::{BufRead, Write};
+use std::rt::Clock;
 use std::sync::Wait;
 use std::thread::Threads;
 
 /// Answers the commands of `input` as [`run_shell`](crate::run_shell) does, or with a hall as
 /// [`run_hall_shell`](crate::run_hall_shell), over no document: the session begins without frames, and declares them up to the
 /// first command that may change them. A question before it is answered from a store of its own.
-pub fn run_declared_shell<R: Threads + Wait + Sync, F: Files + WriteFiles, I: BufRead, W: Write>(
+pub fn run_declared_shell<
+    R: Threads + Wait + Clock + Sync,
+    F: Files + WriteFiles,
+    I: BufRead,
+    W: Write,
+>(
     rt: &R,
     alloc: Global,
     hall: bool,
@@ -37,7 +43,7 @@ pub fn run_declared_shell<R: Threads + Wait + Sync, F: Files + WriteFiles, I: Bu
     answered
 }
 
-fn answer_declaring<R: Threads + Wait + Sync, F: Files + WriteFiles, I: BufRead, W: Write>(
+fn answer_declaring<R: Threads + Wait + Clock + Sync, F: Files + WriteFiles, I: BufRead, W: Write>(
     rt: &R,
     alloc: Global,
     hall: bool,
@@ -72,7 +78,7 @@ fn answer_declaring<R: Threads + Wait + Sync, F: Files + WriteFiles, I: BufRead,
     Ok(None)
 }
 
-fn open_and_answer<R: Threads + Wait + Sync, F: Files + WriteFiles, I: BufRead, W: Write>(
+fn open_and_answer<R: Threads + Wait + Clock + Sync, F: Files + WriteFiles, I: BufRead, W: Write>(
     rt: &R,
     alloc: Global,
     hall: bool,

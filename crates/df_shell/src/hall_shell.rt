@@ -9,14 +9,15 @@ use df_catalogue::{Desk, NewFault, PARTS_OF_LEDGER};
 use df_document::{Files, copy_schemas};
 use df_hall::{Hall, OpenedHall};
 use df_session::{
-    Beginning, Numbers, Prepared, Refusal, Session, SessionEnd, SessionOptions, ShellFault,
-    VersionFault, WatchedStore, WriteFiles, answer_from, fill, prepare,
+    Beginning, FollowedPages, Numbers, Prepared, Refusal, Session, SessionEnd, SessionOptions,
+    ShellFault, VersionFault, WatchedStore, WriteFiles, answer_from, fill, prepare,
 };
 use df_value::{List, Piece};
 use df_versions::{Naming, OpenFault, Reader};
 use std::alloc::Global;
 use std::io::{BufRead, Read, Write};
 use std::marker::Brand;
+use std::rt::Clock;
 use std::sync::Wait;
 use std::sync::ledger::{Blank, Ledger};
 use std::thread::Threads;
@@ -25,7 +26,7 @@ use std::thread::Threads;
 /// questions are answered from the newest one, which has at least all changes that were answered before. At the end the
 /// hall is closed.
 pub fn run_hall_shell<
-    R: Threads + Wait + Sync,
+    R: Threads + Wait + Clock + Sync,
     V: Read,
     F: Files + WriteFiles,
     I: BufRead,
@@ -45,7 +46,7 @@ pub fn run_hall_shell<
 
 /// Opens a hall of what is prepared, answers the commands, and closes the hall.
 pub fn answer_prepared_in_hall<
-    R: Threads + Wait + Sync,
+    R: Threads + Wait + Clock + Sync,
     F: Files + WriteFiles,
     I: BufRead,
     W: Write,
@@ -75,7 +76,7 @@ pub fn answer_prepared_in_hall<
 fn open<
     Acc: Ledger,
     Del: Ledger,
-    R: Threads + Wait + Sync,
+    R: Threads + Wait + Clock + Sync,
     F: Files + WriteFiles,
     I: BufRead,
     W: Write,
@@ -128,7 +129,7 @@ fn serve<
     Acc: Ledger,
     Del: Ledger,
     J: Naming,
-    R: Threads + Wait + Sync,
+    R: Threads + Wait + Clock + Sync,
     F: Files + WriteFiles,
     I: BufRead,
     W: Write,
@@ -170,7 +171,7 @@ fn serve<
 // Answers the commands, and closes the hall.
 fn answer_and_close<
     'r,
-    R: Threads + Wait + Sync,
+    R: Threads + Wait + Clock + Sync,
     Acc: Ledger,
     Del: Ledger,
     J: Naming,
@@ -197,6 +198,7 @@ fn answer_and_close<
     let mut session = Session {
         definitions,
         store: WatchedStore::new(alloc, store),
+        followed: FollowedPages::new(alloc),
         buffers,
         options,
     };
@@ -214,10 +216,12 @@ fn answer_and_close<
     let Session {
         definitions,
         store,
+        followed,
         buffers,
         options: _,
     } = session;
     drop(definitions);
+    drop(followed);
     drop(buffers);
     let closed = store.into_store().close();
     let end = answered?;
@@ -228,7 +232,7 @@ fn answer_and_close<
 // The first rows and the views, and then the commands.
 fn fill_and_answer<
     'r,
-    R: Threads + Wait + Sync,
+    R: Threads + Wait + Clock + Sync,
     Acc: Ledger,
     Del: Ledger,
     J: Naming,

@@ -7,6 +7,7 @@
 
 mod checking;
 mod declared_shell;
+mod document_page;
 mod hall_shell;
 mod hall_store;
 mod opening;
@@ -22,6 +23,7 @@ pub use df_session::{
     ShellFault, VersionFault, ViewStore, WriteFault, WriteFiles, answer_line, check_document,
     read_command, refusal_text, shell_fault_text, write_document_sql,
 };
+pub use document_page::write_document_page;
 pub use hall_shell::run_hall_shell;
 pub use hall_store::HallStore;
 pub use shell::run_shell;

@@ -7,13 +7,14 @@ use crate::store::Store;
 use df_catalogue::PARTS_OF_LEDGER;
 use df_document::Files;
 use df_session::{
-    Beginning, Prepared, Session, SessionEnd, SessionOptions, ShellFault, WatchedStore, WriteFiles,
-    answer_from, prepare,
+    Beginning, FollowedPages, Prepared, Session, SessionEnd, SessionOptions, ShellFault,
+    WatchedStore, WriteFiles, answer_from, prepare,
 };
 use df_value::List;
 use std::alloc::Global;
 use std::io::{BufRead, Read, Write};
 use std::marker::Brand;
+use std::rt::Clock;
 use std::sync::ledger::{Blank, Ledger};
 use std::thread::Threads;
 
@@ -23,7 +24,7 @@ use std::thread::Threads;
 /// Of the document the frames enter with their first rows, in chunks of 1,000 records, and a line
 /// is written for each chunk that is refused; then all views are registered. At most 4 threads read the records of a
 /// file. Where memory is refused to a command, its answer is `memory`, the store is as before it, and the shell goes on.
-pub fn run_shell<R: Threads + Sync, V: Read, F: Files + WriteFiles, I: BufRead, W: Write>(
+pub fn run_shell<R: Threads + Clock + Sync, V: Read, F: Files + WriteFiles, I: BufRead, W: Write>(
     rt: &R,
     alloc: Global,
     document: &mut V,
@@ -37,7 +38,7 @@ pub fn run_shell<R: Threads + Sync, V: Read, F: Files + WriteFiles, I: BufRead, 
 }
 
 /// Opens a store of what is prepared, and answers the commands.
-pub fn answer_prepared<R: Threads + Sync, F: Files + WriteFiles, I: BufRead, W: Write>(
+pub fn answer_prepared<R: Threads + Clock + Sync, F: Files + WriteFiles, I: BufRead, W: Write>(
     rt: &R,
     alloc: Global,
     prepared: Prepared,
@@ -60,7 +61,14 @@ pub fn answer_prepared<R: Threads + Sync, F: Files + WriteFiles, I: BufRead, W: 
 }
 
 // Opens the store, and answers the commands.
-fn serve<Acc: Ledger, Del: Ledger, R: Threads + Sync, F: Files + WriteFiles, I: BufRead, W: Write>(
+fn serve<
+    Acc: Ledger,
+    Del: Ledger,
+    R: Threads + Clock + Sync,
+    F: Files + WriteFiles,
+    I: BufRead,
+    W: Write,
+>(
     rt: &R,
     alloc: Global,
     accepted: Blank,
@@ -90,6 +98,7 @@ fn serve<Acc: Ledger, Del: Ledger, R: Threads + Sync, F: Files + WriteFiles, I: 
             let session = Session {
                 definitions,
                 store: WatchedStore::new(alloc, store),
+                followed: FollowedPages::new(alloc),
                 buffers,
                 options,
             };
@@ -109,7 +118,7 @@ fn serve<Acc: Ledger, Del: Ledger, R: Threads + Sync, F: Files + WriteFiles, I: 
 fn answer_session<
     Acc: Ledger,
     Del: Ledger,
-    R: Threads + Sync,
+    R: Threads + Clock + Sync,
     F: Files + WriteFiles,
     I: BufRead,
     W: Write,
@@ -137,11 +146,13 @@ fn answer_session<
     let Session {
         definitions,
         store,
+        followed,
         buffers,
         options: _,
     } = session;
     drop(definitions);
     drop(store);
+    drop(followed);
     drop(buffers);
     answered
 }

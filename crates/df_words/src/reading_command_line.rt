@@ -4,7 +4,7 @@ ghost use Rattle.clap.specs.Words.{FailsBy, app_of, fault_of, first_value, found
 ghost use Rattle.clap.specs.Values.{kind_of};
 ghost use Rattle.clap.specs.declared.error.kind.ErrorKind.TheVariants.{MissingRequiredArgument};
 ghost use Rattle.df_words.specs.SessionLine as command_line_spec;
-ghost use Rattle.df_words.specs.SessionLine.{LacksDocument, IsFlagOf, IsRead, Says, document_line, flag_rule, program_app, views_rule};
+ghost use Rattle.df_words.specs.SessionLine.{LacksDocument, IsFlagOf, IsRead, Says, document_line, flag_rule, flags_line, program_app, text_rule, views_rule};
 
 use crate::session_line::CommandLine;
 use clap::error::ErrorKind;
@@ -39,6 +39,8 @@ const AFTER_HELP: &str = r#"Commands, one a line of standard input:
   changes VIEW                 what the last change of rows did to a view that is watched
   export VIEW PATH             writes the table of a view to a file, as CSV, whole or not at all
   report PATH [VIEW ..]        writes a page of all views, or of these, to a file: the first 1000 rows of each
+  follow PATH [VIEW ..]        writes such a page now and behind changes, at most once a second; a browser loads it again
+  unfollow PATH                writes the page no longer
   rows FRAME                   the table of a frame, and the numbers of its rows
   rows FRAME csv               the rows with their numbers as CSV; with json as lines of JSON; with html, without numbers
   books FRAME                  how many rows were accepted and deleted, and how many there are
@@ -50,14 +52,14 @@ const AFTER_HELP: &str = r#"Commands, one a line of standard input:
   quit                         ends the session, as the end of input does
 
 Exit status:
-  0  the input has ended, or the document opens
+  0  the input has ended, the document opens, or its page is written
   1  with --check: the document opens without the chunks that have a bad cell, which the output names; with --bail: a command was refused
   2  a fault, or a refused word: standard error says which"#;
 
-/// Reads the words behind the program's name: `[--hall] [--check] [--bail] [--framed] [--sql] [VIEWS]`.
+/// Reads the words behind the program's name: `[--hall] [--check] [--bail] [--framed] [--sql] [--report PATH] [VIEWS]`.
 ///
-/// Refused are other words, a second VIEWS, a flag twice, and `--check` or `--sql` without VIEWS. `-h`, `--help` and `--version` are an error too,
-/// whose text is the help or the version: its `use_stderr` is false and its `exit_code` 0, where those of a refusal are
+/// Refused are other words, a second VIEWS, a flag or an option twice, `--report` without PATH, and `--check`, `--sql` or
+/// `--report` without VIEWS. `-h`, `--help` and `--version` are an error too, whose text is the help or the version: its `use_stderr` is false and its `exit_code` 0, where those of a refusal are
 /// true and 2.
 pub fn read_command_line<'a>(alloc: Global, words: &'a [&'a str]) -> Result<CommandLine<'a>, Error>
     ensures says { IfOk result (λ line. Says (map (λ word. word.now) words.entry.now) line) }
@@ -84,23 +86,30 @@ fn parse<'a>(alloc: Global, words: &'a [&'a str]) -> Result<CommandLine<'a>, Err
 fn lacks_document(line: CommandLine<'_>) -> bool
     ensures { IsTrue result ↔ LacksDocument line.entry }
 {
-    (line.check || line.sql) && line.views.is_none()
+    (line.check || line.sql || line.report.is_some()) && line.views.is_none()
 }
 
-// A check without a document, or the SQL of none.
+// A check without a document, the SQL of none, or a page of none.
 fn no_views(alloc: Global) -> Result<Error, AllocError>
     ensures { IfOk result (λ error. kind_of error ≡ MissingRequiredArgument) }
 {
     let mut command = command(alloc)?;
     command.error(
         ErrorKind::MissingRequiredArgument,
-        "--check and --sql want a view document: dfshell --check VIEWS",
+        "--check, --sql and --report want a view document: dfshell --check VIEWS",
     )
 }
 
 #[tactic(auto, unfolding(crate::specs::SessionLine::command_line))]
 fn command<'a>(alloc: Global) -> Result<Command<'a>, AllocError>
     ensures { IfOk result (λ command. app_of command ≡ command_line_spec.command_line) }
+{
+    flags_command(alloc)?.arg(report_option(alloc))
+}
+
+// The command with the document and all of its flags.
+fn flags_command<'a>(alloc: Global) -> Result<Command<'a>, AllocError>
+    ensures { IfOk result (λ command. app_of command ≡ flags_line) }
 {
     let bail = "Ends the session at the first refusal, with status 1";
     let framed =
@@ -155,6 +164,16 @@ fn flag<'a>(alloc: Global, name: &'a str, help: &'a str) -> Arg<'a>
         .help(help)
 }
 
+fn report_option<'a>(alloc: Global) -> Arg<'a>
+    ensures rule { rule_of result ≡ text_rule (codes "report") }
+    ensures own { result.global ≡ false }
+{
+    Arg::new(alloc, "report")
+        .long("report")
+        .value_name("PATH")
+        .help("Writes the views to one HTML page, and ends")
+}
+
 fn said_in<'a>(matches: &ArgMatches<'a>) -> CommandLine<'a>
     ensures views { option_map (λ v. v.now) result.views
         ≡ first_value (found_of matches.now) (codes "views") }
@@ -163,6 +182,8 @@ fn said_in<'a>(matches: &ArgMatches<'a>) -> CommandLine<'a>
     ensures bail { IsFlagOf (one_text (found_of matches.now) (codes "bail")) result.bail }
     ensures framed { IsFlagOf (one_text (found_of matches.now) (codes "framed")) result.framed }
     ensures sql { IsFlagOf (one_text (found_of matches.now) (codes "sql")) result.sql }
+    ensures report { option_map (λ v. v.now) result.report
+        ≡ first_value (found_of matches.now) (codes "report") }
 {
     CommandLine {
         views: matches.get_str("views"),
@@ -171,6 +192,7 @@ fn said_in<'a>(matches: &ArgMatches<'a>) -> CommandLine<'a>
         bail: is_set(matches, "bail"),
         framed: is_set(matches, "framed"),
         sql: is_set(matches, "sql"),
+        report: matches.get_str("report"),
     }
 }
 

@@ -15,4 +15,6 @@ pub struct CommandLine<'a> {
     pub framed: bool,
     /// Whether the document is only written as SQL.
     pub sql: bool,
+    /// The path of the page that the document's views are only written to.
+    pub report: Option<&'a str>,
 }

@@ -8,12 +8,14 @@ use df_document::{DocumentFault, Files, MOST_BYTES_OF_DOCUMENT, SystemFiles};
 use df_explain::explanation;
 use df_shell::{
     DocumentCheck, Prompts, SessionEnd, SessionOptions, ShellFault, check_document,
-    run_declared_shell, run_hall_shell, run_shell, shell_fault_text, write_document_sql,
+    run_declared_shell, run_hall_shell, run_shell, shell_fault_text, write_document_page,
+    write_document_sql,
 };
 use df_words::{CommandLine, read_command_line};
 use std::alloc::AllocError;
 use std::io::{BufReader, IsTerminal};
 use std::process::ExitCode;
+use std::rt::Clock;
 use std::sync::Wait;
 use std::thread::Threads;
 use std::{env, io};
@@ -30,7 +32,7 @@ fn main(rt: HostRuntime) -> ExitCode {
 
 // The first argument is the program's name. `waiting` is the runtime once more, which `main` alone can hand on as what
 // may start threads, which read a file, and may wait: a hall does, for its lock.
-fn run_arguments<R: Threads + Wait + Sync>(
+fn run_arguments<R: Threads + Wait + Clock + Sync>(
     rt: &HostRuntime,
     waiting: &R,
     arguments: env::Args,
@@ -43,7 +45,11 @@ fn run_arguments<R: Threads + Wait + Sync>(
     Ok(run_words(rt, waiting, words.as_slice()))
 }
 
-fn run_words<R: Threads + Wait + Sync>(rt: &HostRuntime, waiting: &R, words: &[&str]) -> ExitCode {
+fn run_words<R: Threads + Wait + Clock + Sync>(
+    rt: &HostRuntime,
+    waiting: &R,
+    words: &[&str],
+) -> ExitCode {
     match read_command_line(rt.alloc(), words) {
         Ok(line) => run_line(rt, waiting, line),
         Err(error) => answer(rt, &error),
@@ -51,7 +57,7 @@ fn run_words<R: Threads + Wait + Sync>(rt: &HostRuntime, waiting: &R, words: &[&
 }
 
 // A document is read once, so that a fault of its opening is explained by the bytes that were opened.
-fn run_line<R: Threads + Wait + Sync>(
+fn run_line<R: Threads + Wait + Clock + Sync>(
     rt: &HostRuntime,
     waiting: &R,
     line: CommandLine<'_>,
@@ -84,7 +90,7 @@ fn bytes_at(rt: &HostRuntime, path: &str) -> Result<Vec<u8>, ShellFault> {
     }
 }
 
-fn run_document<R: Threads + Wait + Sync>(
+fn run_document<R: Threads + Wait + Clock + Sync>(
     rt: &HostRuntime,
     waiting: &R,
     bytes: &[u8],
@@ -104,8 +110,33 @@ fn run_document<R: Threads + Wait + Sync>(
         write_document_sql(waiting, rt.alloc(), &mut document, &mut files, &mut output)?;
         return Ok(ExitCode::from(0));
     }
+    if let Some(page) = line.report {
+        write_page(rt, waiting, &mut document, &mut files, title_of(line), page)?;
+        return Ok(ExitCode::from(0));
+    }
     let end = answer_commands(rt, waiting, &mut document, &mut files, line)?;
     Ok(code_of(end))
+}
+
+// Writes the page of a document to a file. Chunks that are refused are told on standard output, as a session tells them.
+fn write_page<R: Threads + Wait + Sync>(
+    rt: &HostRuntime,
+    waiting: &R,
+    document: &mut &[u8],
+    files: &mut SystemFiles<'_, HostRuntime>,
+    title: &str,
+    page: &str,
+) -> Result<(), ShellFault> {
+    let mut output = rt.stdout();
+    write_document_page(
+        waiting,
+        rt.alloc(),
+        title,
+        document,
+        files,
+        page,
+        &mut output,
+    )
 }
 
 // A session is clean also where chunks are refused: it goes on without them.
@@ -117,7 +148,7 @@ fn code_of(end: Option<SessionEnd>) -> ExitCode {
 }
 
 // A session without a document.
-fn declare<R: Threads + Wait + Sync>(
+fn declare<R: Threads + Wait + Clock + Sync>(
     rt: &HostRuntime,
     waiting: &R,
     line: CommandLine<'_>,
@@ -139,7 +170,7 @@ fn declare<R: Threads + Wait + Sync>(
     )
 }
 
-fn answer_commands<R: Threads + Wait + Sync>(
+fn answer_commands<R: Threads + Wait + Clock + Sync>(
     rt: &HostRuntime,
     waiting: &R,
     document: &mut &[u8],

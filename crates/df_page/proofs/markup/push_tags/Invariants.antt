@@ -1,4 +1,4 @@
-use Rattle.std.proofs.Common.{◌≡◌, ◌++◌, flat_map, map, take}
+use Rattle.std.proofs.Common.{◌≡◌, ◌++◌, flat_map, take}
 use Rattle.df_page.specs.Markup.{tag_bytes}
 use Rattle.df_page.proofs.markup.push_tags.Given as goal
 

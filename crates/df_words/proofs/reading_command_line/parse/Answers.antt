@@ -17,6 +17,7 @@ returns-clause-says c =
       bail = subst (λ text. IsFlagOf text c.said_in.result.bail) (one_text-rows found (codes "bail") ∙ ap (one_of (codes "bail")) same) c.said_in.ensures.bail;
       framed = subst (λ text. IsFlagOf text c.said_in.result.framed) (one_text-rows found (codes "framed") ∙ ap (one_of (codes "framed")) same) c.said_in.ensures.framed;
       sql = subst (λ text. IsFlagOf text c.said_in.result.sql) (one_text-rows found (codes "sql") ∙ ap (one_of (codes "sql")) same) c.said_in.ensures.sql;
+      report = c.said_in.ensures.report ∙ (first_value-rows found (codes "report") ∙ ap (first_of (codes "report")) same);
     }
 
 pub returns-clause-refused : goal.returns-clause-refused
