@@ -1,12 +1,16 @@
 #!/usr/bin/env python3
-"""pages.py PROGRAM [SEED]: the pages of `report`, read by Python's html.parser.
+"""pages.py PROGRAM [SEED]: the pages of `report`, of `--report` and of `follow`, read by Python's html.parser.
 
 Random tables, whose texts and names have tags, entities, quotes and line ends in them, stand in a page. Its cells are those that
 `show VIEW csv` and `show VIEW json` tell, its decimals and bars those of Python's exact fractions, and every tag is closed. A page
 has the views in the order that is asked for, and 1,000 rows of each.
 
 A page that is refused leaves what stands under its path, and nothing beside it: where a view is unknown, there is no folder, a folder
-stands there, a file of another stands beside it, the disk takes only a part of it, or an allocation is refused."""
+stands there, a file of another stands beside it, the disk takes only a part of it, or an allocation is refused.
+
+A page that follows the store is whole whenever it is read, while 1,000 changes come. It is written about once a second, and the last
+change of a burst is in it once the session has ended, in each way to end, and behind the next command that makes no change. A write
+that is refused behind a change is told, and the next change tries again. All of that without and with --hall."""
 
 import csv
 import fractions
@@ -20,6 +24,7 @@ import re
 import subprocess
 import sys
 import tempfile
+import time
 
 import sessions
 import tables
@@ -241,6 +246,11 @@ def refused(program, folder):
         check(words, run.stdout.decode().split("\n")[1:], ["v", "w", ""])
         check(words, {file.name: file.read_text() for file in folder.iterdir() if file.is_file()}, files)
         check(words, list((folder / "folder").iterdir()), [])
+    for path, code in [("old.html", "W2"), ("held.html", "W1"), ("none/new.html", "W1"), ("folder", "W3")]:
+        limit = tables.small_files if code == "W2" else None
+        run = subprocess.run([program, "--report", path, "d.toml"], cwd=folder, input=b"", capture_output=True, preexec_fn=limit)
+        check(path, (run.stdout, run.stderr.decode().split(": ")[:2], run.returncode), (b"", ["dfshell", code], 2))
+        check(path, {file.name: file.read_text() for file in folder.iterdir() if file.is_file()}, files)
     with tempfile.TemporaryDirectory() as name:
         count = allocations(program, folder, files, sessions.failing_library(name), os.path.join(name, "counts"))
     return len(cases), count
@@ -248,11 +258,12 @@ def refused(program, folder):
 
 def allocations(program, folder, files, library, counts):
     """Refuses each allocation of a page in turn, and gives of how many memory was told."""
-    (folder / "whole.html").write_text("")
     check("written", tables.answers(program, folder, ["d.toml"], "report whole.html\n"), "ok 2 views\n")
     whole, count = (folder / "whole.html").read_text(), 0
+    check("--report", tables.answers(program, folder, ["--report", "whole.html", "d.toml"], ""), "")
+    check("--report", (folder / "whole.html").read_text(), whole)
     (folder / "whole.html").unlink()
-    for words, typed, ends in [(["d.toml"], b"report old.html\n", b"ok 2 views\n")]:
+    for words, typed, ends in [(["d.toml"], b"report old.html\n", b"ok 2 views\n"), (["--report", "old.html", "d.toml"], b"", b"")]:
         variables = {**os.environ, "LD_PRELOAD": library}
         subprocess.run([program, *words], cwd=folder, input=typed, capture_output=True, env={**variables, "COUNTS": counts}, check=True)
         for number in range(1, int(pathlib.Path(counts).read_text().split()[0]) + 1):
@@ -267,6 +278,162 @@ def allocations(program, folder, files, library, counts):
     return count
 
 
+class Shell:
+    """A framed session. An answer is its head, its lines, and the frames of pages that are not written behind it."""
+
+    def __init__(self, program, folder, *words):
+        pipe = subprocess.PIPE
+        self.process = subprocess.Popen([program, "--framed", *words], cwd=folder, stdin=pipe, stdout=pipe)
+        check("ready", self.frame(), ("ready", []))
+
+    def frame(self):
+        word, *names, count = self.process.stdout.readline().decode().split(" ")
+        return " ".join([word, *names]), [self.process.stdout.readline().decode() for _ in range(int(count))]
+
+    def tell(self, *lines):
+        self.process.stdin.write("".join(f"{line}\n" for line in lines).encode())
+        self.process.stdin.flush()
+
+    def ask(self, *lines):
+        """The frame of the answer, which is there before what is written behind it."""
+        self.tell(*lines)
+        return self.frame()
+
+    def settled(self, *lines):
+        """The answer, and what is told behind it: a second command is answered once all of that is done."""
+        answer, told = self.ask(*lines), []
+        self.tell("frames")
+        while (frame := self.frame())[0] != "ok":
+            told.append(frame)
+        return answer, told
+
+    def close(self):
+        self.process.stdin.close()
+        check("status", self.process.wait(), 0)
+
+
+def change_of(path):
+    """The number of the last change in a page that follows the store, which is read whole."""
+    page = Page(path.read_text())
+    check("a page that follows", page.reload, "2")
+    return int(page.lines[0].removeprefix("change "))
+
+
+def burst(program, folder, words):
+    """1,000 changes in some seconds, while the page is read: the numbers of the changes at which it was written."""
+    shell, path, numbers = Shell(program, folder, *words), folder / "live.html", []
+    check("frame", shell.ask("frame t x Int"), ("ok", ["ok\n"]))
+    check("define", shell.ask("define v t []"), ("ok", ["ok\n"]))
+    check("follow", shell.ask("follow live.html"), ("ok", ["ok 1 view\n"]))
+    start = time.monotonic()
+    for at in range(1000):
+        check("append", shell.ask("append t", at, "."), ("ok", [f"ok {at}..{at}\n"]))
+        number = change_of(path)
+        numbers += [number] * (numbers[-1:] != [number])
+        time.sleep(0.0025)
+    seconds = time.monotonic() - start
+    shell.tell("quit")
+    shell.close()
+    page = Page(path.read_text())
+    check("rows", [row for row in page.sections[0].rows], [[str(at)] for at in range(1000)])
+    check("the last change", page.lines, ["change 1001"])
+    check("numbers", numbers, sorted(set(numbers)))
+    if not 2 <= len(numbers) <= seconds + 2:
+        sys.exit(f"written {len(numbers)} times in {seconds:.1f} seconds")
+    check("files", [file.name for file in folder.iterdir()], ["live.html"])
+    return len(numbers)
+
+
+def endings(program, folder, words):
+    """The last of three changes at once is in the page, however the session ends, and behind a command that makes no change."""
+    begin = "frame t x Int\ndefine v t []\nfollow p.html\n" + "append t\n1\n.\n" * 3
+    (folder / "c.commands").write_text("append t\n2\n.\n" * 2)
+    (folder / "quit.commands").write_text("append t\n2\n.\nquit\n")
+    endings = [("", [], 4), ("quit\n", [], 4), ("nosuch\n", ["--bail"], 4), ("source c.commands\n", [], 6), ("source quit.commands\n", [], 5), ("unfollow p.html\nappend t\n1\n.\n", [], 4)]
+    for typed, further, number in endings:
+        run = subprocess.run([program, *words, *further], cwd=folder, input=(begin + typed).encode(), capture_output=True)
+        check(typed, (run.stderr, run.returncode), (b"", 1 if further else 0))
+        check(typed, change_of(folder / "p.html"), number)
+    for question in ["views", "nosuch", "delete t 9"]:
+        shell = Shell(program, folder, *words)
+        for lines in [["frame t x Int"], ["define v t []"], ["follow p.html"], *[["append t", "1", "."]] * 3, [question]]:
+            shell.ask(*lines)
+        end = time.monotonic() + 10
+        while change_of(folder / "p.html") != 4 and time.monotonic() < end:
+            time.sleep(0.01)
+        check(question, change_of(folder / "p.html"), 4)
+        shell.close()
+
+
+def unwritten(program, folder, words):
+    """Writes that are refused behind changes: told, and tried again behind the next change."""
+    shell, page, gone = Shell(program, folder, *words), folder / "p.html", folder / "gone"
+    gone.mkdir()
+    for lines in [["frame t x Int"], ["define v t []"], ["define w t []"], ["follow p.html v"], ["follow gone/q.html"]]:
+        check(lines[0], shell.ask(*lines)[0], "ok")
+    (folder / "p.html.part").write_text("theirs")
+    (gone / "q.html").unlink()
+    gone.rmdir()
+    time.sleep(1.1)
+    answer, told = shell.settled("append t", "1", ".")
+    check("answer", answer, ("ok", ["ok 0..0\n"]))
+    check("told", [(head, [line.split(":")[0] for line in lines]) for head, lines in told], [(f"unwritten {path} 3", ["W1"]) for path in ("p.html", "gone/q.html")])
+    check("the page before", change_of(page), 2)
+    # no command without a change tries again
+    check("no change", shell.settled("views"), (("ok", ["v\n", "w\n"]), []))
+    (folder / "p.html.part").unlink()
+    gone.mkdir()
+    time.sleep(1.1)
+    check("again", shell.settled("append t", "2", "."), (("ok", ["ok 1..1\n"]), []))
+    check("again", (change_of(page), change_of(gone / "q.html")), (4, 4))
+    # a view that goes
+    time.sleep(1.1)
+    answer, told = shell.settled("drop v")
+    check("a view that goes", (answer, [(head, [line.split(":")[0] for line in lines]) for head, lines in told]), (("ok", ["ok\n"]), [("unwritten p.html 5", ["C8"])]))
+    check("a view that goes", (change_of(page), change_of(gone / "q.html")), (4, 5))
+    check("unfollow", shell.settled("unfollow p.html"), (("ok", ["ok\n"]), []))
+    check("unfollow", shell.ask("unfollow p.html")[0], "error")
+    shell.close()
+    check("files", sorted(file.name for file in folder.iterdir()), ["gone", "p.html"])
+
+
+def follow_allocations(program, folder, words):
+    """Refuses each allocation of a session with a page that follows it in turn: what stands there is whole, and nothing is beside it."""
+    typed = b"frame t x Int\ndefine v t []\nfollow p.html\nappend t\n1\n.\nviews\n"
+    with tempfile.TemporaryDirectory() as name:
+        variables = {**os.environ, "LD_PRELOAD": sessions.failing_library(name)}
+        counts = os.path.join(name, "counts")
+        subprocess.run([program, *words], cwd=folder, input=typed, capture_output=True, env={**variables, "COUNTS": counts}, check=True)
+        check("the last change", change_of(folder / "p.html"), 2)
+        told = 0
+        for number in range(1, int(pathlib.Path(counts).read_text().split()[0]) + 1):
+            (folder / "p.html").unlink(missing_ok=True)
+            refused = {**variables, "FAIL_ALLOC": str(number)}
+            run = subprocess.run([program, *words], cwd=folder, input=typed, capture_output=True, env=refused)
+            lines = run.stdout.decode().splitlines()
+            check(f"allocation {number}", lines.count("memory") + run.stderr.count(b"memory") <= 1, True)
+            if "unwritten p.html 2 1" in lines:
+                told += 1
+                check(f"allocation {number}", change_of(folder / "p.html"), 1)
+            elif "memory" not in lines and run.returncode == 0:
+                check(f"allocation {number}", change_of(folder / "p.html"), 2)
+            check(f"allocation {number}", [file.name for file in folder.iterdir() if file.name != "p.html"], [])
+        check("told of a page that is not written", told > 0, True)
+    return told
+
+
+def followed(program):
+    """The parts about pages that follow the store, without and with --hall."""
+    times = memory = 0
+    for words in ([], ["--hall"]):
+        for part in (burst, endings, unwritten, follow_allocations):
+            with tempfile.TemporaryDirectory() as name:
+                got = part(program, pathlib.Path(name), words)
+                times += got if part is burst else 0
+                memory += got if part is follow_allocations else 0
+    print(f"pages that follow 2,000 changes were written {times} times; {memory} of which an allocation was refused")
+
+
 def main():
     program = str(pathlib.Path(sys.argv[1]).resolve())
     seed = int(sys.argv[2]) if len(sys.argv) > 2 else 1
@@ -278,6 +445,7 @@ def main():
     with tempfile.TemporaryDirectory() as name:
         count, memory = refused(program, pathlib.Path(name))
     print(f"50 pages, read; {count} refused, and {memory} of which an allocation was")
+    followed(program)
 
 
 if __name__ == "__main__":

@@ -17,8 +17,8 @@ With --refuse each session runs again with each of its allocations refused in tu
 behind it too. A refusal at the start ends in a fault of memory and status 2. One later is answered `memory`: frames,
 books, views and the version are then those from before the command, and the same command typed again is answered as in
 the session without a refusal, and so is all that comes behind it. A session in which an accepted append of rows was never
-refused is wrong itself: then nothing is refused here. A session that sources or loads a file, or has a command that is no
-text, runs once. Where views are watched, one allocation is refused at a time; one behind an accepted change, at what it did to
+refused is wrong itself: then nothing is refused here. A session that sources or loads a file, has pages follow
+the store, or has a command that is no text, runs once. Where views are watched, one allocation is refused at a time; one behind an accepted change, at what it did to
 them, has it told of each that this is missed. One in which the words of an append or a replace are refused has one allocation refused at a time:
 at two, the lines behind such a command are guessed. Prints what differs, and ends with a count.
 """
@@ -68,8 +68,9 @@ class Session:
 
     def runs_once(self):
         """Whether it sources a file, of which one command has the answers of many, loads one, of which some chunks enter where
-        memory is refused to others, or has a command that is no text, behind which lines are guessed where memory is refused."""
-        return any(typed.startswith((b"source ", b"load ")) or b"\xff" in typed for typed in self.typed)
+        memory is refused to others, has pages follow the store, which are written behind commands by a clock, or has a command that is
+        no text, behind which lines are guessed where memory is refused."""
+        return any(typed.startswith((b"source ", b"load ", b"follow ")) or b"\xff" in typed for typed in self.typed)
 
     def names(self):
         """The names of the frames that it declares, and of the views that it defines: those that are no words in quotes."""

@@ -1,5 +1,5 @@
 #!/usr/bin/env python3
-"""The words of `dfshell`, and what `--check` and `--sql` tell: shell_words.py PROGRAM.
+"""The words of `dfshell`, and what `--check`, `--sql` and `--report` tell: shell_words.py PROGRAM.
 
 Help and the version go to standard output with status 0, words that are refused to standard error with status 2. A
 document is checked as it is opened: its counts and status 0, the lines of refused chunks and status 1, its fault in
@@ -23,7 +23,7 @@ FILES = {
     "bad.csv": "x\nmany\n",
     "no_file.toml": "frame = [{name='t', columns=[['x', 'Int']], path='none.csv'}]\nview = []\n",
 }
-HELP = r"(?s).*Usage: .*VIEWS.*--hall.*--check.*--bail.*--framed.*--sql.*Commands.*append FRAME FIRST COUNT.*quit .*Exit status.*"
+HELP = r"(?s).*Usage: .*VIEWS.*--hall.*--check.*--bail.*--framed.*--sql.*--report.*Commands.*append FRAME FIRST COUNT.*quit .*Exit status.*"
 VERSION = r"dfshell \d+\.\d+\.\d+\n"
 ANY = r"(?s).+"
 # The words, what is typed, and of the output, the error and the status what they are to be.
@@ -72,6 +72,15 @@ RUNS = [
      r"""(?s)-- .*CREATE TABLE IF NOT EXISTS frames\."t" \(.*\n\\copy frames\."t" FROM 't\.csv' .*\nCREATE VIEW views\."v" AS\n.*;\n""", "", 0),
     (["fault.toml", "--sql"], "", "", r"fault.toml: view 1 `v`: no frame `u`; the frames are t \[V6 view 0\]\n", 2),
     (["--sql", "none.toml"], "", "", r"none.toml: .* \[V10\]\n", 2),
+    (["--report", "p.html"], "", "", r"(?s)error: .*--report.*Usage: .*", 2),
+    (["good.toml", "--report"], "", "", r"(?s)error: .*--report.*", 2),
+    (["--report", "p.html", "--report", "p.html", "good.toml"], "", "", ANY, 2),
+    (["--report", "p.html", "good.toml"], "books t\n", "", "", 0),
+    (["--report", "p.html", "refused.toml"], "", "refused t 0: record 2, column x\n", "", 0),
+    (["--report", "none/p.html", "good.toml"], "", "", r"dfshell: W1: PATH.part .*\n", 2),
+    (["--report", ".", "good.toml"], "", "", r"dfshell: W3: .*\n", 2),
+    (["--report", "p.html", "fault.toml"], "", "", r"fault.toml: view 1 `v`: no frame `u`; the frames are t \[V6 view 0\]\n", 2),
+    (["--report", "p.html", "none.toml"], "", "", r"none.toml: .* \[V10\]\n", 2),
     (["--check", "good.toml"], "books t\n", "ok: 1 frame, 1 view\n", "", 0),
     (["two.toml", "--check"], "", "ok: 2 frames, 0 views\n", "", 0),
     (["--check", "--hall", "two.toml"], "", "ok: 2 frames, 0 views\n", "", 0),
