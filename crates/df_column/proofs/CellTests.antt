@@ -9,7 +9,7 @@ use Rattle.df_value.specs.CellOrder.{cell_cmp, cell_cmp_total}
 use Rattle.df_value.specs.declared.cell.Cell.{Cell}
 use Rattle.df_value.specs.declared.cell.Cell.TheVariants.{Null, Int, Wide, Text, Frac}
 use Rattle.df_value.specs.declared.cell.Cell.TheVariants as cell
-use Rattle.df_column.specs.Extremes.{is_above, is_null}
+use Rattle.df_column.specs.MinMaxCells.{is_above, is_null}
 use Rattle.df_column.specs.Texts.{pool_text}
 use Rattle.df_column.specs.ValueCells.{text_cell}
 

@@ -86,18 +86,6 @@ module _ (dtypes : List CellType) (all a b d : List BlockParts) (cut : all ≡ a
       subst (λ rs. T (apart tag_cmp (map entry_change (take u es)) rs)) (sym whole)
       (before_all (rows_of_blocks a) (rows_of_blocks b) (rows_of_blocks d) k es n u w sorted_parts head rising under from left.within left.before)
 
-  -- all entries stand before the first row
-  pub none_changed : (new : List BlockParts) → u ≡ length es → new ≡ all → AreOfDtypes dtypes all → AreChangedFrom dtypes all es new u
-  none_changed new is same types =
-      let none : drop u es ≡ [] = ap (λ m. drop m es) is ∙ drop-length es in
-      record {
-        within = omega (arith, is);
-        before = before 0;
-        behind = λ t h. subst (λ es. T (below_all tag_cmp t (map entry_change es))) (sym none) tt;
-        rows = ap rows_of_blocks same ∙ ap (λ es. after_changes tag_cmp (rows_of_blocks all) (map entry_change es)) (sym none);
-        types = subst (AreOfDtypes dtypes) (sym same) types;
-      }
-
   pub node_changed : (w : ℕ) (nd new : List BlockParts) → AreChangedFrom dtypes d (drop n es) nd w
       → rows_of_blocks new ≡ rows_of_blocks na ++ (after_changes tag_cmp (rows_of_blocks b) (map entry_change (take w (drop n es))) ++ rows_of_blocks nd) → AreOfDtypes dtypes new → AreChangedFrom dtypes all es new u
   node_changed w nd new right made types =

@@ -14,12 +14,12 @@ pub mod PartLemmas
 pub mod BehindLemmas
 pub mod TableLemmas
 pub mod CellTests
-pub mod Furthest
-pub mod ExtremeLemmas
-pub mod SplicedExtremes
-pub mod BlockExtremes
+pub mod BlocksMinMax
+pub mod MinMaxLemmas
+pub mod SplicedMinMax
+pub mod BlockMinMax
 mod OldRuns
-pub mod ZoneLemmas
+pub mod SkippingLemmas
 pub mod SpotLemmas
 mod SharedLemmas
 mod TagRuns
@@ -32,7 +32,7 @@ mod RowTagLemmas
 pub mod LeafTotalFacts
 pub mod LeafTreeLemmas
 pub mod Crossing
-pub mod LeafExtremes
+pub mod LeafMinMax
 pub mod ReadLemmas
 pub mod Bounds
 pub mod FitLemmas
@@ -51,4 +51,4 @@ pub mod TextPlaces
 mod KnownLemmas
 pub mod SpliceLemmas
 pub mod TextSplices
-mod KeptExtremes
+mod KeptMinMax

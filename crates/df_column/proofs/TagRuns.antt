@@ -115,11 +115,6 @@ pub first_reached : (tag : Tag) (first : Option Tag) (b : List BlockParts) → i
 first_reached tag None b n k next = absurd (cc n)
 first_reached tag (Some first) b n k next = record { first = first; head = next; reached = subst (λ r. T (not r)) (sym k) tt }
 
--- a leaf and what stands behind it, where the leaf begins behind the tag, or has no rows
-pub above_here : (tag : Tag) (first : Option Tag) (a b d : List BlockParts) → T (is_sorted tag_cmp (rows_of_blocks (a ++ (b ++ d)))) → IsNext (rows_of_blocks b) first → begins_behind first tag ≡ true → T (below_all tag_cmp tag (rows_of_blocks (b ++ d)))
-above_here tag None a b d sorted next k = absurd (cc k)
-above_here tag (Some first) a b d sorted next k = above_first (rows_of_blocks (b ++ d)) first tag (sorted_back a (b ++ d) sorted) (blocks_head b d first next) k
-
 pub none_in : (tag : Tag) (all a b : List BlockParts) → all ≡ a ++ b → T (below_all tag_cmp tag (rows_of_blocks a)) → T (below_all tag_cmp tag (rows_of_blocks b)) → T (below_all tag_cmp tag (rows_of_blocks all))
 none_in tag all a b e p q = subst (λ bs. T (below_all tag_cmp tag (rows_of_blocks bs))) (sym e) (blocks_above tag a b p q)
 

@@ -11,7 +11,7 @@ use Rattle.df_value.specs.declared.cell.Cell.TheVariants as cell
 use Rattle.df_value.specs.declared.cell.CellType.{CellType}
 use Rattle.df_value.specs.declared.cell.CellType.TheVariants as dtype
 use Rattle.df_column.specs.Columns.{column_cells, dtype_of_column}
-use Rattle.df_column.specs.Extremes.{is_null}
+use Rattle.df_column.specs.MinMaxCells.{is_null}
 use Rattle.df_column.specs.RowRuns.{AreNull, AreThose}
 use Rattle.df_column.specs.declared.column.Column.{Column}
 use Rattle.df_column.proofs.Bools.{T-first, T-second}

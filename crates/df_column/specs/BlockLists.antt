@@ -3,10 +3,10 @@ use Rattle.std.specs.Prelude.{◌≡◌, ℕ, ◌+◌, ◌<◌, List, [], ◌∷
 use Rattle.df_value.specs.declared.cell.Cell.{Cell}
 use Rattle.df_column.specs.Blocks.{BlockParts, ends_of, rows_of_blocks}
 use Rattle.df_column.specs.Changes.{IsHead}
-use Rattle.df_column.specs.Extremes.{cells_at, extreme_of}
+use Rattle.df_column.specs.MinMaxCells.{cells_at, min_or_max_of}
 use Rattle.df_column.specs.Picks.{spliced}
-use Rattle.df_column.specs.declared.extremes.Extreme.{Extreme}
-use Rattle.df_column.specs.declared.extremes.Extreme.TheVariants as extreme
+use Rattle.df_column.specs.declared.min_max.MinMax.{MinMax}
+use Rattle.df_column.specs.declared.min_max.MinMax.TheVariants as min_max
 use Rattle.df_column.specs.declared.tag.Tag.{Tag}
 
 -- each of these blocks has rows
@@ -20,18 +20,18 @@ pub record IsRun (blocks : List BlockParts) (ends : List ℕ) : Type 0 where
   pub ends_are : ends ≡ ends_of 0 blocks
 
 -- the cell of a column of these blocks that no other lies beyond, if one is not null
-abbrev pub extreme_cell : Extreme → List BlockParts → ℕ → Option Cell
-extreme_cell e blocks column = extreme_of e (cells_at (Some column) (map (λ r. r.1) (rows_of_blocks blocks)))
+abbrev pub min_or_max_cell : MinMax → List BlockParts → ℕ → Option Cell
+min_or_max_cell e blocks column = min_or_max_of e (cells_at (Some column) (map (λ r. r.1) (rows_of_blocks blocks)))
 
 -- these are those of the first columns; of further ones nothing is said
-abbrev pub AreExtremeCells : Extreme → List BlockParts → List (Option Cell) → Type 0
-AreExtremeCells e blocks cells = (i : ℕ) → i < length cells → slice_index_or cells i None ≡ extreme_cell e blocks i
+abbrev pub AreMinMaxCells : MinMax → List BlockParts → List (Option Cell) → Type 0
+AreMinMaxCells e blocks cells = (i : ℕ) → i < length cells → slice_index_or cells i None ≡ min_or_max_cell e blocks i
 
 -- what a leaf keeps of its blocks: the tag of the first row, and the least and the greatest cells of some first columns
 pub record IsLeaf (blocks : List BlockParts) (first : Tag) (low high : List (Option Cell)) : Type 0 where
   pub first_is : IsHead (rows_of_blocks blocks) first
-  pub least : AreExtremeCells extreme.Least blocks low
-  pub greatest : AreExtremeCells extreme.Greatest blocks high
+  pub least : AreMinMaxCells min_max.Min blocks low
+  pub greatest : AreMinMaxCells min_max.Max blocks high
 
 -- how many rows these blocks have
 abbrev pub rows_in : List BlockParts → ℕ

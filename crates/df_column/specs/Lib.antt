@@ -19,10 +19,10 @@ pub mod BlockRows
 pub mod BlockLists
 pub mod TableBlocks
 pub mod RowRuns
-pub mod Extremes
+pub mod MinMaxCells
 pub mod LeafTotals
 pub mod LeafTotalLaws
 pub mod SharedLeaves
 pub mod LeafTrees
 pub mod TreeChanges
-pub mod BlockExtremes
+pub mod BlockMinMax

@@ -2,7 +2,7 @@
 ghost use Rattle.std.specs.Prelude.{◌≡◌, ◌<◌, ◌≤◌, ◌+◌, ◌-◌, T, IfOk, map, length, slice_index_or};
 ghost use Rattle.df_value.specs.Rows.{row_eq};
 ghost use Rattle.df_value.specs.declared.cell.Cell.{Cell};
-ghost use Rattle.df_column.specs.BlockExtremes.{AreExtremes, AreKnown, IsExtremeAt};
+ghost use Rattle.df_column.specs.BlockMinMax.{AreMinMax, AreKnown, IsMinOrMaxAt};
 ghost use Rattle.df_column.specs.Blocks.{block_rows};
 ghost use Rattle.df_column.specs.Changes.{IsHead};
 ghost use Rattle.df_column.specs.Columns.{column_cells, dtype_of_column};
@@ -13,7 +13,7 @@ ghost use Rattle.df_column.specs.Sizes.{most_rows};
 ghost use Rattle.df_column.specs.declared.column.Column.{Column};
 
 use crate::column::Column;
-use crate::extremes::{Extreme, Extremes, Splice, extremes_of, known_at};
+use crate::min_max::{MinMax, MinMaxPlaces, Splice, known_at, min_max_of};
 use crate::picks::Pick;
 use crate::row_tags::RowTags;
 use crate::tag::Tag;
@@ -29,7 +29,7 @@ pub const MOST_ROWS: usize = 128;
 pub struct Block {
     tags: RowTags,
     columns: Vec<Column>,
-    extremes: Vec<Extremes>,
+    min_max: Vec<MinMaxPlaces>,
 }
 
 // A body that owns one drops it by a call.
@@ -38,23 +38,23 @@ impl Drop for Block {
         let Block {
             tags,
             columns,
-            extremes,
+            min_max,
         } = self;
         drop(tags);
         drop(columns);
-        drop(extremes);
+        drop(min_max);
     }
 }
 
 impl Model for Block {
-    ghost use Rattle.df_column.specs.BlockExtremes.{IsKeptBlock};
+    ghost use Rattle.df_column.specs.BlockMinMax.{IsKeptBlock};
     ghost use Rattle.df_column.specs.Blocks.{BlockParts};
 
     ghost Value = { BlockParts };
 
     ghost view = { λ b. record { tags = b.tags; columns = b.columns.items } };
 
-    ghost invariant = { λ b. IsKeptBlock b.tags b.columns.items b.extremes.items };
+    ghost invariant = { λ b. IsKeptBlock b.tags b.columns.items b.min_max.items };
 }
 
 /// The column at this index, with the picked rows in place of those from `low` up to `high`.
@@ -129,12 +129,12 @@ fn are_cells(tags: &RowTags, columns: &[Column], at: usize, cells: &[Cell]) -> b
 
 impl Block {
     /// A block of the rows of these tags and columns up to one index, the picked rows, and the rows from another index on.
-    /// Where the row of an extreme stays, only the picked rows are looked at for it.
+    /// Where the row of a least or greatest cell stays, only the picked rows are looked at for another.
     pub fn spliced(
         alloc: Global,
         tags: &RowTags,
         columns: &[Column],
-        known: &[Extremes],
+        known: &[MinMaxPlaces],
         low: usize,
         high: usize,
         picks: &[Pick<'_>],
@@ -155,11 +155,11 @@ impl Block {
         let made = spliced_columns(alloc, tags, columns, low, high, picks);
         let (tags, columns) = both(tags.spliced(alloc, low, high, picks), made)?;
         let count = picks.len();
-        let extremes = extremes_of(alloc, &columns, known, Splice { low, high, count })?;
+        let min_max = min_max_of(alloc, &columns, known, Splice { low, high, count })?;
         Ok(Block {
             tags,
             columns,
-            extremes,
+            min_max,
         })
     }
 
@@ -181,22 +181,22 @@ impl Block {
     }
 
     /// Where the ends of each column stand.
-    pub fn extremes(&self) -> &[Extremes]
-        ensures { AreExtremes (map column_cells self.now.columns) result.now }
+    pub fn min_max(&self) -> &[MinMaxPlaces]
+        ensures { AreMinMax (map column_cells self.now.columns) result.now }
     {
-        &self.extremes
+        &self.min_max
     }
 
     /// Where one end of a column stands.
-    pub fn extreme_at(&self, extreme: Extreme, column: usize) -> Option<usize>
+    pub fn min_or_max_at(&self, which: MinMax, column: usize) -> Option<usize>
         requires { column < length self.now.columns }
-        ensures { (d : Column) → IsExtremeAt extreme
+        ensures { (d : Column) → IsMinOrMaxAt which
             (column_cells (slice_index_or self.now.columns column d)) result }
     {
-        let extremes = known_at(self.extremes(), column);
-        match extreme {
-            Extreme::Least => extremes.least,
-            Extreme::Greatest => extremes.greatest,
+        let min_max = known_at(self.min_max(), column);
+        match which {
+            MinMax::Min => min_max.least,
+            MinMax::Max => min_max.greatest,
         }
     }
 

@@ -3,7 +3,7 @@ ghost use Rattle.std.specs.Prelude.{◌≡◌, ◌<◌, ◌≤◌, ◌+◌, ◌-
 ghost use Rattle.std.specs.Arc.{arc_value};
 ghost use Rattle.std.specs.FinMap as finite;
 ghost use Rattle.std.specs.FinMap.Entries.{below_all};
-ghost use Rattle.df_column.specs.BlockLists.{IsRunAt, extreme_cell, rows_in};
+ghost use Rattle.df_column.specs.BlockLists.{IsRunAt, min_or_max_cell, rows_in};
 ghost use Rattle.df_column.specs.Blocks.{AreOfDtypes, BlockParts, ends_of, rows_of_blocks};
 ghost use Rattle.df_column.specs.Changes.{apart};
 ghost use Rattle.df_column.specs.Columns.{column_cells, dtype_of_column};
@@ -19,9 +19,9 @@ use crate::blocks::entries_before;
 use crate::column::Column;
 use crate::edited::Edited;
 use crate::entry::Entry;
-use crate::extremes::Extreme;
 use crate::leaf::Leaf;
 use crate::leaves::{Leaves, Stretch};
+use crate::min_max::MinMax;
 use crate::run::{Run, Spot, end_behind};
 use crate::tag::{Tag, begins_behind};
 use df_value::Cell;
@@ -167,16 +167,16 @@ impl BlockList {
 
     /// The cell of the column at this index that no other lies beyond, if one is not null. Of each leaf and of each block
     /// behind them one cell is read.
-    pub fn extreme(
+    pub fn min_or_max(
         &self,
         alloc: Global,
-        extreme: Extreme,
+        which: MinMax,
         index: usize,
     ) -> Result<Option<Cell>, AllocError>
-        ensures { IfOk result (λ v. v ≡ extreme_cell extreme self.now index) }
+        ensures { IfOk result (λ v. v ≡ min_or_max_cell which self.now index) }
     {
-        let best = self.leaves.furthest(alloc, extreme, None, index)?;
-        self.tail.furthest(alloc, extreme, best, index)
+        let best = self.leaves.min_or_max(alloc, which, None, index)?;
+        self.tail.min_or_max(alloc, which, best, index)
     }
 
     /// The list with this block behind it.

@@ -4,7 +4,7 @@ ghost use Rattle.std.specs.Arc.{arc_value};
 ghost use Rattle.std.specs.FinMap as finite;
 ghost use Rattle.std.specs.List.{prefix_len};
 ghost use Rattle.std.specs.Ordering.{is_lt};
-ghost use Rattle.df_column.specs.BlockExtremes.{AreKnown};
+ghost use Rattle.df_column.specs.BlockMinMax.{AreKnown};
 ghost use Rattle.df_column.specs.BlockRows.{AddsFirst, AddsRows};
 ghost use Rattle.df_column.specs.Blocks.{AreOfDtypes, block_rows, rows_of_blocks};
 ghost use Rattle.df_column.specs.Changes.{IsNext, after_changes};
@@ -23,8 +23,8 @@ use crate::block::{Block, MOST_ROWS};
 use crate::block_list::BlockList;
 use crate::column::Column;
 use crate::entry::Entry;
-use crate::extremes::Extremes;
 use crate::merge::{Merged, merge, merge_changed};
+use crate::min_max::MinMaxPlaces;
 use crate::picks::Pick;
 use crate::row_tags::RowTags;
 use crate::tag::Tag;
@@ -48,7 +48,7 @@ pub fn with_spliced(
     out: BlockList,
     tags: &RowTags,
     columns: &[Column],
-    known: &[Extremes],
+    known: &[MinMaxPlaces],
     low: usize,
     high: usize,
     picks: &[Pick<'_>],
@@ -76,7 +76,7 @@ pub fn with_parts(
     out: BlockList,
     tags: &RowTags,
     columns: &[Column],
-    known: &[Extremes],
+    known: &[MinMaxPlaces],
     picks: &[Pick<'_>],
     size: usize,
 ) -> Result<BlockList, AllocError>
@@ -144,7 +144,7 @@ fn with_grown(
     }
     let tags = block.tags();
     let columns = block.columns();
-    let known = block.extremes();
+    let known = block.min_max();
     let rows = tags.len();
     with_spliced(alloc, out, tags, columns, known, rows, rows, picks)
 }
@@ -184,7 +184,7 @@ fn with_filled(
     let grown = with_grown(alloc, out, block, first)?;
     let tags = block.tags();
     let columns = block.columns();
-    let known = block.extremes();
+    let known = block.min_max();
     with_parts(alloc, grown, tags, columns, known, rest, MOST_ROWS)
 }
 
@@ -221,7 +221,7 @@ fn with_merged(
 {
     let tags = block.tags();
     let columns = block.columns();
-    let known = block.extremes();
+    let known = block.min_max();
     let Merged { low, high, picks } = merge_changed(alloc, tags, entries)?;
     let rows = (low + (tags.len() - high)).saturating_add(picks.len());
     if 0 < rows && rows <= MOST_ROWS {

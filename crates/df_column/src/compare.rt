@@ -3,13 +3,13 @@ ghost use Rattle.std.specs.Prelude.{◌≡◌, ◌<◌, ◌&&◌, length, map, s
 ghost use Rattle.df_value.specs.CellOrder.{cell_cmp};
 ghost use Rattle.df_value.specs.declared.cell.Cell.{Cell};
 ghost use Rattle.df_column.specs.Columns.{column_cells};
-ghost use Rattle.df_column.specs.Extremes as extremes;
-ghost use Rattle.df_column.specs.Extremes.{is_above};
+ghost use Rattle.df_column.specs.MinMaxCells as min_max;
+ghost use Rattle.df_column.specs.MinMaxCells.{is_above};
 ghost use Rattle.df_column.specs.Texts.{text_now};
 ghost use Rattle.df_column.specs.ValueCells.{text_cell};
 
-use crate::best::Ranked;
 use crate::column::Column;
+use crate::min_max_search::Ranked;
 use crate::texts::Texts;
 use df_value::Cell;
 use std::cmp::Ordering;
@@ -56,7 +56,7 @@ impl Column {
     /// Whether the cell at this index is null.
     pub(crate) fn is_null(&self, at: usize) -> bool
         requires { at < length (column_cells self.now) }
-        ensures { (d : Cell) → result ≡ extremes.is_null (slice_index_or (column_cells self.now) at d) }
+        ensures { (d : Cell) → result ≡ min_max.is_null (slice_index_or (column_cells self.now) at d) }
     {
         match self {
             Column::Int(values) => values.is_null(at),

@@ -2,14 +2,14 @@
 ghost use Rattle.std.specs.Prelude.{◌≡◌, ◌<◌, ◌≤◌, [], IfNone, IfOk, IfSome, List, Some, T, drop, length, not, take, true};
 ghost use Rattle.std.specs.List.{list_all};
 ghost use Rattle.df_value.specs.declared.cell.Cell.{Cell};
-ghost use Rattle.df_column.specs.BlockLists.{AreExtremeCells, IsSpliceOf, extreme_cell};
+ghost use Rattle.df_column.specs.BlockLists.{AreMinMaxCells, IsSpliceOf, min_or_max_cell};
 ghost use Rattle.df_column.specs.Blocks.{rows_of_blocks};
 ghost use Rattle.df_column.specs.Changes.{IsHead};
-ghost use Rattle.df_column.specs.Extremes as extremes;
-ghost use Rattle.df_column.specs.Extremes.{extreme_of, is_above, tags_above};
+ghost use Rattle.df_column.specs.MinMaxCells as min_max;
+ghost use Rattle.df_column.specs.MinMaxCells.{min_or_max_of, is_above, tags_above};
 
-use crate::extremes::Extreme;
-use crate::further::further_cell;
+use crate::min_max::MinMax;
+use crate::min_max_of_blocks::min_or_max_with_cell;
 use crate::run::Run;
 use crate::tag::Tag;
 use df_value::Cell;
@@ -53,17 +53,17 @@ impl Model for Leaf {
 }
 
 /// For each column of the first block, the cell of the run that no other lies beyond, if one is not null.
-fn extreme_cells(
+fn min_or_max_cells(
     alloc: Global,
-    extreme: Extreme,
+    which: MinMax,
     run: &Run,
 ) -> Result<Vec<Option<Cell>>, AllocError>
-    ensures { IfOk result (λ v. AreExtremeCells extreme run.now v.items) }
+    ensures { IfOk result (λ v. AreMinMaxCells which run.now v.items) }
 {
     let columns = run.columns();
     let mut cells = Vec::with_capacity(alloc, columns)?;
     for column in 0..columns {
-        let cell = run.furthest(alloc, extreme, None, column)?;
+        let cell = run.min_or_max(alloc, which, None, column)?;
         cells.push(cell)?;
     }
     Ok(cells)
@@ -71,26 +71,26 @@ fn extreme_cells(
 
 /// The best cell; where the blocks have one beyond it in the column at an index, a copy of that. Kept are the cells of
 /// the first columns.
-fn furthest_kept(
+fn min_or_max_kept(
     alloc: Global,
-    extreme: Extreme,
+    which: MinMax,
     best: Option<Cell>,
     run: &Run,
     kept: &[Option<Cell>],
     index: usize,
 ) -> Result<Option<Cell>, AllocError>
-    requires { AreExtremeCells extreme run.now kept.now }
-    ensures { IfOk result (λ v. v ≡ extremes.further extreme best (extreme_cell extreme run.now index)) }
+    requires { AreMinMaxCells which run.now kept.now }
+    ensures { IfOk result (λ v. v ≡ min_max.min_or_max_with which best (min_or_max_cell which run.now index)) }
 {
     match kept.get(index) {
-        Some(cell) => further_cell(alloc, extreme, best, cell),
-        None => run.furthest(alloc, extreme, best, index),
+        Some(cell) => min_or_max_with_cell(alloc, which, best, cell),
+        None => run.min_or_max(alloc, which, best, index),
     }
 }
 
 /// Whether no cell is above the value, where this is the greatest of them that is not null, if there is one.
 fn is_none_above(greatest: &Option<Cell>, value: &Cell) -> bool
-    ensures { (cells : List Cell) → greatest.now ≡ extreme_of Extreme.Greatest cells → T result →
+    ensures { (cells : List Cell) → greatest.now ≡ min_or_max_of MinMax.Max cells → T result →
         T (list_all (λ c. not (is_above value.now c)) cells) }
 {
     match greatest {
@@ -102,7 +102,7 @@ fn is_none_above(greatest: &Option<Cell>, value: &Cell) -> bool
 /// Whether the cell, if there is one, lies beyond all those of the blocks from one index up to another in a column. So it is
 /// where there is no cell.
 fn is_kept_beyond(
-    extreme: Extreme,
+    which: MinMax,
     cell: &Option<Cell>,
     run: &Run,
     low: usize,
@@ -111,12 +111,12 @@ fn is_kept_beyond(
 ) -> bool
     requires ordered { low ≤ high }
     requires in_range { high ≤ length run.now }
-    ensures some { IfSome cell.now (λ c. result ≡ extremes.is_further extreme
-        (extreme_cell extreme (drop low (take high run.now)) column) c) }
+    ensures some { IfSome cell.now (λ c. result ≡ min_max.is_beyond_best which
+        (min_or_max_cell which (drop low (take high run.now)) column) c) }
     ensures none { IfNone cell.now (result ≡ true) }
 {
     match cell {
-        Some(cell) => run.is_beyond_part(extreme, cell, low, high, column),
+        Some(cell) => run.is_beyond_part(which, cell, low, high, column),
         None => true,
     }
 }
@@ -128,8 +128,8 @@ impl Leaf {
         ensures { IfOk result (λ l. l ≡ run) }
     {
         let first = run.get(0).first();
-        let least = extreme_cells(alloc, Extreme::Least, &run)?;
-        let greatest = extreme_cells(alloc, Extreme::Greatest, &run)?;
+        let least = min_or_max_cells(alloc, MinMax::Min, &run)?;
+        let greatest = min_or_max_cells(alloc, MinMax::Max, &run)?;
         Ok(Leaf {
             run,
             first,
@@ -139,7 +139,7 @@ impl Leaf {
     }
 
     /// The leaf of a run that has the blocks of this leaf, but for those from one index up to another. Blocks that stay are
-    /// read only for a column whose extreme may have stood in one that goes.
+    /// read only for a column whose least or greatest cell may have stood in one that goes.
     pub fn spliced(
         &self,
         alloc: Global,
@@ -152,8 +152,8 @@ impl Leaf {
         ensures { IfOk result (λ l. l ≡ run) }
     {
         let first = self.first_of_splice(&run, low, high);
-        let least = self.renewed_cells(alloc, Extreme::Least, &run, low, high)?;
-        let greatest = self.renewed_cells(alloc, Extreme::Greatest, &run, low, high)?;
+        let least = self.renewed_cells(alloc, MinMax::Min, &run, low, high)?;
+        let greatest = self.renewed_cells(alloc, MinMax::Max, &run, low, high)?;
         Ok(Leaf {
             run,
             first,
@@ -176,60 +176,60 @@ impl Leaf {
         run.get(0).first()
     }
 
-    /// For the columns of which an extreme is kept, the one of a run that has other blocks from one index up to another.
+    /// For the columns of which one is kept, the least or greatest cell of a run that has other blocks from one index up to another.
     fn renewed_cells(
         &self,
         alloc: Global,
-        extreme: Extreme,
+        which: MinMax,
         run: &Run,
         low: usize,
         high: usize,
     ) -> Result<Vec<Option<Cell>>, AllocError>
         requires { IsSpliceOf self.now low high run.now }
-        ensures { IfOk result (λ v. AreExtremeCells extreme run.now v.items) }
+        ensures { IfOk result (λ v. AreMinMaxCells which run.now v.items) }
     {
-        let kept = self.kept(extreme);
+        let kept = self.kept(which);
         let mut cells = Vec::with_capacity(alloc, kept.len())?;
         for column in 0..kept.len() {
-            let cell = self.renewed(alloc, extreme, run, low, high, column)?;
+            let cell = self.renewed(alloc, which, run, low, high, column)?;
             cells.push(cell)?;
         }
         Ok(cells)
     }
 
-    /// The extreme of a column of a run that has other blocks from one index up to another. The blocks that stay are read
+    /// The least or greatest cell of a column of a run that has other blocks from one index up to another. The blocks that stay are read
     /// only where the kept cell does not lie beyond all that go, and lies beyond all that come.
     fn renewed(
         &self,
         alloc: Global,
-        extreme: Extreme,
+        which: MinMax,
         run: &Run,
         low: usize,
         high: usize,
         column: usize,
     ) -> Result<Option<Cell>, AllocError>
         requires { IsSpliceOf self.now low high run.now }
-        ensures { IfOk result (λ v. v ≡ extreme_cell extreme run.now column) }
+        ensures { IfOk result (λ v. v ≡ min_or_max_cell which run.now column) }
     {
-        let Some(kept) = self.kept(extreme).get(column) else {
-            return run.furthest(alloc, extreme, None, column);
+        let Some(kept) = self.kept(which).get(column) else {
+            return run.min_or_max(alloc, which, None, column);
         };
         let end = run.len() - (self.run.len() - high);
-        let stays = is_kept_beyond(extreme, kept, &self.run, low, high, column);
-        if !stays && is_kept_beyond(extreme, kept, run, low, end, column) {
-            return run.furthest(alloc, extreme, None, column);
+        let stays = is_kept_beyond(which, kept, &self.run, low, high, column);
+        if !stays && is_kept_beyond(which, kept, run, low, end, column) {
+            return run.min_or_max(alloc, which, None, column);
         }
-        let best = further_cell(alloc, extreme, None, kept)?;
-        run.furthest_between(alloc, extreme, best, low, end, column)
+        let best = min_or_max_with_cell(alloc, which, None, kept)?;
+        run.min_or_max_between(alloc, which, best, low, end, column)
     }
 
-    /// What is kept of an extreme.
-    fn kept(&self, extreme: Extreme) -> &[Option<Cell>]
-        ensures { AreExtremeCells extreme self.now result.now }
+    /// The least or the greatest cells that are kept.
+    fn kept(&self, which: MinMax) -> &[Option<Cell>]
+        ensures { AreMinMaxCells which self.now result.now }
     {
-        match extreme {
-            Extreme::Least => &self.least,
-            Extreme::Greatest => &self.greatest,
+        match which {
+            MinMax::Min => &self.least,
+            MinMax::Max => &self.greatest,
         }
     }
 
@@ -258,16 +258,16 @@ impl Leaf {
     }
 
     /// The best cell; where the leaf has one beyond it in the column at an index, a copy of that. No block is read.
-    pub fn furthest(
+    pub fn min_or_max(
         &self,
         alloc: Global,
-        extreme: Extreme,
+        which: MinMax,
         best: Option<Cell>,
         index: usize,
     ) -> Result<Option<Cell>, AllocError>
-        ensures { IfOk result (λ v. v ≡ extremes.further extreme best
-            (extreme_cell extreme self.now index)) }
+        ensures { IfOk result (λ v. v ≡ min_max.min_or_max_with which best
+            (min_or_max_cell which self.now index)) }
     {
-        furthest_kept(alloc, extreme, best, &self.run, self.kept(extreme), index)
+        min_or_max_kept(alloc, which, best, &self.run, self.kept(which), index)
     }
 }

@@ -2,10 +2,10 @@
 ghost use Rattle.std.specs.Prelude.{◌≡◌, ◌<◌, ◌≤◌, ◌+◌, ◌-◌, ◌++◌, ◌^◌, [], IfNone, IfOk, IfSome, List, T, drop, length, map, take};
 ghost use Rattle.std.specs.FinMap as finite;
 ghost use Rattle.std.specs.FinMap.Entries.{below_all};
-ghost use Rattle.df_column.specs.BlockLists.{HaveRows, IsRunAt, blocks_of_leaves, extreme_cell, rows_in};
+ghost use Rattle.df_column.specs.BlockLists.{HaveRows, IsRunAt, blocks_of_leaves, min_or_max_cell, rows_in};
 ghost use Rattle.df_column.specs.Blocks.{AreOfDtypes, BlockParts, ends_of, rows_of_blocks};
 ghost use Rattle.df_column.specs.Columns.{column_cells, dtype_of_column};
-ghost use Rattle.df_column.specs.Extremes as extremes;
+ghost use Rattle.df_column.specs.MinMaxCells as min_max;
 ghost use Rattle.df_column.specs.Pools.{start_at};
 ghost use Rattle.df_column.specs.Rows.{AreNewRows, are_even};
 ghost use Rattle.df_column.specs.TableBlocks.{IsEndCount, IsRunOfTag};
@@ -15,9 +15,9 @@ ghost use Rattle.df_column.specs.TreeChanges.{AreChangedFrom};
 
 use crate::column::Column;
 use crate::entry::Entry;
-use crate::extremes::Extreme;
 use crate::leaf::Leaf;
 use crate::leaf_tree::LeafTree;
+use crate::min_max::MinMax;
 use crate::run::{Run, Spot, end_behind};
 use crate::tag::Tag;
 use df_value::Cell;
@@ -120,17 +120,17 @@ impl Leaves {
 
     /// The best cell; where the leaves have one beyond it in the column at an index, a copy of that. Of each leaf one cell
     /// is read.
-    pub fn furthest(
+    pub fn min_or_max(
         &self,
         alloc: Global,
-        extreme: Extreme,
+        which: MinMax,
         best: Option<Cell>,
         index: usize,
     ) -> Result<Option<Cell>, AllocError>
-        ensures { IfOk result (λ v. v ≡ extremes.further extreme best
-            (extreme_cell extreme self.now index)) }
+        ensures { IfOk result (λ v. v ≡ min_max.min_or_max_with which best
+            (min_or_max_cell which self.now index)) }
     {
-        self.tree.furthest(alloc, extreme, best, index)
+        self.tree.min_or_max(alloc, which, best, index)
     }
 
     /// The tree that they stand in.

@@ -14,7 +14,6 @@
 //! changed, column by column.
 #![tactic(auto)]
 
-mod best;
 mod block;
 mod block_list;
 mod blocks;
@@ -22,14 +21,15 @@ mod column;
 mod compare;
 mod edited;
 mod entry;
-mod extremes;
-mod further;
 mod leaf;
 mod leaf_totals;
 mod leaf_tree;
 mod leaves;
 mod masked;
 mod merge;
+mod min_max;
+mod min_max_of_blocks;
+mod min_max_search;
 mod picks;
 mod pool;
 mod reads;
@@ -38,12 +38,12 @@ mod run;
 mod same_rows;
 mod shared_leaf;
 mod sharing;
+mod skipping;
 mod spots;
 mod table;
 mod tag;
 mod texts;
 mod values;
-mod zones;
 
 pub use column::Column;
 pub use entry::Entry;

@@ -4,19 +4,19 @@ ghost use Rattle.std.specs.Arc.{arc_value};
 ghost use Rattle.std.specs.FinMap as finite;
 ghost use Rattle.std.specs.FinMap.Entries.{below_all};
 ghost use Rattle.std.specs.List.Sorted.{IsNonDecreasing};
-ghost use Rattle.df_column.specs.BlockLists.{HaveRows, extreme_cell, last_of};
+ghost use Rattle.df_column.specs.BlockLists.{HaveRows, min_or_max_cell, last_of};
 ghost use Rattle.df_column.specs.Blocks.{BlockParts, block_rows, ends_of, rows_of_blocks};
 ghost use Rattle.df_column.specs.Changes.{IsNext};
-ghost use Rattle.df_column.specs.Extremes as extremes;
-ghost use Rattle.df_column.specs.Extremes.{cells_at, extreme_of};
+ghost use Rattle.df_column.specs.MinMaxCells as min_max;
+ghost use Rattle.df_column.specs.MinMaxCells.{cells_at, min_or_max_of};
 ghost use Rattle.df_column.specs.Picks.{spliced};
 ghost use Rattle.df_column.specs.Pools.{start_at};
 ghost use Rattle.df_column.specs.TableBlocks.{IsBlockOfTag, IsEndCount};
 ghost use Rattle.df_column.specs.Tags.{tag_cmp};
 
 use crate::block::Block;
-use crate::extremes::{Extreme, is_beyond};
-use crate::further::furthest_in_block;
+use crate::min_max::{MinMax, is_beyond};
+use crate::min_max_of_blocks::min_or_max_in_block;
 use crate::pool::start_of_part;
 use crate::tag::Tag;
 use df_value::Cell;
@@ -94,16 +94,16 @@ pub fn end_behind(end: usize, rows: usize) -> Result<usize, AllocError>
 }
 
 /// Whether the cell lies beyond all those of a block in the column at an index. Of the block one cell is read.
-fn is_beyond_block(extreme: Extreme, cell: &Cell, block: &Block, index: usize) -> bool
-    ensures { result ≡ extremes.is_further extreme
-        (extreme_of extreme (cells_at (Some index) (map (λ r. r.1) (block_rows block.now)))) cell.now }
+fn is_beyond_block(which: MinMax, cell: &Cell, block: &Block, index: usize) -> bool
+    ensures { result ≡ min_max.is_beyond_best which
+        (min_or_max_of which (cells_at (Some index) (map (λ r. r.1) (block_rows block.now)))) cell.now }
 {
     let columns = block.columns();
     if index >= columns.len() {
         return true;
     }
-    match block.extreme_at(extreme, index) {
-        Some(at) => is_beyond(extreme, columns[index].compare_with(at, cell).reverse()),
+    match block.min_or_max_at(which, index) {
+        Some(at) => is_beyond(which, columns[index].compare_with(at, cell).reverse()),
         None => true,
     }
 }
@@ -275,24 +275,24 @@ impl Run {
     }
 
     /// The best cell; where the blocks have one beyond it in the column at an index, a copy of that.
-    pub fn furthest(
+    pub fn min_or_max(
         &self,
         alloc: Global,
-        extreme: Extreme,
+        which: MinMax,
         best: Option<Cell>,
         index: usize,
     ) -> Result<Option<Cell>, AllocError>
-        ensures { IfOk result (λ v. v ≡ extremes.further extreme best
-            (extreme_cell extreme self.now index)) }
+        ensures { IfOk result (λ v. v ≡ min_max.min_or_max_with which best
+            (min_or_max_cell which self.now index)) }
     {
-        self.furthest_between(alloc, extreme, best, 0, self.len(), index)
+        self.min_or_max_between(alloc, which, best, 0, self.len(), index)
     }
 
     /// The same of the blocks from one index up to another.
-    pub fn furthest_between(
+    pub fn min_or_max_between(
         &self,
         alloc: Global,
-        extreme: Extreme,
+        which: MinMax,
         best: Option<Cell>,
         low: usize,
         high: usize,
@@ -300,12 +300,12 @@ impl Run {
     ) -> Result<Option<Cell>, AllocError>
         requires ordered { low ≤ high }
         requires in_range { high ≤ length self.now }
-        ensures { IfOk result (λ v. v ≡ extremes.further extreme best
-            (extreme_cell extreme (drop low (take high self.now)) index)) }
+        ensures { IfOk result (λ v. v ≡ min_max.min_or_max_with which best
+            (min_or_max_cell which (drop low (take high self.now)) index)) }
     {
         let mut best = best;
         for at in low..high {
-            best = furthest_in_block(alloc, extreme, best, self.get(at), index)?;
+            best = min_or_max_in_block(alloc, which, best, self.get(at), index)?;
         }
         Ok(best)
     }
@@ -313,7 +313,7 @@ impl Run {
     /// Whether the cell lies beyond all those of the blocks from one index up to another in the column at an index.
     pub fn is_beyond_part(
         &self,
-        extreme: Extreme,
+        which: MinMax,
         cell: &Cell,
         low: usize,
         high: usize,
@@ -321,11 +321,11 @@ impl Run {
     ) -> bool
         requires ordered { low ≤ high }
         requires in_range { high ≤ length self.now }
-        ensures { result ≡ extremes.is_further extreme
-            (extreme_cell extreme (drop low (take high self.now)) index) cell.now }
+        ensures { result ≡ min_max.is_beyond_best which
+            (min_or_max_cell which (drop low (take high self.now)) index) cell.now }
     {
         for at in low..high {
-            if !is_beyond_block(extreme, cell, self.get(at), index) {
+            if !is_beyond_block(which, cell, self.get(at), index) {
                 return false;
             }
         }

@@ -5,15 +5,15 @@ ghost use Rattle.df_value.specs.CellOrder.{cell_cmp};
 ghost use Rattle.df_value.specs.Cells.{fits_dtype};
 ghost use Rattle.df_value.specs.declared.cell.Cell.{Cell};
 ghost use Rattle.df_value.specs.declared.cell.CellType.TheVariants as dtype_as;
-ghost use Rattle.df_column.specs.Extremes as extremes;
+ghost use Rattle.df_column.specs.MinMaxCells as min_max;
 ghost use Rattle.df_column.specs.Picks.{AreFit, AreWithin, is_fit, is_within, origin_cell, picked_cells, spliced};
 ghost use Rattle.df_column.specs.Sizes.{most_rows};
 ghost use Rattle.df_column.specs.Texts.{ArePlaces, pool_text, text_now};
 ghost use Rattle.df_column.specs.ValueCells.{text_cell};
 
-use crate::best::Ranked;
 use crate::compare::compare_texts;
 use crate::masked::Masked;
+use crate::min_max_search::Ranked;
 use crate::picks::{Origin, Pick};
 use crate::pool::TextPool;
 use df_value::{Cell, Text};
@@ -120,7 +120,7 @@ impl Ranked for Texts {
     // No text is read.
     fn is_null(&self, at: usize) -> bool
         requires { at < length (map text_cell self.now) }
-        ensures { (d : Cell) → result ≡ extremes.is_null (slice_index_or (map text_cell self.now) at d) }
+        ensures { (d : Cell) → result ≡ min_max.is_null (slice_index_or (map text_cell self.now) at d) }
     {
         self.places.get(at).is_none()
     }

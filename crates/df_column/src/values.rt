@@ -6,7 +6,7 @@ ghost use Rattle.df_value.specs.declared.cell.Cell.{Cell};
 ghost use Rattle.df_value.specs.declared.cell.Cell.TheVariants as cell_as;
 ghost use Rattle.df_value.specs.declared.cell.CellType.{CellType};
 ghost use Rattle.df_value.specs.declared.cell.CellType.TheVariants as dtype_as;
-ghost use Rattle.df_column.specs.Extremes.{is_null};
+ghost use Rattle.df_column.specs.MinMaxCells.{is_null};
 ghost use Rattle.df_column.specs.ValueCells as value_cells;
 
 use df_value::{Cell, Frac};

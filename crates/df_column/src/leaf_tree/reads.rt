@@ -2,20 +2,20 @@
 ghost use Rattle.std.specs.Prelude.{◌≡◌, ◌<◌, ◌≤◌, ◌++◌, ◌^◌, IfNone, IfOk, IfSome, OnOk, Some, T, length};
 ghost use Rattle.std.specs.FinMap as finite;
 ghost use Rattle.std.specs.FinMap.Entries.{below_all};
-ghost use Rattle.df_column.specs.BlockLists.{HaveRows, IsRunAt, blocks_of_leaves, extreme_cell, rows_in};
+ghost use Rattle.df_column.specs.BlockLists.{HaveRows, IsRunAt, blocks_of_leaves, min_or_max_cell, rows_in};
 ghost use Rattle.df_column.specs.Blocks.{rows_of_blocks};
-ghost use Rattle.df_column.specs.Extremes as extremes;
-ghost use Rattle.df_column.specs.Extremes.{tags_above};
+ghost use Rattle.df_column.specs.MinMaxCells as min_max;
+ghost use Rattle.df_column.specs.MinMaxCells.{tags_above};
 ghost use Rattle.df_column.specs.LeafTotals.{IsRunOfRow};
 ghost use Rattle.df_column.specs.TableBlocks.{IsRunOfTag};
 ghost use Rattle.df_column.specs.Tags.{tag_cmp};
 
-use crate::extremes::Extreme;
 use crate::leaf_totals::{MoreBlocks, MoreRows, Totals};
 use crate::leaf_tree::{LeafTree, found_before};
+use crate::min_max::MinMax;
 use crate::run::Run;
+use crate::skipping::push_tags_in_leaf;
 use crate::tag::Tag;
-use crate::zones::push_tags_in_leaf;
 use df_value::Cell;
 use std::alloc::{AllocError, Global};
 
@@ -84,22 +84,22 @@ impl LeafTree {
 
     /// The best cell; where the leaves have one beyond it in the column at an index, a copy of that. Of each leaf one cell
     /// is read.
-    pub fn furthest(
+    pub fn min_or_max(
         &self,
         alloc: Global,
-        extreme: Extreme,
+        which: MinMax,
         best: Option<Cell>,
         index: usize,
     ) -> Result<Option<Cell>, AllocError>
-        ensures { IfOk result (λ v. v ≡ extremes.further extreme best
-            (extreme_cell extreme (blocks_of_leaves self.now) index)) }
+        ensures { IfOk result (λ v. v ≡ min_max.min_or_max_with which best
+            (min_or_max_cell which (blocks_of_leaves self.now) index)) }
     {
         let Some(leaves) = &self.leaves else {
             return Ok(best);
         };
         let mut out = best;
         for at in 0..leaves.len() {
-            out = leaves.get(at).leaf().furthest(alloc, extreme, out, index)?;
+            out = leaves.get(at).leaf().min_or_max(alloc, which, out, index)?;
         }
         Ok(out)
     }

@@ -11,7 +11,7 @@ use Rattle.df_column.specs.Rows.{AreNewRows, AreRows, picked_rows}
 use Rattle.df_column.specs.Tables.{entry_change}
 use Rattle.df_column.specs.Tags.{tag_cmp}
 use Rattle.df_column.specs.TagOrder.{tag_total}
-use Rattle.df_column.proofs.BlockExtremes.{no_known}
+use Rattle.df_column.proofs.BlockMinMax.{no_known}
 use Rattle.df_column.proofs.ListParts.{none_between}
 use Rattle.df_column.proofs.ChangeRuns.{sorted_second}
 use Rattle.df_column.proofs.TableLemmas.{cut_between, types_at}

@@ -5,12 +5,12 @@ use Rattle.df_column.specs.Blocks.{block_rows}
 use Rattle.df_column.specs.Columns.{column_cells, dtype_of_column}
 use Rattle.df_column.specs.Rows.{is_new_row}
 use Rattle.df_column.proofs.BehindLemmas.{adds_parts, within_rest}
-use Rattle.df_column.proofs.BlockExtremes.{known_of}
+use Rattle.df_column.proofs.BlockMinMax.{known_of}
 use Rattle.df_column.proofs.PartLemmas.{all_drop}
 use Rattle.df_column.proofs.blocks.with_filled.Goals as goal
 
 pub with_parts-requires-clause-known : goal.with_parts-requires-clause-known
-with_parts-requires-clause-known c = rw (c.columns-columns.ensures.columns, c.deref-2.ensures) (known_of _ _ (rw c.deref-3.ensures at c.extremes-known.ensures))
+with_parts-requires-clause-known c = rw (c.columns-columns.ensures.columns, c.deref-2.ensures) (known_of _ _ (rw c.deref-3.ensures at c.min_max-known.ensures))
 
 pub with_parts-requires-clause-within : goal.with_parts-requires-clause-within
 with_parts-requires-clause-within c = within_rest _ _ c.args.picks.now _ c.split_at.ensures.back c.requires.within

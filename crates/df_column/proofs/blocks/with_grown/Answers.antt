@@ -4,14 +4,14 @@ use Rattle.std.specs.Arc.{arc_value}
 use Rattle.df_column.specs.Blocks.{block_rows}
 use Rattle.df_column.specs.Columns.{column_cells}
 use Rattle.df_column.proofs.BehindLemmas.{within_any}
-use Rattle.df_column.proofs.BlockExtremes.{known_of}
+use Rattle.df_column.proofs.BlockMinMax.{known_of}
 use Rattle.df_column.proofs.BlockRowLemmas.{adds_same}
 use Rattle.df_column.proofs.RowLemmas.{length_rows}
 use Rattle.df_column.proofs.SpliceLemmas.{spliced_behind}
 use Rattle.df_column.proofs.blocks.with_grown.Goals as goal
 
 pub with_spliced-requires-clause-known : goal.with_spliced-requires-clause-known
-with_spliced-requires-clause-known c = rw (c.columns-columns.ensures.columns, c.deref-2.ensures) (known_of _ _ (rw c.deref-3.ensures at c.extremes-known.ensures))
+with_spliced-requires-clause-known c = rw (c.columns-columns.ensures.columns, c.deref-2.ensures) (known_of _ _ (rw c.deref-3.ensures at c.min_max-known.ensures))
 
 pub with_spliced-requires-clause-within : goal.with_spliced-requires-clause-within
 with_spliced-requires-clause-within c = within_any _ c.args.picks.now c.requires.within

@@ -1,7 +1,7 @@
 use Rattle.std.proofs.Common.{◌≡◌, ◌∙◌, Bool, true, false, ap, not, refl, sym}
 use Rattle.std.specs.Prelude.{T}
 use Rattle.std.specs.Ordering.{is_gt}
-use Rattle.df_column.proofs.ZoneLemmas.{none_above_cell, none_above_none}
+use Rattle.df_column.proofs.SkippingLemmas.{none_above_cell, none_above_none}
 use Rattle.df_column.proofs.leaf.is_none_above.Goals as goal
 
 is_false : (b : Bool) → T (not b) → b ≡ false

@@ -1,6 +1,6 @@
 use Rattle.std.proofs.Common.{map}
 use Rattle.df_column.specs.Columns.{column_cells}
-use Rattle.df_column.proofs.BlockExtremes.{no_known}
+use Rattle.df_column.proofs.BlockMinMax.{no_known}
 use Rattle.df_column.proofs.table.blocks_of.Goals as goal
 
 pub with_parts-requires-clause-known : goal.with_parts-requires-clause-known

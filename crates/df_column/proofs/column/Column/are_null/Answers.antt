@@ -2,7 +2,7 @@ use Rattle.std.proofs.Common.{◌∙◌, ◌+◌, ap, arith, get_or, sym}
 use Rattle.std.proofs.lemmas.Bool.{false≢true}
 use Rattle.df_value.specs.declared.cell.Cell.TheVariants as cell
 use Rattle.df_column.specs.Columns.{column_cells}
-use Rattle.df_column.specs.Extremes.{is_null}
+use Rattle.df_column.specs.MinMaxCells.{is_null}
 use Rattle.df_column.proofs.SameRows.{one_more_null}
 use Rattle.df_column.proofs.UnlikeTypes.{null_is}
 use Rattle.df_column.proofs.column.Column.are_null.Goals as goal

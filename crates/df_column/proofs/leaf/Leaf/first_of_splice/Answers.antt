@@ -3,7 +3,7 @@ use Rattle.std.specs.Arc.{arc_value}
 use Rattle.df_column.specs.BlockLists.{IsSpliceOf}
 use Rattle.df_column.specs.Blocks.{block_rows}
 use Rattle.df_column.specs.Changes.{IsHead}
-use Rattle.df_column.proofs.KeptExtremes.{head_of_splice}
+use Rattle.df_column.proofs.KeptMinMax.{head_of_splice}
 use Rattle.df_column.proofs.TableLemmas.{head_of_first}
 use Rattle.df_column.proofs.leaf.Leaf.first_of_splice.Goals as goal
 

@@ -1,5 +1,5 @@
 use Rattle.std.proofs.Common.{[], ◌∷◌, length-append, arith}
-use Rattle.df_column.proofs.LeafExtremes.{cells_more}
+use Rattle.df_column.proofs.LeafMinMax.{cells_more}
 use Rattle.df_column.proofs.leaf.Leaf.renewed_cells.Goals as goal
 
 pub loop-column-preserved : goal.loop-column-preserved
@@ -9,5 +9,5 @@ loop-column-preserved c =
     let l = length-append cells (c.in_ok-cell.cell ∷ []) in
     rw c.in_ok-push.ensures.items (record {
       count = omega (arith, l, is.count);
-      cells = cells_more c.args.extreme c.args.run.now cells c.in_ok-cell.cell c.loop-column.column is.count is.cells c.in_ok-cell.ensures;
+      cells = cells_more c.args.which c.args.run.now cells c.in_ok-cell.cell c.loop-column.column is.count is.cells c.in_ok-cell.ensures;
     })

@@ -1,10 +1,10 @@
 use Rattle.std.proofs.Common.{◌≡◌, length}
-use Rattle.df_column.specs.BlockLists.{AreExtremeCells}
+use Rattle.df_column.specs.BlockLists.{AreMinMaxCells}
 use Rattle.df_column.proofs.leaf.Leaf.renewed_cells.Given as goal
 
 abbrev pub invariant-loop-column : goal.invariant-loop-column
 invariant-loop-column l =
     record {
       count : length l.cells.items ≡ l.column;
-      cells : AreExtremeCells l.extreme l.run l.cells.items;
+      cells : AreMinMaxCells l.which l.run l.cells.items;
     }

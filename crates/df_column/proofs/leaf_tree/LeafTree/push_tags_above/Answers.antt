@@ -2,11 +2,11 @@ use Rattle.std.proofs.Common.{◌≡◌, ◌∙◌, ◌++◌, ◌+◌, Some, ap,
 use Rattle.df_tree.specs.Leaves.{items_in}
 use Rattle.df_column.specs.BlockLists.{blocks_of_leaves}
 use Rattle.df_column.specs.Blocks.{rows_of_blocks}
-use Rattle.df_column.specs.Extremes.{tags_above}
+use Rattle.df_column.specs.MinMaxCells.{tags_above}
 use Rattle.df_column.proofs.LeafTreeLemmas.{leaf_at, some_leaves}
 use Rattle.df_column.proofs.ListParts.{all_taken}
 use Rattle.df_column.proofs.SharedLemmas.{rows_append}
-use Rattle.df_column.proofs.ZoneLemmas.{tags_more}
+use Rattle.df_column.proofs.SkippingLemmas.{tags_more}
 use Rattle.df_column.proofs.leaf_tree.LeafTree.push_tags_above.Goals as goal
 
 pub loop-at-init : goal.loop-at-init

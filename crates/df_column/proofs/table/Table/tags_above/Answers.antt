@@ -1,10 +1,10 @@
 use Rattle.std.proofs.Common.{◌≡◌, ◌++◌, ◌∙◌, [], Some, ap, sym}
 use Rattle.std.specs.FinMap as finite
 use Rattle.df_column.specs.Blocks.{rows_of_blocks}
-use Rattle.df_column.specs.Extremes.{tags_above}
+use Rattle.df_column.specs.MinMaxCells.{tags_above}
 use Rattle.df_column.specs.BlockLists.{blocks_of_leaves}
 use Rattle.df_column.proofs.SharedLemmas.{rows_append}
-use Rattle.df_column.proofs.ZoneLemmas.{no_tags, tags_more}
+use Rattle.df_column.proofs.SkippingLemmas.{no_tags, tags_more}
 use Rattle.df_column.proofs.table.Table.tags_above.Goals as goal
 
 pub returns-in_default : goal.returns-in_default

@@ -1,6 +1,6 @@
 use Rattle.std.proofs.Common.{◌≡◌, ◌<◌, ◌∙◌, ℕ, List, Option, None, ap, arith, get_or, length, map, sym}
 use Rattle.std.proofs.lemmas.List.{length-map}
-use Rattle.df_column.specs.Extremes.{is_null}
+use Rattle.df_column.specs.MinMaxCells.{is_null}
 use Rattle.df_column.specs.Texts.{pool_text}
 use Rattle.df_column.specs.ValueCells.{text_cell}
 use Rattle.df_column.proofs.CellTests.{null_place}
