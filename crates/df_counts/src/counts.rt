@@ -1,12 +1,11 @@
 //! Counts of the values of a column.
-ghost use Rattle.std.specs.Prelude.{◌≡◌, ◌%◌, ◌^◌, [], T, IfOk, IsTrue, false, if◌then◌else◌, is_some, length, map, true, unwrap_or};
+ghost use Rattle.std.specs.Prelude.{◌≡◌, ◌%◌, ◌^◌, [], T, IfOk, IsTrue, MatchResult, false, if◌then◌else◌, is_some, length, map, true, unwrap_or};
 ghost use Rattle.std.specs.List.{sum_by};
 ghost use Rattle.std.specs.Ordering.{is_lt};
 ghost use Rattle.std.specs.FinMap.{find as entry_of, is_sorted};
 ghost use Rattle.df_value.specs.CellOrder.{cell_cmp};
 ghost use Rattle.df_value.specs.declared.cell.Cell.{Cell as AnyCell};
 ghost use Rattle.df_column.specs.Changes.{after_changes, edit};
-ghost use Rattle.df_tree.specs.Leaves.{items_in};
 ghost use Rattle.df_counts.specs.Counts.{count_change, some_count};
 
 use crate::entries::{find, set_count};
@@ -20,8 +19,8 @@ use std::marker::Model;
 
 /// How many rows have each value of a column. Contracts see the values with their counts, by rising value.
 ///
-/// To change a count makes counts beside these ones. Both share all nodes but those on the way to the value, whose number
-/// goes by the logarithm of the number of values.
+/// A change of a count reaches the nodes on the way to the value, whose number goes by the logarithm of the number of values.
+/// Those that other counts share are copied first.
 pub struct Counts {
     entries: Option<Entries>,
 }
@@ -71,28 +70,7 @@ impl Counts {
         Counts { entries: None }
     }
 
-    /// The counts of these entries. Their nodes are shared, so that a copy takes no memory.
-    fn of_entries(alloc: Global, mut seq: Seq<ValueCount>) -> Result<Counts, AllocError>
-        requires { T (is_sorted cell_cmp (items_in seq)) }
-        ensures { IfOk result (λ t. t ≡ items_in seq) }
-    {
-        seq.make_shared(alloc)?;
-        let entries = Some(Entries { alloc, seq });
-        Ok(Counts { entries })
-    }
-
-    /// A copy of the entries, to be edited.
-    fn copied_entries(&self, alloc: Global) -> Result<Seq<ValueCount>, AllocError>
-        ensures same { IfOk result (λ k. items_in k ≡ self.now) }
-        ensures sorted { IfOk result (λ k. T (is_sorted cell_cmp (items_in k))) }
-    {
-        match &self.entries {
-            None => Seq::empty(alloc),
-            Some(entries) => entries.seq.copied(alloc),
-        }
-    }
-
-    /// The same counts once more. It takes no memory.
+    /// The same counts once more. It takes no memory where they were made shared.
     pub fn share(&self) -> Result<Counts, AllocError>
         ensures { IfOk result (λ t. t ≡ self.now) }
     {
@@ -104,6 +82,16 @@ impl Counts {
                 let entries = Some(Entries { alloc, seq });
                 Ok(Counts { entries })
             }
+        }
+    }
+
+    /// Shares each node that is owned, so that a copy takes no memory. Whoever shares often calls it first.
+    pub fn make_shared(&mut self, alloc: Global) -> Result<(), AllocError>
+        ensures { self.new ≡ self.old }
+    {
+        match &mut self.entries {
+            Some(entries) => entries.seq.make_shared(alloc),
+            None => Ok(()),
         }
     }
 
@@ -124,13 +112,34 @@ impl Counts {
         self.find(value).unwrap_or(0)
     }
 
-    /// The counts with this one for the value. For 0 the value goes.
-    pub fn with_count(&self, alloc: Global, value: &Cell, count: u64) -> Result<Counts, AllocError>
-        ensures { IfOk result (λ t. t ≡ edit cell_cmp self.now value.now (some_count count)) }
+    /// Gives the value this count. For 0 the value goes. Where memory is refused the counts stay.
+    ///
+    /// Nodes that are owned are changed as they stand, and those on the way that are shared are copied.
+    pub fn set_count(&mut self, alloc: Global, value: &Cell, count: u64) -> Result<(), AllocError>
+        ensures { MatchResult result
+            (λ _. self.new ≡ edit cell_cmp self.old value.now (some_count count))
+            (λ _. self.new ≡ self.old) }
     {
-        let mut seq = self.copied_entries(alloc)?;
+        match &mut self.entries {
+            Some(entries) => set_count(&mut entries.seq, alloc, value, count),
+            None => self.set_first(alloc, value, count),
+        }
+    }
+
+    /// Gives the value this count, where there are no entries yet.
+    fn set_first(&mut self, alloc: Global, value: &Cell, count: u64) -> Result<(), AllocError>
+        requires { self.old ≡ [] }
+        ensures { MatchResult result
+            (λ _. self.new ≡ edit cell_cmp self.old value.now (some_count count))
+            (λ _. self.new ≡ self.old) }
+    {
+        if count == 0 {
+            return Ok(());
+        }
+        let mut seq = Seq::empty(alloc)?;
         set_count(&mut seq, alloc, value, count)?;
-        Counts::of_entries(alloc, seq)
+        self.entries = Some(Entries { alloc, seq });
+        Ok(())
     }
 
     /// The number of values, modulo 2^64.
@@ -178,23 +187,21 @@ impl Counts {
         }
     }
 
-    /// Raises the counts of these values in entries that hold these counts.
+    /// Raises these values in other counts, from those that they have here.
     fn raise(
         &self,
-        entries: &mut Seq<ValueCount>,
+        raised: &mut Counts,
         alloc: Global,
         rises: &BTreeMap<Cell, u64>,
     ) -> Result<(), AllocError>
-        requires same { items_in entries.old ≡ self.now }
-        requires sorted { T (is_sorted cell_cmp (items_in entries.old)) }
+        requires { raised.old ≡ self.now }
         ensures rising { IfOk result (λ _. T (is_sorted cell_cmp rises.now.entries)) }
-        ensures stays { IfOk result (λ _. T (is_sorted cell_cmp (items_in entries.new))) }
-        ensures counts { IfOk result (λ _. items_in entries.new ≡ after_changes cell_cmp self.now
+        ensures counts { IfOk result (λ _. raised.new ≡ after_changes cell_cmp self.now
             (map (count_change self.now) rises.now.entries)) }
     {
         for (value, rise) in rises.iter() {
             let count = self.count(value).wrapping_add(*rise);
-            set_count(entries, alloc, value, count)?;
+            raised.set_count(alloc, value, count)?;
         }
         Ok(())
     }
@@ -206,8 +213,9 @@ impl Counts {
         ensures counts { IfOk result (λ t. t ≡ after_changes cell_cmp self.now
             (map (count_change self.now) rises.now.entries)) }
     {
-        let mut seq = self.copied_entries(alloc)?;
-        self.raise(&mut seq, alloc, rises)?;
-        Counts::of_entries(alloc, seq)
+        let mut counts = self.share()?;
+        self.raise(&mut counts, alloc, rises)?;
+        counts.make_shared(alloc)?;
+        Ok(counts)
     }
 }

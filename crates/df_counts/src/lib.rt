@@ -1,6 +1,6 @@
 //! How many rows have each value of a column.
 //!
-//! [`Counts`] are a sequence by rising value, of which a change of one value makes only the nodes on the way to that value anew.
+//! [`Counts`] are a sequence by rising value, of which a change of one value changes only the nodes on the way to that value.
 #![tactic(auto)]
 
 mod counts;

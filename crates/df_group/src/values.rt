@@ -1,5 +1,5 @@
 //! Running counts of the values of a column.
-ghost use Rattle.std.specs.Prelude.{◌≡◌, ◌+◌, ◌<◌, ◌^◌, IfOk, IfSome, List, Some};
+ghost use Rattle.std.specs.Prelude.{◌≡◌, ◌+◌, ◌<◌, ◌^◌, IfOk, List, Some};
 ghost use Rattle.std.specs.Option.{option_copied};
 ghost use Rattle.std.specs.FinMap as finite;
 ghost use Rattle.df_value.specs.Rows.{cell_at};
@@ -60,12 +60,13 @@ impl Values {
             → Lead old entries.now (finite.values rows.now.rows)
             → v ≡ values_of self.now.index (finite.values rows.now.rows)) }
     {
-        match counts_after(alloc, self.index, &self.counts, entries)? {
-            Some(counts) => Ok(Values {
+        match counts_after(alloc, self.index, &self.counts, entries) {
+            Ok(counts) => Ok(Values {
                 index: self.index,
                 counts,
             }),
-            None => Values::of_rows(alloc, self.index, &rows.rows(alloc)?),
+            Err(CountFault::TooMany) => Values::of_rows(alloc, self.index, &rows.rows(alloc)?),
+            Err(CountFault::Memory) => Err(AllocError),
         }
     }
 }
@@ -90,36 +91,29 @@ pub fn value_of<'a>(index: Option<usize>, row: &'a Option<Row>) -> Option<&'a Ce
     }
 }
 
-/// The counts with one row more of this value.
-fn with_one_more(alloc: Global, counts: &Counts, value: &Cell) -> Result<Counts, AllocError>
-    requires { count_in counts.now value.now + 1 < 2 ^ 64 }
-    ensures { IfOk result (λ c. c ≡ totals_spec.with_row counts.now (Some value.now)) }
+/// Counts one row more of this value.
+fn add_one(alloc: Global, counts: &mut Counts, value: &Cell) -> Result<(), AllocError>
+    requires { count_in counts.old value.now + 1 < 2 ^ 64 }
+    ensures { IfOk result (λ _. counts.new ≡ totals_spec.with_row counts.old (Some value.now)) }
 {
     let count = counts.count(value) + 1;
-    counts.with_count(alloc, value, count)
+    counts.set_count(alloc, value, count)?;
+    Ok(())
 }
 
-/// The counts with one row less of this value.
-fn with_one_less(alloc: Global, counts: &Counts, value: &Cell) -> Result<Counts, AllocError>
-    ensures { IfOk result (λ c. c ≡ totals_spec.without_row counts.now (Some value.now)) }
-{
-    let count = counts.count(value).saturating_sub(1);
-    counts.with_count(alloc, value, count)
-}
-
-/// The counts with this row, unless it has no value.
-fn with_value_of(
+/// Counts this row, unless it has no value.
+fn add_row(
     alloc: Global,
     index: Option<usize>,
-    counts: &Counts,
+    counts: &mut Counts,
     row: &Row,
-) -> Result<Counts, AllocError>
-    requires { (v : AnyCell) → count_in counts.now v + 1 < 2 ^ 64 }
-    ensures { IfOk result (λ c. c ≡ totals_spec.with_row counts.now (value_in (cell_at index row.now))) }
+) -> Result<(), AllocError>
+    requires { (v : AnyCell) → count_in counts.old v + 1 < 2 ^ 64 }
+    ensures { IfOk result (λ _. counts.new ≡ totals_spec.with_row counts.old (value_in (cell_at index row.now))) }
 {
     match value_at(index, row) {
-        Some(value) => with_one_more(alloc, counts, value),
-        None => counts.share(),
+        Some(value) => add_one(alloc, counts, value),
+        None => Ok(()),
     }
 }
 
@@ -129,93 +123,77 @@ fn counts_of(alloc: Global, index: Option<usize>, rows: &[Row]) -> Result<Counts
 {
     let mut counts = Counts::new();
     for row in rows {
-        counts = with_value_of(alloc, index, &counts, row)?;
+        add_row(alloc, index, &mut counts, row)?;
     }
+    counts.make_shared(alloc)?;
     Ok(counts)
 }
 
-/// The counts without the row, if there is one.
-fn without_row(
-    alloc: Global,
-    index: Option<usize>,
-    counts: &Counts,
-    row: &Option<Row>,
-) -> Result<Counts, AllocError>
-    ensures { IfOk result (λ c. c ≡ totals_spec.without_row counts.now (value_of index row.now)) }
-{
-    let Some(row) = row else {
-        return counts.share();
-    };
-    match value_at(index, row) {
-        Some(value) => with_one_less(alloc, counts, value),
-        None => counts.share(),
+/// Why counts do not follow a change.
+enum CountFault {
+    Memory,
+    /// A count grows past its type.
+    TooMany,
+}
+
+impl From<AllocError> for CountFault {
+    fn from(_: AllocError) -> CountFault {
+        CountFault::Memory
     }
 }
 
-/// The counts with this value, if there is one, unless its count grows past its type.
-fn with_value(
-    alloc: Global,
-    counts: &Counts,
-    value: Option<&Cell>,
-) -> Result<Option<Counts>, AllocError>
-    ensures { IfOk result (λ o. IfSome o (λ c. c
-        ≡ totals_spec.with_row counts.now (option_copied value.entry))) }
+/// Counts one row less of this value, if there is one.
+fn take_value(alloc: Global, counts: &mut Counts, value: Option<&Cell>) -> Result<(), AllocError>
+    ensures { IfOk result (λ _. counts.new ≡ totals_spec.without_row counts.old (option_copied value.entry)) }
 {
     let Some(value) = value else {
-        return Ok(Some(counts.share()?));
+        return Ok(());
+    };
+    let count = counts.count(value).saturating_sub(1);
+    counts.set_count(alloc, value, count)?;
+    Ok(())
+}
+
+/// Counts one row more of this value, if there is one.
+fn add_value(alloc: Global, counts: &mut Counts, value: Option<&Cell>) -> Result<(), CountFault>
+    ensures { IfOk result (λ _. counts.new ≡ totals_spec.with_row counts.old (option_copied value.entry)) }
+{
+    let Some(value) = value else {
+        return Ok(());
     };
     if counts.count(value) == u64::MAX {
-        return Ok(None);
+        return Err(CountFault::TooMany);
     }
-    Ok(Some(with_one_more(alloc, counts, value)?))
+    add_one(alloc, counts, value)?;
+    Ok(())
 }
 
-/// The counts with the row, if there is one, unless a count grows past its type.
-fn with_row(
+/// Counts the row of this entry that goes no more, and the one that comes.
+fn follow_entry(
     alloc: Global,
     index: Option<usize>,
-    counts: &Counts,
-    row: &Option<Row>,
-) -> Result<Option<Counts>, AllocError>
-    ensures { IfOk result (λ o. IfSome o (λ c. c
-        ≡ totals_spec.with_row counts.now (value_of index row.now))) }
-{
-    match row {
-        Some(row) => with_value(alloc, counts, value_at(index, row)),
-        None => with_value(alloc, counts, None),
-    }
-}
-
-/// The counts after this entry, unless a count grows past its type.
-fn counts_after_entry(
-    alloc: Global,
-    index: Option<usize>,
-    counts: &Counts,
+    counts: &mut Counts,
     entry: &Entry,
-) -> Result<Option<Counts>, AllocError>
-    ensures { IfOk result (λ o. IfSome o (λ c. c
-        ≡ totals_spec.counts_after_entry index counts.now entry.now)) }
+) -> Result<(), CountFault>
+    ensures { IfOk result (λ _. counts.new ≡ totals_spec.counts_after_entry index counts.old entry.now) }
 {
-    let rest = without_row(alloc, index, counts, &entry.old)?;
-    with_row(alloc, index, &rest, &entry.new)
+    take_value(alloc, counts, value_of(index, &entry.old))?;
+    add_value(alloc, counts, value_of(index, &entry.new))
 }
 
-/// The counts after these entries, unless a count grows past its type.
+/// The counts after these entries.
 fn counts_after(
     alloc: Global,
     index: Option<usize>,
     counts: &Counts,
     entries: &[Entry],
-) -> Result<Option<Counts>, AllocError>
-    ensures { IfOk result (λ o. IfSome o (λ c. c
-        ≡ totals_spec.counts_after index counts.now entries.now)) }
+) -> Result<Counts, CountFault>
+    ensures { IfOk result (λ c. c ≡ totals_spec.counts_after index counts.now entries.now) }
 {
     let mut after = counts.share()?;
     for entry in entries {
-        match counts_after_entry(alloc, index, &after, entry)? {
-            Some(next) => after = next,
-            None => return Ok(None),
-        }
+        follow_entry(alloc, index, &mut after, entry)?;
     }
-    Ok(Some(after))
+    after.make_shared(alloc)?;
+    Ok(after)
 }

@@ -4,8 +4,8 @@ use Rattle.df_group.specs.Totals.{count_in}
 use Rattle.df_group.proofs.ValueCounts.{few_rows}
 use Rattle.df_group.proofs.values.counts_of.Goals as goal
 
-pub with_value_of-requires : goal.with_value_of-requires
-with_value_of-requires c v =
+pub add_row-requires : goal.add_row-requires
+add_row-requires c v =
     let few = few_rows c.args.index (take c.loop-row.row-index c.args.rows.now) v in
     let size = length-take c.loop-row.row-index c.args.rows.now in
     let is = ap (λ counts. count_in counts v) c.loop-row.invariant in

@@ -1,12 +1,8 @@
-use Rattle.std.proofs.Common.{◌≡◌, ℕ, ◌∷◌, refl, subst, sym}
-use Rattle.std.specs.Prelude.{T}
-use Rattle.std.specs.FinMap.{is_sorted}
+use Rattle.std.proofs.Common.{◌≡◌, ℕ, ◌∷◌, refl}
 use Rattle.std.specs.Map.Iter.{deref_pair}
 use Rattle.std.proofs.lemmas.Map.Iter.{rest_more}
 use Rattle.df_value.specs.declared.cell.Cell.{Cell}
-use Rattle.df_value.specs.CellOrder.{cell_cmp, cell_cmp_total}
-use Rattle.df_tree.specs.Leaves.{items_in}
-use Rattle.df_counts.proofs.Edits.{sorted_edit}
+use Rattle.df_value.specs.CellOrder.{cell_cmp}
 use Rattle.df_counts.proofs.Rises.{keys_rise, raised_more}
 use Rattle.df_counts.proofs.counts.Counts.raise.Goals as goal
 
@@ -17,8 +13,7 @@ loop-value-preserved c =
     record {
       can_next = tt;
       is_finite = tt;
-      sorted = subst (λ es. T (is_sorted cell_cmp es)) (sym c.in_ok-set_count.ensures) (sorted_edit cell_cmp_total _ item.0 _ c.loop-value.invariant.sorted);
-      leads = raised_more c.args.self.now (items_in c.loop-value.entries) (items_in c.set_count.new.entries) _ c.next.new.self _ item.0 item.1 c.count.result _ all c.count.ensures refl c.in_ok-set_count.ensures c.loop-value.invariant.leads;
+      leads = raised_more c.args.self.now c.loop-value.raised c.set_count.new.self _ c.next.new.self _ item.0 item.1 c.count.result _ all c.count.ensures refl c.in_ok-set_count.ensures c.loop-value.invariant.leads;
     }
 
 pub returns-clause-rising : goal.returns-clause-rising

@@ -1,9 +1,6 @@
 use Rattle.std.proofs.Common.{◌≡◌, map}
-use Rattle.std.specs.Prelude.{T}
-use Rattle.std.specs.FinMap.{is_sorted}
 use Rattle.df_value.specs.CellOrder.{cell_cmp}
 use Rattle.df_column.specs.Changes.{after_changes}
-use Rattle.df_tree.specs.Leaves.{items_in}
 use Rattle.df_counts.specs.Counts.{count_change}
 use Rattle.df_counts.proofs.counts.Counts.raise.Given as goal
 
@@ -12,6 +9,5 @@ invariant-loop-value l =
     record {
       can_next : (goal.iterator-loop-value).can_next l.value-iterator;
       is_finite : (goal.iterator-loop-value).is_finite l.value-iterator;
-      sorted : T (is_sorted cell_cmp (items_in l.entries));
-      leads : after_changes cell_cmp (items_in l.entries) (map (count_change l.self) l.value-iterator) ≡ after_changes cell_cmp l.self (map (count_change l.self) l.rises.entries);
+      leads : after_changes cell_cmp l.raised (map (count_change l.self) l.value-iterator) ≡ after_changes cell_cmp l.self (map (count_change l.self) l.rises.entries);
     }
