@@ -1,4 +1,5 @@
 pub mod AreMadeFacts
+mod AnswerFacts
 mod AskedFacts
 mod CommandFacts
 mod WordList

@@ -69,6 +69,15 @@ IsAlone (command.AppendNext frame) = ⊥
 IsAlone (command.Define view source) = ⊥
 IsAlone c = ⊤
 
+-- whether a session has nothing to do behind the answer to a command, or ends
+abbrev pub IsAtOnce : Command → Type 0
+IsAtOnce (command.Question question) = ⊤
+IsAtOnce (command.Sql view) = ⊤
+IsAtOnce command.Help = ⊤
+IsAtOnce (command.HelpOn name) = ⊤
+IsAtOnce command.Quit = ⊤
+IsAtOnce c = ⊥
+
 -- by what a store keeps where it makes no change, and answers, and the commands that are told
 module _ (Keeps : Type 0) (Answers : Question → Result (Vec ℕ) Refusal → Type 0) (commands : List (List ℕ × List ℕ × List ℕ)) where
   -- The answer to a command that no lines follow: the question is answered, or it is refused. The store stays.
@@ -124,14 +133,17 @@ module _
     IsAnswer d after c lines result = IsAnswerAlone Keeps Answers commands d c result
 
     -- what is answered to the command that words say
-    abbrev pub IsAnswerToWords : Definitions → Definitions → Row → Result (Vec ℕ) Refusal → Result Answer Refusal → Type 0
-    IsAnswerToWords d after words lines result =
-        (c : Command) × IsCommandOf (fields_of words) c × IsAnswer d after c lines result × LeavesDefinitions d after c result
+    abbrev pub IsAnswerToCommand : Definitions → Definitions → List (List ℕ) → Result (Vec ℕ) Refusal → Result Answer Refusal → Type 0
+    IsAnswerToCommand d after words lines result =
+        (c : Command) × IsCommandOf words c × IsAnswer d after c lines result × LeavesDefinitions d after c result
 
-    -- The answer to the words of a line: that to the command that they say, or what is wrong with the words. Words that were not
-    -- read are refused for that.
+    -- the answer to words: that to the command that they say, or what is wrong with them
+    abbrev pub IsAnswerToWords : Definitions → Definitions → List (List ℕ) → Result (Vec ℕ) Refusal → Result Answer Refusal → Type 0
+    IsAnswerToWords d after words lines (Ok answer) = IsAnswerToCommand d after words lines (Ok answer)
+    IsAnswerToWords d after words lines (Err r) =
+        (IsWordFault r × Keeps × (after ≡ d)) ⊎ IsAnswerToCommand d after words lines (Err r)
+
+    -- The answer to the words of a line. Words that were not read are refused for that.
     abbrev pub IsAnswerToLine : Definitions → Definitions → Result Row Refusal → Result (Vec ℕ) Refusal → Result Answer Refusal → Type 0
-    IsAnswerToLine d after (Ok words) lines (Ok answer) = IsAnswerToWords d after words lines (Ok answer)
-    IsAnswerToLine d after (Ok words) lines (Err r) =
-        (IsWordFault r × Keeps × (after ≡ d)) ⊎ IsAnswerToWords d after words lines (Err r)
+    IsAnswerToLine d after (Ok words) lines result = IsAnswerToWords d after (fields_of words) lines result
     IsAnswerToLine d after (Err f) lines result = (result ≡ Err f) × Keeps × (after ≡ d)

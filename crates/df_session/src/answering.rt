@@ -1,7 +1,7 @@
 //! The answers to commands.
 ghost use Rattle.std.specs.Prelude.{◌≡◌, IfErr, IfOk, OnErr, OnOk, Some, map};
 ghost use Rattle.csv.specs.Records.{fields_of};
-ghost use Rattle.df_session.specs.Answers.{IsAlone, IsAnswer, IsAnswerAlone, IsAnswerToLine, IsRefusalOfHelp, IsTableFor, LeavesDefinitions, answer_text};
+ghost use Rattle.df_session.specs.Answers.{IsAlone, IsAnswer, IsAnswerAlone, IsAnswerToLine, IsAnswerToWords, IsAtOnce, IsRefusalOfHelp, IsTableFor, LeavesDefinitions, answer_text};
 ghost use Rattle.df_session.specs.Asked.{IsMadeAsAsked, IsRefusalOfAsked};
 ghost use Rattle.df_session.specs.Help.{help_on};
 
@@ -78,8 +78,45 @@ pub fn answer_line<S: ViewStore>(
         definitions.old definitions.new words lines result }
 {
     let record = words?;
-    let words = words_of(alloc, &record)?;
-    let command = read_command(alloc, words.as_slice())?;
+    let answered = answer_record(alloc, commands, definitions, store, &record, lines);
+    drop(record);
+    answered
+}
+
+fn answer_record<S: ViewStore>(
+    alloc: Global,
+    commands: &[CommandHelp],
+    definitions: &mut Definitions,
+    store: &mut S,
+    record: &StringRecord,
+    lines: Result<Vec<u8>, Refusal>,
+) -> Result<Answer, Refusal>
+    ensures { IsAnswerToWords (S.Makes store.old store.new) (S.Refuses store.old store.new)
+        (S.Keeps store.old store.new) (S.Answers store.old store.new definitions.old)
+        (S.Next store.old) (map (λ c. (c.0.now, c.1.now, c.2.now)) commands.now)
+        definitions.old definitions.new (fields_of record.now) lines result }
+{
+    let words = words_of(alloc, record)?;
+    let said = words.as_slice();
+    let answered = answer_words(alloc, commands, definitions, store, said, lines);
+    drop(words);
+    answered
+}
+
+fn answer_words<S: ViewStore>(
+    alloc: Global,
+    commands: &[CommandHelp],
+    definitions: &mut Definitions,
+    store: &mut S,
+    words: &[&str],
+    lines: Result<Vec<u8>, Refusal>,
+) -> Result<Answer, Refusal>
+    ensures { IsAnswerToWords (S.Makes store.old store.new) (S.Refuses store.old store.new)
+        (S.Keeps store.old store.new) (S.Answers store.old store.new definitions.old)
+        (S.Next store.old) (map (λ c. (c.0.now, c.1.now, c.2.now)) commands.now)
+        definitions.old definitions.new (map (λ w. w.now) words.now) lines result }
+{
+    let command = read_command(alloc, words)?;
     answer_command(alloc, commands, definitions, store, command, lines)
 }
 
@@ -139,21 +176,40 @@ fn answer_alone<S: ViewStore>(
         definitions.now command.entry result }
 {
     match command {
-        Command::Question(question) => {
-            Ok(Answer::Told(store.answer(alloc, definitions, question)?))
-        }
         Command::Export(view, path) => export_of(alloc, definitions, store, view, path),
         Command::Load(frame, path) => Ok(load_of(alloc, frame, path)?),
         Command::Report(path, views) => Ok(report_of(alloc, path, views)?),
         Command::Follow(path, views) => Ok(follow_of(alloc, path, views)?),
         Command::Unfollow(path) => Ok(Answer::Unfollow(Text::from_str(alloc, path)?)),
-        Command::Sql(view) => Ok(Answer::Told(sql_of_view(alloc, definitions, view)?)),
         Command::Watch(asked, view) => Ok(Answer::Watch(asked, Text::from_str(alloc, view)?)),
         Command::Source(path) => Ok(Answer::Source(Text::from_str(alloc, path)?)),
+        command => answer_at_once(alloc, commands, definitions, store, command),
+    }
+}
+
+// The answer to a command behind which the session has nothing to do, or ends.
+fn answer_at_once<S: ViewStore>(
+    alloc: Global,
+    commands: &[CommandHelp],
+    definitions: &Definitions,
+    store: &mut S,
+    command: Command<'_>,
+) -> Result<Answer, Refusal>
+    requires { IsAtOnce command }
+    ensures { IsAnswerAlone (S.Keeps store.old store.new)
+        (S.Answers store.old store.new definitions.now)
+        (map (λ c. (c.0.now, c.1.now, c.2.now)) commands.now)
+        definitions.now command.entry result }
+{
+    match command {
+        Command::Question(question) => {
+            Ok(Answer::Told(store.answer(alloc, definitions, question)?))
+        }
+        Command::Sql(view) => Ok(Answer::Told(sql_of_view(alloc, definitions, view)?)),
         Command::Help => Ok(Answer::Told(list_commands(alloc, commands)?)),
         Command::HelpOn(name) => Ok(Answer::Told(explain(alloc, commands, name)?)),
         Command::Quit => Ok(Answer::Ended),
-        Command::Change(_) | Command::AppendNext(_) | Command::Define(..) => unreachable!(),
+        _ => unreachable!(),
     }
 }
 

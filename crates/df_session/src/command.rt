@@ -1,9 +1,10 @@
 //! Commands, and the words that they are read of.
-ghost use Rattle.std.specs.Prelude.{◌≡◌, ◌∷◌, ◌++◌, [], IfErr, IfOk, codes, map};
+ghost use Rattle.std.specs.Prelude.{◌≡◌, ◌∷◌, [], IfErr, IfOk, codes, map};
 ghost use Rattle.std.specs.List.{AllZip};
 ghost use Rattle.df_session.specs.Answers.{IsWordFault};
-ghost use Rattle.df_session.specs.Commands.{IsChangeOf, IsCommandOf, IsLineCount, IsPartOf, IsQuestionOf, IsRowNumber, format_words};
+ghost use Rattle.df_session.specs.Commands.{IsChangeOf, IsCommandOf, IsLineCount, IsRowNumber};
 
+use crate::question_words::question_of;
 use crate::refusal::{Mistake, Refusal};
 use df_value::{List, Text};
 use std::alloc::{AllocError, Global};
@@ -132,45 +133,60 @@ fn command_of<'a>(alloc: Global, name: &str, arguments: &[&'a str]) -> Result<Co
     ensures refused { IfErr result IsWordFault }
 {
     match name {
+        "help" => Ok(read_help(arguments)?),
+        "quit" => bare(Command::Quit, arguments),
+        "frame" => Err(Refusal::Mistake(Mistake::LateFrame)),
+        _ => change_of(alloc, name, arguments),
+    }
+}
+
+// The commands that change rows and views, then those about files.
+fn change_of<'a>(alloc: Global, name: &str, arguments: &[&'a str]) -> Result<Command<'a>, Refusal>
+    ensures said { IfOk result (IsCommandOf (name.now ∷ map (λ w. w.now) arguments.now)) }
+    ensures refused { IfErr result IsWordFault }
+{
+    match name {
         "append" => Ok(read_append(arguments)?),
         "delete" => Ok(Command::Change(read_delete(alloc, arguments)?)),
         "replace" => Ok(Command::Change(read_replace(alloc, arguments)?)),
         "register" => Ok(Command::Change(AskedChange::Register(only(arguments)?))),
         "drop" => Ok(Command::Change(AskedChange::DropView(only(arguments)?))),
+        "define" => Ok(read_define(arguments)?),
+        _ => file_command_of(alloc, name, arguments),
+    }
+}
+
+// The commands about files, then those about views.
+fn file_command_of<'a>(
+    alloc: Global,
+    name: &str,
+    arguments: &[&'a str],
+) -> Result<Command<'a>, Refusal>
+    ensures said { IfOk result (IsCommandOf (name.now ∷ map (λ w. w.now) arguments.now)) }
+    ensures refused { IfErr result IsWordFault }
+{
+    match name {
         "load" => Ok(read_load(arguments)?),
         "export" => Ok(read_export(arguments)?),
         "report" => read_report(alloc, arguments),
         "follow" => read_follow(alloc, arguments),
         "unfollow" => Ok(Command::Unfollow(only(arguments)?)),
-        "define" => Ok(read_define(arguments)?),
-        "sql" => Ok(Command::Sql(only(arguments)?)),
-        "watch" => Ok(Command::Watch(Watching::Begin, only(arguments)?)),
-        "unwatch" => Ok(Command::Watch(Watching::End, only(arguments)?)),
-        "changes" => Ok(Command::Watch(Watching::Ask, only(arguments)?)),
         "source" => Ok(Command::Source(only(arguments)?)),
-        "help" => Ok(read_help(arguments)?),
-        "quit" => bare(Command::Quit, arguments),
-        "frame" => Err(Refusal::Mistake(Mistake::LateFrame)),
-        _ => question_of(name, arguments),
+        _ => view_command_of(name, arguments),
     }
 }
 
-fn question_of<'a>(name: &str, arguments: &[&'a str]) -> Result<Command<'a>, Refusal>
+// The commands about views, then the questions.
+fn view_command_of<'a>(name: &str, arguments: &[&'a str]) -> Result<Command<'a>, Refusal>
     ensures said { IfOk result (IsCommandOf (name.now ∷ map (λ w. w.now) arguments.now)) }
     ensures refused { IfErr result IsWordFault }
 {
     match name {
-        "frames" => bare(Command::Question(Question::Frames), arguments),
-        "schema" => Ok(Command::Question(Question::Schema(only(arguments)?))),
-        "plan" => Ok(Command::Question(Question::Plan(only(arguments)?))),
-        "show" => Ok(Command::Question(read_show(arguments)?)),
-        "rows" => Ok(Command::Question(read_rows(arguments)?)),
-        "books" => Ok(Command::Question(Question::Books(only(arguments)?))),
-        "views" => bare(Command::Question(Question::Views), arguments),
-        "check" => bare(Command::Question(Question::Check), arguments),
-        "work" => bare(Command::Question(Question::Work), arguments),
-        "version" => bare(Command::Question(Question::Version), arguments),
-        _ => Err(Refusal::Mistake(Mistake::NoCommand)),
+        "sql" => Ok(Command::Sql(only(arguments)?)),
+        "watch" => Ok(Command::Watch(Watching::Begin, only(arguments)?)),
+        "unwatch" => Ok(Command::Watch(Watching::End, only(arguments)?)),
+        "changes" => Ok(Command::Watch(Watching::Ask, only(arguments)?)),
+        _ => question_of(name, arguments),
     }
 }
 
@@ -268,64 +284,6 @@ fn read_replace<'a>(alloc: Global, arguments: &[&'a str]) -> Result<AskedChange<
     }
 }
 
-fn read_show<'a>(arguments: &[&'a str]) -> Result<Question<'a>, Mistake>
-    ensures { IfOk result (IsQuestionOf (codes "show" ∷ map (λ w. w.now) arguments.now)) }
-{
-    match arguments {
-        [view, rest @ ..] => {
-            let (part, format) = split_format(rest);
-            Ok(Question::Show(view, read_part(part)?, format))
-        }
-        [] => Err(Mistake::MissingWord),
-    }
-}
-
-fn read_rows<'a>(arguments: &[&'a str]) -> Result<Question<'a>, Mistake>
-    ensures { IfOk result (IsQuestionOf (codes "rows" ∷ map (λ w. w.now) arguments.now)) }
-{
-    match arguments {
-        [frame, rest @ ..] => Ok(Question::Rows(frame, read_format(rest)?)),
-        [] => Err(Mistake::MissingWord),
-    }
-}
-
-fn read_format(words: &[&str]) -> Result<Format, Mistake>
-    ensures { IfOk result (λ format. map (λ w. w.now) words.now ≡ format_words format) }
-{
-    match split_format(words) {
-        ([], format) => Ok(format),
-        _ => Err(Mistake::ExtraWord),
-    }
-}
-
-// The words before the last one, where that names a format, and the format.
-fn split_format<'w, 'a>(words: &'w [&'a str]) -> (&'w [&'a str], Format)
-    ensures { map (λ w. w.now) words.now
-        ≡ map (λ w. w.now) result.0.now ++ format_words result.1 }
-{
-    match words.split_last() {
-        Some((&"csv", before)) => (before, Format::Csv),
-        Some((&"json", before)) => (before, Format::Json),
-        Some((&"html", before)) => (before, Format::Html),
-        _ => (words, Format::Printed),
-    }
-}
-
-fn read_part(words: &[&str]) -> Result<Part, Mistake>
-    ensures { IfOk result (IsPartOf (map (λ w. w.now) words.now)) }
-{
-    match words {
-        [] => Ok(Part::Whole),
-        [count] => Ok(Part::First(row_count(count)?)),
-        ["from", first, count] => {
-            let first = row_count(first)?;
-            Ok(Part::From(first, row_count(count)?))
-        }
-        ["from", _] => Err(Mistake::MissingWord),
-        _ => Err(Mistake::ExtraWord),
-    }
-}
-
 fn read_help<'a>(arguments: &[&'a str]) -> Result<Command<'a>, Mistake>
     ensures { IfOk result (IsCommandOf (codes "help" ∷ map (λ w. w.now) arguments.now)) }
 {
@@ -367,14 +325,8 @@ pub fn line_count(word: &str) -> Result<u64, Mistake>
     }
 }
 
-fn row_count(word: &str) -> Result<usize, Mistake>
-    ensures { IfOk result (IsLineCount word.now) }
-{
-    Ok(line_count(word)? as usize)
-}
-
-// The word of a command that takes one.
-fn only<'a>(arguments: &[&'a str]) -> Result<&'a str, Mistake>
+/// The word of a command that takes one.
+pub fn only<'a>(arguments: &[&'a str]) -> Result<&'a str, Mistake>
     ensures { IfOk result (λ word. map (λ w. w.now) arguments.now ≡ word.now ∷ []) }
 {
     match arguments {
@@ -384,8 +336,8 @@ fn only<'a>(arguments: &[&'a str]) -> Result<&'a str, Mistake>
     }
 }
 
-// A command that takes no word.
-fn bare<'a>(command: Command<'a>, arguments: &[&'a str]) -> Result<Command<'a>, Refusal>
+/// A command that takes no word.
+pub fn bare<'a>(command: Command<'a>, arguments: &[&'a str]) -> Result<Command<'a>, Refusal>
     ensures said { IfOk result (λ c. (c ≡ command.entry) × (arguments.now ≡ [])) }
     ensures refused { IfErr result IsWordFault }
 {

@@ -31,6 +31,7 @@ mod options;
 mod parts;
 mod prepared;
 mod prompts;
+mod question_words;
 mod refusal;
 mod refusal_texts;
 mod reporting;

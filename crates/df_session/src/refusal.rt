@@ -10,7 +10,7 @@ use std::alloc::{AllocError, AllocFailed};
 use thiserror::Error;
 
 /// Why a command is refused. The frames and views are then as they were.
-#[derive(Debug, PartialEq, Eq, Drop, Error)]
+#[derive(Debug, PartialEq, Eq, Error)]
 pub enum Refusal {
     /// The line is no command of this shell.
     #[error("{0}")]
@@ -46,6 +46,27 @@ pub enum Refusal {
     /// Memory was refused.
     #[error("out of memory")]
     Memory,
+}
+
+// A body that owns one drops it by a call.
+impl Drop for Refusal {
+    fn drop(self) {
+        match self {
+            Refusal::Csv(fault) | Refusal::File(fault) => drop(fault),
+            Refusal::Cell(_, column) => drop(column),
+            Refusal::Frame(fault) => drop(fault),
+            Refusal::Definition(fault, words) => {
+                drop(fault);
+                drop(words);
+            }
+            Refusal::Chunk(fault) => drop(fault),
+            Refusal::Mistake(_)
+            | Refusal::Store(_)
+            | Refusal::Version(_)
+            | Refusal::Write(_)
+            | Refusal::Memory => {}
+        }
+    }
 }
 
 /// What is wrong with a line.

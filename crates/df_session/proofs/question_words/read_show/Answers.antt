@@ -1,7 +1,7 @@
 use Rattle.std.proofs.Common.{◌++◌, map}
 use Rattle.df_session.specs.Commands.{format_words}
 use Rattle.df_session.proofs.CommandFacts.{first-word-and-rest}
-use Rattle.df_session.proofs.command.read_show.Goals as goal
+use Rattle.df_session.proofs.question_words.read_show.Goals as goal
 
 pub returns-in_ok-read_part-in-len1-up : goal.returns-in_ok-read_part-in-len1-up
 returns-in_ok-read_part-in-len1-up c =

@@ -1,6 +1,6 @@
 use Rattle.df_session.specs.Commands.{format_words}
 use Rattle.df_session.proofs.CommandFacts.{first-word-and-rest}
-use Rattle.df_session.proofs.command.read_rows.Goals as goal
+use Rattle.df_session.proofs.question_words.read_rows.Goals as goal
 
 pub returns-in_ok-read_format-in-len1-up : goal.returns-in_ok-read_format-in-len1-up
 returns-in_ok-read_format-in-len1-up c =
