@@ -1,6 +1,6 @@
 use Rattle.df_session.proofs.AnswerFacts.{answered}
 use Rattle.df_session.proofs.answering.answer_words.Goals as goal
 
-pub returns-in_ok-command : goal.returns-in_ok-command
-returns-in_ok-command g c =
+pub returns : goal.returns
+returns g c =
     answered _ _ _ _ _ _ _ _ _ _ _ c.in_ok-command.command c.in_ok-command.ensures.said c.answer_command.ensures.answered c.answer_command.ensures.definitions
