@@ -2,7 +2,7 @@
 // standard output, or the start of one thread fail, as if the system had refused it.
 //
 // FAIL_ALLOC, FAIL_READ, FAIL_FILE_READ, FAIL_WRITE, FAIL_THREAD: the number of the call that fails, from 1.
-// FAIL_ALLOCS: how many allocations fail from that one on; one where it is not set.
+// FAIL_ALLOCS: how many allocations fail from that one on; one where it is not set. FAIL_ALLOC_AGAIN: one more that fails.
 // FAIL_EVERY_THREAD: no thread starts. EMPTY_WRITE: the number of the write that takes no byte. SHORT: reads and writes of
 // several bytes move one. SHRINK, SHRINK_TO: a file, and the size to which it is cut before the second read of a file.
 // COUNTS: a file that gets the numbers of these calls at the end.
@@ -44,7 +44,8 @@ static int refused(long *calls, const char *name) {
 // The C library, which makes the stacks of threads, wants the reason of a refusal.
 static int no_memory(void) {
     long call = __atomic_add_fetch(&allocs, 1, __ATOMIC_RELAXED), first = number("FAIL_ALLOC"), more = number("FAIL_ALLOCS");
-    if (!first || call < first || call >= first + (more ? more : 1)) return 0;
+    int fails = first && call >= first && call < first + (more ? more : 1);
+    if (!fails && call != number("FAIL_ALLOC_AGAIN")) return 0;
     *__errno_location() = NO_MEMORY;
     return 1;
 }

@@ -21,8 +21,10 @@ import live
 import model
 import random_sessions
 
-ROWS = [0, 1, 2, 30, 300, 1023, 1024, 1025, 2500]
+# A block has 128 rows, and a leaf eight blocks.
+ROWS = [0, 1, 2, 30, 127, 128, 129, 300, 1024, 1025, 2500]
 MOST_ROWS = 8_000
+MOST_CHUNKS = 500
 TEXTS = ["a", "b", "c", "north", "south", "null", "true", "7", " x", 'say "so"', "x,y", "two\nlines", "caf\u00e9", "\u65e5\u672c", "back\\slash", "tab\there"]
 GIGABYTE = 2**30
 
@@ -121,12 +123,14 @@ def answered(words, folder, typed=b""):
 
 def loads(source, folder, dfviews):
     """Whether a random document is answered as the model answers it."""
-    chunk = source.choice([1, 7, 100, 1000, 1000, 65536])
+    files = {name: File(source, columns) for name, columns in live.FRAMES}
+    rows = sum(len(file.records) for file in files.values())
+    # Every view follows each chunk: thousands of them take half a minute.
+    chunk = source.choice([size for size in [1, 7, 100, 1000, 1000, 65536] if rows <= MOST_CHUNKS * size])
     frames, refused = {}, []
     for name, columns in live.FRAMES:
-        file = File(source, columns)
-        written(folder, f"{name}.csv", file.bytes)
-        frames[name], lines = model.loaded({"name": name, "columns": columns}, file.records, chunk)
+        written(folder, f"{name}.csv", files[name].bytes)
+        frames[name], lines = model.loaded({"name": name, "columns": columns}, files[name].records, chunk)
         refused += lines
     views = [(view, small_table(view[1], view[2], frames)) for view in live.views_of(source)]
     views = [(view, table) for view, table in views if table is not None]
