@@ -193,9 +193,10 @@ def shown(view, frames):
     return model.printed(name, model.viewed(start, steps, {frame.name: frame.table() for frame in frames}))
 
 
-def session(source, views, changes, most=9):
-    """What is typed, and what is answered, command by command. A chunk has fewer than `most` rows."""
-    frames = [Frame(name, columns) for name, columns in FRAMES]
+def session(source, views, changes, most=9, kind=Frame):
+    """What is typed, and what is answered, command by command, over frames of a kind. A chunk has fewer than `most` rows.
+    At the end all frames and views are shown."""
+    frames = [kind(name, columns) for name, columns in FRAMES]
     registered = {view[0] for view in views}
     turns = []
     for _ in range(changes):
@@ -213,7 +214,8 @@ def session(source, views, changes, most=9):
         view = source.choice(views)
         if source.random() < 0.4:
             turns.append((f"show {view[0]}\n", shown(view, frames) if view[0] in registered else NO_VIEW))
-    return turns
+    turns += [frame.show() for frame in frames]
+    return turns + [(f"show {view[0]}\n", shown(view, frames)) for view in views if view[0] in registered]
 
 
 def views_of(source):

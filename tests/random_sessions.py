@@ -14,8 +14,8 @@ import tempfile
 
 import model
 
-# No row, one, a block of 1,024, one more, and two blocks and one more.
-SIZES = [0, 1, 1024, 1025, 2049]
+# No row, one, a block, one more, and two blocks and one more; a leaf of eight blocks, one more, and two leaves and one more.
+SIZES = [0, 1, 128, 129, 257, 1024, 1025, 2049]
 COLUMNS = [("k", "Text"), ("v", "Int"), ("o", "Bool")]
 DOCUMENT = """
 [[frame]]
@@ -68,8 +68,12 @@ class Frame:
     def csv(self, rows):
         return "".join(",".join(map(field, row)) + "\n" for row in rows)
 
+    def first(self, source):
+        """The number of the first row of an append."""
+        return source.choice([max(self.accepted, default=-1) + 1, source.randrange(max(self.accepted, default=0) + 5)])
+
     def append(self, source, most):
-        first = source.choice([max(self.accepted, default=-1) + 1, source.randrange(max(self.accepted, default=0) + 5)])
+        first = self.first(source)
         rows = [self.row(source) for _ in range(source.randrange(most))]
         command = f"append {self.name} {first} {len(rows)}\n" + self.csv(rows)
         taken = [n for n in range(first, first + len(rows)) if n in self.accepted]

@@ -21,10 +21,11 @@ import live
 import model
 import random_sessions
 
-# A block has 128 rows, and a leaf eight blocks.
 ROWS = [0, 1, 2, 30, 127, 128, 129, 300, 1024, 1025, 2500]
 MOST_ROWS = 8_000
 MOST_CHUNKS = 500
+# The most rows of a block.
+BLOCK = 128
 TEXTS = ["a", "b", "c", "north", "south", "null", "true", "7", " x", 'say "so"', "x,y", "two\nlines", "caf\u00e9", "\u65e5\u672c", "back\\slash", "tab\there"]
 GIGABYTE = 2**30
 
@@ -144,12 +145,32 @@ def loads(source, folder, dfviews):
 # Sessions.
 
 
+class LargeFrame(random_sessions.Frame):
+    """A frame in several blocks, whose changes begin and end beside the ends of blocks and of what was accepted."""
+
+    def first(self, source):
+        """Of an append: behind all rows, with or without a gap, within one, or at a number that was accepted before."""
+        end = max(self.accepted, default=-1) + 1
+        free = [n for n in range(end) if n not in self.accepted]
+        gone = sorted(self.accepted - self.rows.keys())
+        return source.choice([end, end, end, end + source.randrange(1, 300), *free[:1], *free[-1:], *gone[:1], *gone[-1:], max(end - 1, 0)])
+
+    def some(self, source):
+        """Also a run of rows."""
+        numbers = sorted(self.rows)
+        if source.random() < 0.5 or not numbers:
+            return super().some(source)
+        begin = source.choice([0, source.randrange(0, len(numbers) + 1, BLOCK), source.randrange(len(numbers))])
+        begin = max(begin + source.choice([-1, 0, 0, 1]), 0)
+        return numbers[begin : begin + source.choice([1, 2, BLOCK - 1, BLOCK, BLOCK + 1, len(numbers)])]
+
+
 def changes(source, dfshell):
     """Whether a random session over large frames is answered as the model answers it."""
     views = live.views_of(source)[:3]
-    # Two joins make so many rows that `check`, whose evaluator looks at each right row for each left one, takes minutes.
-    rows = 40 if any(str(view).count("join") > 1 for view in views) else 300
-    turns = live.session(source, views, 12, rows)
+    # Joins make so many rows that `check`, whose evaluator looks at each right row for each left one, takes minutes.
+    rows = [1500, 300, 40][min(2, max(str(view).count("join") for view in views))]
+    turns = live.session(source, views, 12, rows, LargeFrame)
     words = [dfshell] + ["--hall"] * source.randrange(2)
     return random_sessions.run(words, live.document(views), turns)
 
@@ -157,7 +178,8 @@ def changes(source, dfshell):
 # Damage.
 
 
-def damaged(source, contents):
+def damaged(source, contents, most=1000):
+    """The bytes with some turned, cut, put in, or repeated at most so often."""
     contents = bytearray(contents)
     for _ in range(source.randrange(1, 4)):
         at = source.randrange(len(contents) + 1)
@@ -168,7 +190,7 @@ def damaged(source, contents):
         elif kind == 1:
             del contents[at:end]
         elif kind == 2:
-            contents[at:at] = contents[at:end] * source.choice([1, 2, 1000])
+            contents[at:at] = contents[at:end] * source.choice([1, 2, most])
         else:
             contents[at:at] = source.choice([b'"', b"\n", b"[", b"]", b"\x00", b"\xff", b"''''", b"99999999999999999999"])
     return bytes(contents)
@@ -190,16 +212,18 @@ def is_named(answer):
 
 def survives(source, folder, dfviews, dfshell):
     """Whether damaged bytes of a document, a file or commands lead to an answer or a named fault."""
-    for name, columns in live.FRAMES:
-        contents = File(source, columns).bytes[:2000]
-        written(folder, f"{name}.csv", damaged(source, contents) if source.random() < 0.4 else contents)
     views = live.views_of(source)
     text = document(views).encode()
+    # A join of a thousand like rows with themselves has a million, which take longer than a round may.
+    most = 20 if b"join" in text else 1000
+    for name, columns in live.FRAMES:
+        contents = File(source, columns).bytes[:2000]
+        written(folder, f"{name}.csv", damaged(source, contents, most) if source.random() < 0.4 else contents)
     written(folder, "views.toml", damaged(source, text) if source.random() < 0.6 else text)
     if source.random() < 0.5:
         return is_named(answered([dfviews, "views.toml", "--workers", "3"], folder))
     typed = "".join(command for command, _ in live.session(source, views, 8, 9)).encode()
-    return is_named(answered([dfshell] + ["--hall"] * source.randrange(2) + ["views.toml"], folder, damaged(source, typed)))
+    return is_named(answered([dfshell] + ["--hall"] * source.randrange(2) + ["views.toml"], folder, damaged(source, typed, most)))
 
 
 def main():
