@@ -221,6 +221,11 @@ for words in --help -h; do
   fi
 done
 sed '1,/^A document:$/d' out > of_help.toml
+for words in --version -V; do
+  with /dev/null "$words"
+  ended "$words" 0 "dfviews 1.0.0
+" ""
+done
 with of_help.toml
 ended "the document of the help" 0 "sums (1 x 2)
 k  total

@@ -8,7 +8,9 @@ use Rattle.df_words.specs.declared.run_line.Words.{Words}
 
 -- the program's name is not among the words
 abbrev pub program_app : App
-program_app = record (new_app (codes "dfviews")) { top = record (new_app (codes "dfviews")).top { no_binary_name = true } }
+program_app = record (new_app (codes "dfviews")) {
+  top = record (new_app (codes "dfviews")).top { no_binary_name = true; has_version = true };
+}
 
 abbrev pub views_rule : Rule
 views_rule = record (new_rule (codes "views")) { value_names = 1 }

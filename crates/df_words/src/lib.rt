@@ -6,6 +6,7 @@ mod reading_command_line;
 mod reading_words;
 mod run_line;
 mod session_line;
+mod version;
 
 pub use reading_command_line::read_command_line;
 pub use reading_words::words;

@@ -7,12 +7,10 @@ ghost use Rattle.df_words.specs.SessionLine as command_line_spec;
 ghost use Rattle.df_words.specs.SessionLine.{LacksDocument, IsFlagOf, IsRead, Says, document_line, flag_rule, flags_line, program_app, text_rule, views_rule};
 
 use crate::session_line::CommandLine;
+use crate::version::VERSION;
 use clap::error::ErrorKind;
 use clap::{Arg, ArgAction, ArgMatches, Command, Error};
 use std::alloc::{AllocError, Global};
-
-/// The version of the program.
-const VERSION: &str = "1.0.0";
 
 // The end of the help.
 const AFTER_HELP: &str = r#"Commands, one a line of standard input:

@@ -7,6 +7,7 @@ ghost use Rattle.df_words.specs.RunLine as command_line_spec;
 ghost use Rattle.df_words.specs.RunLine.{Says, program_app, number_or, number_rule, views_rule};
 
 use crate::run_line::{DEFAULT_CHUNK, DEFAULT_WORKERS, Words};
+use crate::version::VERSION;
 use clap::{Arg, ArgMatches, Command, Error, value_parser};
 use std::alloc::{AllocError, Global};
 
@@ -24,8 +25,9 @@ A document:
 /// Reads the words behind the program's name: `[VIEWS] [--workers 1..16] [--chunk 1..65536]`.
 ///
 /// Refused are other words, a second VIEWS, an option twice or without its number, and a number
-/// outside its limits. `-h` and `--help` are an error too, whose text is the help: its
-/// `use_stderr` is false and its `exit_code` 0, where those of a refusal are true and 2.
+/// outside its limits. `-h`, `--help`, `-V` and `--version` are an error too, whose text is the help
+/// or the version: its `use_stderr` is false and its `exit_code` 0, where those of a refusal are true
+/// and 2.
 pub fn words<'a>(alloc: Global, words: &'a [&'a str]) -> Result<Words<'a>, Error>
     ensures says { IfOk result (λ w. Says (map (λ word. word.now) words.entry.now) w) }
     ensures workers { IfOk result (λ w. (1 ≤ w.workers) × (w.workers ≤ 16)) }
@@ -52,6 +54,7 @@ fn nameless<'a>(alloc: Global) -> Command<'a>
 {
     Command::new(alloc, "dfviews")
         .about("Prints the views of a document over dataframes")
+        .version(VERSION)
         .after_help(AFTER_HELP)
         .no_binary_name(true)
 }
