@@ -2,10 +2,10 @@
 """Frames: framed.py PROGRAM [SEED [COMMANDS]].
 
 Random commands, also wrong ones, empty lines and comments, without and with --hall: with --framed the bodies one behind
-another are what the plain session prints, each frame has as many lines as its head says, an `error` has one line and begins as a
-refusal does, an `ok` does not, and each command has its own frame, one of `source` one for each command of its file. Then
+another are what the plain session prints, each frame has as many lines as its head says, an `error` has one line, which begins with the code that
+its head says, an `ok` begins as no refusal does, and each command has its own frame, one of `source` one for each command of its file. Then
 the clients of the guide, which stand in examples/shell, in Python and in POSIX sh, ask and are refused. Last a session runs with each tenth allocation refused: it
-has as many frames, of which one says `error 1` and `memory`, or fewer where a file was not read to its end. Prints what went otherwise, and ends with a
+has as many frames, of which one says `error 1 memory` and `memory`, or fewer where a file was not read to its end. Prints what went otherwise, and ends with a
 count.
 """
 import os
@@ -63,16 +63,23 @@ PLAIN = [
 REFUSAL = re.compile(r"(\? |[VPCFSHW]\d|record |memory$)")
 
 
+def code_of(line):
+    """What the line of a refusal begins with."""
+    return "?" if line.startswith("? ") else line.split(": ")[0]
+
+
 def frames_of(text):
-    """The frames of a text: the word and the lines of each."""
+    """The frames of a text: the word and the lines of each. What the head of a refusal says its line says too."""
     frames, lines = [], text.split("\n")
     if lines.pop() != "":
         raise ValueError("a line without an end")
     while lines:
-        word, count = re.fullmatch(r"(ready|ok|error) (\d+)", lines.pop(0)).groups()
+        word, count, code = re.fullmatch(r"(ready|ok|error(?= \d+ .)) (\d+)(?: (.+))?", lines.pop(0)).groups()
         body, lines = lines[: int(count)], lines[int(count) :]
         if len(body) != int(count):
             raise ValueError("lines are missing")
+        if code != (code_of(body[0]) if word == "error" else None):
+            raise ValueError(f"another code: {code}, {body}")
         frames.append((word, body))
     return frames
 
@@ -112,14 +119,14 @@ def client_fault(program, folder):
     try:
         shell.ask("delete t 7")
     except Refused as refused:
-        asked.append(str(refused))
+        asked.append((refused.code, str(refused)))
     asked.append(shell.close())
     wanted = [
         ["refused t 0: record 2, column v\n"],
         ["ok 0..1\n"],
         ["by_k (1 x 2)\n", "k  s\n", "x  3\n"],
         ["by_k\n"],
-        "C5 7: the frame has no row 7",
+        ("C5 7", "C5 7: t has no row 7"),
         0,
     ]
     return None if asked == wanted else f"the client: {asked}"
@@ -149,7 +156,7 @@ k    s
 x    1
 x\\\\  2
 by_k
-C5 7: the frame has no row 7
+C5 7: t has no row 7
 status 1
 ok
 number,k,v

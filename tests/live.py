@@ -22,8 +22,14 @@ FRAMES = [
 ]
 BASE = ("Int", "Text", "Bool")
 KEYS = (*BASE, "Wide")
-EXISTS = "C6: a view of this name is registered; drop takes it out\n"
-NO_VIEW = "C8: no view of this name is registered; views lists them\n"
+
+
+def exists(view):
+    return f'C6: there is a view "{view}"; drop takes it out\n'
+
+
+def no_view(view):
+    return f'C8: no view "{view}"; views lists them\n'
 
 
 class Views:
@@ -206,14 +212,14 @@ def session(source, views, changes, most=9, kind=Frame):
             view = source.choice(views)[0]
             there = view in registered
             word = source.choice(["register", "drop"])
-            wrong = {"register": there and EXISTS, "drop": not there and NO_VIEW}[word]
+            wrong = {"register": there and exists(view), "drop": not there and no_view(view)}[word]
             change = lambda: (f"{word} {view}\n", wrong or "ok\n")
             if not wrong:
                 registered ^= {view}
         turns += [change(), ("check\n", "same\n")]
         view = source.choice(views)
         if source.random() < 0.4:
-            turns.append((f"show {view[0]}\n", shown(view, frames) if view[0] in registered else NO_VIEW))
+            turns.append((f"show {view[0]}\n", shown(view, frames) if view[0] in registered else no_view(view[0])))
     turns += [frame.show() for frame in frames]
     return turns + [(f"show {view[0]}\n", shown(view, frames)) for view in views if view[0] in registered]
 

@@ -15,7 +15,7 @@ DOCUMENT = "frame = [{name='t', columns=[['x', 'Int']], text=\"\"\"\nx\n1\n2\n\"
 FIRST = b"1 frame, 2 views; help lists the commands, quit ends\n"
 TABLE = b"v (2 x 1)\nx\n1\n2\n"
 BOOKS = b"accepted 4, deleted 0, live 4\n"
-REFUSED = b"C2 3: number 3 was accepted before\n"
+REFUSED = b"C2 3: t accepted number 3 before\n"
 TYPED = b"show v\n\n# a comment\nappend t 2 2\n3\n4\nappend t 3 1\n9\nbooks t\n"
 SAID = FIRST + b"> " + TABLE + b"> > > | | ok\n> | " + REFUSED + b"> " + BOOKS + b"> "
 BARE = TABLE + b"ok\n" + REFUSED + BOOKS
@@ -23,7 +23,7 @@ BARE = TABLE + b"ok\n" + REFUSED + BOOKS
 DECLARED = b"frames\nframe t x Int\n\nframe t\nframes\nappend t\n7\n.\nframe u x Int\nshow v\n"
 MISSING = b"V7 frame 1 S3: no column\n"
 LATE = b"? a frame is declared before all changes: begin a session with it, or put it into the document\n"
-UNKNOWN = b"C8: no view of this name is registered; views lists them\n"
+UNKNOWN = b'C8: no view "v"; views lists them\n'
 FRAMES = b"t: 0 rows, x Int\n"
 SAID_OF_DECLARED = (
     b"0 frames, 0 views; help lists the commands, quit ends\n> > ok\n> > " + MISSING + b"> " + FRAMES + b"> | | ok 0..0\n> " + LATE + b"> " + UNKNOWN + b"> "

@@ -78,7 +78,7 @@ class Frame:
         command = f"append {self.name} {first} {len(rows)}\n" + self.csv(rows)
         taken = [n for n in range(first, first + len(rows)) if n in self.accepted]
         if taken:
-            return command, f"C2 {taken[0]}: number {taken[0]} was accepted before\n"
+            return command, f"C2 {taken[0]}: {self.name} accepted number {taken[0]} before\n"
         self.rows |= {first + n: row for n, row in enumerate(rows)}
         self.accepted |= set(range(first, first + len(rows)))
         return command, "ok\n"
@@ -96,7 +96,7 @@ class Frame:
                 return f"C4 {number}: number {number} appears twice\n"
         for number in numbers:
             if number not in self.rows:
-                return f"C5 {number}: the frame has no row {number}\n"
+                return f"C5 {number}: {self.name} has no row {number}\n"
         return None
 
     def delete(self, source):
@@ -147,7 +147,7 @@ def sized(size):
     turns = [(f"append left 0 {size}\n" + frame.csv(frame.rows.values()), "ok\n"), frame.show()]
     if size:
         last = size - 1
-        turns += [(f"append left {last} 1\na,1,true\n", f"C2 {last}: number {last} was accepted before\n"), frame.show()]
+        turns += [(f"append left {last} 1\na,1,true\n", f"C2 {last}: left accepted number {last} before\n"), frame.show()]
     return turns
 
 

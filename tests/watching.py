@@ -26,9 +26,12 @@ import random_sessions
 TEXTS = ["a", "b", "c", 'q"r', "s,t", " u ", "+,1", "change view0 3 1", "é", "ok"]
 LONG = ["two\nlines", 'a "quoted"\nline', "\n"]
 # A wrong command behind each table: without frames its answer is the end of the table.
-END = "? no such command: help lists them\n"
-NOT_WATCHED = "? the view is not watched: watch begins it\n"
+END = '? no command "end": help lists them\n'
 NO_CHANGE = "? the last change was none of rows, or came before the watch\n"
+
+
+def not_watched(view):
+    return f'? the view "{view}" is not watched: watch begins it\n'
 
 
 class Frame(random_sessions.Frame):
@@ -121,7 +124,7 @@ class Session:
     def watch(self):
         view = self.source.choice(self.views)[0]
         there = view in self.registered
-        self.type(f"watch {view}\n", "said", "ok\n" if there else live.NO_VIEW)
+        self.type(f"watch {view}\n", "said", "ok\n" if there else live.no_view(view))
         if there and view not in self.watched:
             if not self.watched:
                 self.last_of_rows = False
@@ -138,7 +141,7 @@ class Session:
         view = self.source.choice(self.views)[0]
         there = view in self.registered
         word = self.source.choice(["register", "drop"])
-        wrong = {"register": there and live.EXISTS, "drop": not there and live.NO_VIEW}[word]
+        wrong = {"register": there and live.exists(view), "drop": not there and live.no_view(view)}[word]
         self.type(f"{word} {view}\n", "said", wrong or "ok\n")
         if wrong:
             return
@@ -153,7 +156,7 @@ class Session:
     def ask(self):
         view = self.source.choice(self.views)[0]
         if view not in self.watched:
-            self.type(f"changes {view}\n", "said", NOT_WATCHED if view in self.registered else live.NO_VIEW)
+            self.type(f"changes {view}\n", "said", not_watched(view) if view in self.registered else live.no_view(view))
         elif not self.last_of_rows:
             self.type(f"changes {view}\n", "said", NO_CHANGE)
         else:
@@ -183,7 +186,8 @@ class Answers:
         return "".join(self.line() for _ in range(count))
 
     def frame(self):
-        return self.lines(int(re.fullmatch(r"(?:ready|ok|error) (\d+)\n", self.line())[1]))
+        head = re.fullmatch(r"(?:(?:ready|ok) (\d+)|error (\d+) .+)\n", self.line())
+        return self.lines(int(head[1] or head[2]))
 
     def short(self):
         """An answer of one line."""

@@ -3,7 +3,11 @@ import subprocess
 
 
 class Refused(Exception):
-    """A command was refused: its text is the refusal's line."""
+    """A command was refused: its text is the refusal's line, its code what that begins with, as `C5 99`."""
+
+    def __init__(self, code, line):
+        super().__init__(line)
+        self.code = code
 
 
 class Shell:
@@ -13,18 +17,18 @@ class Shell:
         self.start = self.answer()[1]  # the lines of refused chunks
 
     def answer(self):
-        head = self.process.stdout.readline().decode().split()
-        if len(head) != 2:
+        head = self.process.stdout.readline().decode().rstrip("\n").split(" ", 2)
+        if len(head) < 2:
             raise EOFError("the shell has ended")
-        return head[0], [self.process.stdout.readline().decode() for _ in range(int(head[1]))]
+        return head, [self.process.stdout.readline().decode() for _ in range(int(head[1]))]
 
     def ask(self, *lines):
         """The lines of the answer to a command, behind which lines of CSV may follow."""
         self.process.stdin.write("".join(f"{line}\n" for line in lines).encode())
         self.process.stdin.flush()
-        status, answer = self.answer()
-        if status == "error":
-            raise Refused(answer[0].rstrip("\n"))
+        head, answer = self.answer()
+        if head[0] == "error":
+            raise Refused(head[2], answer[0].rstrip("\n"))
         return answer
 
     def close(self):

@@ -13,9 +13,9 @@ shell_open() {
     shell_answer
 }
 
-# Writes the lines of an answer. Status 1: the command is refused, and this is why; 2: the session has ended.
+# Writes the lines of an answer. Status 1: the command is refused, and this is why, with the code in shell_code; 2: the session has ended.
 shell_answer() {
-    IFS=' ' read -r shell_status shell_lines <&4 || return 2
+    IFS=' ' read -r shell_status shell_lines shell_code <&4 || return 2
     while [ "$shell_lines" -gt 0 ]; do
         IFS= read -r shell_line <&4 || return 2
         printf '%s\n' "$shell_line"

@@ -71,9 +71,10 @@ ends-parts (p ∷ ps) =
 
 -- an answer in a frame was written
 pub frame-written :
-    (a b c : Option (List ℕ)) (word : List ℕ) (n : ℕ) (parts : List (Bor (List ℕ))) → n ≡ sum_by (λ p. line_ends p.now) parts → Appends a b (frame_head word n)
-    → Appends b c (flat_map (λ p. p.now) parts) → Appends a c (answer_written true word (flat_map (λ p. p.now) parts))
-frame-written a b c word n parts is head text =
+    (a b c : Option (List ℕ)) (word tail : List ℕ) (n : ℕ) (parts : List (Bor (List ℕ))) → n ≡ sum_by (λ p. line_ends p.now) parts →
+    Appends a b (frame_head word tail n) → Appends b c (flat_map (λ p. p.now) parts)
+    → Appends a c (answer_written true word tail (flat_map (λ p. p.now) parts))
+frame-written a b c word tail n parts is head text =
     let same : n ≡ line_ends (flat_map (λ p. p.now) parts) = is ∙ sym (ends-parts parts) in
     let headed = rw same at head in
     Appends-trans a b c _ _ headed text

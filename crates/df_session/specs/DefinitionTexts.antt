@@ -1,5 +1,5 @@
--- The texts of the faults of views that a session defines, and of frames that it declares: as a document's fault, without the view's
--- name, and then in words.
+-- The faults of views that a session defines, and of frames that it declares: the codes of a document's faults, without the view's name,
+-- and of a frame also the words.
 use Rattle.std.specs.Prelude.{◌++◌, ℕ, List, codes}
 use Rattle.df_document.specs.Texts as document
 use Rattle.df_document.specs.declared.fault.DocumentFault.{DocumentFault}
@@ -10,21 +10,18 @@ use Rattle.df_text.specs.declared.fault.ViewsFault.TheVariants as views
 use Rattle.df_value.specs.declared.schema.SchemaFault.{SchemaFault}
 use Rattle.df_value.specs.declared.schema.SchemaFault.TheVariants as schema
 
--- the fault of a view
-abbrev pub code_text : DocumentFault → List ℕ
-code_text (fault.Views f) = document.views_text f
-code_text (fault.Plan view f) = document.plan_text f
-code_text f = document.fault_text_of f
-
--- the text of the fault of a view, with words behind it
-abbrev pub definition_text : DocumentFault → List ℕ → List ℕ
-definition_text f words = code_text f ++ (codes ": " ++ words)
+-- the code of the fault of a view
+abbrev pub definition_code : DocumentFault → List ℕ
+definition_code (fault.Views f) = document.views_text f
+definition_code (fault.Plan view f) = document.plan_text f
+definition_code f = document.fault_text_of f
 
 abbrev pub schema_words : SchemaFault → List ℕ
 schema_words schema.DoubledName = codes "two columns have one name"
 schema_words schema.TooWide = codes "more than 32 columns"
 schema_words schema.NoColumns = codes "no column"
 
+-- the fault of a frame in words
 abbrev pub frame_words : ViewsFault → List ℕ
 frame_words (views.Word (location.Frame frame)) = codes "a column's type is Int, Text or Bool"
 frame_words (views.Doubled (location.Frame frame)) = codes "a frame of this name is declared"
@@ -32,7 +29,3 @@ frame_words views.TooManyFrames = codes "8 frames are declared"
 frame_words (views.Schema frame f) = schema_words f
 frame_words views.Memory = codes "out of memory"
 frame_words f = codes "a fault of a document"
-
--- the text of the fault of a frame
-abbrev pub frame_text : ViewsFault → List ℕ
-frame_text f = document.views_text f ++ (codes ": " ++ frame_words f)

@@ -72,7 +72,7 @@ unwritten_lines path number reason = unwritten_begin path ++ (decimal number ++ 
 
 -- the text of a refusal, or where there is no memory for it, that
 abbrev pub IsReason : Refusal → List ℕ → Type 0
-IsReason r reason = (reason ≡ text_of r) ⊎ (reason ≡ codes "memory")
+IsReason r reason = (reason ≡ text_of [] r) ⊎ (reason ≡ codes "memory")
 
 -- by how a store answers questions, the names of its views and the number of its last change, and how files are written; and by what stands
 -- above the pages

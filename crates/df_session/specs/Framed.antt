@@ -1,4 +1,5 @@
--- Answers in frames, as a program reads them through a pipe: a line with a word and a number, and behind it so many lines.
+-- Answers in frames, as a program reads them through a pipe: a line with a word and a number, and behind it so many lines. Behind the
+-- number of a refusal stands its code, and what it is about.
 use Rattle.std.specs.Prelude.{◌++◌, ◌==◌, ℕ, zero, suc, Bool, List, [], ◌∷◌, Option, Some, None, codes, decimal, option_map, if◌then◌else◌}
 use Rattle.std.specs.List.{count_by}
 use Rattle.df_session.specs.declared.writing.Status.{Status}
@@ -11,19 +12,24 @@ line_ends text = count_by (λ b. b == 10) text
 abbrev pub status_word : Status → List ℕ
 status_word status.Ready = codes "ready "
 status_word status.Ok = codes "ok "
-status_word status.Error = codes "error "
+status_word (status.Error code) = codes "error "
 
--- the line before an answer of so many lines
-abbrev pub frame_head : List ℕ → ℕ → List ℕ
-frame_head word lines = word ++ (decimal lines ++ codes "\n")
+-- what stands behind the number
+abbrev pub status_tail : Status → List ℕ
+status_tail (status.Error code) = codes " " ++ code.now
+status_tail s = []
+
+-- the line before an answer of so many lines, with this behind their number
+abbrev pub frame_head : List ℕ → List ℕ → ℕ → List ℕ
+frame_head word tail lines = word ++ (decimal lines ++ (tail ++ codes "\n"))
 
 -- an answer in a frame
-abbrev pub frame_of : List ℕ → List ℕ → List ℕ
-frame_of word text = frame_head word (line_ends text) ++ text
+abbrev pub frame_of : List ℕ → List ℕ → List ℕ → List ℕ
+frame_of word tail text = frame_head word tail (line_ends text) ++ text
 
 -- what is written of an answer
-abbrev pub answer_written : Bool → List ℕ → List ℕ → List ℕ
-answer_written framed word text = if framed then frame_of word text else text
+abbrev pub answer_written : Bool → List ℕ → List ℕ → List ℕ → List ℕ
+answer_written framed word tail text = if framed then frame_of word tail text else text
 
 -- a byte before the first of two parts
 abbrev pub with_byte : ℕ → List ℕ × List ℕ → List ℕ × List ℕ

@@ -1,5 +1,7 @@
+pub mod Codes
 pub mod Texts
 pub mod Framed
+pub mod Refused
 pub mod Told
 pub mod Commands
 pub mod Declarations

@@ -58,7 +58,7 @@ pub record LoadedParts : Type 0 where
 -- what a chunk of rows that is left out is told with: how many rows of the file stand before it, and why
 abbrev pub left_out_line : FrameSpec → ℕ → Refusal → List ℕ
 left_out_line frame before r =
-    codes "refused " ++ (escaped_text frame.name ++ (codes " " ++ (decimal before ++ (codes ": " ++ (text_of r ++ codes "\n")))))
+    codes "refused " ++ (escaped_text frame.name ++ (codes " " ++ (decimal before ++ (codes ": " ++ (text_of frame.name r ++ codes "\n")))))
 
 -- what is said of so many rows that entered from a number on
 abbrev pub entered_text : ℕ → ℕ → List ℕ

@@ -14,9 +14,10 @@ use crate::options::{SessionEnd, SessionOptions};
 use crate::prepared::Prepared;
 use crate::prompts::{COMMAND_PROMPT, Prompts, greeting};
 use crate::refusal::{Mistake, Refusal};
+use crate::refusing::{refuse, refuse_line};
 use crate::session::{Beginning, is_passed_over};
 use crate::words::{lines_behind, read_words};
-use crate::writing::{Status, write_all, write_answer, write_prompt, write_refusal};
+use crate::writing::{Status, write_all, write_answer, write_prompt};
 use df_document::DocumentFault;
 use df_text::ViewsFault;
 use df_value::List;
@@ -120,8 +121,7 @@ impl<'a> Declaring<'a> {
             Ok(Line::Whole) => self.answer_line(alloc, input, output),
             Ok(Line::TooLong) => {
                 let long = Refusal::Mistake(Mistake::LongLine);
-                write_refusal(alloc, output, self.options, &long)?;
-                Ok(behind_refusal(self.options))
+                Ok(step_of(refuse(alloc, output, self.options, "", &long)?))
             }
             Ok(Line::End) => {
                 write_prompt(output, self.options.prompts, b"\n")?;
@@ -146,22 +146,21 @@ impl<'a> Declaring<'a> {
             Ok(Declaration::Opens) => Ok(Step::Store(Beginning::Command)),
             Ok(Declaration::Answered(answer)) => tell(output, self.options, answer),
             Err(refusal) => {
-                let told = self.refuse(alloc, input, output, &refusal);
+                let refused = self.refuse(alloc, input, output, &refusal);
                 drop(refusal);
-                told?;
-                Ok(behind_refusal(self.options))
+                Ok(step_of(refused?))
             }
         }
     }
 
-    /// Answers the last line with a refusal, and passes over the lines behind it.
+    /// Answers the last line with a refusal, and passes over the lines behind it. Some: that ends the session.
     pub fn refuse<I: BufRead, W: Write>(
         &mut self,
         alloc: Global,
         input: &mut I,
         output: &mut W,
         refusal: &Refusal,
-    ) -> Result<(), ShellFault> {
+    ) -> Result<Option<SessionEnd>, ShellFault> {
         let line = without_end(self.command.as_slice());
         let words = read_words(alloc, line);
         let following = lines_behind(alloc, &words, line);
@@ -170,7 +169,7 @@ impl<'a> Declaring<'a> {
         let record = &mut self.record;
         let lines = read_behind(alloc, prompts, input, output, line, record, following)?;
         drop(lines);
-        write_refusal(alloc, output, self.options, refusal)
+        refuse_line(alloc, output, self.options, line, refusal)
     }
 
     /// What a store of the declared frames is opened with, for a session that begins so.
@@ -217,11 +216,10 @@ fn declare_line(
 }
 
 // What comes behind a refusal.
-fn behind_refusal(options: SessionOptions<'_>) -> Step {
-    if options.bail {
-        Step::End(SessionEnd::Refused)
-    } else {
-        Step::Next
+fn step_of(end: Option<SessionEnd>) -> Step {
+    match end {
+        Some(end) => Step::End(end),
+        None => Step::Next,
     }
 }
 

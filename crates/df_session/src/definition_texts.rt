@@ -1,26 +1,15 @@
-//! The texts of the faults of frames that a session declares, and of views that it defines.
-ghost use Rattle.std.specs.Prelude.{◌≡◌, ◌++◌, IfOk, codes, string_bytes};
+//! The faults of frames that a session declares, and of views that it defines.
+ghost use Rattle.std.specs.Prelude.{◌≡◌, IfOk, string_bytes};
 ghost use Rattle.df_session.specs.DefinitionTexts as texts;
 
 use df_document::{DocumentFault, document_fault_text, plan_text, views_text};
 use df_text::{Location, ViewsFault};
-use df_value::{SchemaFault, Text};
+use df_value::SchemaFault;
 use std::alloc::{AllocError, Global};
 
-/// The text of the fault of a view: that of a document without the view's name, then `: ` and words.
-pub fn definition_text(
-    alloc: Global,
-    fault: &DocumentFault,
-    words: &Text,
-) -> Result<String, AllocError>
-    ensures { IfOk result
-        (λ text. string_bytes text ≡ texts.definition_text fault.now words.now) }
-{
-    in_words(alloc, code_text(alloc, fault)?, words.as_str())
-}
-
-fn code_text(alloc: Global, fault: &DocumentFault) -> Result<String, AllocError>
-    ensures { IfOk result (λ text. string_bytes text ≡ texts.code_text fault.now) }
+/// The code of the fault of a view: that of a document without the view's name.
+pub fn definition_code(alloc: Global, fault: &DocumentFault) -> Result<String, AllocError>
+    ensures { IfOk result (λ code. string_bytes code ≡ texts.definition_code fault.now) }
 {
     match fault {
         DocumentFault::Views(fault) => views_text(alloc, fault),
@@ -30,21 +19,8 @@ fn code_text(alloc: Global, fault: &DocumentFault) -> Result<String, AllocError>
     }
 }
 
-fn in_words(alloc: Global, code: String, words: &str) -> Result<String, AllocError>
-    ensures { IfOk result (λ text. string_bytes text ≡ string_bytes code ++ (codes ": " ++ words.now)) }
-{
-    let code = code.as_str();
-    format!(in alloc; "{code}: {words}")
-}
-
-/// The text of the fault of a frame: that of a document, then `: ` and words.
-pub fn frame_text(alloc: Global, fault: &ViewsFault) -> Result<String, AllocError>
-    ensures { IfOk result (λ text. string_bytes text ≡ texts.frame_text fault.now) }
-{
-    in_words(alloc, views_text(alloc, fault)?, frame_words(fault))
-}
-
-fn frame_words(fault: &ViewsFault) -> &'static str
+/// The fault of a frame in words.
+pub fn frame_words(fault: &ViewsFault) -> &'static str
     ensures { result.now ≡ texts.frame_words fault.now }
 {
     match fault {

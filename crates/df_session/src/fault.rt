@@ -40,7 +40,7 @@ pub fn shell_fault_text(alloc: Global, fault: &ShellFault) -> Result<String, All
     match fault {
         ShellFault::Document(fault) => document_fault_text(alloc, fault),
         ShellFault::Frames(fault) => new_text(alloc, *fault),
-        ShellFault::Store(refusal) => refusal_text(alloc, refusal),
+        ShellFault::Store(refusal) => refusal_text(alloc, "", refusal),
         ShellFault::Read => String::from_str(alloc, "read"),
         ShellFault::Write => String::from_str(alloc, "write"),
         ShellFault::Missing(frame) => format!(in alloc; "H4 {frame}"),

@@ -209,7 +209,7 @@ fn write_unwritten<W: Write>(
         × Appends (W.contents output.old) (W.contents output.new)
         (unwritten_lines page.now.path number reason)) }
 {
-    match refusal_text(alloc, refusal) {
+    match refusal_text(alloc, "", refusal) {
         Ok(text) => write_reason(output, page, number, text.as_bytes()),
         Err(_) => write_reason(output, page, number, b"memory"),
     }

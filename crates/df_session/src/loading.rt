@@ -361,7 +361,7 @@ fn left_out_line(
         string_bytes line ≡ loading.left_out_line frame.now before refusal.now) }
 {
     let name = escape(alloc, frame.name.as_str())?;
-    let why = refusal_text(alloc, refusal)?;
+    let why = refusal_text(alloc, frame.name.as_str(), refusal)?;
     let name = name.as_str();
     let why = why.as_str();
     format!(in alloc; "refused {name} {before}: {why}\n")

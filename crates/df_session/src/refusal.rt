@@ -21,6 +21,9 @@ pub enum Refusal {
     /// The lines of a command are no records.
     #[error("{0}")]
     Csv(CsvFault),
+    /// One of them has another number of fields than the frame has columns.
+    #[error("{0:?}")]
+    Length(RecordLength),
     /// The file of a load has no records of the frame.
     #[error("{0}")]
     File(CsvFault),
@@ -62,6 +65,7 @@ impl Drop for Refusal {
             Refusal::Chunk(fault) => drop(fault),
             Refusal::Mistake(_)
             | Refusal::Store(_)
+            | Refusal::Length(_)
             | Refusal::Version(_)
             | Refusal::Write(_)
             | Refusal::Memory => {}
@@ -124,6 +128,17 @@ pub enum Mistake {
     /// The last change was none of rows, or came before the first watch.
     #[error("the last change was none of rows")]
     NoChange,
+}
+
+/// A record that is not as long as its frame is wide.
+#[derive(Clone, Copy, Debug, PartialEq, Eq, Drop)]
+pub struct RecordLength {
+    /// Its number, from 1.
+    pub record: u64,
+    /// How many fields it has.
+    pub fields: usize,
+    /// How many columns its frame has.
+    pub columns: usize,
 }
 
 /// Why a hall has no version for a command.

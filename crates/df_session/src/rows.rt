@@ -6,7 +6,8 @@ ghost use Rattle.df_value.specs.Rows.{rows_fit};
 ghost use Rattle.df_session.specs.Asked.{IsLineFault, IsRowsFault};
 ghost use Rattle.df_csv.specs.Records.{IsRecords};
 
-use crate::refusal::{Mistake, Refusal};
+use crate::refusal::{Mistake, RecordLength, Refusal};
+use csv::{ByteRecord, ReaderBuilder};
 use df_text::{CsvFault, Records, count_pieces, parse_records, type_piece};
 use df_value::{
     BadCell, CellType, Chunk, ChunkFault, Duplicate, List, MOST_ROWS_OF_CHUNK, Piece, Row, Schema,
@@ -21,7 +22,7 @@ const RECORDS_OF_PIECE: usize = MOST_ROWS_OF_CHUNK;
 /// `first`.
 ///
 /// Refused are, in this order: lines that are no text (F3), a record of another length than the
-/// schema's (F4, by its number from 1), the first bad cell, more than 65,536 records (S5), a row
+/// schema's (F4, by its number from 1, with both lengths), the first bad cell, more than 65,536 records (S5), a row
 /// number of 2^32 or more (S6). Memory may be refused at any time.
 pub fn read_chunk(
     alloc: Global,
@@ -36,6 +37,9 @@ pub fn read_chunk(
     let text = with_header(alloc, schema.columns().as_slice(), without_marks(lines))?;
     let records = match parse_records(alloc, text.as_slice(), schema) {
         Ok(records) => records,
+        Err(CsvFault::BadRecord(record)) => {
+            return Err(other_length(alloc, schema, text.as_slice(), record)?);
+        }
         Err(fault) => return Err(refused_records(fault)),
     };
     let rows = type_rows(alloc, schema, &records)?;
@@ -92,6 +96,37 @@ fn refused_records(fault: CsvFault) -> Refusal
         CsvFault::Memory => Refusal::Memory,
         fault => Refusal::Csv(fault),
     }
+}
+
+// A record of a text whose header has the schema's columns, which is not as long as this.
+fn other_length(
+    alloc: Global,
+    schema: &Schema,
+    text: &[u8],
+    record: u64,
+) -> Result<Refusal, AllocError>
+    ensures { IfOk result IsLineFault }
+{
+    let fields = count_fields(alloc, text, record)?;
+    let columns = schema.columns().len();
+    Ok(Refusal::Length(RecordLength {
+        record,
+        fields,
+        columns,
+    }))
+}
+
+// How many fields a record of a text has, by its number from 1; 0 if there is none.
+fn count_fields(alloc: Global, text: &[u8], record: u64) -> Result<usize, AllocError> {
+    let mut fields = ByteRecord::new(alloc);
+    let mut reader = ReaderBuilder::new().flexible(true).from_reader(alloc, text);
+    for _ in 0..record {
+        // A slice is read without a fault, and records may differ in length: memory was refused.
+        let Ok(_) = reader.read_byte_record(&mut fields) else {
+            return Err(AllocError);
+        };
+    }
+    Ok(fields.len())
 }
 
 // The lines without byte order marks at their start.

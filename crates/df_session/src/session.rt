@@ -12,13 +12,14 @@ use crate::lines::{Line, read_line, without_end};
 use crate::options::{SessionEnd, SessionOptions};
 use crate::prompts::{COMMAND_PROMPT, Prompts, greeting};
 use crate::refusal::{Mistake, Refusal};
+use crate::refusing::{refuse, refuse_line};
 use crate::turns::{
     Turn, export_table, follow_store, load_file, report_views, turn_of, unfollow_store, watch_view,
     write_behind,
 };
 use crate::watched_store::WatchedStore;
 use crate::words::{lines_behind, read_words};
-use crate::writing::{Status, refuse, write_all, write_answer, write_changes, write_prompt};
+use crate::writing::{Status, write_all, write_answer, write_changes, write_prompt};
 use df_document::Files;
 use df_value::{List, Text};
 use std::alloc::Global;
@@ -34,6 +35,13 @@ pub struct Session<'a, S> {
     pub followed: FollowedPages,
     pub buffers: Buffers,
     pub options: SessionOptions<'a>,
+}
+
+impl<'a, S> Session<'a, S> {
+    /// The line of the last command, without its end.
+    pub fn line(&self) -> &[u8] {
+        without_end(self.buffers.command.as_slice())
+    }
 }
 
 /// What a session begins with.
@@ -156,9 +164,7 @@ fn complete<R: Threads + Clock + Sync, S: ChangeStore, F: Files + WriteFiles, W:
     match turn {
         Turn::Next => Ok(None),
         Turn::Load(frame, path) => load_file(rt, alloc, session, files, frame, path, output),
-        Turn::Export(path, table) => {
-            export_table(alloc, session.options, files, path, table, output)
-        }
+        Turn::Export(path, table) => { export_table(alloc, session, files, path, table, output) }
         Turn::Report(path, views) => report_views(alloc, session, files, path, views, output),
         Turn::Follow(path, views) => {
             follow_store(rt, alloc, session, files, path, views, output)
@@ -182,11 +188,11 @@ fn source<R: Threads + Clock + Sync, S: ChangeStore, F: Files + WriteFiles, W: W
 ) -> Result<Option<SessionEnd>, ShellFault> {
     let Some(file) = files.open(path.as_str()) else {
         let no_file = Refusal::Mistake(Mistake::NoFile);
-        return refuse(alloc, output, session.options, &no_file);
+        return refuse(alloc, output, session.options, path.as_str(), &no_file);
     };
     let prompts = session.options.prompts;
     session.options.prompts = Prompts::Hidden;
-    let end = answer_file(rt, alloc, session, files, file, output);
+    let end = answer_file(rt, alloc, session, files, file, path, output);
     session.options.prompts = prompts;
     end
 }
@@ -197,11 +203,12 @@ fn answer_file<R: Threads + Clock + Sync, S: ChangeStore, F: Files + WriteFiles,
     session: &mut Session<'_, S>,
     files: &mut F,
     file: F::Reader,
+    path: &Text,
     output: &mut W,
 ) -> Result<Option<SessionEnd>, ShellFault> {
     match BufReader::new(alloc, file) {
-        Ok(mut input) => answer_sourced(rt, alloc, session, files, &mut input, output),
-        Err(_) => refuse(alloc, output, session.options, &Refusal::Memory),
+        Ok(mut input) => answer_sourced(rt, alloc, session, files, &mut input, path, output),
+        Err(_) => refuse(alloc, output, session.options, "", &Refusal::Memory),
     }
 }
 
@@ -218,6 +225,7 @@ fn answer_sourced<
     session: &mut Session<'_, S>,
     files: &mut F,
     input: &mut I,
+    path: &Text,
     output: &mut W,
 ) -> Result<Option<SessionEnd>, ShellFault> {
     for _ in 0..u64::MAX {
@@ -237,7 +245,7 @@ fn answer_sourced<
             }
             Err(ShellFault::Read) => {
                 let no_file = Refusal::Mistake(Mistake::NoFile);
-                return refuse(alloc, output, session.options, &no_file);
+                return refuse(alloc, output, session.options, path.as_str(), &no_file);
             }
             Err(fault) => return Err(fault),
         }
@@ -257,9 +265,7 @@ fn take_sourced<R: Threads + Clock + Sync, S: ChangeStore, F: Files + WriteFiles
     match turn {
         Turn::Next | Turn::End => Ok(None),
         Turn::Load(frame, path) => load_file(rt, alloc, session, files, frame, path, output),
-        Turn::Export(path, table) => {
-            export_table(alloc, session.options, files, path, table, output)
-        }
+        Turn::Export(path, table) => { export_table(alloc, session, files, path, table, output) }
         Turn::Report(path, views) => report_views(alloc, session, files, path, views, output),
         Turn::Follow(path, views) => {
             follow_store(rt, alloc, session, files, path, views, output)
@@ -268,7 +274,7 @@ fn take_sourced<R: Threads + Clock + Sync, S: ChangeStore, F: Files + WriteFiles
         Turn::Watch(asked, view) => watch_view(alloc, session, asked, view, output),
         Turn::Source(_) => {
             let nested = Refusal::Mistake(Mistake::NestedSource);
-            refuse(alloc, output, session.options, &nested)
+            refuse(alloc, output, session.options, "", &nested)
         }
         Turn::Quit => Ok(Some(SessionEnd::Whole)),
         Turn::Refused => Ok(Some(SessionEnd::Refused)),
@@ -287,7 +293,7 @@ fn answer_next<S: ChangeStore, I: BufRead, W: Write>(
         Ok(Line::Whole) => take_turn(alloc, session, input, output),
         Ok(Line::TooLong) => {
             let long = Refusal::Mistake(Mistake::LongLine);
-            Ok(turn_of(refuse(alloc, output, session.options, &long)?))
+            Ok(turn_of(refuse(alloc, output, session.options, "", &long)?))
         }
         Ok(Line::End) => {
             write_prompt(output, session.options.prompts, b"\n")?;
@@ -325,7 +331,7 @@ fn take_turn<S: ChangeStore, I: BufRead, W: Write>(
             let definitions = &mut session.definitions;
             let store = &mut session.store;
             let answer = answer_line(alloc, &COMMANDS, definitions, store, words, lines);
-            let turn = tell(alloc, output, session.options, answer)?;
+            let turn = tell(alloc, output, session.options, line, answer)?;
             write_changes(output, &mut session.store)?;
             Ok(turn)
         }
@@ -336,11 +342,12 @@ fn take_turn<S: ChangeStore, I: BufRead, W: Write>(
     }
 }
 
-// Writes the answer to a command, or why it is refused.
+// Writes the answer to the command of a line, or why it is refused.
 fn tell<W: Write>(
     alloc: Global,
     output: &mut W,
     options: SessionOptions<'_>,
+    line: &[u8],
     answer: Result<Answer, Refusal>,
 ) -> Result<Turn, ShellFault> {
     match answer {
@@ -359,7 +366,7 @@ fn tell<W: Write>(
             Ok(Turn::Next)
         }
         Err(refusal) => {
-            let written = refuse(alloc, output, options, &refusal);
+            let written = refuse_line(alloc, output, options, line, &refusal);
             drop(refusal);
             Ok(turn_of(written?))
         }

@@ -8,10 +8,11 @@ use crate::following::{follow, write_followed};
 use crate::loading::load;
 use crate::options::{SessionEnd, SessionOptions};
 use crate::refusal::{Mistake, Refusal};
+use crate::refusing::refuse_line;
 use crate::reporting::report;
 use crate::session::Session;
 use crate::watched_store::answer_watching;
-use crate::writing::{Status, refuse, write_answer, write_changes, write_loaded};
+use crate::writing::{Status, write_answer, write_changes, write_loaded};
 use df_document::Files;
 use df_value::{List, Text};
 use std::alloc::Global;
@@ -79,7 +80,7 @@ pub fn load_file<R: Threads + Sync, S: ChangeStore, F: Files, W: Write>(
             Ok(None)
         }
         Err(refusal) => {
-            let written = refuse(alloc, output, options, &refusal);
+            let written = refuse_line(alloc, output, options, session.line(), &refusal);
             drop(refusal);
             written
         }
@@ -87,9 +88,9 @@ pub fn load_file<R: Threads + Sync, S: ChangeStore, F: Files, W: Write>(
 }
 
 /// Writes a table to a file, and what came of it.
-pub fn export_table<F: WriteFiles, W: Write>(
+pub fn export_table<S, F: WriteFiles, W: Write>(
     alloc: Global,
-    options: SessionOptions<'_>,
+    session: &Session<'_, S>,
     files: &mut F,
     path: Text,
     table: Vec<u8>,
@@ -98,7 +99,7 @@ pub fn export_table<F: WriteFiles, W: Write>(
     let exported = export(alloc, files, path.as_str(), table.as_slice());
     drop(path);
     drop(table);
-    write_outcome(alloc, options, exported, output)
+    write_outcome(alloc, session, exported, output)
 }
 
 /// Writes a page of views to a file, and what came of it.
@@ -110,20 +111,19 @@ pub fn report_views<S: ChangeStore, F: WriteFiles, W: Write>(
     views: List<Text>,
     output: &mut W,
 ) -> Result<Option<SessionEnd>, ShellFault> {
-    let options = session.options;
     let reported = report(
         alloc,
         &session.definitions,
         &mut session.store.store,
         files,
-        options.title,
+        session.options.title,
         false,
         path.as_str(),
         views.as_slice(),
     );
     drop(path);
     drop(views);
-    write_outcome(alloc, options, reported, output)
+    write_outcome(alloc, session, reported, output)
 }
 
 /// Writes a page that is to follow the store, and what came of it.
@@ -136,19 +136,18 @@ pub fn follow_store<R: Clock, S: ChangeStore, F: WriteFiles, W: Write>(
     views: List<Text>,
     output: &mut W,
 ) -> Result<Option<SessionEnd>, ShellFault> {
-    let options = session.options;
     let begun = follow(
         alloc,
         &session.definitions,
         &mut session.store.store,
         files,
         &mut session.followed,
-        options.title,
+        session.options.title,
         milliseconds(rt),
         path,
         views,
     );
-    write_outcome(alloc, options, begun, output)
+    write_outcome(alloc, session, begun, output)
 }
 
 /// Has the page under a path follow the store no longer, and writes the answer, and behind it the page once more, if there was a
@@ -165,7 +164,7 @@ pub fn unfollow_store<R: Clock, S: ChangeStore, F: WriteFiles, W: Write>(
     if !session.followed.is_followed(path.as_str()) {
         drop(path);
         let not_followed = Refusal::Mistake(Mistake::NotFollowed);
-        return refuse(alloc, output, options, &not_followed);
+        return refuse_line(alloc, output, options, session.line(), &not_followed);
     }
     let written = match write_answer(output, options.framed, Status::Ok, &[b"ok\n"]) {
         Ok(()) => write_behind(rt, alloc, session, files, false, output),
@@ -208,12 +207,13 @@ fn milliseconds<R: Clock>(rt: &R) -> Option<u128> {
 }
 
 // Writes what was told of a file, or why it was not written.
-fn write_outcome<W: Write>(
+fn write_outcome<S, W: Write>(
     alloc: Global,
-    options: SessionOptions<'_>,
+    session: &Session<'_, S>,
     outcome: Result<String, Refusal>,
     output: &mut W,
 ) -> Result<Option<SessionEnd>, ShellFault> {
+    let options = session.options;
     match outcome {
         Ok(told) => {
             let written = write_answer(output, options.framed, Status::Ok, &[told.as_bytes()]);
@@ -222,7 +222,7 @@ fn write_outcome<W: Write>(
             Ok(None)
         }
         Err(refusal) => {
-            let written = refuse(alloc, output, options, &refusal);
+            let written = refuse_line(alloc, output, options, session.line(), &refusal);
             drop(refusal);
             written
         }
@@ -248,7 +248,7 @@ pub fn watch_view<S: ChangeStore, W: Write>(
             Ok(None)
         }
         Err(refusal) => {
-            let written = refuse(alloc, output, options, &refusal);
+            let written = refuse_line(alloc, output, options, session.line(), &refusal);
             drop(refusal);
             written
         }

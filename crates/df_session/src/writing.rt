@@ -2,42 +2,49 @@
 ghost use Rattle.std.specs.Prelude.{◌≡◌, ◌++◌, [], ℕ, List, OnOk, Some, false, flat_map, sum_by, true};
 ghost use Rattle.std.specs.Io.KnownBytes.{Appends, Keeps};
 ghost use Rattle.df_session.specs.Framed as framed_spec;
-ghost use Rattle.df_session.specs.Framed.{answer_written, ends_lines, frame_head, lines_and_rest, status_word};
+ghost use Rattle.df_session.specs.Framed.{answer_written, ends_lines, frame_head, lines_and_rest, status_tail, status_word};
 ghost use Rattle.df_session.specs.ViewChanges.{missed_line};
 ghost use Rattle.df_session.specs.Watching.{told_text};
 
 use crate::change_store::ChangeStore;
 use crate::fault::ShellFault;
 use crate::loading::Loaded;
-use crate::options::{SessionEnd, SessionOptions};
+use crate::options::SessionOptions;
 use crate::prompts::Prompts;
-use crate::refusal::Refusal;
-use crate::refusal_texts::refusal_text;
 use crate::watched_store::WatchedStore;
 use crate::watches::{WatchedView, Watches};
 use df_text::write_text;
 use itoa::Buffer;
-use std::alloc::Global;
 use std::io::Write;
 
 /// What an answer is to its command.
-#[derive(Clone, Copy, PartialEq, Eq)]
-pub enum Status {
+#[derive(Clone, Copy)]
+pub enum Status<'a> {
     /// What a session begins with, before all commands.
     Ready,
     Ok,
-    /// The command is refused.
-    Error,
+    /// The command is refused, with this code and what it is about.
+    Error(&'a [u8]),
 }
 
-impl Status {
+impl<'a> Status<'a> {
     fn word(self) -> &'static [u8]
-        ensures { result.now ≡ status_word self }
+        ensures { result.now ≡ status_word self.entry }
     {
         match self {
             Status::Ready => b"ready ",
             Status::Ok => b"ok ",
-            Status::Error => b"error ",
+            Status::Error(_) => b"error ",
+        }
+    }
+
+    // Both stand behind the number of lines.
+    fn tail(self) -> (&'static [u8], &'a [u8])
+        ensures { result.0.now ++ result.1.now ≡ status_tail self.entry }
+    {
+        match self {
+            Status::Ready | Status::Ok => (b"", b""),
+            Status::Error(code) => (b" ", code),
         }
     }
 }
@@ -57,37 +64,6 @@ pub fn write_prompt<W: Write>(
     }
 }
 
-/// Writes why a command is refused. Where there is no memory for the text, it is `memory`.
-pub fn write_refusal<W: Write>(
-    alloc: Global,
-    output: &mut W,
-    options: SessionOptions<'_>,
-    refusal: &Refusal,
-) -> Result<(), ShellFault> {
-    match refusal_text(alloc, refusal) {
-        Ok(text) => {
-            let line: [&[u8]; 2] = [text.as_bytes(), b"\n"];
-            write_answer(output, options.framed, Status::Error, &line)
-        }
-        Err(_) => write_answer(output, options.framed, Status::Error, &[b"memory\n"]),
-    }
-}
-
-/// Writes why a command is refused. Some: that ends the session.
-pub fn refuse<W: Write>(
-    alloc: Global,
-    output: &mut W,
-    options: SessionOptions<'_>,
-    refusal: &Refusal,
-) -> Result<Option<SessionEnd>, ShellFault> {
-    write_refusal(alloc, output, options, refusal)?;
-    if options.bail {
-        Ok(Some(SessionEnd::Refused))
-    } else {
-        Ok(None)
-    }
-}
-
 /// Writes what came of a load. It takes no memory, since rows have entered.
 pub fn write_loaded<W: Write>(
     output: &mut W,
@@ -104,11 +80,12 @@ pub fn write_loaded<W: Write>(
 pub fn write_answer<W: Write>(
     output: &mut W,
     framed: bool,
-    status: Status,
+    status: Status<'_>,
     parts: &[&[u8]],
 ) -> Result<(), ShellFault>
     ensures { OnOk result (Appends (W.contents output.old) (W.contents output.new)
-        (answer_written framed (status_word status) (flat_map (λ part. part.now) parts.now))) }
+        (answer_written framed (status_word status.entry) (status_tail status.entry)
+        (flat_map (λ part. part.now) parts.now))) }
 {
     if framed {
         write_head(output, status, line_ends_of(parts))?;
@@ -190,13 +167,16 @@ pub fn write_whole<W: Write>(output: &mut W, parts: &[&[u8]]) -> Result<(), Shel
 }
 
 // The line before an answer of so many lines.
-fn write_head<W: Write>(output: &mut W, status: Status, lines: u128) -> Result<(), ShellFault>
+fn write_head<W: Write>(output: &mut W, status: Status<'_>, lines: u128) -> Result<(), ShellFault>
     ensures { OnOk result (Appends (W.contents output.old) (W.contents output.new)
-        (frame_head (status_word status) lines)) }
+        (frame_head (status_word status.entry) (status_tail status.entry) lines)) }
 {
     let mut buffer = Buffer::new();
+    let (blank, code) = status.tail();
     write_all(output, status.word())?;
     write_all(output, buffer.format(lines).as_bytes())?;
+    write_all(output, blank)?;
+    write_all(output, code)?;
     write_all(output, b"\n")
 }
 

@@ -68,9 +68,9 @@ fn answer_declaring<R: Threads + Wait + Clock + Sync, F: Files + WriteFiles, I: 
                 if !fault.is_memory() {
                     return Err(fault);
                 }
-                declaring.refuse(alloc, input, output, &Refusal::Memory)?;
-                if options.bail {
-                    return Ok(Some(SessionEnd::Refused));
+                let end = declaring.refuse(alloc, input, output, &Refusal::Memory)?;
+                if end.is_some() {
+                    return Ok(end);
                 }
             }
         }
