@@ -287,8 +287,8 @@ class Shell:
         check("ready", self.frame(), ("ready", []))
 
     def frame(self):
-        word, *names, count = self.process.stdout.readline().decode().split(" ")
-        return " ".join([word, *names]), [self.process.stdout.readline().decode() for _ in range(int(count))]
+        head = re.fullmatch(r"(ready|ok|error|unwritten .*) (\d+)( .+)?\n", self.process.stdout.readline().decode())
+        return head[1], [self.process.stdout.readline().decode() for _ in range(int(head[2]))]
 
     def tell(self, *lines):
         self.process.stdin.write("".join(f"{line}\n" for line in lines).encode())
