@@ -312,10 +312,10 @@ class Shell:
         check("status", self.process.wait(), 0)
 
 
-def change_of(path):
-    """The number of the last change in a page that follows the store, which is read whole."""
+def change_of(path, reload="2"):
+    """The number of the last change in a page that follows the store, or did, which is read whole."""
     page = Page(path.read_text())
-    check("a page that follows", page.reload, "2")
+    check("a page that follows", page.reload, reload)
     return int(page.lines[0].removeprefix("change "))
 
 
@@ -353,7 +353,7 @@ def endings(program, folder, words):
     for typed, further, number in endings:
         run = subprocess.run([program, *words, *further], cwd=folder, input=(begin + typed).encode(), capture_output=True)
         check(typed, (run.stderr, run.returncode), (b"", 1 if further else 0))
-        check(typed, change_of(folder / "p.html"), number)
+        check(typed, change_of(folder / "p.html", None if typed.startswith("unfollow") else "2"), number)
     for question in ["views", "nosuch", "delete t 9"]:
         shell = Shell(program, folder, *words)
         for lines in [["frame t x Int"], ["define v t []"], ["follow p.html"], *[["append t", "1", "."]] * 3, [question]]:
@@ -391,7 +391,10 @@ def unwritten(program, folder, words):
     answer, told = shell.settled("drop v")
     check("a view that goes", (answer, [(head, [line.split(":")[0] for line in lines]) for head, lines in told]), (("ok", ["ok\n"]), [("unwritten p.html 5", ["C8"])]))
     check("a view that goes", (change_of(page), change_of(gone / "q.html")), (4, 5))
-    check("unfollow", shell.settled("unfollow p.html"), (("ok", ["ok\n"]), []))
+    answer, told = shell.settled("unfollow p.html")
+    check("unfollow", (answer, [(head, lines[0][:3]) for head, lines in told]), (("ok", ["ok\n"]), [("unwritten p.html 5", "C8:")]))
+    check("unfollow", shell.settled("unfollow gone/q.html"), (("ok", ["ok\n"]), []))
+    check("unfollow", (change_of(page), change_of(gone / "q.html", None)), (4, 5))
     check("unfollow", shell.ask("unfollow p.html")[0], "error")
     shell.close()
     check("files", sorted(file.name for file in folder.iterdir()), ["gone", "p.html"])

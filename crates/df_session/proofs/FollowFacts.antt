@@ -16,12 +16,12 @@ module _ {S F : Type 0}
     pub pages-more :
         (pages : List PageParts) (page : PageParts) (number : ℕ) (s m n : S) (f g h : F) (a b c : Option (List ℕ)) →
         ArePagesBehind Answers Names Numbers Writes title pages number s m f g a b →
-        IsPageBehind Answers Names Numbers Writes title page number m n g h b c →
+        IsPageBehind Answers Names Numbers Writes title true page number m n g h b c →
         ArePagesBehind Answers Names Numbers Writes title (pages ++ page ∷ []) number s n f h a c
     pages-more [] page number s m n f g h a b c (store, files, output) one =
-        let at_output = subst (λ x. IsPageBehind Answers Names Numbers Writes title page number m n g h x c) output one in
-        let at_files = subst (λ x. IsPageBehind Answers Names Numbers Writes title page number m n x h a c) files at_output in
-        let at_store = subst (λ x. IsPageBehind Answers Names Numbers Writes title page number x n f h a c) store at_files in
+        let at_output = subst (λ x. IsPageBehind Answers Names Numbers Writes title true page number m n g h x c) output one in
+        let at_files = subst (λ x. IsPageBehind Answers Names Numbers Writes title true page number m n x h a c) files at_output in
+        let at_store = subst (λ x. IsPageBehind Answers Names Numbers Writes title true page number x n f h a c) store at_files in
         (n, h, c, at_store, (refl, refl, refl))
     pages-more (p ∷ pages) page number s m n f g h a b c (mid, middle, between, first, rest) one =
         (mid, middle, between, first, pages-more pages page number mid m n middle g h between b c rest one)

@@ -1,8 +1,7 @@
 -- Pages that follow the store: when they are written anew behind a command, and what is told of one that is not written.
-use Rattle.std.specs.Prelude.{◌≡◌, ◌⊎◌, ◌==◌, ◌||◌, ◌&&◌, ◌++◌, ◌+◌, ◌<◌, ◌≤◌, ℕ, Bool, true, false, not, List, [], ◌∷◌, Option, Some, None, Result, bytes_eq, codes, decimal, filter, length, nat_lt, if◌then◌else◌}
+use Rattle.std.specs.Prelude.{◌≡◌, ◌⊎◌, ◌==◌, ◌||◌, ◌&&◌, ◌++◌, ◌+◌, ◌<◌, ◌≤◌, ℕ, Bool, true, false, not, List, [], ◌∷◌, Option, Some, None, Result, bytes_eq, codes, decimal, filter, find, length, nat_lt, if◌then◌else◌}
 use Rattle.std.specs.Global.{Vec}
 use Rattle.std.specs.Io.KnownBytes.{Appends}
-use Rattle.std.specs.List.{list_any}
 use Rattle.df_print.specs.Printed.{escaped_text}
 use Rattle.df_session.specs.Reports.{IsRefusalOfReport, IsReport}
 use Rattle.df_session.specs.Texts.{text_of}
@@ -46,8 +45,9 @@ pub record FollowedParts : Type 0 where
 abbrev pub parts : List PageParts → ℕ → Option ℕ → FollowedParts
 parts pages number at = record { pages = pages; number = number; at = at }
 
-abbrev pub is_followed : List ℕ → List PageParts → Bool
-is_followed path pages = list_any (λ p. bytes_eq p.path path) pages
+-- the page of this path
+abbrev pub page_at : List ℕ → List PageParts → Option PageParts
+page_at path pages = find (λ p. bytes_eq p.path path) pages
 
 -- the pages without that of this path
 abbrev pub without_path : List ℕ → List PageParts → List PageParts
@@ -83,19 +83,19 @@ module _ {S F : Type 0}
     (Writes : F → F → List ℕ → List ℕ → Type 0)
     (title : List ℕ)
   where
-    -- A page is written as a report that a browser loads again, and nothing is told. Or it is refused as one, and why is told behind the
-    -- output, with the number of the last change.
-    abbrev pub IsPageBehind : PageParts → ℕ → S → S → F → F → Option (List ℕ) → Option (List ℕ) → Type 0
-    IsPageBehind page number old new before after out end =
-        ((text : List ℕ) × IsReport Answers Names Numbers Writes title true page.path page.views old new before after text × (end ≡ out))
+    -- A page is written as a report, which a browser loads again, if it is to, and nothing is told. Or it is refused as one, and why is told
+    -- behind the output, with the number of the last change.
+    abbrev pub IsPageBehind : Bool → PageParts → ℕ → S → S → F → F → Option (List ℕ) → Option (List ℕ) → Type 0
+    IsPageBehind reload page number old new before after out end =
+        ((text : List ℕ) × IsReport Answers Names Numbers Writes title reload page.path page.views old new before after text × (end ≡ out))
         ⊎ ((r : Refusal) × (reason : List ℕ) × IsRefusalOfReport Answers Names Numbers Writes page.views old new before after r
         × IsReason r reason × Appends out end (unwritten_lines page.path number reason))
 
-    -- the pages, one after another
+    -- the pages, one after another, which a browser loads again
     abbrev pub ArePagesBehind : List PageParts → ℕ → S → S → F → F → Option (List ℕ) → Option (List ℕ) → Type 0
     ArePagesBehind [] number old new before after out end = (new ≡ old) × (after ≡ before) × (end ≡ out)
     ArePagesBehind (page ∷ pages) number old new before after out end =
-        (mid : S) × (middle : F) × (between : Option (List ℕ)) × IsPageBehind page number old mid before middle out between
+        (mid : S) × (middle : F) × (between : Option (List ℕ)) × IsPageBehind true page number old mid before middle out between
         × ArePagesBehind pages number mid new middle after between end
 
     -- where they are to be written, they are, at the number of the last change; else nothing is done
@@ -110,6 +110,10 @@ module _ {S F : Type 0}
     IsFollowedUp moment followed left old new before after out end =
         (number : ℕ) × Numbers old number
         × AreWrittenIf (must_write followed.number followed.at number moment) followed left moment.now number old new before after out end
+
+    -- A page is written a last time, at the last change, and a browser loads it no longer; or why it is not is told.
+    abbrev pub IsLastPage : PageParts → S → S → F → F → Option (List ℕ) → Option (List ℕ) → Type 0
+    IsLastPage page old new before after out end = (number : ℕ) × Numbers old number × IsPageBehind false page number old new before after out end
 
     -- A refusal of a page that is to follow the store: that of a report, or memory was refused, and nothing was done.
     abbrev pub IsRefusalOfFollow : List (List ℕ) → S → S → F → F → Refusal → Type 0

@@ -1,5 +1,6 @@
 //! The pages that follow the store, and when they are written.
 ghost use Rattle.std.specs.Prelude.{◌≡◌, ◌++◌, ◌∷◌, ◌==◌, ◌<◌, [], IfOk, OnErr, OnOk, false, if◌then◌else◌, length, string_bytes, vec_capacity};
+ghost use Rattle.std.specs.Option.{option_copied};
 ghost use Rattle.df_session.specs.Following as following;
 ghost use Rattle.df_session.specs.Following.{IsSoonBehind, without_path};
 
@@ -144,11 +145,11 @@ impl FollowedPages {
         }
     }
 
-    /// Whether a page under this path follows the store.
-    pub fn is_followed(&self, path: &str) -> bool
-        ensures { result ≡ following.is_followed path.now self.now.pages.items }
+    /// The page under this path.
+    pub fn page(&self, path: &str) -> Option<&FollowedPage>
+        ensures { option_copied result ≡ following.page_at path.now self.now.pages.items }
     {
-        self.pages.iter().any(|page| page.path() == path)
+        self.pages.iter().find(|page| page.path() == path)
     }
 
     /// Whether the pages are to be written behind a command, where the last change has this number.

@@ -1,7 +1,7 @@
 //! Pages that are written anew behind commands.
 ghost use Rattle.std.specs.Prelude.{◌≡◌, ◌<◌, ℕ, IfErr, IfOk, List as Seq, OnErr, OnOk, false, length, string_bytes, true, vec_capacity};
 ghost use Rattle.std.specs.Io.KnownBytes.{Appends};
-ghost use Rattle.df_session.specs.Following.{ArePagesBehind, IsFollowBegun, IsFollowedUp, IsPageBehind, IsReason, IsRefusalOfFollow, parts, unwritten_lines};
+ghost use Rattle.df_session.specs.Following.{ArePagesBehind, IsFollowBegun, IsFollowedUp, IsLastPage, IsPageBehind, IsReason, IsRefusalOfFollow, parts, unwritten_lines};
 ghost use Rattle.df_session.specs.Reports.{IsRefusalOfReport, IsReport};
 
 use crate::change_store::ChangeStore;
@@ -76,16 +76,17 @@ fn write_first<S: ChangeStore, F: WriteFiles>(
         ≡ parts followed.old.pages.items followed.old.number followed.old.at }
 {
     followed.reserve()?;
-    report_page(alloc, definitions, store, files, title, page)
+    report_page(alloc, definitions, store, files, title, true, page)
 }
 
-// Writes a page as a report, which a browser loads again and again.
+// Writes a page as a report, which a browser loads again and again, if it is to.
 fn report_page<S: ChangeStore, F: WriteFiles>(
     alloc: Global,
     definitions: &Definitions,
     store: &mut S,
     files: &mut F,
     title: &str,
+    reload: bool,
     page: &FollowedPage,
 ) -> Result<String, Refusal>
     ensures written { IfOk result (λ text. IsReport (λ old new. S.Answers old new definitions.now)
@@ -96,7 +97,7 @@ fn report_page<S: ChangeStore, F: WriteFiles>(
 {
     let path = page.path();
     let views = page.views();
-    report(alloc, definitions, store, files, title, true, path, views)
+    report(alloc, definitions, store, files, title, reload, path, views)
 }
 
 /// Writes the pages that follow the store behind a command, where they are to be written. Behind a change they are, once a
@@ -161,12 +162,41 @@ fn write_pages<S: ChangeStore, F: WriteFiles, W: Write>(
             store,
             files,
             title,
+            true,
             page,
             number,
             output,
         )?;
     }
     Ok(())
+}
+
+/// Writes a page a last time, so that a browser loads it no longer, or why it is not written.
+pub fn write_last<S: ChangeStore, F: WriteFiles, W: Write>(
+    alloc: Global,
+    definitions: &Definitions,
+    store: &mut S,
+    files: &mut F,
+    title: &str,
+    page: &FollowedPage,
+    output: &mut W,
+) -> Result<(), ShellFault>
+    ensures { OnOk result (IsLastPage (λ old new. S.Answers old new definitions.now) S.Names S.Numbers F.Writes
+        title.now page.now store.old store.new files.old files.new
+        (W.contents output.old) (W.contents output.new)) }
+{
+    let number = store.change_number();
+    write_page(
+        alloc,
+        definitions,
+        store,
+        files,
+        title,
+        false,
+        page,
+        number,
+        output,
+    )
 }
 
 // Writes a page, or why it is not written.
@@ -176,15 +206,16 @@ fn write_page<S: ChangeStore, F: WriteFiles, W: Write>(
     store: &mut S,
     files: &mut F,
     title: &str,
+    reload: bool,
     page: &FollowedPage,
     number: u64,
     output: &mut W,
 ) -> Result<(), ShellFault>
     ensures { OnOk result (IsPageBehind (λ old new. S.Answers old new definitions.now) S.Names S.Numbers F.Writes
-        title.now page.now number store.old store.new files.old files.new
+        title.now reload page.now number store.old store.new files.old files.new
         (W.contents output.old) (W.contents output.new)) }
 {
-    match report_page(alloc, definitions, store, files, title, page) {
+    match report_page(alloc, definitions, store, files, title, reload, page) {
         Ok(told) => {
             drop(told);
             Ok(())

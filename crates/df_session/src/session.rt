@@ -169,7 +169,7 @@ fn complete<R: Threads + Clock + Sync, S: ChangeStore, F: Files + WriteFiles, W:
         Turn::Follow(path, views) => {
             follow_store(rt, alloc, session, files, path, views, output)
         }
-        Turn::Unfollow(path) => unfollow_store(rt, alloc, session, files, path, output),
+        Turn::Unfollow(path) => unfollow_store(alloc, session, files, path, output),
         Turn::Watch(asked, view) => watch_view(alloc, session, asked, view, output),
         Turn::Source(path) => source(rt, alloc, session, files, &path, output),
         Turn::End | Turn::Quit => Ok(Some(SessionEnd::Whole)),
@@ -270,7 +270,7 @@ fn take_sourced<R: Threads + Clock + Sync, S: ChangeStore, F: Files + WriteFiles
         Turn::Follow(path, views) => {
             follow_store(rt, alloc, session, files, path, views, output)
         }
-        Turn::Unfollow(path) => unfollow_store(rt, alloc, session, files, path, output),
+        Turn::Unfollow(path) => unfollow_store(alloc, session, files, path, output),
         Turn::Watch(asked, view) => watch_view(alloc, session, asked, view, output),
         Turn::Source(_) => {
             let nested = Refusal::Mistake(Mistake::NestedSource);

@@ -4,7 +4,7 @@ use crate::command::Watching;
 use crate::exporting::{WriteFiles, export};
 use crate::fault::ShellFault;
 use crate::followed::Moment;
-use crate::following::{follow, write_followed};
+use crate::following::{follow, write_followed, write_last};
 use crate::loading::load;
 use crate::options::{SessionEnd, SessionOptions};
 use crate::refusal::{Mistake, Refusal};
@@ -150,10 +150,8 @@ pub fn follow_store<R: Clock, S: ChangeStore, F: WriteFiles, W: Write>(
     write_outcome(alloc, session, begun, output)
 }
 
-/// Has the page under a path follow the store no longer, and writes the answer, and behind it the page once more, if there was a
-/// change since.
-pub fn unfollow_store<R: Clock, S: ChangeStore, F: WriteFiles, W: Write>(
-    rt: &R,
+/// Has the page under a path follow the store no longer, and writes the answer, and behind it the page a last time.
+pub fn unfollow_store<S: ChangeStore, F: WriteFiles, W: Write>(
     alloc: Global,
     session: &mut Session<'_, S>,
     files: &mut F,
@@ -161,13 +159,21 @@ pub fn unfollow_store<R: Clock, S: ChangeStore, F: WriteFiles, W: Write>(
     output: &mut W,
 ) -> Result<Option<SessionEnd>, ShellFault> {
     let options = session.options;
-    if !session.followed.is_followed(path.as_str()) {
+    let Some(page) = session.followed.page(path.as_str()) else {
         drop(path);
         let not_followed = Refusal::Mistake(Mistake::NotFollowed);
         return refuse_line(alloc, output, options, session.line(), &not_followed);
-    }
+    };
     let written = match write_answer(output, options.framed, Status::Ok, &[b"ok\n"]) {
-        Ok(()) => write_behind(rt, alloc, session, files, false, output),
+        Ok(()) => write_last(
+            alloc,
+            &session.definitions,
+            &mut session.store.store,
+            files,
+            options.title,
+            page,
+            output,
+        ),
         Err(fault) => Err(fault),
     };
     session.followed.end(path.as_str());
