@@ -103,7 +103,7 @@ def check_promises():
         for clause in set(re.findall(r"`(\w+)`", said)) - named:
             tell("docs/PROMISES.md", f"no clause {clause} of {', '.join(calls)}")
     refused = " ".join(re.findall(r"- \*\*Refused\*\*: (.*?)(?: ## | - \*\*|$)", text))
-    told = set(re.findall(r"\(`(\w+)`\)", refused))
+    told = set(re.findall(r"`(\w+)`", refused))
     edits = {pathlib.Path(f).stem for f in FILES if f.startswith("tests/must-fail/")}
     for name in sorted(told ^ edits):
         tell("docs/PROMISES.md", f"the edit {name} is " + ("not in the gate" if name in told else "not told of"))
