@@ -25,7 +25,7 @@ KEYS = (*BASE, "Wide")
 
 
 def exists(view):
-    return f'C6: there is a view "{view}"; drop takes it out\n'
+    return f'C6: view "{view}" is registered; drop takes it out\n'
 
 
 def no_view(view):

@@ -90,7 +90,7 @@ fn report_page<S: ChangeStore, F: WriteFiles>(
     page: &FollowedPage,
 ) -> Result<String, Refusal>
     ensures written { IfOk result (λ text. IsReport (λ old new. S.Answers old new definitions.now)
-        S.Names S.Numbers F.Writes title.now true page.now.path page.now.views store.old store.new
+        S.Names S.Numbers F.Writes title.now reload page.now.path page.now.views store.old store.new
         files.old files.new (string_bytes text)) }
     ensures refused { IfErr result (IsRefusalOfReport (λ old new. S.Answers old new definitions.now)
         S.Names S.Numbers F.Writes page.now.views store.old store.new files.old files.new) }

@@ -150,7 +150,13 @@ fn catalogue_words(alloc: Global, name: &str, fault: CatalogueFault) -> Result<S
         CatalogueFault::Doubled(number) => format!(in alloc; ": number {number} appears twice"),
         CatalogueFault::NotLive(number) => format!(in alloc; ": {frame} has no row {number}"),
         CatalogueFault::ViewExists => {
-            with_name(alloc, ": there is a ", "view", name, "; drop takes it out")
+            with_name(
+                alloc,
+                ": ",
+                "view",
+                name,
+                " is registered; drop takes it out",
+            )
         }
         CatalogueFault::TooManyViews => String::from_str(
             alloc,
