@@ -1,5 +1,5 @@
 -- The texts of refusals: a code and what it is about, and then both in words.
-use Rattle.std.specs.Prelude.{◌++◌, ◌==◌, ℕ, List, [], codes, decimal, length, if◌then◌else◌}
+use Rattle.std.specs.Prelude.{◌++◌, ◌==◌, ℕ, List, [], ◌∷◌, codes, decimal, length, if◌then◌else◌}
 use Rattle.df_state.specs.declared.fault.CatalogueFault.{CatalogueFault}
 use Rattle.df_state.specs.declared.fault.CatalogueFault.TheVariants as store
 use Rattle.df_state.specs.declared.fault.NewFault.{NewFault}
