@@ -1,5 +1,5 @@
 -- The pages that follow a store, one more of them.
-use Rattle.std.proofs.Common.{◌≡◌, ◌++◌, ℕ, List, [], ◌∷◌, Option, refl, subst}
+use Rattle.std.proofs.Common.{◌≡◌, ◌++◌, ℕ, List, [], ◌∷◌, Option, refl, subst, true}
 use Rattle.std.specs.Prelude.{Result}
 use Rattle.std.specs.Global.{Vec}
 use Rattle.df_session.specs.Following.{ArePagesBehind, IsPageBehind, PageParts, parts}
