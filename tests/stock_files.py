@@ -1,10 +1,12 @@
 #!/usr/bin/env python3
-"""Runs `stocklist` over CSV files that its loaders draw, by 1, 4 and 16 of them: stock_files.py PROGRAM [SEED]
+"""Runs `stocklist`, by 1, 4 and 16 loaders, over CSV files that they draw and over moves of a seed: stock_files.py PROGRAM [SEED]
 
 What it prints are the books and totals that Python's csv module reads in these files, whoever loads them, also of one with more
 records than a change may have. Of a file that is not there, that lacks a column or that has a bad cell no row enters, and of a longer
-one none from the part with that cell on: the program names it, loads the others, and ends with status 1."""
+one none from the part with that cell on: the program names it, loads the others, and ends with status 1. Without files books and totals
+are those of the moves that the seed makes, of which each round appends two, replaces one and deletes one."""
 
+import collections
 import csv
 import os
 import random
@@ -14,6 +16,7 @@ import tempfile
 
 # So many rows of late.csv come in parts before that with its bad cell.
 LATE = 2 * 65_536
+MASK = 2**64 - 1
 GOODS = ["apples", "bread", "cheese", "dates"]
 
 
@@ -56,19 +59,54 @@ def make_bad(folder):
     return [os.path.join(folder, name) for name in [*bad, "absent.csv"]]
 
 
+def printed(accepted, deleted, rows):
+    """What is printed of books, and of the rows that there are."""
+    totals = collections.Counter()
+    for good, count in rows:
+        totals[good] += count
+    books = f"accepted {accepted}, deleted {deleted}, live {accepted - deleted}\n"
+    return books + "".join(f"{good} {total}\n" for good, total in sorted(totals.items()))
+
+
 def expected(paths, dates=0):
     """What is printed of these files, and of so many further rows of a date each."""
-    count, totals = dates, {**dict.fromkeys(GOODS, 0), "dates": dates}
+    rows = [("dates", 1)] * dates
     for path in paths:
         with open(path, newline="") as file:
-            for row in csv.DictReader(file):
-                count += 1
-                totals[row["good"]] += int(row["count"])
-    return f"accepted {count}, deleted 0, live {count}\n" + "".join(f"{good} {totals[good]}\n" for good in GOODS)
+            rows += [(row["good"], int(row["count"])) for row in csv.DictReader(file)]
+    return printed(len(rows), 0, rows)
 
 
-def run(program, loaders, paths):
-    words = [word for path in paths for word in ("--file", path)]
+def numbers(seed):
+    """xoshiro256++, whose state are four numbers of SplitMix64."""
+    state = []
+    for _ in range(4):
+        seed = seed + 0x9E3779B97F4A7C15 & MASK
+        z = (seed ^ seed >> 30) * 0xBF58476D1CE4E5B9 & MASK
+        z = (z ^ z >> 27) * 0x94D049BB133111EB & MASK
+        state.append(z ^ z >> 31)
+    a, b, c, d = state
+    while True:
+        yield turned(a + d & MASK, 23) + a & MASK
+        a, b, c, d = a ^ b ^ d, a ^ b ^ c, a ^ c ^ b << 17 & MASK, turned(b ^ d, 45)
+
+
+def turned(number, bits):
+    return number << bits & MASK | number >> 64 - bits
+
+
+def expected_of_seed(loaders, seconds, seed):
+    """What is printed where each loader makes 20 rounds a second: of the three moves of a round the last one stays."""
+    rows = []
+    for loader in range(loaders):
+        drawn = numbers(seed + loader)
+        for _ in range(20 * seconds):
+            rows.append([(GOODS[next(drawn) % 4], next(drawn) % 20 - 5) for _ in range(3)][2])
+    return printed(2 * len(rows), len(rows), rows)
+
+
+def run(program, loaders, paths, *words):
+    words = [*words, *(word for path in paths for word in ("--file", path))]
     return subprocess.run(
         [program, "--loaders", str(loaders), *words], stdin=subprocess.DEVNULL, capture_output=True, text=True, timeout=120
     )
@@ -78,6 +116,12 @@ def main():
     program = os.path.abspath(sys.argv[1])
     random.seed(int(sys.argv[2]) if len(sys.argv) > 2 else 64)
     faults = []
+    for loaders, seconds in [(1, 2), (4, 1), (16, 2)]:
+        seed = random.randrange(1, 2**63)
+        ran = run(program, loaders, [], "--seconds", str(seconds), "--seed", str(seed))
+        wanted = expected_of_seed(loaders, seconds, seed)
+        if (ran.returncode, ran.stdout) != (0, wanted):
+            faults.append(f"{loaders} loaders, seed {seed}: {ran.returncode} {ran.stdout}, and not {wanted}")
     with tempfile.TemporaryDirectory() as folder:
         good, bad = make_good(folder), make_bad(folder)
         mixed = random.sample(good + bad, len(good + bad))
@@ -93,7 +137,7 @@ def main():
                 faults.append(f"{loaders} loaders: named are {sorted(named)}")
     for fault in faults:
         print(fault)
-    print(f"6 runs over files, {len(faults)} otherwise")
+    print(f"3 runs over moves and 6 over files, {len(faults)} otherwise")
     return 1 if faults else 0
 
 

@@ -24,7 +24,7 @@ pub use csv_rows::{CsvRecords, LinesFault, read_rows};
 pub use dashboard::Dashboard;
 pub use df_catalogue::CatalogueFault;
 pub use df_csv::CsvFault;
-pub use df_expr::Expr;
+pub use df_expr::{ArithOp, CompareOp, Expr, ExprFault};
 pub use df_hall::{Hall, OpenedHall, Totals};
 pub use df_ops::{Agg, How, RankKind, RollKind};
 pub use df_plan::{CheckedPlan, Plan, PlanFault};

@@ -65,6 +65,13 @@ impl<'p> ViewRows<'p> {
         None
     }
 
+    /// How many rows there are.
+    pub fn len(&self) -> usize
+        ensures { result ≡ length self.now.rows }
+    {
+        self.rows.len()
+    }
+
     /// The row at this place, from 0, if there is one.
     pub fn row(&self, at: usize) -> Option<ViewRow<'_>> {
         match self.rows.get(at) {
