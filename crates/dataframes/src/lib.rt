@@ -35,6 +35,6 @@ pub use df_value::{
 pub use df_versions::{ChangeFault, Naming, OpenFault, Reader, Told, Version};
 pub use fault::{FinishFault, ServiceFault};
 pub use opening::Finished;
-pub use service::{OpenService, Service, ViewSchema};
+pub use service::{OpenService, Service, Tell, ViewSchema};
 pub use threads::{Load, ServiceRuntime, Watch};
 pub use view_rows::{ViewRow, ViewRows};

@@ -24,16 +24,23 @@ use std::sync::atomic::AtomicU64;
 use std::sync::ledger::Ledger;
 use std::sync::{Mutex, Wait};
 
+/// What tells of the changes of a service, and makes none.
+pub trait Tell {
+    /// The name of the service's history, which ties what is told to the service's dashboards.
+    type History: Naming;
+
+    /// What was told of the last change that a loader made, if any did. A dashboard that learns it shows from then on every
+    /// change that was answered before this call. It waits while a change is made.
+    fn told(&self) -> Option<Told<Self::History>>;
+}
+
 /// Frames and views that many loaders change. Threads share a service by reference.
 ///
 /// Each change is made as a whole or refused, and then everything is as it was. A version follows each. What is told of a
 /// change is its history, which is longer than that of every change of the service before.
-pub trait Service {
+pub trait Service: Tell {
     ghost use Rattle.std.specs.Prelude.{ℕ, List as Seq};
     ghost use Rattle.df_value.specs.declared.cell.CellType.{CellType};
-
-    /// The name of the service's history, which ties what it tells to its dashboards.
-    type History: Naming;
 
     // The views with which it was opened, by name, and their columns.
     ghost fixed: { Self → Seq (Seq ℕ × Seq (Seq ℕ × CellType)) };
@@ -44,10 +51,6 @@ pub trait Service {
     /// The columns of a frame, if there is one of this index.
     fn schema(&self, frame: usize) -> Option<&Schema>
         ensures { option_copied result ≡ slice_get Self.History.schemas frame };
-
-    /// What was told of the last change that a loader made, if any did. A dashboard that learns it shows from then on every
-    /// change that was answered before this call.
-    fn told(&self) -> Option<Told<Self::History>>;
 
     /// Appends rows to a frame. They get the numbers behind those of all rows that any loader appended to the frame.
     ///
@@ -180,9 +183,16 @@ impl<'s, R: Wait, Acc: Ledger, Del: Ledger, J: Naming> OpenService<'s, R, Acc, D
     }
 }
 
-impl<'s, R: Wait, Acc: Ledger, Del: Ledger, J: Naming> Service for OpenService<'s, R, Acc, Del, J> {
+impl<'s, R: Wait, Acc: Ledger, Del: Ledger, J: Naming> Tell for OpenService<'s, R, Acc, Del, J> {
     type History = J;
 
+    fn told(&self) -> Option<Told<J>> {
+        let books = self.books.lock(self.rt);
+        books.told()
+    }
+}
+
+impl<'s, R: Wait, Acc: Ledger, Del: Ledger, J: Naming> Service for OpenService<'s, R, Acc, Del, J> {
     ghost fixed = { λ s. s };
 
     fn alloc(&self) -> Global {
@@ -191,11 +201,6 @@ impl<'s, R: Wait, Acc: Ledger, Del: Ledger, J: Naming> Service for OpenService<'
 
     fn schema(&self, frame: usize) -> Option<&Schema> {
         self.schemas.get(frame)
-    }
-
-    fn told(&self) -> Option<Told<J>> {
-        let books = self.books.lock(self.rt);
-        books.told()
     }
 
     fn append(&self, frame: usize, rows: List<Row>) -> Result<Appended<J>, ServiceFault<J>> {

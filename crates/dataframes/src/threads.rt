@@ -1,6 +1,6 @@
 //! The threads of a service: one for each loader, and one for each watcher.
 use crate::dashboard::Dashboard;
-use crate::service::{OpenService, Service};
+use crate::service::{OpenService, Service, Tell};
 use df_versions::Naming;
 use std::rt::Clock;
 use std::sync::Wait;
@@ -24,8 +24,9 @@ pub trait Load: Drop {
 /// What looks at a service, in a thread of its own.
 pub trait Watch: Drop {
     /// Looks at the newest version. It is called again and again while loaders run, and once behind them, with a
-    /// dashboard that has learnt all that they changed.
-    fn look<J: Naming>(&mut self, dashboard: &mut Dashboard<J>);
+    /// dashboard that has learnt all that they changed. Before that the dashboard learns what the watcher lets it learn of what
+    /// the service told.
+    fn look<S: Tell>(&mut self, service: &S, dashboard: &mut Dashboard<S::History>);
 
     /// How long it rests between two looks.
     fn pause(&self) -> Duration {
@@ -93,13 +94,13 @@ fn keep_watch<'s, R: Wait + Clock, Acc: Ledger, Del: Ledger, J: Naming, W: Watch
         if service.left.load(Ordering::SeqCst) == 0 {
             break;
         }
-        watcher.look(&mut dashboard);
+        watcher.look(service, &mut dashboard);
         thread::sleep(service.rt, watcher.pause());
     }
     if let Some(told) = service.told() {
         dashboard.learn(told);
     }
-    watcher.look(&mut dashboard);
+    watcher.look(service, &mut dashboard);
 }
 
 fn load_all<

@@ -3,8 +3,8 @@
 
 use clap::{Arg, ArgAction, ArgMatches, Command, Error, value_parser};
 use dataframes::{
-    Agg, Boxed, CellRef, CellType, Dashboard, FinishFault, Finished, List, Load, Naming, Plan,
-    Service, ServiceBuilder, ServiceFault, ServiceRuntime, Text, Watch, row_of,
+    Agg, Boxed, CellRef, CellType, Dashboard, FinishFault, Finished, List, Load, Plan, Service,
+    ServiceBuilder, ServiceFault, ServiceRuntime, Tell, Text, Watch, row_of,
 };
 use rand_core::{Rng, SeedableRng};
 use rand_xoshiro::Xoshiro256PlusPlus;
@@ -164,7 +164,10 @@ struct Watcher<'a, R> {
 }
 
 impl<'a, R: Eprint> Watch for Watcher<'a, R> {
-    fn look<J: Naming>(&mut self, dashboard: &mut Dashboard<J>) {
+    fn look<S: Tell>(&mut self, service: &S, dashboard: &mut Dashboard<S::History>) {
+        if let Some(told) = service.told() {
+            dashboard.learn(told);
+        }
         let Some(version) = dashboard.newer_than(self.number) else {
             return;
         };
