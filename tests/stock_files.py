@@ -17,11 +17,13 @@ import tempfile
 # So many rows of late.csv come in parts before that with its bad cell.
 LATE = 2 * 65_536
 MASK = 2**64 - 1
-GOODS = ["apples", "bread", "cheese", "dates"]
+MADE = ["apples", "bread", "cheese", "dates"]
+# The program knows nothing of these; the last is null.
+GOODS = [*MADE, "eggs", "épices", "a b", ""]
 
 
 def write(path, rows, columns):
-    with open(path, "w", newline="") as file:
+    with open(path, "w", newline="", encoding="utf-8") as file:
         writer = csv.DictWriter(file, columns, quoting=random.choice([csv.QUOTE_MINIMAL, csv.QUOTE_ALL]))
         writer.writeheader()
         writer.writerows(rows)
@@ -72,7 +74,7 @@ def expected(paths, dates=0):
     """What is printed of these files, and of so many further rows of a date each."""
     rows = [("dates", 1)] * dates
     for path in paths:
-        with open(path, newline="") as file:
+        with open(path, newline="", encoding="utf-8") as file:
             rows += [(row["good"], int(row["count"])) for row in csv.DictReader(file)]
     return printed(len(rows), 0, rows)
 
@@ -101,7 +103,7 @@ def expected_of_seed(loaders, seconds, seed):
     for loader in range(loaders):
         drawn = numbers(seed + loader)
         for _ in range(20 * seconds):
-            rows.append([(GOODS[next(drawn) % 4], next(drawn) % 20 - 5) for _ in range(3)][2])
+            rows.append([(MADE[next(drawn) % 4], next(drawn) % 20 - 5) for _ in range(3)][2])
     return printed(2 * len(rows), len(rows), rows)
 
 

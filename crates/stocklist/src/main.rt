@@ -3,8 +3,9 @@
 
 use clap::{Arg, ArgAction, ArgMatches, Command, Error, value_parser};
 use dataframes::{
-    Agg, Boxed, CellRef, CellType, Dashboard, FinishFault, Finished, List, Load, Plan, Service,
-    ServiceBuilder, ServiceFault, ServiceRuntime, Tell, Text, Watch, row_of,
+    Agg, Boxed, CellRef, CellType, ChangeFault, ChunkFault, CsvFault, Dashboard, FinishFault,
+    Finished, LinesFault, List, Load, Naming, Plan, Service, ServiceBuilder, ServiceFault,
+    ServiceRuntime, Tell, Text, ViewRows, Watch, row_of,
 };
 use rand_core::{Rng, SeedableRng};
 use rand_xoshiro::Xoshiro256PlusPlus;
@@ -19,6 +20,7 @@ use std::{env, fs, thread};
 // The frame of the moves: of which good, and how many came, or left where it is below 0.
 const MOVES: usize = 0;
 
+// The goods of the moves that are made where there are no files.
 const GOODS: [&str; 4] = ["apples", "bread", "cheese", "dates"];
 
 fn stock(alloc: Global) -> Result<ServiceBuilder, FinishFault> {
@@ -64,7 +66,7 @@ struct Loader<'r, 's, R> {
     rounds: u64,
     accepted: u64,
     deleted: u64,
-    // Whether a file of it, or a part of one, is left out.
+    // Whether a file or a round, or a part of one, is left out.
     is_short: bool,
 }
 
@@ -76,16 +78,11 @@ impl<'r, 's, R: Clock + Eprint> Load for Loader<'r, 's, R> {
                 self.load_file(service, file);
             }
         }
-        for _round in 0..self.rounds {
-            if self.make_round(service).is_err() {
-                return;
-            }
-            thread::sleep(self.rt, Duration::from_millis(50));
-        }
+        self.make_rounds(service);
     }
 }
 
-impl<'r, 's, R: Eprint> Loader<'r, 's, R> {
+impl<'r, 's, R: Clock + Eprint> Loader<'r, 's, R> {
     fn new(
         rt: &'r R,
         words: &ArgMatches<'_>,
@@ -129,9 +126,16 @@ impl<'r, 's, R: Eprint> Loader<'r, 's, R> {
         Ok(())
     }
 
-    fn leave_out<D: Display>(&mut self, path: &str, why: &D) {
-        let _ = eprintln!(self.rt; "{path}: {why}");
-        self.is_short = true;
+    fn make_rounds<S: Service>(&mut self, service: &S) {
+        for _round in 0..self.rounds {
+            if let Err(fault) = self.make_round(service) {
+                self.leave_out("a round", &fault);
+                if !lacks_memory(&fault) {
+                    return;
+                }
+            }
+            thread::sleep(self.rt, Duration::from_millis(50));
+        }
     }
 
     // Two moves come. The first is corrected, and the second, which was entered by mistake, is deleted.
@@ -153,14 +157,32 @@ impl<'r, 's, R: Eprint> Loader<'r, 's, R> {
         let good = GOODS[(self.random.next_u64() % 4) as usize];
         (good, (self.random.next_u64() % 20) as i64 - 5)
     }
+
+    fn leave_out<D: Display>(&mut self, what: &str, why: &D) {
+        let _ = eprintln!(self.rt; "{what}: {why}");
+        self.is_short = true;
+    }
 }
 
+// Whether memory was refused, and nothing else: a later change may be made.
+fn lacks_memory<J: Naming>(fault: &ServiceFault<J>) -> bool {
+    match fault {
+        ServiceFault::Lines(LinesFault::Csv(CsvFault::Memory)) => true,
+        ServiceFault::Rows(ChunkFault::Memory) => true,
+        ServiceFault::Refused(ChangeFault::Memory) => true,
+        _ => false,
+    }
+}
+
+// It shows the totals of the newest version, by good.
 #[derive(Drop)]
 struct Watcher<'a, R> {
     rt: &'a R,
     alloc: Global,
     number: u64,
-    shown: [i128; 4],
+    shown: Vec<(String, i128)>,
+    // Whether memory was refused to the newest totals.
+    is_behind: bool,
 }
 
 impl<'a, R: Eprint> Watch for Watcher<'a, R> {
@@ -171,19 +193,43 @@ impl<'a, R: Eprint> Watch for Watcher<'a, R> {
         let Some(version) = dashboard.newer_than(self.number) else {
             return;
         };
-        let Ok(rows) = dashboard.view(self.alloc, version.as_ref(), "totals") else {
-            return;
+        let totals = match dashboard.view(self.alloc, version.as_ref(), "totals") {
+            Ok(rows) => by_good(self.alloc, &rows),
+            Err(_) => None,
         };
-        self.number = version.number();
-        for good in 0..4 {
-            let row = rows.find("good", GOODS[good]);
-            let total = row.and_then(|row| row.int("total")).unwrap_or(0);
-            if total != self.shown[good] {
-                let _ = eprintln!(self.rt; "{}: {} {total}", self.number, GOODS[good]);
+        self.is_behind = totals.is_none();
+        match totals {
+            Some(totals) => self.show(version.number(), totals),
+            None => {
+                let _ = eprintln!(self.rt; "totals: out of memory");
             }
-            self.shown[good] = total;
         }
     }
+}
+
+impl<'a, R: Eprint> Watcher<'a, R> {
+    fn show(&mut self, number: u64, totals: Vec<(String, i128)>) {
+        for total in totals.as_slice() {
+            if self.shown.binary_search(total).is_err() {
+                let (good, total) = total;
+                let _ = eprintln!(self.rt; "{number}: {good} {total}");
+            }
+        }
+        self.number = number;
+        self.shown = totals;
+    }
+}
+
+// The totals of the view's rows, in the order of the goods; None where memory is refused. A good that is null has no name.
+fn by_good(alloc: Global, rows: &ViewRows<'_>) -> Option<Vec<(String, i128)>> {
+    let mut totals = Vec::new(alloc);
+    for at in 0..rows.len() {
+        let row = rows.row(at)?;
+        let good = String::from_str(alloc, row.text("good").unwrap_or("")).ok()?;
+        totals.push((good, row.int("total").unwrap_or(0))).ok()?;
+    }
+    totals.sort().ok()?;
+    Some(totals)
 }
 
 fn main(rt: HostRuntime) -> ExitCode {
@@ -228,7 +274,8 @@ fn serve<R: ServiceRuntime + Runtime>(rt: &R, words: &ArgMatches<'_>) -> Option<
         rt,
         alloc,
         number: 0,
-        shown: [0; 4],
+        shown: Vec::new(alloc),
+        is_behind: false,
     };
     let watchers = vec![in alloc; watcher].ok()?;
     let finished = stock(alloc).ok()?.run(rt, loaders, watchers).ok()?;
@@ -246,7 +293,7 @@ fn read_sources<R: Runtime + AllocGlobal>(rt: &R, paths: &[&str]) -> Option<Sour
     Some(Sources { files, drawn })
 }
 
-fn report<R: Print>(
+fn report<R: Print + Eprint>(
     rt: &R,
     finished: &Finished<Loader<'_, '_, R>, Watcher<'_, R>>,
 ) -> Option<ExitCode> {
@@ -254,15 +301,19 @@ fn report<R: Print>(
     let (accepted, deleted) = (*totals.accepted.get(MOVES)?, *totals.deleted.get(MOVES)?);
     let live = *totals.live.get(MOVES)?;
     println!(rt; "accepted {accepted}, deleted {deleted}, live {live}").ok()?;
-    let shown = finished.watchers.first()?.shown;
-    for good in 0..4 {
-        println!(rt; "{} {}", GOODS[good], shown[good]).ok()?;
+    let watcher = finished.watchers.first()?;
+    for (good, total) in watcher.shown.as_slice() {
+        println!(rt; "{good} {total}").ok()?;
     }
-    let same = (accepted, deleted, false) == counted(finished.loaders.as_slice());
-    Some(ExitCode::from(if same { 0 } else { 1 }))
+    let (came, went, is_short) = counted(finished.loaders.as_slice());
+    if (came, went) != (accepted, deleted) {
+        let _ = eprintln!(rt; "the loaders counted {came} accepted and {went} deleted");
+    }
+    let is_whole = (came, went, false, false) == (accepted, deleted, is_short, watcher.is_behind);
+    Some(ExitCode::from(if is_whole { 0 } else { 1 }))
 }
 
-// How many rows the loaders appended and deleted, and whether one left out a file.
+// How many rows the loaders appended and deleted, and whether one left something out.
 fn counted<R>(loaders: &[Loader<'_, '_, R>]) -> (u64, u64, bool) {
     let (mut accepted, mut deleted, mut is_short) = (0u64, 0u64, false);
     for loader in loaders {
