@@ -1,15 +1,12 @@
 #!/usr/bin/env python3
-"""library.py: the code of docs/LIBRARY.md is code that runs. Run it at the top of the repository.
+"""library.py: the code of docs/LIBRARY.md is code that the gate proves and runs. Run it at the top of the repository.
 
-Each block of Rust but the first stands in crates/stocklist/src/main.rt, word for word. The first is a program of its own:
-library.py --run builds it without proof, in a copy of the repository, and compares what it prints with what the page says."""
+The first block of Rust is crates/first/src/main.rt, byte for byte, and what the page says that it prints is what it must print. Each
+other block stands in crates/stocklist/src/main.rt, line for line."""
 
 import pathlib
 import re
-import shutil
-import subprocess
 import sys
-import tempfile
 import textwrap
 
 PAGE = pathlib.Path("docs/LIBRARY.md").read_text()
@@ -27,20 +24,12 @@ for block in blocks("rust"):
         wrong += 1
         print(f"not in stocklist: {lines[0]}")
 
-if sys.argv[1:] == ["--run"]:
-    with tempfile.TemporaryDirectory() as folder:
-        copy = pathlib.Path(folder)
-        shutil.copy("HANDLES", copy)
-        shutil.copytree("crates", copy / "crates", ignore=shutil.ignore_patterns("out"))
-        (copy / "crates.txt").write_text(pathlib.Path("crates.txt").read_text() + "first: dataframes\n")
-        (copy / "crates/first/src").mkdir(parents=True)
-        (copy / "crates/first/src/main.rt").write_text(blocks("rust first")[0])
-        (copy / "crates/first/stdin").write_text("")
-        ran = subprocess.run(["rt", "try"], cwd=copy / "crates/first", capture_output=True, text=True)
-        wanted = re.search(r"^It prints `(.*?)`", PAGE, re.M).group(1)
-        if wanted not in ran.stdout.split("\n"):
-            wrong += 1
-            print(ran.stdout, ran.stderr)
+if blocks("rust first") != [pathlib.Path("crates/first/src/main.rt").read_text()]:
+    wrong += 1
+    print("the first program is not that of crates/first")
+if re.findall(r"^It prints `(.*?)`", PAGE, re.M) != pathlib.Path("crates/first/stdout").read_text().split("\n")[:-1]:
+    wrong += 1
+    print("the first program has to print something else")
 
 print(f"{wrong} pieces of code that do not run")
 sys.exit(1 if wrong else 0)
