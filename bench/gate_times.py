@@ -1,6 +1,6 @@
 #!/usr/bin/env python3
-"""gate_times.py COMMAND..: runs the gate, say `rt ci --anew`, and prints the table of docs/GATE.md: what each crate's
-proof, tests and edits cost, which crate it waits for longest, and the sum of the proofs up to its own.
+"""gate_times.py COMMAND..: runs the gate, say `rt ci --anew`, and prints a table, of which docs/GATE.md has the dearest crates:
+what each crate's proof, tests and edits cost, which crate it waits for longest, and the sum of the proofs up to its own.
 
 It looks at the processes of `rattle` every half second and keeps the processor time of each, so a process that ends
 within that time is missed. Ends with the command's status. Linux, Python 3.11 or later."""
