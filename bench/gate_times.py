@@ -72,7 +72,7 @@ def table(seconds):
     for crate in sorted(used, key=ends.get):
         costs = [f"{sums[crate, part]:.0f}" if sums[crate, part] else "" for part in ("proof", "tests", "edits")]
         waited = f"`{waits[crate]}`" if waits[crate] else ""
-        yield f"| `{crate}` | {' | '.join(costs)} | {waited} | {ends[crate] / 60:.0f} min |"
+        yield f"| `{crate}` | {' | '.join(costs)} | {waited} | {ends[crate] / 60:.0f} |"
     yield f"in all {sum(sums.values()) / 60:.0f} processor minutes, the longest chain {max(ends.values()) / 60:.0f}"
 
 
