@@ -260,3 +260,13 @@ pub handed-rows :
     IfOk handed (λ v. (frame : ℕ) → accepted_at frame back ≡ accepted_at frame desks + entered_at frame (items v))
 handed-rows items chunks desks back (Ok v) done = λ frame. done.accepted frame ∙ ap (λ o. accepted_at frame desks + entered_at frame o) (sym done.all)
 handed-rows items chunks desks back (Err e) done = tt
+
+-- what a load answers is of the state of the catalogue that was settled
+pub state-of-load :
+    {C L T U E : Type 0} (state_of : C → State) (catalogue_of : L → C) (totals_of : L → T) (P : State → Type 0) (catalogue : C) (settled : Result (C × T) U)
+    (result : Result L E) → IfOk result (λ l. settled ≡ Ok (catalogue_of l, totals_of l)) → IfOk settled (λ r. r.0 ≡ catalogue) → P (state_of catalogue) →
+    IfOk result (λ l. P (state_of (catalogue_of l)))
+state-of-load {C} {L} {T} {U} {E} state_of catalogue_of totals_of P catalogue settled (Ok l) loaded same holds =
+    let here : catalogue_of l ≡ catalogue = subst (λ (r : Result (C × T) U). IfOk r (λ x. x.0 ≡ catalogue)) loaded same in
+    subst (λ (c : C). P (state_of c)) (sym here) holds
+state-of-load state_of catalogue_of totals_of P catalogue settled (Err e) loaded same holds = tt
