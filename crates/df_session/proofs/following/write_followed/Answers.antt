@@ -7,18 +7,19 @@ pub returns-clause-written : goal.returns-clause-written
 returns-clause-written g c =
     let old = c.args.followed.now in
     let number = c.change_number-number.result in
+    let pages = c.write_pages.new.pages in
     let must : c.must_write.result ≡ true = search rules in
-    let written = subst (λ ps. ArePagesBehind (λ old new. g.S.ViewStore.Answers old new c.args.definitions.now) g.S.ChangeStore.Names
-    g.S.ChangeStore.Numbers g.F.WriteFiles.Writes c.args.title.now ps number c.args.store.now c.write_pages.new.store c.args.files.now
+    let written = subst (λ ps. ArePagesBehind (λ old new. g.S.ChangeStore.Tables old new c.args.definitions.now) g.S.ChangeStore.Names
+    g.S.ChangeStore.Numbers g.F.WriteFiles.Writes c.args.title.now ps pages number c.args.store.now c.write_pages.new.store c.args.files.now
     c.write_pages.new.files (g.W.Write.contents c.args.output.now) (g.W.Write.contents c.write_pages.new.output))
-    c.as_slice-pages.ensures.value c.in_ok-write_pages.ensures in
-    let left = noted old.pages.items c.note.new.self.pages.items number old.number c.note.new.self.number c.args.moment.now old.at
+    c.as_mut_slice-pages.ensures.value c.in_ok-write_pages.ensures in
+    let left = noted pages c.note.new.self.pages.items number c.note.new.self.number c.args.moment.now
     c.note.new.self.at c.note.ensures.pages c.note.ensures.number c.note.ensures.at in (
       number,
       c.change_number-number.ensures,
-      subst (λ b. AreWrittenIf (λ old new. g.S.ViewStore.Answers old new c.args.definitions.now) g.S.ChangeStore.Names g.S.ChangeStore.Numbers
+      subst (λ b. AreWrittenIf (λ old new. g.S.ChangeStore.Tables old new c.args.definitions.now) g.S.ChangeStore.Names g.S.ChangeStore.Numbers
           g.F.WriteFiles.Writes c.args.title.now b (parts old.pages.items old.number old.at)
           (parts c.note.new.self.pages.items c.note.new.self.number c.note.new.self.at) c.args.moment.now number c.args.store.now
           c.write_pages.new.store c.args.files.now c.write_pages.new.files (g.W.Write.contents c.args.output.now)
-          (g.W.Write.contents c.write_pages.new.output)) (sym must ∙ c.must_write.ensures) (written, left),
+          (g.W.Write.contents c.write_pages.new.output)) (sym must ∙ c.must_write.ensures) (pages, written, left),
     )

@@ -1,27 +1,15 @@
-use Rattle.std.proofs.Common.{◌∙◌, ◌++◌, ◌∷◌, [], ap, arith, subst, sym, take}
-use Rattle.std.proofs.lemmas.List.{take_all, take_more}
+use Rattle.std.proofs.Common.{◌∷◌, ap, subst, sym}
+use Rattle.std.proofs.lemmas.Result.{on_ok_weaker}
 use Rattle.df_session.specs.Following.{ArePagesBehind}
-use Rattle.df_session.proofs.FollowFacts.{pages-more}
 use Rattle.df_session.proofs.following.write_pages.Goals as goal
-
-pub loop-page-preserved : goal.loop-page-preserved
-loop-page-preserved g c =
-    let pages = c.args.pages.now in
-    let at = c.loop-page.page-index in
-    let page = c.page-item.result in
-    let more = take_more pages at page c.loop-page-test.true ∙ ap (λ p. take at pages ++ p ∷ []) (sym c.page-item.is) in
-    subst (λ ps. ArePagesBehind (λ old new. g.S.ViewStore.Answers old new c.args.definitions.now) g.S.ChangeStore.Names g.S.ChangeStore.Numbers
-    g.F.WriteFiles.Writes c.args.title.now ps c.args.number c.args.store.now c.write_page.new.store c.args.files.now c.write_page.new.files
-    (g.W.Write.contents c.args.output.now) (g.W.Write.contents c.write_page.new.output)) (sym more)
-    (pages-more (λ old new. g.S.ViewStore.Answers old new c.args.definitions.now) g.S.ChangeStore.Names g.S.ChangeStore.Numbers
-    g.F.WriteFiles.Writes c.args.title.now (take at pages) page c.args.number c.args.store.now c.loop-page.store c.write_page.new.store
-    c.args.files.now c.loop-page.files c.write_page.new.files (g.W.Write.contents c.args.output.now) (g.W.Write.contents c.loop-page.output)
-    (g.W.Write.contents c.write_page.new.output) c.loop-page.invariant c.in_ok-write_page.ensures)
 
 pub returns : goal.returns
 returns g c =
-    let past = c.loop-page-test.false in
-    subst (λ ps. ArePagesBehind (λ old new. g.S.ViewStore.Answers old new c.args.definitions.now) g.S.ChangeStore.Names g.S.ChangeStore.Numbers
-    g.F.WriteFiles.Writes c.args.title.now ps c.args.number c.args.store.now c.loop-page.store c.args.files.now c.loop-page.files
-    (g.W.Write.contents c.args.output.now) (g.W.Write.contents c.loop-page.output))
-    (take_all c.loop-page.page-index c.args.pages.now (omega (arith, past))) c.loop-page.invariant
+    let first = c.in_ok-write_again.ensures in
+    let Tables = λ old new. g.S.ChangeStore.Tables old new c.args.definitions.now in
+    let all = λ pages. ArePagesBehind Tables g.S.ChangeStore.Names g.S.ChangeStore.Numbers g.F.WriteFiles.Writes c.args.title.now pages
+    (c.write_again.new.page ∷ c.write_pages.new.pages) c.args.number c.args.store.now c.write_pages.new.store c.args.files.now c.write_pages.new.files
+    (g.W.Write.contents c.args.output.now) (g.W.Write.contents c.write_pages.new.output) in
+    on_ok_weaker c.write_pages.result (λ rest. subst all (sym c.in-Some.ensures.cases.0)
+    (c.write_again.new.store, c.write_again.new.files, g.W.Write.contents c.write_again.new.output, first.0, c.write_pages.new.pages, first.1, rest, ap (λ p. p ∷ c.write_pages.new.pages) first.2))
+    c.write_pages.ensures
