@@ -43,13 +43,13 @@ pub record PageParts : Type 0 where
 -- a view's table is stored as the tuple of its parts, and a page too
 abbrev pub view_table_code : Coded ViewTable
 view_table_code =
-    code_by (List ℕ × Columns × TableParts) (coded× (coded_list coded_ℕ) (coded× (coded_list (coded× (coded_list coded_ℕ) dtype_type.the_row.coded)) table_code))
-    (λ v. (v.name, v.schema, v.table)) (λ p. record { name = p.0; schema = p.1; table = p.2 }) (λ _. refl)
+    code_by (List ℕ × (Columns × TableParts)) (coded× (coded_list coded_ℕ) (coded× (coded_list (coded× (coded_list coded_ℕ) dtype_type.the_row.coded)) table_code))
+    (λ v. (v.name, (v.schema, v.table))) (λ p. record { name = p.0; schema = p.1.0; table = p.1.1 }) (λ _. refl)
 
 abbrev pub page_code : Coded PageParts
 page_code =
-    code_by (List ℕ × List (List ℕ) × List ViewTable) (coded× (coded_list coded_ℕ) (coded× (coded_list (coded_list coded_ℕ)) (coded_list view_table_code)))
-    (λ g. (g.path, g.views, g.tables)) (λ p. record { path = p.0; views = p.1; tables = p.2 }) (λ _. refl)
+    code_by (List ℕ × (List (List ℕ) × List ViewTable)) (coded× (coded_list coded_ℕ) (coded× (coded_list (coded_list coded_ℕ)) (coded_list view_table_code)))
+    (λ g. (g.path, (g.views, g.tables))) (λ p. record { path = p.0; views = p.1.0; tables = p.1.1 }) (λ _. refl)
 
 -- the pages that follow a store, the number of the change at which they were last written, and when that was
 pub record FollowedParts : Type 0 where

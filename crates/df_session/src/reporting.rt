@@ -1,5 +1,5 @@
 //! Pages of views in files.
-ghost use Rattle.std.specs.Prelude.{◌≡◌, ◌++◌, ◌∷◌, [], IfErr, IfOk, List as Seq, Ok, OnOk, string_bytes};
+ghost use Rattle.std.specs.Prelude.{◌≡◌, ◌++◌, ◌∷◌, [], IfErr, IfOk, List as Seq, Ok, OnOk, false, string_bytes};
 ghost use Rattle.df_session.specs.Marks.{page_of_tables as page_bytes};
 ghost use Rattle.df_session.specs.Reports.{AreTables, HasTables, IsRefusalOfReport, IsRefusalOfTables, IsReport, IsUnwritten, IsUnwrittenPage, IsWritten, reported_text};
 ghost use Rattle.df_session.specs.declared.view_table.ViewTable.{ViewTable as AnyTable};

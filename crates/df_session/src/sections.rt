@@ -1,5 +1,5 @@
 //! The sections of views' tables in a page, marked against those that stood in the page before.
-ghost use Rattle.std.specs.Prelude.{◌≡◌, ◌++◌, IfOk, OnOk, bytes_eq, count_by, find, flat_map, is_none, map, take};
+ghost use Rattle.std.specs.Prelude.{◌≡◌, ◌≤◌, ◌++◌, IfOk, OnOk, bytes_eq, cond, count_by, find, flat_map, is_none, map, take};
 ghost use Rattle.std.specs.FinMap as finite;
 ghost use Rattle.std.specs.Option.{option_copied};
 ghost use Rattle.df_session.specs.Marks as marks;
@@ -144,5 +144,19 @@ fn gone_of(alloc: Global, before: &Table, table: &Table) -> Result<usize, AllocE
 fn count_none(rows: &[Option<Row>]) -> usize
     ensures { result ≡ count_by is_none rows.now }
 {
-    rows.iter().filter(|row| row.is_none()).count()
+    let mut count = 0;
+    for row in rows {
+        count += one_if_none(row);
+    }
+    count
+}
+
+fn one_if_none(row: &Option<Row>) -> usize
+    ensures value { result ≡ cond (is_none row.now) 1 0 }
+    ensures few { result ≤ 1 }
+{
+    match row {
+        Some(_) => 0,
+        None => 1,
+    }
 }

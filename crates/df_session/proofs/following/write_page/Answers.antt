@@ -11,7 +11,7 @@ returns-in-Ok g c =
     c.report_page.new.files (g.W.Write.contents c.args.output.now) (g.W.Write.contents c.args.output.now)) (sym c.tables_of.ensures)
     (inl (string_bytes written.told, c.in-Ok.ensures.written, refl))
 
-pub returns-in-Ok-in-Err : goal.returns-in-Ok-in-Err
-returns-in-Ok-in-Err g c =
-    let told = c.in-Ok-in-Err.ensures in
+pub returns-in-Ok-told : goal.returns-in-Ok-told
+returns-in-Ok-told g c =
+    let told = c.in-Ok-told.ensures in
     inr (c.in-Err.refusal, told.0, c.in-Err.ensures.refused, told.1, told.2, refl)

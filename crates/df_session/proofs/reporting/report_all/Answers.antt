@@ -1,4 +1,4 @@
-use Rattle.std.proofs.Common.{Ok, subst}
+use Rattle.std.proofs.Common.{subst}
 use Rattle.df_session.proofs.ReportFacts.{all-refusal}
 use Rattle.df_session.proofs.reporting.report_all.Goals as goal
 

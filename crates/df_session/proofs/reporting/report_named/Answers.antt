@@ -1,4 +1,4 @@
-use Rattle.std.proofs.Common.{◌≡◌, ap, inl, refl, rules, subst}
+use Rattle.std.proofs.Common.{ap, inl, refl, rules, subst}
 use Rattle.std.proofs.lemmas.Result.{err_from_is_err_and}
 use Rattle.df_session.specs.Marks.{page_of_tables}
 use Rattle.df_session.proofs.ReportFacts.{refused-memory, unwritten-behind}

@@ -1,4 +1,4 @@
-use Rattle.std.proofs.Common.{◌≡◌, ◌∙◌, [], ap, arith, length, map, min, rules, take}
+use Rattle.std.proofs.Common.{◌≡◌, ◌∙◌, [], ap, arith, map, min, rules, take}
 use Rattle.std.specs.Prelude.{List}
 use Rattle.std.specs.FinMap as finite
 use Rattle.df_value.specs.declared.cell.Cell.{Cell}
