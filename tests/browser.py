@@ -6,6 +6,9 @@ written as pages. The tables that Chromium has of a page are, cell by cell, thos
 json` tells null. No element stands in a page but those of a table, no page is wider than a window as wide as a phone's, and the bars
 of a column are as wide in proportion as its numbers.
 
+A page that follows 300 changes is open meanwhile, and Chromium loads it again by itself. Each page that it has is whole: the rows of a
+view behind one change, with the marks of those that differ from the page that was written before.
+
 browser.py --shots FOLDER PAGE: takes pictures of a page, light, dark and narrow."""
 
 import base64
@@ -21,7 +24,9 @@ import shutil
 import subprocess
 import sys
 import tempfile
+import time
 
+import pages
 import tables
 
 EXAMPLES = pathlib.Path(__file__).resolve().parent.parent / "examples"
@@ -53,6 +58,15 @@ READ = """(() => {
     })),
   });
 })()"""
+
+# What a page that follows has, once it is loaded.
+READ_FOLLOWED = """(() => JSON.stringify(document.readyState !== 'complete' || !document.querySelector('header p') ? null : {
+  change: Number(document.querySelector('header p').textContent.replace('change ', '')),
+  rows: [...document.querySelectorAll('tbody tr')].map(row => [...row.children].map(cell => cell.querySelector('.null') ? null : cell.textContent)),
+  marks: [...document.querySelectorAll('tbody tr')].map(row => [row.getAttribute('class'), row.getAttribute('title')]),
+  colours: [...new Set([...document.querySelectorAll('tbody tr')].map(row => row.className + getComputedStyle(row.firstChild).backgroundColor))],
+  lines: [...document.querySelectorAll('section > p')].map(it => it.textContent).filter(it => it.endsWith('went')),
+}))()"""
 
 
 class Browser:
@@ -109,6 +123,16 @@ class Browser:
         """What a page has."""
         self.open(path)
         return json.loads(self.ask("Runtime.evaluate", expression=READ, returnByValue=True)["result"]["value"])
+
+    def read_again(self):
+        """What the page has that is open, which may be loaded again meanwhile. None: it is not loaded yet."""
+        self.number += 1
+        message = {"id": self.number, "method": "Runtime.evaluate", "params": {"expression": READ_FOLLOWED, "returnByValue": True}, "sessionId": self.session}
+        self.to.write(json.dumps(message).encode() + b"\0")
+        while (answer := self.message()).get("id") != self.number:
+            pass
+        value = answer.get("result", {}).get("result", {}).get("value")
+        return value and json.loads(value)
 
     def picture(self, path):
         pathlib.Path(path).write_bytes(base64.b64decode(self.ask("Page.captureScreenshot")["data"]))
@@ -202,6 +226,54 @@ def random_document(folder, random):
     (folder / "t.csv").write_text(tables.written([name for name, _ in columns], rows), newline="")
 
 
+def followed(program, folder, opened, random, count=300):
+    """A page that follows changes, as the browser has it meanwhile: how many different ones it had, and how many of their rows were marked."""
+    shell, path, states, rows, number = pages.Shell(program, folder), folder / "p.html", {}, {}, 2
+    for command in ["frame t x Int who Text", "define v t []", "append t\n0,a\n.", "follow p.html"]:
+        check(command, shell.ask(command)[0], "ok")
+    rows[0], states[number], written, seen, marks, colours = [0, "a"], {0: [0, "a"]}, [number], set(), 0, set()
+    opened.open(path)
+    end = None
+    for at in range(10_000):
+        if at < count:
+            made, kind = [random.randrange(100), random.choice(HOSTILE[:12])], random.choice(["append", "append", "replace", "delete"])
+            line = f'{made[0]},"{made[1].replace(chr(34), chr(34) * 2)}"'
+            chosen = random.choice(sorted(rows) or [None])
+            if kind == "append" or chosen is None:
+                added = shell.ask(f"append t\n{line}\n.")[1][0]
+                rows[int(added.split("..")[1])] = made
+            elif kind == "replace":
+                check("replace", shell.ask(f"replace t {chosen}\n{line}")[0], "ok")
+                rows[chosen] = made
+            else:
+                check("delete", shell.ask(f"delete t {chosen}")[0], "ok")
+                del rows[chosen]
+            number += 1
+            states[number] = dict(sorted(rows.items()))
+        elif end is None:
+            check("views", shell.ask("views")[0], "ok")
+            end = time.monotonic() + 60
+        stands = pages.change_of(path)
+        written += [stands] * (written[-1] != stands)
+        page = opened.read_again()
+        if page and page["change"] not in seen:
+            change = page["change"]
+            written += [change] * (change > written[-1])
+            check("the rows", page["rows"], [[str(x), who] for x, who in states[change].values()])
+            before = states[written[written.index(change) - 1]] if change != written[0] else None
+            check(f"the marks at {change}", ([tuple(mark) for mark in page["marks"]], page["lines"]), pages.marked(before, states[change]))
+            seen.add(change)
+            marks += sum(mark is not None for mark, _ in page["marks"])
+            colours |= set(page["colours"])
+        if end and (number in seen or time.monotonic() > end):
+            break
+        time.sleep(0.02)
+    check("the last change", number in seen, True)
+    check("colours of rows that are new, changed and neither", len(colours) >= 3, True)
+    shell.close()
+    return len(seen), marks
+
+
 def main():
     if sys.argv[1] == "--shots":
         with browser() as opened:
@@ -221,7 +293,10 @@ def main():
         for at in range(documents):
             random_document(folder, random.Random(seed * 1000 + at))
             cells += compare(program, folder, "r.toml", opened)
+        (folder / "followed").mkdir()
+        loaded, marks = followed(program, folder / "followed", opened, random.Random(seed))
     print(f"{len(examples)} examples and {documents} random documents as pages: {cells} cells are what is shown")
+    print(f"a page that followed 300 changes was loaded at {loaded} of them, with {marks} marks")
 
 
 if __name__ == "__main__":

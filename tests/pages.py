@@ -10,7 +10,8 @@ stands there, a file of another stands beside it, the disk takes only a part of 
 
 A page that follows the store is whole whenever it is read, while 1,000 changes come. It is written about once a second, and the last
 change of a burst is in it once the session has ended, in each way to end, and behind the next command that makes no change. A write
-that is refused behind a change is told, and the next change tries again. All of that without and with --hall."""
+that is refused behind a change is told, and the next change tries again. Through random changes the rows that are new or changed since
+the page before are marked, with their old cells, and those that went are counted. All of that without and with --hall."""
 
 import csv
 import fractions
@@ -36,10 +37,10 @@ COLUMNS = [("who", "Text"), ("<b>&amp;\u202e", "Text"), ("n", "Int"), ("done", "
 
 class Section:
     """A view: its name, the lines of text beside its table, and the table. A cell is None or a text; `marks` has of each its classes
-    and style, and the decimal of a mean."""
+    and style, and the decimal of a mean; `changes` of each row its class and its title."""
 
     def __init__(self):
-        self.name, self.lines, self.caption, self.columns, self.rows, self.marks = "", [], "", [], [], []
+        self.name, self.lines, self.caption, self.columns, self.rows, self.marks, self.changes = "", [], "", [], [], [], []
 
 
 class Page(html.parser.HTMLParser):
@@ -74,6 +75,7 @@ class Page(html.parser.HTMLParser):
         elif tag == "tr" and "tbody" in self.open:
             self.sections[-1].rows.append([])
             self.sections[-1].marks.append([])
+            self.sections[-1].changes.append((self.attributes.get("class"), self.attributes.get("title")))
         elif tag == "td":
             self.sections[-1].rows[-1].append("")
             self.sections[-1].marks[-1].append({**self.attributes, "decimal": ""})
@@ -184,6 +186,7 @@ def compare(what, section, name, total, table, objects, types):
     check(what, [[value is None for value in row] for row in section.rows], nulls)
     check_bars(what, section, types)
     check_means(what, section, types)
+    check(what, set(section.changes) - {(None, None)}, set())
 
 
 def one(program, folder, random):
@@ -400,14 +403,180 @@ def unwritten(program, folder, words):
     check("files", sorted(file.name for file in folder.iterdir()), ["gone", "p.html"])
 
 
+def in_words(value):
+    """A cell as a table is printed."""
+    if value is None:
+        return "null"
+    return "".join("\\\\" if c == "\\" else f"\\x{ord(c):02x}" if ord(c) < 32 or ord(c) == 127 else c for c in str(value))
+
+
+def marked(before, rows):
+    """The class and the title of each row that is shown, and the line that counts those that went. Rows stand under their numbers."""
+    shown = list(rows.items())[:1000]
+    if before is None:
+        return [(None, None)] * len(shown), []
+    titles = [("new", None) if n not in before else (None, None) if before[n] == row else ("changed", ", ".join(map(in_words, before[n]))) for n, row in shown]
+    gone = sum(n not in rows for n in list(before)[:1000])
+    return titles, [f"{gone} of the rows shown before went"] * (gone > 0)
+
+
+class Followed:
+    """A page that follows two views of a frame: all of its rows, and those with a number above 0. `states` has the rows of the frame behind
+    each change, and each view of the page that was last seen stands in `before`."""
+
+    def __init__(self, path, views, states, number):
+        self.path, self.views, self.states, self.number, self.seen, self.counts = path, views, states, number, time.monotonic(), [0, 0, 0]
+        self.check_against([None], Page(path.read_text()))
+
+    def rows(self, view, number):
+        return {n: row for n, row in self.states[number].items() if view == "all" or (row[0] is not None and row[0] > 0)}
+
+    def got(self, page):
+        return [(section.changes, [line for line in section.lines if line.endswith("went")]) for section in page.sections]
+
+    def check_against(self, befores, page):
+        """The marks are those against one of these pages before, by their numbers."""
+        number = int(page.lines[0].removeprefix("change "))
+        check("the views", [section.name for section in page.sections], self.views)
+        for section in page.sections:
+            shown = [[None if value is None else str(value) for value in row] for row in list(self.rows(section.name, number).values())[:1000]]
+            check("rows", section.rows, shown)
+        wanted = [[marked(None if before is None else self.rows(view, before), self.rows(view, number)) for view in self.views] for before in befores]
+        got = self.got(page)
+        if got not in wanted:
+            sys.exit(f"the marks of {self.path} at change {number}: {got!r} in place of {wanted[0]!r}")
+        for changes, lines in got:
+            self.counts = [count + more for count, more in zip(self.counts, [changes.count(("new", None)), sum(c == "changed" for c, _ in changes), len(lines)])]
+        self.number = number
+
+    def look(self, number, reload="2"):
+        """The page has this change, once a command was settled. Where that took a second, pages that were not seen may stand between."""
+        page = Page(self.path.read_text())
+        check("the page", (page.lines, page.reload), ([f"change {number}"], reload))
+        slow = time.monotonic() - self.seen > 0.9
+        if number != self.number or reload is None:
+            self.check_against([self.number, *(range(self.number + 1, number + 1) if slow else [])], page)
+        self.seen = time.monotonic()
+
+
+def marks(program, folder, words, random):
+    """The marks of two pages that follow random changes, some of whose writes are refused: how many rows were new, changed and gone."""
+    shell, states, rows, count = Shell(program, folder, *words), {}, {}, 0
+    lines = lambda made: [",".join("" if value is None else quoted(str(value)) for value in row) for row in made]
+    some = lambda: [random.choice([None, 0, -3, 1, 2, 9]), random.choice(["a", "b", 'x"y', "<b>", "&amp;", "\\", "a\tb", "\u007f\u0007", "null", "1, 2"])]
+    for command in [["frame t x Int who Text"], ["define all t []"], ['define some t [["filter", [">", ["col", "x"], 0]]]']]:
+        check(command[0], shell.ask(*command)[0], "ok")
+    number = 2
+
+    def change(*command):
+        nonlocal number
+        check(command[0], shell.ask(*command)[0], "ok")
+        number += 1
+        states[number] = {n: list(row) for n, row in sorted(rows.items())}
+
+    def add(made):
+        nonlocal count
+        for row in made:
+            rows[count] = row
+            count += 1
+        change("append t", *lines(made), ".")
+
+    add([some() for _ in range(random.choice([3, 1003]))])
+    pages = []
+    for views in (["all", "some"], ["some"]):
+        path = folder / f"{len(pages)}.html"
+        check("follow", shell.ask(f"follow {path.name} {' '.join(views)}")[0], "ok")
+        pages.append(Followed(path, views, states, number))
+    tried, settled = number, time.monotonic()
+    for _ in range(12):
+        for _ in range(random.randrange(3)):
+            chosen = sorted(random.sample(sorted(rows), min(len(rows), random.randrange(1, 4))))
+            kind = random.choice(["append", "replace", "delete", "same"])
+            if kind == "append" or not chosen:
+                add([some() for _ in range(random.randrange(1, 3))])
+            elif kind == "delete":
+                for n in chosen:
+                    del rows[n]
+                change(f"delete t {' '.join(map(str, chosen))}")
+            else:
+                for n in chosen:
+                    rows[n] = rows[n] if kind == "same" else some()
+                change(f"replace t {' '.join(map(str, chosen))}", *lines([rows[n] for n in chosen]))
+        is_blocked = random.random() < 0.3
+        if is_blocked:
+            (folder / "0.html.part").write_text("theirs")
+        told = [head for head, _ in shell.settled("views")[1]]
+        if is_blocked:
+            (folder / "0.html.part").unlink()
+        if time.monotonic() - settled < 0.9:
+            check("told", told, [f"unwritten 0.html {number}"] * (is_blocked and number != tried))
+        for page in pages[is_blocked:] if number != tried else []:
+            page.look(number)
+        tried, settled = number, time.monotonic()
+    add([some()])
+    check("unfollow", shell.settled("unfollow 0.html"), (("ok", ["ok\n"]), []))
+    pages[0].look(number, None)
+    shell.close()
+    return [sum(counts) for counts in zip(*(page.counts for page in pages))]
+
+
+BEFORE_ROWS = (
+    '<div class="table" tabindex="0">\n<table>\n<caption>v</caption>\n<thead>\n'
+    '<tr><th scope="col"><bdi>who</bdi></th><th scope="col" class="number"><bdi>n</bdi></th></tr>\n</thead>\n<tbody>\n'
+)
+# Commands, each with the lines behind it, and the page then: its change, how many rows it tells, these, and what stands behind the table.
+STEPS = [
+    (
+        [["follow p.html"]], 3, "2 rows",
+        '<tr><td><bdi>ann</bdi></td><td class="bar" style="--w:500">1</td></tr>\n<tr><td><bdi>bob</bdi></td><td class="bar" style="--w:1000">2</td></tr>\n', "",
+    ),
+    (
+        [["append t", '"<c>, ""d""",3', "."], ["replace t 1", "bob,"], ["views"]], 5, "3 rows",
+        '<tr><td><bdi>ann</bdi></td><td class="bar" style="--w:333">1</td></tr>\n'
+        '<tr class="changed" title="bob, 2"><td><bdi>bob</bdi></td><td class="number"><span class="null">null</span></td></tr>\n'
+        '<tr class="new"><td><bdi>&lt;c&gt;, &quot;d&quot;</bdi></td><td class="bar" style="--w:1000">3</td></tr>\n', "",
+    ),
+    (
+        [["delete t 0"], ["replace t 2", "x,6"], ["views"]], 7, "2 rows",
+        '<tr><td><bdi>bob</bdi></td><td class="number"><span class="null">null</span></td></tr>\n'
+        '<tr class="changed" title="&lt;c&gt;, &quot;d&quot;, 3"><td><bdi>x</bdi></td><td class="bar" style="--w:1000">6</td></tr>\n',
+        "<p>1 of the rows shown before went</p>\n",
+    ),
+    (
+        [["replace t 1", "c\\,-3"], ["replace t 1", "bob,"], ["replace t 2", "\\,6"], ["unfollow p.html"]], 10, "2 rows",
+        '<tr><td><bdi>bob</bdi></td><td class="number"><span class="null">null</span></td></tr>\n'
+        '<tr class="changed" title="x, 6"><td><bdi>\\</bdi></td><td class="bar" style="--w:1000">6</td></tr>\n', "",
+    ),
+]
+
+
+def written_marks(program, folder, words):
+    """The pages of a few changes, byte by byte behind their heads, and whether no page was written that is not here: behind a change, since a
+    second was over."""
+    shell, start = Shell(program, folder, *words), time.monotonic()
+    for lines in [["frame t who Text n Int"], ["define v t []"], ["append t", "ann,1", "bob,2", "."]]:
+        check(lines[0], shell.ask(*lines)[0], "ok")
+    for commands, number, size, rows, rest in STEPS:
+        for lines in commands[:-1]:
+            check(lines[0], shell.ask(*lines)[0], "ok")
+        check("told", shell.settled(*commands[-1])[1], [])
+        page = (folder / "p.html").read_text()
+        wanted = f"<section>\n<h2>v</h2>\n<p>{size} x 2 columns</p>\n{BEFORE_ROWS}{rows}</tbody>\n</table>\n</div>\n{rest}</section>\n</main>\n</body>\n</html>\n"
+        if time.monotonic() - start < 0.9:
+            check(f"the page at change {number}", (page.partition("<main>\n")[2], Page(page).lines), (wanted, [f"change {number}"]))
+    shell.close()
+    return time.monotonic() - start < 0.9
+
+
 def follow_allocations(program, folder, words):
-    """Refuses each allocation of a session with a page that follows it in turn: what stands there is whole, and nothing is beside it."""
-    typed = b"frame t x Int\ndefine v t []\nfollow p.html\nappend t\n1\n.\nviews\n"
+    """Refuses each allocation of a session with a page that follows it in turn: what stands there is whole, and nothing is beside it. A
+    row is marked that came since the page was written."""
+    typed = b"frame t x Int\ndefine v t []\nfollow p.html\nappend t\n1\n.\nviews\nappend t\n2\n.\nviews\n"
     with tempfile.TemporaryDirectory() as name:
         variables = {**os.environ, "LD_PRELOAD": sessions.failing_library(name)}
         counts = os.path.join(name, "counts")
         subprocess.run([program, *words], cwd=folder, input=typed, capture_output=True, env={**variables, "COUNTS": counts}, check=True)
-        check("the last change", change_of(folder / "p.html"), 2)
+        check("the last change", change_of(folder / "p.html"), 3)
         told = 0
         for number in range(1, int(pathlib.Path(counts).read_text().split()[0]) + 1):
             (folder / "p.html").unlink(missing_ok=True)
@@ -415,26 +584,42 @@ def follow_allocations(program, folder, words):
             run = subprocess.run([program, *words], cwd=folder, input=typed, capture_output=True, env=refused)
             lines = run.stdout.decode().splitlines()
             check(f"allocation {number}", lines.count("memory") + run.stderr.count(b"memory") <= 1, True)
-            if "unwritten p.html 2 1" in lines:
-                told += 1
-                check(f"allocation {number}", change_of(folder / "p.html"), 1)
-            elif "memory" not in lines and run.returncode == 0:
+            if "unwritten p.html 3 1" in lines:
                 check(f"allocation {number}", change_of(folder / "p.html"), 2)
+            elif "unwritten p.html 2 1" in lines:
+                told += 1
+                check(f"allocation {number}", Page((folder / "p.html").read_text()).sections[0].changes, [("new", None)] * 2)
+            elif "memory" not in lines and run.returncode == 0:
+                check(f"allocation {number}", Page((folder / "p.html").read_text()).sections[0].changes, [(None, None), ("new", None)])
             check(f"allocation {number}", [file.name for file in folder.iterdir() if file.name != "p.html"], [])
         check("told of a page that is not written", told > 0, True)
     return told
 
 
-def followed(program):
+def in_folder(part, program, words):
+    with tempfile.TemporaryDirectory() as name:
+        return part(program, pathlib.Path(name), words)
+
+
+def followed(program, seed):
     """The parts about pages that follow the store, without and with --hall."""
     times = memory = 0
+    counts = [0, 0, 0]
     for words in ([], ["--hall"]):
         for part in (burst, endings, unwritten, follow_allocations):
             with tempfile.TemporaryDirectory() as name:
                 got = part(program, pathlib.Path(name), words)
                 times += got if part is burst else 0
                 memory += got if part is follow_allocations else 0
+        if not any(in_folder(written_marks, program, words) for _ in range(20)):
+            sys.exit("20 sessions took a second each")
+        for at in range(10):
+            with tempfile.TemporaryDirectory() as name:
+                got = marks(program, pathlib.Path(name), words, random.Random(seed * 1000 + at))
+                counts = [count + more for count, more in zip(counts, got)]
+    check("rows that are marked, and lines of those that went", all(counts), True)
     print(f"pages that follow 2,000 changes were written {times} times; {memory} of which an allocation was refused")
+    print(f"through random changes {counts[0]} rows were marked as new and {counts[1]} as changed, and {counts[2]} lines counted those that went")
 
 
 def main():
@@ -448,7 +633,7 @@ def main():
     with tempfile.TemporaryDirectory() as name:
         count, memory = refused(program, pathlib.Path(name))
     print(f"50 pages, read; {count} refused, and {memory} of which an allocation was")
-    followed(program)
+    followed(program, seed)
 
 
 if __name__ == "__main__":

@@ -1,5 +1,5 @@
 -- An escaped text is read back, and has no byte that would begin or end a tag.
-use Rattle.std.proofs.Common.{◌≡◌, ◌++◌, ◌∷◌, [], ◌∙◌, ℕ, true, false, List, None, inl, inr, refl, ap, sym, subst, append_assoc, append-nil, codes, flat_map}
+use Rattle.std.proofs.Common.{◌≡◌, ◌++◌, ◌∷◌, [], ◌∙◌, ℕ, Bool, true, false, List, None, inl, inr, refl, ap, sym, subst, append_assoc, append-nil, codes, flat_map}
 use Rattle.std.specs.Prelude.{◌==◌, not}
 use Rattle.std.specs.List.{list_all}
 use Rattle.std.proofs.lemmas.Bool.{cases_Bool, eqb-true}
@@ -64,8 +64,23 @@ escaped_text (b ∷ text) = byte_text b (flat_map escaped_byte text) ∙ escaped
 byte_opens_none : (b : ℕ) → list_all (λ x. not (x == 60)) (escaped_byte b) ≡ true
 byte_opens_none b = by_byte (λ b bytes. list_all (λ x. not (x == 60)) bytes ≡ true) refl refl refl refl refl refl (λ b f g h i. rw g refl) b
 
--- no tag begins in an escaped text
-pub opens_none : (text : List ℕ) → list_all (λ x. not (x == 60)) (escaped text) ≡ true
+byte_closes_none : (b : ℕ) → list_all (λ x. not (x == 62)) (escaped_byte b) ≡ true
+byte_closes_none b = by_byte (λ b bytes. list_all (λ x. not (x == 62)) bytes ≡ true) refl refl refl refl refl refl (λ b f g h i. rw h refl) b
+
+byte_quotes_none : (b : ℕ) → list_all (λ x. not (x == 34)) (escaped_byte b) ≡ true
+byte_quotes_none b = by_byte (λ b bytes. list_all (λ x. not (x == 34)) bytes ≡ true) refl refl refl refl refl refl (λ b f g h i. rw i refl) b
+
+each_byte : (p : ℕ → Bool) → ((b : ℕ) → list_all p (escaped_byte b) ≡ true) → (text : List ℕ) → list_all p (escaped text) ≡ true
 unfolding escaped
-opens_none [] = refl
-opens_none (b ∷ text) = rw (list_all-append (λ x. not (x == 60)) (escaped_byte b) (flat_map escaped_byte text), byte_opens_none b) (opens_none text)
+each_byte p h [] = refl
+each_byte p h (b ∷ text) = rw (list_all-append p (escaped_byte b) (flat_map escaped_byte text), h b) (each_byte p h text)
+
+-- no tag begins in an escaped text, and none ends; no value of an attribute does
+pub opens_none : (text : List ℕ) → list_all (λ x. not (x == 60)) (escaped text) ≡ true
+opens_none text = each_byte (λ x. not (x == 60)) byte_opens_none text
+
+pub ends_none : (text : List ℕ) → list_all (λ x. not (x == 62)) (escaped text) ≡ true
+ends_none text = each_byte (λ x. not (x == 62)) byte_closes_none text
+
+pub quotes_none : (text : List ℕ) → list_all (λ x. not (x == 34)) (escaped text) ≡ true
+quotes_none text = each_byte (λ x. not (x == 34)) byte_quotes_none text

@@ -1,6 +1,7 @@
 pub mod MarkupFacts
 pub mod EscapeFacts
 pub mod TagFacts
+pub mod MarkFacts
 pub mod BarFacts
 pub mod RowFacts
 pub mod MeanFacts

@@ -1,5 +1,5 @@
 -- What is read of a page.
-use Rattle.std.proofs.Common.{◌≡◌, ◌++◌, ◌∷◌, [], ◌∙◌, ℕ, Bool, true, false, List, None, refl, ap, sym, map, flat_map, append_assoc, append-nil}
+use Rattle.std.proofs.Common.{◌≡◌, ◌++◌, ◌∷◌, [], ◌∙◌, ℕ, Bool, true, false, List, Option, None, refl, ap, sym, map, flat_map, append_assoc, append-nil}
 use Rattle.std.specs.List.{list_all}
 use Rattle.df_value.specs.declared.cell.Cell.{Cell}
 use Rattle.df_value.specs.Schemas.{Columns}
@@ -8,19 +8,19 @@ use Rattle.df_page.specs.Pages.{end_of, end_tags, head_of, head_tags, page_of}
 use Rattle.df_page.specs.Reading.{is_cell, is_row_end, rows_from, rows_read, shown_table}
 use Rattle.df_page.specs.Sections.{section_of, section_tags}
 use Rattle.df_page.proofs.MarkupFacts.{markup-append}
-use Rattle.df_page.proofs.RowFacts.{each_are_tags, is_other, skip}
+use Rattle.df_page.proofs.RowFacts.{each_are_tags, skip}
 use Rattle.df_page.proofs.SectionFacts.{section_are_tags, section_back}
-use Rattle.df_page.proofs.TagFacts.{all_both, is_tag, tags_back}
+use Rattle.df_page.proofs.TagFacts.{all_both, is_other, is_tag, tags_back}
 
--- a view: its name, its columns, the rows that are shown and how many it has
+-- a view: its name, its columns, the rows that are shown and how many it has, what these were before, and how many went
 abbrev pub View : Type 0
-View = List ℕ × Columns × List (List Cell) × ℕ
+View = List ℕ × Columns × List (List Cell) × ℕ × List (Option (List Cell)) × ℕ
 
 abbrev pub section_of_view : View → List ℕ
-section_of_view v = section_of v.0 v.1 v.2 v.3
+section_of_view v = section_of v.0 v.1 v.2 v.3 v.4 v.5
 
 abbrev tags_of_view : View → List Tagged
-tags_of_view v = section_tags v.0 v.1 v.2 v.3
+tags_of_view v = section_tags v.0 v.1 v.2 v.3 v.4 v.5
 
 sections_are : (views : List View) → flat_map (λ s. s) (map section_of_view views) ≡ markup (flat_map tags_of_view views)
 unfolding section_of markup
@@ -41,7 +41,7 @@ views_back : (views : List View) (tags : List Tagged) → rows_from [] None (fla
 views_back [] tags = refl
 views_back (v ∷ views) tags =
     ap (rows_from [] None) (append_assoc (tags_of_view v) (flat_map tags_of_view views) tags)
-    ∙ (section_back v.0 v.1 v.2 v.3 (flat_map tags_of_view views ++ tags)
+    ∙ (section_back v.0 v.1 v.2 v.3 v.4 v.5 (flat_map tags_of_view views ++ tags)
     ∙ (ap (λ l. shown_table v.1 v.2 ++ l) (views_back views tags)
     ∙ sym (append_assoc (shown_table v.1 v.2) (flat_map (λ v. shown_table v.1 v.2) views) (rows_from [] None tags))))
 
@@ -63,7 +63,7 @@ page_back title change reload views =
     let middle = flat_map tags_of_view views in
     let are_tags =
     all_both is_tag head (middle ++ end_tags) (head_are_tags title change reload)
-    (all_both is_tag middle end_tags (each_are_tags tags_of_view (λ v. section_are_tags v.0 v.1 v.2 v.3) views) refl) in
+    (all_both is_tag middle end_tags (each_are_tags tags_of_view (λ v. section_are_tags v.0 v.1 v.2 v.3 v.4 v.5) views) refl) in
     ap rows_read (page_is title change reload views)
     ∙ (ap (rows_from [] None) (tags_back (head ++ (middle ++ end_tags)) are_tags)
     ∙ (skip [] head (middle ++ end_tags) (head_are_other title change reload)

@@ -1,6 +1,6 @@
 -- The cells of rows are read back.
-use Rattle.std.proofs.Common.{◌≡◌, ◌++◌, ◌∷◌, [], ◌∙◌, ◌+◌, ◌<◌, ◌≤◌, ℕ, ℤ, Bool, true, false, suc, List, Some, None, refl, ap, sym, length, map, get_or, append_assoc, append-nil, flat_map, codes, decimal, unsigned_abs, arith}
-use Rattle.std.specs.Prelude.{◌==◌, ◌&&◌, not}
+use Rattle.std.proofs.Common.{◌≡◌, ◌++◌, ◌∷◌, [], ◌∙◌, ◌+◌, ◌<◌, ◌≤◌, ℕ, ℤ, Bool, true, false, suc, List, Option, Some, None, refl, ap, sym, length, map, get_or, append_assoc, append-nil, flat_map, codes, decimal, unsigned_abs, arith}
+use Rattle.std.specs.Prelude.{◌==◌, not, slice_get}
 use Rattle.std.specs.Int.{is_negative}
 use Rattle.std.specs.List.{enumerate_from, list_all, range_with_len}
 use Rattle.std.proofs.lemmas.Bool.{ne_eqb}
@@ -11,19 +11,13 @@ use Rattle.df_value.specs.declared.cell.Cell.TheVariants as cell
 use Rattle.df_value.specs.Rows.{cell_at}
 use Rattle.df_page.specs.declared.columns.Column.{Column}
 use Rattle.df_page.specs.Bars.{bar_tag, bar_width, side}
-use Rattle.df_page.specs.Cells.{cell_tags, cells_tags, null_tags, number_tags, plain_tag, row_tags}
+use Rattle.df_page.specs.Cells.{cell_tags, cells_tags, null_tags, number_tags, plain_tag, row_tag, row_tags}
 use Rattle.df_page.specs.Markup.{Tagged}
 use Rattle.df_page.specs.Reading.{Shown, is_cell, is_cell_end, is_null_mark, is_row_end, rows_from, shown_cell, shown_row, shown_with}
+use Rattle.df_page.specs.Sections.{placed_tags}
 use Rattle.df_page.proofs.BarFacts.{width_most}
-use Rattle.df_page.proofs.TagFacts.{all_both, closes_none, is_tag, two_true}
-
--- whether a tag outside of a cell begins none, and ends no row
-abbrev pub is_other : Tagged → Bool
-is_other t = not (is_cell t.0) && not (is_row_end t.0)
-
-was_not : (b : Bool) → not b ≡ true → b ≡ false
-was_not true h = cc
-was_not false h = refl
+use Rattle.df_page.proofs.MarkFacts.{mark_closes_none, mark_is_other}
+use Rattle.df_page.proofs.TagFacts.{all_both, closes_none, is_other, is_tag, two_true, was_not}
 
 pub skip : (row : List Shown) (before tags : List Tagged) → list_all is_other before ≡ true → rows_from row None (before ++ tags) ≡ rows_from row None tags
 unfolding rows_from
@@ -114,22 +108,25 @@ by_place : {X Y : Type 0} (f : ℕ → Y) (n : ℕ) (xs : List X) → map (λ c.
 by_place f n [] = refl
 by_place f n (x ∷ xs) = ap (λ l. f n ∷ l) (by_place f (n + 1) xs)
 
-row_back : (columns : List Column) (v : List Cell) (tags : List Tagged) → rows_from [] None (row_tags columns v ++ tags) ≡ shown_row (length columns) v ∷ rows_from [] None tags
-unfolding is_cell is_row_end
-row_back columns v tags =
+row_back : (columns : List Column) (before : Option (Option (List Cell))) (v : List Cell) (tags : List Tagged) →
+    rows_from [] None (row_tags columns before v ++ tags) ≡ shown_row (length columns) v ∷ rows_from [] None tags
+row_back columns before v tags =
     let cells = cells_tags columns v in
-    skip [] ((codes "tr", []) ∷ []) ((cells ++ ((codes "/tr", codes "\n") ∷ [])) ++ tags) refl
+    let first : list_all is_other ((row_tag before v, []) ∷ []) ≡ true = rw (mark_is_other before v) refl in
+    skip [] ((row_tag before v, []) ∷ []) ((cells ++ ((codes "/tr", codes "\n") ∷ [])) ++ tags) first
     ∙ (ap (rows_from [] None) (append_assoc cells ((codes "/tr", codes "\n") ∷ []) tags)
     ∙ (cells_back [] v (enumerate_from 0 columns) ((codes "/tr", codes "\n") ∷ tags)
     ∙ (row_ended (map (λ c. shown_cell (cell_at (Some c.0) v)) (enumerate_from 0 columns)) (codes "\n") tags
     ∙ ap (λ r. r ∷ rows_from [] None tags) (by_place (λ at. shown_cell (cell_at (Some at) v)) 0 columns))))
 
-pub each_row_back : (columns : List Column) (rows : List (List Cell)) (tags : List Tagged) →
-    rows_from [] None (flat_map (row_tags columns) rows ++ tags) ≡ map (shown_row (length columns)) rows ++ rows_from [] None tags
-each_row_back columns [] tags = refl
-each_row_back columns (v ∷ rows) tags =
-    ap (rows_from [] None) (append_assoc (row_tags columns v) (flat_map (row_tags columns) rows) tags)
-    ∙ (row_back columns v (flat_map (row_tags columns) rows ++ tags) ∙ ap (λ l. shown_row (length columns) v ∷ l) (each_row_back columns rows tags))
+-- the rows from an index on
+pub each_row_back : (columns : List Column) (before : List (Option (List Cell))) (n : ℕ) (rows : List (List Cell)) (tags : List Tagged) →
+    rows_from [] None (flat_map (placed_tags columns before) (enumerate_from n rows) ++ tags) ≡ map (shown_row (length columns)) rows ++ rows_from [] None tags
+each_row_back columns before n [] tags = refl
+each_row_back columns before n (v ∷ rows) tags =
+    let rest = flat_map (placed_tags columns before) (enumerate_from (n + 1) rows) in
+    ap (rows_from [] None) (append_assoc (placed_tags columns before (n, v)) rest tags)
+    ∙ (row_back columns (slice_get before n) v (rest ++ tags) ∙ ap (λ l. shown_row (length columns) v ∷ l) (each_row_back columns before (n + 1) rows tags))
 
 digits_close_none : (ds : List ℕ) → ((i : ℕ) → i < length ds → (48 ≤ get_or ds i 0) × (get_or ds i 0 ≤ 57)) → closes_none ds ≡ true
 digits_close_none [] h = refl
@@ -180,7 +177,7 @@ pub each_are_tags : {X : Type 0} (f : X → List Tagged) → ((x : X) → list_a
 each_are_tags f h [] = refl
 each_are_tags f h (x ∷ xs) = all_both is_tag (f x) (flat_map f xs) (h x) (each_are_tags f h xs)
 
-pub row_are_tags : (columns : List Column) (v : List Cell) → list_all is_tag (row_tags columns v) ≡ true
-row_are_tags columns v =
-    all_both is_tag (cells_tags columns v) ((codes "/tr", codes "\n") ∷ [])
-    (each_are_tags (λ c. cell_tags c.1 (cell_at (Some c.0) v)) (λ c. cell_are_tags c.1 (cell_at (Some c.0) v)) (enumerate_from 0 columns)) refl
+pub row_are_tags : (columns : List Column) (before : Option (Option (List Cell))) (v : List Cell) → list_all is_tag (row_tags columns before v) ≡ true
+row_are_tags columns before v =
+    rw (mark_closes_none before v) (all_both is_tag (cells_tags columns v) ((codes "/tr", codes "\n") ∷ [])
+    (each_are_tags (λ c. cell_tags c.1 (cell_at (Some c.0) v)) (λ c. cell_are_tags c.1 (cell_at (Some c.0) v)) (enumerate_from 0 columns)) refl)

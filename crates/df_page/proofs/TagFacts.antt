@@ -4,7 +4,7 @@ use Rattle.std.specs.Prelude.{◌==◌, ◌&&◌, not}
 use Rattle.std.specs.List.{list_all}
 use Rattle.std.proofs.lemmas.List.Folds.{list_all-append}
 use Rattle.df_page.specs.Markup.{Tagged, escaped, markup, tag_bytes}
-use Rattle.df_page.specs.Reading.{tags_from, tags_read, text_read}
+use Rattle.df_page.specs.Reading.{is_cell, is_row_end, tags_from, tags_read, text_read}
 use Rattle.df_page.proofs.EscapeFacts.{escaped_reads, opens_none}
 
 abbrev pub closes_none : List ℕ → Bool
@@ -14,11 +14,15 @@ closes_none tag = list_all (λ b. not (b == 62)) tag
 abbrev pub is_tag : Tagged → Bool
 is_tag t = closes_none t.0
 
+-- whether a tag outside of a cell begins none, and ends no row
+abbrev pub is_other : Tagged → Bool
+is_other t = not (is_cell t.0) && not (is_row_end t.0)
+
 pub two_true : (a b : Bool) → (a && b) ≡ true → (a ≡ true) × (b ≡ true)
 two_true true b h = (refl, h)
 two_true false b h = cc
 
-was_not : (b : Bool) → not b ≡ true → b ≡ false
+pub was_not : (b : Bool) → not b ≡ true → b ≡ false
 was_not true h = cc
 was_not false h = refl
 

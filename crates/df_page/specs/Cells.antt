@@ -1,13 +1,14 @@
 -- Cells and rows of a table as tags.
-use Rattle.std.specs.Prelude.{◌++◌, ℕ, ℤ, Bool, true, false, List, [], ◌∷◌, Some, flat_map, codes}
+use Rattle.std.specs.Prelude.{◌++◌, ℕ, ℤ, Bool, true, false, List, [], ◌∷◌, Option, Some, None, flat_map, codes, if◌then◌else◌}
 use Rattle.std.specs.Fmt.{signed_decimal}
 use Rattle.std.specs.List.{enumerate_from}
 use Rattle.df_value.specs.declared.cell.Cell.{Cell}
 use Rattle.df_value.specs.declared.cell.Cell.TheVariants as cell
-use Rattle.df_value.specs.Rows.{cell_at}
+use Rattle.df_print.specs.Printed.{cell_text}
+use Rattle.df_value.specs.Rows.{cell_at, row_eq}
 use Rattle.df_page.specs.declared.columns.Column.{Column}
 use Rattle.df_page.specs.Bars.{bar_tag}
-use Rattle.df_page.specs.Markup.{Tagged}
+use Rattle.df_page.specs.Markup.{Tagged, escaped}
 use Rattle.df_page.specs.Means.{mean_decimal}
 
 -- the tag of a cell without a bar
@@ -51,6 +52,21 @@ cell_tags column (cell.Frac f) = mean_tags f
 abbrev pub cells_tags : List Column → List Cell → List Tagged
 cells_tags columns row = flat_map (λ c. cell_tags c.1 (cell_at (Some c.0) row)) (enumerate_from 0 columns)
 
--- a row
-abbrev pub row_tags : List Column → List Cell → List Tagged
-row_tags columns row = (codes "tr", []) ∷ (cells_tags columns row ++ ((codes "/tr", codes "\n") ∷ []))
+-- the cells of a row in the words of a printed table, one behind another
+abbrev pub cells_text : List Cell → List ℕ
+cells_text [] = []
+cells_text (v ∷ row) = cell_text v ++ flat_map (λ w. codes ", " ++ cell_text w) row
+
+-- the tag of a row that had these cells
+abbrev pub changed_tag : List Cell → List ℕ
+changed_tag old = codes "tr class=\"changed\" title=\"" ++ (escaped (cells_text old) ++ codes "\"")
+
+-- The tag of a row. What it was before is not known, or there was none, which makes it new, or it had these cells.
+abbrev pub row_tag : Option (Option (List Cell)) → List Cell → List ℕ
+row_tag None row = codes "tr"
+row_tag (Some None) row = codes "tr class=\"new\""
+row_tag (Some (Some old)) row = if row_eq old row then codes "tr" else changed_tag old
+
+-- a row, by what it was before
+abbrev pub row_tags : List Column → Option (Option (List Cell)) → List Cell → List Tagged
+row_tags columns before row = (row_tag before row, []) ∷ (cells_tags columns row ++ ((codes "/tr", codes "\n") ∷ []))

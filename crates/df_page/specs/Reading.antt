@@ -4,9 +4,9 @@ use Rattle.std.specs.List.{range_with_len, take_while}
 use Rattle.std.specs.Fmt.{signed_decimal}
 use Rattle.df_value.specs.declared.cell.Cell.{Cell}
 use Rattle.df_value.specs.declared.cell.Cell.TheVariants as cell
-use Rattle.df_value.specs.Rows.{cell_at}
+use Rattle.df_value.specs.Rows.{cell_at, row_eq}
 use Rattle.df_value.specs.Schemas.{Columns}
-use Rattle.df_page.specs.Cells.{fraction}
+use Rattle.df_page.specs.Cells.{cells_text, fraction}
 use Rattle.df_page.specs.Markup.{Tagged}
 use Rattle.df_page.specs.Means.{mean_decimal}
 
@@ -60,6 +60,28 @@ tags_from false tag text (b ∷ bytes) =
 -- the tags in bytes; what stands before the first one is left out
 abbrev pub tags_read : List ℕ → List Tagged
 tags_read bytes = drop 1 (tags_from false [] [] bytes)
+
+-- the attributes in a tag, each with the text of its value: inside a value or outside, with what is read of its name and of it
+unfoldable pub attributes_from : Bool → List ℕ → List ℕ → List ℕ → List (List ℕ × List ℕ)
+attributes_from true name value [] = []
+attributes_from false name value [] = []
+attributes_from true name value (b ∷ bytes) =
+    if b == 34 then (name, text_read value) ∷ attributes_from false [] [] bytes else attributes_from true name (value ++ b ∷ []) bytes
+attributes_from false name value (b ∷ bytes) =
+    if b == 34 then attributes_from true name [] bytes
+    else if b == 32 then attributes_from false [] [] bytes
+    else if b == 61 then attributes_from false name value bytes
+    else attributes_from false (name ++ b ∷ []) value bytes
+
+-- the attributes of a tag
+abbrev pub attributes_read : List ℕ → List (List ℕ × List ℕ)
+attributes_read tag = attributes_from false [] [] tag
+
+-- what the tag of a row is to be read as, by what the row was before
+abbrev pub shown_mark : Option (Option (List Cell)) → List Cell → List (List ℕ × List ℕ)
+shown_mark None row = []
+shown_mark (Some None) row = (codes "class", codes "new") ∷ []
+shown_mark (Some (Some old)) row = if row_eq old row then [] else (codes "class", codes "changed") ∷ (codes "title", cells_text old) ∷ []
 
 -- a cell as it is read: its text, none where it is marked as null
 abbrev pub Shown : Type 0

@@ -1,5 +1,6 @@
 //! Cells and rows of a table.
 ghost use Rattle.std.specs.Prelude.{◌≡◌, ◌++◌, IfOk, OnOk, string_bytes};
+ghost use Rattle.std.specs.Option.{option_copied};
 ghost use Rattle.df_value.specs.CellRefs.{cell_of_ref};
 ghost use Rattle.df_value.specs.declared.cell.Cell.TheVariants as cell;
 ghost use Rattle.df_page.specs.Cells as cells;
@@ -9,21 +10,24 @@ ghost use Rattle.std.specs.Prelude.{codes};
 
 use crate::bars::bar_tag;
 use crate::columns::Column;
+use crate::marks::push_row_tag;
 use crate::markup::push_tags;
 use crate::means::mean_decimal;
 use df_value::{CellRef, Frac, Row};
 use std::alloc::{AllocError, Global};
 
-/// Appends a row: its cells in these columns, in one line.
+/// Appends a row: its cells in these columns, in one line. It is marked by what it was before.
 pub fn push_row(
     alloc: Global,
     out: &mut Vec<u8>,
     columns: &[Column],
+    before: Option<&Option<Row>>,
     row: &Row,
 ) -> Result<(), AllocError>
-    ensures { OnOk result (out.new.items ≡ out.old.items ++ markup (row_tags columns.now row.now)) }
+    ensures { OnOk result (out.new.items ≡ out.old.items
+        ++ markup (row_tags columns.now (option_copied before.entry) row.now)) }
 {
-    push_tags(out, &[("tr", "")])?;
+    push_row_tag(alloc, out, before, row)?;
     push_cells(alloc, out, columns, row)?;
     push_tags(out, &[("/tr", "\n")])
 }

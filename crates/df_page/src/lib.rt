@@ -7,6 +7,7 @@ mod bars;
 mod cells;
 mod columns;
 mod escapes;
+mod marks;
 mod markup;
 mod means;
 mod pages;

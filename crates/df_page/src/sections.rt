@@ -1,10 +1,11 @@
 //! Views as sections of a page.
-ghost use Rattle.std.specs.Prelude.{◌≡◌, ◌++◌, IfOk, OnOk, flat_map, string_bytes};
+ghost use Rattle.std.specs.Prelude.{◌≡◌, ◌++◌, IfOk, OnOk, flat_map, slice_get, string_bytes};
+ghost use Rattle.std.specs.List.{enumerate_from};
+ghost use Rattle.std.specs.Option.{option_copied};
 ghost use Rattle.df_page.specs.Markup.{markup};
 ghost use Rattle.df_page.specs.Reading.{rows_read, shown_table};
-ghost use Rattle.df_page.specs.Cells.{row_tags};
 ghost use Rattle.df_page.specs.Sections as sections;
-ghost use Rattle.df_page.specs.Sections.{more_tags, name_tags, names_tags, opening_tags, rows_tags, section_of, size_tags};
+ghost use Rattle.df_page.specs.Sections.{gone_tags, more_tags, name_tags, names_tags, opening_tags, placed_tags, rows_tags, section_of, size_tags};
 
 use crate::cells::push_row;
 use crate::columns::{Column, columns_of, is_number};
@@ -22,6 +23,10 @@ use std::alloc::{AllocError, Global};
 /// in a class of its own. A row's cells beyond the columns are passed over, and cells that are
 /// missing are null.
 ///
+/// `before` has what each of the rows was, or that there was none: a new row is marked, and one that had other cells, with these
+/// as its title. A row at an index that it does not reach has no mark. `gone` is how many of the rows that were shown before
+/// are gone, which a line says, if any are.
+///
 /// A browser shows each text as it is, but a zero byte as U+FFFD, since HTML has none.
 pub fn view_section(
     alloc: Global,
@@ -29,8 +34,11 @@ pub fn view_section(
     schema: &Schema,
     rows: &[Row],
     total: usize,
+    before: &[Option<Row>],
+    gone: usize,
 ) -> Result<Vec<u8>, AllocError>
-    ensures value { IfOk result (λ v. v.items ≡ section_of name.now schema.now rows.now total) }
+    ensures value { IfOk result (λ v. v.items
+        ≡ section_of name.now schema.now rows.now total before.now gone) }
     ensures reads { IfOk result (λ v. rows_read v.items ≡ shown_table schema.now rows.now) }
 {
     let schema = schema.columns().as_slice();
@@ -38,8 +46,9 @@ pub fn view_section(
     let mut out = Vec::new(alloc);
     push_opening(alloc, &mut out, name.as_str(), total, schema.len())?;
     push_names(&mut out, schema)?;
-    push_rows(alloc, &mut out, columns.as_slice(), rows)?;
+    push_rows(alloc, &mut out, columns.as_slice(), before, rows)?;
     push_more(alloc, &mut out, rows.len(), total)?;
+    push_gone(alloc, &mut out, gone)?;
     push_tags(&mut out, &[("/section", "\n")])?;
     Ok(out)
 }
@@ -134,12 +143,14 @@ fn push_rows(
     alloc: Global,
     out: &mut Vec<u8>,
     columns: &[Column],
+    before: &[Option<Row>],
     rows: &[Row],
 ) -> Result<(), AllocError>
-    ensures { OnOk result (out.new.items ≡ out.old.items ++ markup (rows_tags columns.now rows.now)) }
+    ensures { OnOk result (out.new.items
+        ≡ out.old.items ++ markup (rows_tags columns.now before.now rows.now)) }
 {
     push_tags(out, &[("tbody", "\n")])?;
-    push_each_row(alloc, out, columns, rows)?;
+    push_each_row(alloc, out, columns, before, rows)?;
     push_tags(out, &[("/tbody", "\n"), ("/table", "\n"), ("/div", "\n")])
 }
 
@@ -147,15 +158,23 @@ fn push_each_row(
     alloc: Global,
     out: &mut Vec<u8>,
     columns: &[Column],
+    before: &[Option<Row>],
     rows: &[Row],
 ) -> Result<(), AllocError>
-    ensures { OnOk result (out.new.items
-        ≡ out.old.items ++ markup (flat_map (row_tags columns.now) rows.now)) }
+    ensures { OnOk result (out.new.items ≡ out.old.items
+        ++ markup (flat_map (placed_tags columns.now before.now) (enumerate_from 0 rows.now))) }
 {
-    for row in rows {
-        push_row(alloc, out, columns, row)?;
+    for at in 0..rows.len() {
+        push_row(alloc, out, columns, row_before(before, at), &rows[at])?;
     }
     Ok(())
+}
+
+// What the row at an index was before, if that is known.
+fn row_before(before: &[Option<Row>], at: usize) -> Option<&Option<Row>>
+    ensures { option_copied result ≡ slice_get before.now at }
+{
+    before.get(at)
 }
 
 // Appends how many rows there are behind those that are given.
@@ -168,6 +187,24 @@ fn push_more(alloc: Global, out: &mut Vec<u8>, given: usize, total: usize) -> Re
     } else {
         push_tags(out, &[])
     }
+}
+
+// Appends how many of the rows that were shown before are gone.
+fn push_gone(alloc: Global, out: &mut Vec<u8>, count: usize) -> Result<(), AllocError>
+    ensures { OnOk result (out.new.items ≡ out.old.items ++ markup (gone_tags count)) }
+{
+    if count > 0 {
+        let text = gone_text(alloc, count)?;
+        push_tags(out, &[("p", text.as_str()), ("/p", "\n")])
+    } else {
+        push_tags(out, &[])
+    }
+}
+
+fn gone_text(alloc: Global, count: usize) -> Result<String, AllocError>
+    ensures { IfOk result (λ s. string_bytes s ≡ sections.gone_text count) }
+{
+    format!(in alloc; "{count} of the rows shown before went")
 }
 
 fn more_text(alloc: Global, count: usize) -> Result<String, AllocError>

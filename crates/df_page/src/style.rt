@@ -4,9 +4,9 @@
 ///
 /// `--w` of a bar is its width, in thousandths of the widest of its column.
 pub const STYLE: &str = r#"
-:root { color-scheme: light dark; --ink: #1c2126; --dim: #5f6973; --rule: #dde2e7; --ground: #ffffff; --head: #f2f5f8; --zero: #98a3ae; --bar: #cbe0f6; --negative: #f9cfc2 }
+:root { color-scheme: light dark; --ink: #1c2126; --dim: #5f6973; --rule: #dde2e7; --ground: #ffffff; --head: #f2f5f8; --zero: #98a3ae; --bar: #cbe0f6; --negative: #f9cfc2; --new: #e3f4e6; --new-edge: #2f8f46; --changed: #fdf2d0; --changed-edge: #b9790a }
 @media (prefers-color-scheme: dark) {
-  :root { --ink: #e3e7eb; --dim: #9aa5b0; --rule: #353d45; --ground: #15191d; --head: #20272e; --zero: #5a6570; --bar: #22486e; --negative: #743423 }
+  :root { --ink: #e3e7eb; --dim: #9aa5b0; --rule: #353d45; --ground: #15191d; --head: #20272e; --zero: #5a6570; --bar: #22486e; --negative: #743423; --new: #173020; --new-edge: #4fb76a; --changed: #352b12; --changed-edge: #d6a13a }
 }
 html { background: var(--ground); color: var(--ink); font: 1rem/1.4 system-ui, sans-serif; -webkit-text-size-adjust: 100% }
 body { margin: 0 auto; padding: 1rem; max-width: 80rem }
@@ -22,6 +22,10 @@ th, td { padding: 0.2rem 0.7rem; text-align: left; vertical-align: top; white-sp
 bdi { display: inline-block; max-width: 36rem; overflow-wrap: anywhere }
 td { border-top: 1px solid var(--rule) }
 tr:first-child td { border-top: 0 }
+.new td { background-color: var(--new) }
+.changed td { background-color: var(--changed) }
+.new td:first-child { box-shadow: inset 3px 0 var(--new-edge) }
+.changed td:first-child { box-shadow: inset 3px 0 var(--changed-edge) }
 th { position: sticky; top: 0; z-index: 1; background: var(--head); border-bottom: 1px solid var(--dim); vertical-align: bottom }
 .number, .mean, .bar { text-align: right; white-space: nowrap }
 .bar { min-width: 6rem; background-repeat: no-repeat; background-position: 50% 50%; background-size: calc(100% - 0.4rem) calc(100% - 4px) }

@@ -12,3 +12,4 @@ mod PlaceFacts
 mod WatchFacts
 mod ReportFacts
 mod FollowFacts
+mod SectionFacts

@@ -18,6 +18,7 @@ pub mod Numbers
 pub mod Filling
 pub mod Loading
 pub mod Exported
+pub mod Marks
 pub mod Reports
 pub mod Following
 pub mod ViewChanges

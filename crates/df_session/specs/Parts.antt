@@ -48,7 +48,7 @@ abbrev pub part_in : Format → List ℕ → List (List ℕ × CellType) → Par
 part_in format.Printed name schema part rows = part_text name schema part rows
 part_in format.Csv name schema part rows = csv_of schema (part_rows part rows)
 part_in format.Json name schema part rows = json_of schema (part_rows part rows)
-part_in format.Html name schema part rows = section_of name schema (part_rows part rows) (length rows)
+part_in format.Html name schema part rows = section_of name schema (part_rows part rows) (length rows) [] 0
 
 -- the table of a frame in a format, with the numbers of its rows: printed below it, else in a column of their own; the section of a page
 -- has none
@@ -56,4 +56,4 @@ abbrev pub numbered_in : Format → List ℕ → List (List ℕ × CellType) →
 numbered_in format.Printed name schema rows numbers = printed name schema rows ++ numbers_line numbers
 numbered_in format.Csv name schema rows numbers = csv_of (numbered_columns schema) (numbered_rows numbers rows)
 numbered_in format.Json name schema rows numbers = json_of (numbered_columns schema) (numbered_rows numbers rows)
-numbered_in format.Html name schema rows numbers = section_of name schema rows (length rows)
+numbered_in format.Html name schema rows numbers = section_of name schema rows (length rows) [] 0

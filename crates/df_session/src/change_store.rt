@@ -1,6 +1,8 @@
 //! What a session asks of a store besides, to tell what changes do to its views.
+use crate::definitions::Definitions;
 use crate::refusal::Refusal;
 use crate::view_store::ViewStore;
+use crate::view_table::ViewTable;
 use df_value::{List, Text};
 use std::alloc::Global;
 
@@ -8,7 +10,9 @@ use std::alloc::Global;
 pub trait ChangeStore: ViewStore {
     ghost use Rattle.std.specs.Prelude.{ℕ, Bool, List as Seq, Option, Result};
     ghost use Rattle.std.specs.Global.{Vec as Bytes};
+    ghost use Rattle.df_session.specs.declared.definitions.Definitions.{Definitions as AnyDefinitions};
     ghost use Rattle.df_session.specs.declared.refusal.Refusal.{Refusal as AnyRefusal};
+    ghost use Rattle.df_session.specs.declared.view_table.ViewTable.{ViewTable as AnyTable};
 
     /// From now on it is kept what changes do to the views, or it is not. No change was made.
     ghost Turns: { Self → Self → Bool → Type 0 };
@@ -21,6 +25,9 @@ pub trait ChangeStore: ViewStore {
 
     /// The names of the views were answered so.
     ghost Names: { Self → Self → Result (Seq (Seq ℕ)) AnyRefusal → Type 0 };
+
+    /// The table of the view of a name was given so.
+    ghost Tables: { Self → Self → AnyDefinitions → Seq ℕ → Result AnyTable AnyRefusal → Type 0 };
 
     /// This is the number of the last change.
     ghost Numbers: { Self → ℕ → Type 0 };
@@ -41,6 +48,16 @@ pub trait ChangeStore: ViewStore {
     /// The names of the registered views, in their order.
     fn view_names(&mut self, alloc: Global) -> Result<List<Text>, Refusal>
         ensures { Names self.old self.new result };
+
+    /// The table of the view of this name as it stands, by the names that a document gives its views. It shares the blocks of the
+    /// store's own.
+    fn view_table(
+        &mut self,
+        alloc: Global,
+        definitions: &Definitions,
+        view: &str,
+    ) -> Result<ViewTable, Refusal>
+        ensures { Tables self.old self.new definitions.now view.now result };
 
     /// The number of the last change: how many were accepted. It takes no memory.
     fn change_number(&self) -> u64

@@ -1,9 +1,10 @@
 //! The pages that follow the store, and when they are written.
-ghost use Rattle.std.specs.Prelude.{◌≡◌, ◌++◌, ◌∷◌, ◌==◌, ◌<◌, [], IfOk, OnErr, OnOk, false, if◌then◌else◌, length, string_bytes, vec_capacity};
+ghost use Rattle.std.specs.Prelude.{◌≡◌, ◌++◌, ◌∷◌, ◌==◌, ◌<◌, [], IfOk, OnErr, OnOk, false, if◌then◌else◌, length, string_bytes, unwrap_or, vec_capacity};
 ghost use Rattle.std.specs.Option.{option_copied};
 ghost use Rattle.df_session.specs.Following as following;
 ghost use Rattle.df_session.specs.Following.{IsSoonBehind, without_path};
 
+use crate::view_table::ViewTable;
 use df_text::escape;
 use df_value::{List, Text};
 use std::alloc::{AllocError, Global};
@@ -32,10 +33,12 @@ pub fn is_due(last: Option<u128>, now: Option<u128>) -> bool
     }
 }
 
-/// A page that follows the store. Contracts see the path of its file and the names of its views.
+/// A page that follows the store. Contracts see the path of its file, the names of its views, and the tables that it shows.
 pub struct FollowedPage {
     path: Text,
     views: List<Text>,
+    // As they were when it was last written.
+    tables: List<ViewTable>,
     // What is told where it is not written, up to the number of the change: then there may be no memory.
     unwritten: String,
 }
@@ -46,34 +49,39 @@ impl Drop for FollowedPage {
         let FollowedPage {
             path,
             views,
+            tables,
             unwritten,
         } = self;
         drop(path);
         drop(views);
+        drop(tables);
         drop(unwritten);
     }
 }
 
 impl Model for FollowedPage {
     ghost use Rattle.std.specs.Prelude.{◌≡◌, string_bytes};
-    ghost use Rattle.df_session.specs.Following.{PageParts, unwritten_begin};
+    ghost use Rattle.df_session.specs.Following.{PageParts, page_code, unwritten_begin};
 
     ghost Value = { PageParts };
 
-    ghost view = { λ p. record { path = p.path; views = p.views } };
+    ghost coded = { page_code };
+
+    ghost view = { λ p. record { path = p.path; views = p.views; tables = p.tables } };
 
     ghost invariant = { λ p. string_bytes p.unwritten ≡ unwritten_begin p.path };
 }
 
 impl FollowedPage {
-    /// That of these views, or without views of all, in the file under this path.
+    /// That of these views, or without views of all, in the file under this path. It shows nothing yet.
     pub fn new(alloc: Global, path: Text, views: List<Text>) -> Result<FollowedPage, AllocError>
-        ensures { IfOk result (λ p. p ≡ record { path = path; views = views }) }
+        ensures { IfOk result (λ p. p ≡ record { path = path; views = views; tables = [] }) }
     {
         match unwritten_begin(alloc, path.as_str()) {
             Ok(unwritten) => Ok(FollowedPage {
                 path,
                 views,
+                tables: List::from_vec(Vec::new(alloc)),
                 unwritten,
             }),
             Err(fault) => {
@@ -94,6 +102,22 @@ impl FollowedPage {
         ensures { result.now ≡ self.now.views }
     {
         self.views.as_slice()
+    }
+
+    /// The tables that it shows.
+    pub fn tables(&self) -> &[ViewTable]
+        ensures { result.now ≡ self.now.tables }
+    {
+        self.tables.as_slice()
+    }
+
+    /// It shows these tables now, if there are any. It takes no memory.
+    pub fn keep(&mut self, tables: Option<List<ViewTable>>)
+        ensures { self.new ≡ record self.old { tables = unwrap_or tables self.old.tables } }
+    {
+        if let Some(tables) = tables {
+            self.tables = tables;
+        }
     }
 
     /// What is told where it is not written, up to the number of the change.

@@ -1,8 +1,9 @@
 //! Pages that are written anew behind commands.
-ghost use Rattle.std.specs.Prelude.{◌≡◌, ◌<◌, ℕ, IfErr, IfOk, List as Seq, OnErr, OnOk, false, length, string_bytes, true, vec_capacity};
+ghost use Rattle.std.specs.Prelude.{◌≡◌, ◌<◌, [], ℕ, IfErr, IfOk, List as Seq, OnErr, OnOk, false, length, string_bytes, true, unwrap_or, vec_capacity};
 ghost use Rattle.std.specs.Io.KnownBytes.{Appends};
-ghost use Rattle.df_session.specs.Following.{ArePagesBehind, IsFollowBegun, IsFollowedUp, IsLastPage, IsPageBehind, IsReason, IsRefusalOfFollow, parts, unwritten_lines};
+ghost use Rattle.df_session.specs.Following.{ArePagesBehind, IsFollowBegun, IsFollowedUp, IsLastPage, IsPageBehind, IsReason, IsRefusalOfFollow, begun, parts, unwritten_lines};
 ghost use Rattle.df_session.specs.Reports.{IsRefusalOfReport, IsReport};
+ghost use Rattle.df_session.specs.declared.view_table.ViewTable.{ViewTable as AnyTable};
 
 use crate::change_store::ChangeStore;
 use crate::definitions::Definitions;
@@ -11,15 +12,16 @@ use crate::fault::ShellFault;
 use crate::followed::{FollowedPage, FollowedPages, Moment};
 use crate::refusal::Refusal;
 use crate::refusal_texts::refusal_text;
-use crate::reporting::report;
+use crate::reporting::{WrittenPage, write_report};
+use crate::view_table::ViewTable;
 use crate::writing::write_whole;
 use df_value::{List, Text};
 use itoa::Buffer;
 use std::alloc::Global;
 use std::io::Write;
 
-/// Writes a page as [`report`] does, which a browser loads again and again, and has it follow the store in the place of one
-/// under its path. Where it is refused, the pages that follow the store stay.
+/// Writes a page as [`report`](crate::report) does, which a browser loads again and again, and has it follow the store in the
+/// place of one under its path. Where it is refused, the pages that follow the store stay.
 pub fn follow<S: ChangeStore, F: WriteFiles>(
     alloc: Global,
     definitions: &Definitions,
@@ -32,12 +34,12 @@ pub fn follow<S: ChangeStore, F: WriteFiles>(
     views: List<Text>,
 ) -> Result<String, Refusal>
     ensures followed { IfOk result (λ text.
-        IsFollowBegun (λ old new. S.Answers old new definitions.now) S.Names S.Numbers F.Writes
-        title.now (record { path = path; views = views }) now
+        IsFollowBegun (λ old new. S.Tables old new definitions.now) S.Names S.Numbers F.Writes
+        title.now (record { path = path; views = views; tables = [] }) now
         (parts followed.old.pages.items followed.old.number followed.old.at)
         (parts followed.new.pages.items followed.new.number followed.new.at)
         store.old store.new files.old files.new (string_bytes text)) }
-    ensures refused { IfErr result (IsRefusalOfFollow (λ old new. S.Answers old new definitions.now)
+    ensures refused { IfErr result (IsRefusalOfFollow (λ old new. S.Tables old new definitions.now)
         S.Names S.Numbers F.Writes title.now views store.old store.new files.old files.new) }
     ensures same { OnErr result (parts followed.new.pages.items followed.new.number followed.new.at
         ≡ parts followed.old.pages.items followed.old.number followed.old.at) }
@@ -45,15 +47,33 @@ pub fn follow<S: ChangeStore, F: WriteFiles>(
     let page = FollowedPage::new(alloc, path, views)?;
     let number = store.change_number();
     match write_first(alloc, definitions, store, files, followed, title, &page) {
-        Ok(told) => {
-            followed.begin(page, number, now);
-            Ok(told)
-        }
+        Ok(written) => Ok(begin(followed, page, written, number, now)),
         Err(refusal) => {
             drop(page);
             Err(refusal)
         }
     }
+}
+
+// Has a page, which is written, follow the store, and gives what is told of it.
+fn begin(
+    followed: &mut FollowedPages,
+    page: FollowedPage,
+    written: WrittenPage,
+    number: u64,
+    now: Option<u128>,
+) -> String
+    requires { length followed.old.pages.items < vec_capacity followed.old.pages }
+    ensures told { result ≡ written.told }
+    ensures begun { parts followed.new.pages.items followed.new.number followed.new.at
+        ≡ begun (record page { tables = written.tables }) number now
+        (parts followed.old.pages.items followed.old.number followed.old.at) }
+{
+    let mut page = page;
+    let (told, tables) = written.into_parts();
+    page.keep(Some(tables));
+    followed.begin(page, number, now);
+    told
 }
 
 // Makes room for a page, and writes it.
@@ -65,12 +85,12 @@ fn write_first<S: ChangeStore, F: WriteFiles>(
     followed: &mut FollowedPages,
     title: &str,
     page: &FollowedPage,
-) -> Result<String, Refusal>
+) -> Result<WrittenPage, Refusal>
     ensures room { OnOk result (length followed.new.pages.items < vec_capacity followed.new.pages) }
-    ensures written { IfOk result (λ text. IsReport (λ old new. S.Answers old new definitions.now)
-        S.Names S.Numbers F.Writes title.now true page.now.path page.now.views store.old store.new
-        files.old files.new (string_bytes text)) }
-    ensures refused { IfErr result (IsRefusalOfFollow (λ old new. S.Answers old new definitions.now)
+    ensures written { IfOk result (λ written. IsReport (λ old new. S.Tables old new definitions.now)
+        S.Names S.Numbers F.Writes title.now true page.now.path page.now.views page.now.tables
+        store.old store.new written.tables files.old files.new (string_bytes written.told)) }
+    ensures refused { IfErr result (IsRefusalOfFollow (λ old new. S.Tables old new definitions.now)
         S.Names S.Numbers F.Writes title.now page.now.views store.old store.new files.old files.new) }
     ensures same { parts followed.new.pages.items followed.new.number followed.new.at
         ≡ parts followed.old.pages.items followed.old.number followed.old.at }
@@ -88,20 +108,32 @@ fn report_page<S: ChangeStore, F: WriteFiles>(
     title: &str,
     reload: bool,
     page: &FollowedPage,
-) -> Result<String, Refusal>
-    ensures written { IfOk result (λ text. IsReport (λ old new. S.Answers old new definitions.now)
-        S.Names S.Numbers F.Writes title.now reload page.now.path page.now.views store.old store.new
-        files.old files.new (string_bytes text)) }
-    ensures refused { IfErr result (IsRefusalOfReport (λ old new. S.Answers old new definitions.now)
+) -> Result<WrittenPage, Refusal>
+    ensures written { IfOk result (λ written. IsReport (λ old new. S.Tables old new definitions.now)
+        S.Names S.Numbers F.Writes title.now reload page.now.path page.now.views page.now.tables
+        store.old store.new written.tables files.old files.new (string_bytes written.told)) }
+    ensures refused { IfErr result (IsRefusalOfReport (λ old new. S.Tables old new definitions.now)
         S.Names S.Numbers F.Writes page.now.views store.old store.new files.old files.new) }
 {
     let path = page.path();
     let views = page.views();
-    report(alloc, definitions, store, files, title, reload, path, views)
+    let before = page.tables();
+    write_report(
+        alloc,
+        definitions,
+        store,
+        files,
+        title,
+        reload,
+        path,
+        views,
+        before,
+    )
 }
 
 /// Writes the pages that follow the store behind a command, where they are to be written. Behind a change they are, once a
-/// second is over, and behind any other command at once, if there was a change since they were.
+/// second is over, and behind any other command at once, if there was a change since they were. What changed since a page was
+/// last written is marked in it.
 ///
 /// Of a page that is not written it is told why behind the answer: a line `unwritten PATH NUMBER 1`, with the number of the
 /// last change, and a line of the refusal. What stands under its path stays, and it is tried again behind the next change.
@@ -115,7 +147,7 @@ pub fn write_followed<S: ChangeStore, F: WriteFiles, W: Write>(
     moment: Moment,
     output: &mut W,
 ) -> Result<(), ShellFault>
-    ensures written { OnOk result (IsFollowedUp (λ old new. S.Answers old new definitions.now) S.Names S.Numbers F.Writes
+    ensures written { OnOk result (IsFollowedUp (λ old new. S.Tables old new definitions.now) S.Names S.Numbers F.Writes
         title.now moment
         (parts followed.old.pages.items followed.old.number followed.old.at)
         (parts followed.new.pages.items followed.new.number followed.new.at)
@@ -126,7 +158,7 @@ pub fn write_followed<S: ChangeStore, F: WriteFiles, W: Write>(
     if !followed.must_write(number, moment) {
         return Ok(());
     }
-    let pages = followed.pages.as_slice();
+    let pages = followed.pages.as_mut_slice();
     write_pages(
         alloc,
         definitions,
@@ -147,27 +179,68 @@ fn write_pages<S: ChangeStore, F: WriteFiles, W: Write>(
     store: &mut S,
     files: &mut F,
     title: &str,
-    pages: &[FollowedPage],
+    pages: &mut [FollowedPage],
     number: u64,
     output: &mut W,
 ) -> Result<(), ShellFault>
-    ensures { OnOk result (ArePagesBehind (λ old new. S.Answers old new definitions.now) S.Names S.Numbers F.Writes
-        title.now pages.now number store.old store.new files.old files.new
+    ensures { OnOk result (ArePagesBehind (λ old new. S.Tables old new definitions.now) S.Names S.Numbers F.Writes
+        title.now pages.old pages.new number store.old store.new files.old files.new
         (W.contents output.old) (W.contents output.new)) }
 {
-    for page in pages {
-        write_page(
-            alloc,
-            definitions,
-            store,
-            files,
-            title,
-            true,
-            page,
-            number,
-            output,
-        )?;
-    }
+    let Some((page, others)) = pages.split_first_mut() else {
+        return Ok(());
+    };
+    write_again(
+        alloc,
+        definitions,
+        store,
+        files,
+        title,
+        page,
+        number,
+        output,
+    )?;
+    write_pages(
+        alloc,
+        definitions,
+        store,
+        files,
+        title,
+        others,
+        number,
+        output,
+    )
+}
+
+// Writes a page, which a browser loads again, or why it is not written.
+fn write_again<S: ChangeStore, F: WriteFiles, W: Write>(
+    alloc: Global,
+    definitions: &Definitions,
+    store: &mut S,
+    files: &mut F,
+    title: &str,
+    page: &mut FollowedPage,
+    number: u64,
+    output: &mut W,
+) -> Result<(), ShellFault>
+    ensures { OnOk result ((tables : Seq AnyTable)
+        × IsPageBehind (λ old new. S.Tables old new definitions.now) S.Names S.Numbers F.Writes
+        title.now true page.old tables number store.old store.new files.old files.new
+        (W.contents output.old) (W.contents output.new)
+        × (page.new ≡ record page.old { tables = tables })) }
+{
+    let tables = write_page(
+        alloc,
+        definitions,
+        store,
+        files,
+        title,
+        true,
+        &*page,
+        number,
+        output,
+    )?;
+    page.keep(tables);
     Ok(())
 }
 
@@ -181,12 +254,12 @@ pub fn write_last<S: ChangeStore, F: WriteFiles, W: Write>(
     page: &FollowedPage,
     output: &mut W,
 ) -> Result<(), ShellFault>
-    ensures { OnOk result (IsLastPage (λ old new. S.Answers old new definitions.now) S.Names S.Numbers F.Writes
+    ensures { OnOk result (IsLastPage (λ old new. S.Tables old new definitions.now) S.Names S.Numbers F.Writes
         title.now page.now store.old store.new files.old files.new
         (W.contents output.old) (W.contents output.new)) }
 {
     let number = store.change_number();
-    write_page(
+    let tables = write_page(
         alloc,
         definitions,
         store,
@@ -196,10 +269,12 @@ pub fn write_last<S: ChangeStore, F: WriteFiles, W: Write>(
         page,
         number,
         output,
-    )
+    )?;
+    drop(tables);
+    Ok(())
 }
 
-// Writes a page, or why it is not written.
+// Writes a page, or why it is not written, and gives the tables that it then shows, if they are others.
 fn write_page<S: ChangeStore, F: WriteFiles, W: Write>(
     alloc: Global,
     definitions: &Definitions,
@@ -210,22 +285,31 @@ fn write_page<S: ChangeStore, F: WriteFiles, W: Write>(
     page: &FollowedPage,
     number: u64,
     output: &mut W,
-) -> Result<(), ShellFault>
-    ensures { OnOk result (IsPageBehind (λ old new. S.Answers old new definitions.now) S.Names S.Numbers F.Writes
-        title.now reload page.now number store.old store.new files.old files.new
-        (W.contents output.old) (W.contents output.new)) }
+) -> Result<Option<List<ViewTable>>, ShellFault>
+    ensures { IfOk result (λ tables.
+        IsPageBehind (λ old new. S.Tables old new definitions.now) S.Names S.Numbers F.Writes
+        title.now reload page.now (unwrap_or tables page.now.tables) number store.old store.new
+        files.old files.new (W.contents output.old) (W.contents output.new)) }
 {
     match report_page(alloc, definitions, store, files, title, reload, page) {
-        Ok(told) => {
-            drop(told);
-            Ok(())
-        }
+        Ok(written) => Ok(Some(tables_of(written))),
         Err(refusal) => {
-            let written = write_unwritten(alloc, output, page, number, &refusal);
+            let told = write_unwritten(alloc, output, page, number, &refusal);
             drop(refusal);
-            written
+            match told {
+                Ok(()) => Ok(None),
+                Err(fault) => Err(fault),
+            }
         }
     }
+}
+
+fn tables_of(written: WrittenPage) -> List<ViewTable>
+    ensures { result ≡ written.tables }
+{
+    let (told, tables) = written.into_parts();
+    drop(told);
+    tables
 }
 
 // Writes why a page is not written. Where there is no memory for the text, it is `memory`.

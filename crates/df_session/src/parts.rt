@@ -28,7 +28,9 @@ pub fn write_part(
         Format::Printed => print_part(alloc, name, schema, rows, part),
         Format::Csv => csv_table(alloc, schema, rows_in(part, rows)),
         Format::Json => json_lines(alloc, schema, rows_in(part, rows)),
-        Format::Html => view_section(alloc, name, schema, rows_in(part, rows), rows.len()),
+        Format::Html => {
+            view_section(alloc, name, schema, rows_in(part, rows), rows.len(), &[], 0)
+        }
     }
 }
 
@@ -49,7 +51,7 @@ pub fn write_rows(
         Format::Printed => print_rows(alloc, name, schema, rows, numbers),
         Format::Csv => numbered_csv_table(alloc, schema, rows, numbers),
         Format::Json => numbered_json_lines(alloc, schema, rows, numbers),
-        Format::Html => view_section(alloc, name, schema, rows, rows.len()),
+        Format::Html => view_section(alloc, name, schema, rows, rows.len(), &[], 0),
     }
 }
 

@@ -1,25 +1,88 @@
 //! Pages of views in files.
-ghost use Rattle.std.specs.Prelude.{◌≡◌, ◌++◌, ◌∷◌, [], ℕ, IfErr, IfOk, Ok, OnOk, string_bytes};
-ghost use Rattle.std.specs.Global.{Vec as Bytes};
-ghost use Rattle.df_session.specs.Reports.{HasSections, IsPageOf, IsRefusalOfReport, IsRefusalOfSections, IsReport, IsUnwritten, IsWritten, reported_text};
+ghost use Rattle.std.specs.Prelude.{◌≡◌, ◌++◌, ◌∷◌, [], IfErr, IfOk, List as Seq, Ok, OnOk, false, string_bytes};
+ghost use Rattle.df_session.specs.Marks.{page_of_tables as page_bytes};
+ghost use Rattle.df_session.specs.Reports.{AreTables, HasTables, IsRefusalOfReport, IsRefusalOfTables, IsReport, IsUnwritten, IsUnwrittenPage, IsWritten, reported_text};
+ghost use Rattle.df_session.specs.declared.view_table.ViewTable.{ViewTable as AnyTable};
 
 use crate::change_store::ChangeStore;
-use crate::command::{Format, Part, Question};
 use crate::definitions::Definitions;
 use crate::exporting::WriteFiles;
 use crate::prompts::plural_end;
 use crate::refusal::Refusal;
-use df_page::{page_end, page_head};
-use df_value::Text;
+use crate::sections::page_of_tables;
+use crate::view_table::ViewTable;
+use df_value::{List, Text};
 use std::alloc::{AllocError, Global};
 
-/// The most rows of a view in a page.
-const MOST_ROWS: usize = 1000;
+/// A page that is written: what is told of it, and the tables that it shows.
+pub struct WrittenPage {
+    pub told: String,
+    pub tables: List<ViewTable>,
+}
+
+// A body that owns one drops it by a call.
+impl Drop for WrittenPage {
+    fn drop(self) {
+        let WrittenPage { told, tables } = self;
+        drop(told);
+        drop(tables);
+    }
+}
+
+impl WrittenPage {
+    /// What is told of it, and the tables.
+    pub fn into_parts(self) -> (String, List<ViewTable>)
+        ensures told { result.0 ≡ self.told }
+        ensures tables { result.1 ≡ self.tables }
+    {
+        let WrittenPage { told, tables } = self;
+        (told, tables)
+    }
+}
 
 /// Writes a page of these views, in their order, or without views of all, to a file, and tells how many they are. Of each it
-/// has at most 1,000 rows. With `reload` a browser loads it again and again. Where a view is unknown, or memory is refused, no
-/// file is touched.
+/// has at most 1,000 rows. Where a view is unknown, or memory is refused, no file is touched.
 pub fn report<S: ChangeStore, F: WriteFiles>(
+    alloc: Global,
+    definitions: &Definitions,
+    store: &mut S,
+    files: &mut F,
+    title: &str,
+    path: &str,
+    views: &[Text],
+) -> Result<String, Refusal>
+    ensures written { IfOk result (λ text. (tables : Seq AnyTable)
+        × IsReport (λ old new. S.Tables old new definitions.now) S.Names S.Numbers F.Writes
+        title.now false path.now views.now [] store.old store.new tables files.old files.new (string_bytes text)) }
+    ensures refused { IfErr result (IsRefusalOfReport (λ old new. S.Tables old new definitions.now)
+        S.Names S.Numbers F.Writes views.now store.old store.new files.old files.new) }
+{
+    match write_report(
+        alloc,
+        definitions,
+        store,
+        files,
+        title,
+        false,
+        path,
+        views,
+        &[],
+    ) {
+        Ok(written) => Ok(told_of(written)),
+        Err(refusal) => Err(refusal),
+    }
+}
+
+fn told_of(written: WrittenPage) -> String
+    ensures { result ≡ written.told }
+{
+    let (told, tables) = written.into_parts();
+    drop(tables);
+    told
+}
+
+/// Writes such a page, which shows what changed since these tables stood there. With `reload` a browser loads it again and again.
+pub fn write_report<S: ChangeStore, F: WriteFiles>(
     alloc: Global,
     definitions: &Definitions,
     store: &mut S,
@@ -28,16 +91,36 @@ pub fn report<S: ChangeStore, F: WriteFiles>(
     reload: bool,
     path: &str,
     views: &[Text],
-) -> Result<String, Refusal>
-    ensures written { IfOk result (λ text. IsReport (λ old new. S.Answers old new definitions.now)
-        S.Names S.Numbers F.Writes title.now reload path.now views.now store.old store.new
-        files.old files.new (string_bytes text)) }
-    ensures refused { IfErr result (IsRefusalOfReport (λ old new. S.Answers old new definitions.now)
+    before: &[ViewTable],
+) -> Result<WrittenPage, Refusal>
+    ensures written { IfOk result (λ page. IsReport (λ old new. S.Tables old new definitions.now)
+        S.Names S.Numbers F.Writes title.now reload path.now views.now before.now store.old store.new
+        page.tables files.old files.new (string_bytes page.told)) }
+    ensures refused { IfErr result (IsRefusalOfReport (λ old new. S.Tables old new definitions.now)
         S.Names S.Numbers F.Writes views.now store.old store.new files.old files.new) }
 {
     match views {
-        [] => report_all(alloc, definitions, store, files, title, reload, path),
-        _ => report_named(alloc, definitions, store, files, title, reload, path, views),
+        [] => report_all(
+            alloc,
+            definitions,
+            store,
+            files,
+            title,
+            reload,
+            path,
+            before,
+        ),
+        _ => report_named(
+            alloc,
+            definitions,
+            store,
+            files,
+            title,
+            reload,
+            path,
+            views,
+            before,
+        ),
     }
 }
 
@@ -49,16 +132,27 @@ fn report_all<S: ChangeStore, F: WriteFiles>(
     title: &str,
     reload: bool,
     path: &str,
-) -> Result<String, Refusal>
-    ensures written { IfOk result (λ text. IsReport (λ old new. S.Answers old new definitions.now)
-        S.Names S.Numbers F.Writes title.now reload path.now [] store.old store.new
-        files.old files.new (string_bytes text)) }
-    ensures refused { IfErr result (IsRefusalOfReport (λ old new. S.Answers old new definitions.now)
+    before: &[ViewTable],
+) -> Result<WrittenPage, Refusal>
+    ensures written { IfOk result (λ page. IsReport (λ old new. S.Tables old new definitions.now)
+        S.Names S.Numbers F.Writes title.now reload path.now [] before.now store.old store.new
+        page.tables files.old files.new (string_bytes page.told)) }
+    ensures refused { IfErr result (IsRefusalOfReport (λ old new. S.Tables old new definitions.now)
         S.Names S.Numbers F.Writes [] store.old store.new files.old files.new) }
 {
     let names = store.view_names(alloc)?;
     let views = names.as_slice();
-    let reported = report_named(alloc, definitions, store, files, title, reload, path, views);
+    let reported = report_named(
+        alloc,
+        definitions,
+        store,
+        files,
+        title,
+        reload,
+        path,
+        views,
+        before,
+    );
     drop(names);
     reported
 }
@@ -72,18 +166,35 @@ fn report_named<S: ChangeStore, F: WriteFiles>(
     reload: bool,
     path: &str,
     views: &[Text],
-) -> Result<String, Refusal>
-    ensures written { IfOk result (λ text. IsWritten (λ old new. S.Answers old new definitions.now)
-        S.Names S.Numbers F.Writes title.now reload path.now views.now store.old store.new
-        files.old files.new (string_bytes text)) }
-    ensures refused { IfErr result (IsUnwritten (λ old new. S.Answers old new definitions.now)
+    before: &[ViewTable],
+) -> Result<WrittenPage, Refusal>
+    ensures written { IfOk result (λ page. IsWritten (λ old new. S.Tables old new definitions.now)
+        S.Names S.Numbers F.Writes title.now reload path.now views.now before.now store.old store.new
+        page.tables files.old files.new (string_bytes page.told)) }
+    ensures refused { IfErr result (IsUnwritten (λ old new. S.Tables old new definitions.now)
         S.Names S.Numbers F.Writes views.now store.old store.new files.old files.new) }
 {
     // Made first, so that nothing is refused behind the file.
     let told = views_told(alloc, views.len())?;
-    let page = page_of_views(alloc, definitions, store, title, reload, views)?;
-    files.write_whole(alloc, path, page.as_slice())?;
-    Ok(told)
+    let number = store.change_number();
+    let tables = tables_of(alloc, definitions, store, views)?;
+    match write_tables(
+        alloc,
+        files,
+        title,
+        number,
+        reload,
+        path,
+        before,
+        tables.as_slice(),
+    ) {
+        Ok(()) => Ok(WrittenPage { told, tables }),
+        Err(refusal) => {
+            drop(told);
+            drop(tables);
+            Err(refusal)
+        }
+    }
 }
 
 fn views_told(alloc: Global, views: usize) -> Result<String, AllocError>
@@ -93,60 +204,81 @@ fn views_told(alloc: Global, views: usize) -> Result<String, AllocError>
     format!(in alloc; "ok {views} view{end}\n")
 }
 
-// The page of these views, in their order.
-fn page_of_views<S: ChangeStore>(
+// The tables of these views, in their order.
+fn tables_of<S: ChangeStore>(
     alloc: Global,
     definitions: &Definitions,
     store: &mut S,
-    title: &str,
-    reload: bool,
     views: &[Text],
-) -> Result<Vec<u8>, Refusal>
-    ensures made { IfOk result (λ page. IsPageOf (λ old new. S.Answers old new definitions.now)
-        S.Numbers title.now reload views.now store.old store.new page.items) }
-    ensures refused { IfErr result (IsRefusalOfSections (λ old new. S.Answers old new definitions.now)
+) -> Result<List<ViewTable>, Refusal>
+    ensures made { IfOk result (AreTables (λ old new. S.Tables old new definitions.now)
+        views.now store.old store.new) }
+    ensures refused { IfErr result (IsRefusalOfTables (λ old new. S.Tables old new definitions.now)
         views.now store.old store.new) }
 {
-    let mut page = page_head(alloc, title, store.change_number(), reload)?;
-    push_sections(alloc, definitions, store, views, &mut page)?;
-    page.extend_from_slice(page_end().as_bytes())?;
-    Ok(page)
+    let mut tables = Vec::new(alloc);
+    match push_tables(alloc, definitions, store, views, &mut tables) {
+        Ok(()) => Ok(List::from_vec(tables)),
+        Err(refusal) => {
+            drop(tables);
+            Err(refusal)
+        }
+    }
 }
 
-// Appends the sections of these views, in their order.
-fn push_sections<S: ChangeStore>(
+// Appends the tables of these views, in their order.
+fn push_tables<S: ChangeStore>(
     alloc: Global,
     definitions: &Definitions,
     store: &mut S,
     views: &[Text],
-    page: &mut Vec<u8>,
+    tables: &mut Vec<ViewTable>,
 ) -> Result<(), Refusal>
-    ensures made { OnOk result (HasSections (λ old new. S.Answers old new definitions.now)
-        views.now store.old store.new page.old.items page.new.items) }
-    ensures refused { IfErr result (IsRefusalOfSections (λ old new. S.Answers old new definitions.now)
+    ensures made { OnOk result (HasTables (λ old new. S.Tables old new definitions.now)
+        views.now store.old store.new tables.old.items tables.new.items) }
+    ensures refused { IfErr result (IsRefusalOfTables (λ old new. S.Tables old new definitions.now)
         views.now store.old store.new) }
 {
     for view in views {
-        push_section(alloc, definitions, store, view.as_str(), page)?;
+        push_table(alloc, definitions, store, view.as_str(), tables)?;
     }
     Ok(())
 }
 
-fn push_section<S: ChangeStore>(
+fn push_table<S: ChangeStore>(
     alloc: Global,
     definitions: &Definitions,
     store: &mut S,
     view: &str,
-    page: &mut Vec<u8>,
+    tables: &mut Vec<ViewTable>,
 ) -> Result<(), Refusal>
-    ensures made { OnOk result ((section : Bytes ℕ)
-        × S.Answers store.old store.new definitions.now (Question.Show view.entry (Part.First 1000) Format.Html) (Ok section)
-        × (page.new.items ≡ page.old.items ++ section.items)) }
-    ensures refused { IfErr result (IsRefusalOfSections (λ old new. S.Answers old new definitions.now)
+    ensures made { OnOk result ((table : AnyTable)
+        × S.Tables store.old store.new definitions.now view.now (Ok table)
+        × (tables.new.items ≡ tables.old.items ++ table ∷ [])) }
+    ensures refused { IfErr result (IsRefusalOfTables (λ old new. S.Tables old new definitions.now)
         (view.now ∷ []) store.old store.new) }
 {
-    let question = Question::Show(view, Part::First(MOST_ROWS), Format::Html);
-    let section = store.answer(alloc, definitions, question)?;
-    page.extend_from_slice(section.as_slice())?;
+    let table = store.view_table(alloc, definitions, view)?;
+    tables.push(table)?;
+    Ok(())
+}
+
+// Writes the page of these tables.
+fn write_tables<F: WriteFiles>(
+    alloc: Global,
+    files: &mut F,
+    title: &str,
+    number: u64,
+    reload: bool,
+    path: &str,
+    before: &[ViewTable],
+    tables: &[ViewTable],
+) -> Result<(), Refusal>
+    ensures written { OnOk result (F.Writes files.old files.new path.now
+        (page_bytes title.now number reload before.now tables.now)) }
+    ensures refused { IfErr result (IsUnwrittenPage files.old files.new) }
+{
+    let page = page_of_tables(alloc, title, number, reload, before, tables)?;
+    files.write_whole(alloc, path, page.as_slice())?;
     Ok(())
 }

@@ -117,7 +117,6 @@ pub fn report_views<S: ChangeStore, F: WriteFiles, W: Write>(
         &mut session.store.store,
         files,
         session.options.title,
-        false,
         path.as_str(),
         views.as_slice(),
     );

@@ -13,6 +13,7 @@ use Rattle.df_state.specs.declared.state.State.{State}
 use Rattle.df_session.specs.Told.{IsTold}
 use Rattle.df_shell.specs.ToldChanges.{FindsIn, NamesIn}
 use Rattle.df_shell.specs.Versions.{refusal_with_hall, text_of_version}
+use Rattle.df_shell.specs.ViewTables.{GivesTableIn}
 use Rattle.df_session.specs.declared.command.Question.{Question}
 use Rattle.df_session.specs.declared.definitions.Definitions.{Definitions}
 use Rattle.df_session.specs.declared.refusal.Refusal.{Refusal}
@@ -20,6 +21,7 @@ use Rattle.df_session.specs.declared.refusal.Refusal.TheVariants as refusal
 use Rattle.df_session.specs.declared.fault.ShellFault.{ShellFault}
 use Rattle.df_session.specs.declared.fault.ShellFault.TheVariants as shell
 use Rattle.df_session.specs.declared.refusal.VersionFault.TheVariants as version
+use Rattle.df_session.specs.declared.view_table.ViewTable.{ViewTable}
 use Rattle.df_hall.specs.Closing.{IsMissingAfter, missing_frame}
 use Rattle.df_versions.specs.Answered.{IsAccepted, IsRefusedAt}
 use Rattle.df_versions.specs.Histories.{IsLastState}
@@ -87,6 +89,12 @@ IsFoundInHall old new name result =
 abbrev pub AreNamesInHall : HallParts → HallParts → Result (List (List ℕ)) Refusal → Type 0
 AreNamesInHall old new result =
     ((v : ℕ × PictureParts) × IsTaken old new v × NamesIn v.1 result)
+    ⊎ ((result ≡ Err (refusal.Version version.Missing)) × (new ≡ old))
+
+-- The table of the view of the name was given from the newest version; or there is none, and nothing changed.
+abbrev pub IsTableInHall : HallParts → HallParts → Definitions → List ℕ → Result ViewTable Refusal → Type 0
+IsTableInHall old new d name result =
+    ((v : ℕ × PictureParts) × IsTaken old new v × GivesTableIn d v.1 name result)
     ⊎ ((result ≡ Err (refusal.Version version.Missing)) × (new ≡ old))
 
 -- Desks with which a hall over frames of these schemas was closed: their shares are the books of every frame of a state that it may

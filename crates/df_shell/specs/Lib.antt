@@ -2,6 +2,7 @@ pub mod Changes
 pub mod Checks
 pub mod Questions
 pub mod Versions
+pub mod ViewTables
 pub mod Halls
 pub mod Changing
 pub mod ToldChanges

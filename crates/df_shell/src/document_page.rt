@@ -106,7 +106,6 @@ fn report_all<Acc: Ledger, Del: Ledger, F: WriteFiles>(
         &mut store,
         files,
         page.title,
-        false,
         page.path,
         &[],
     );

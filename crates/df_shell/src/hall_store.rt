@@ -9,12 +9,12 @@ ghost use Rattle.df_shell.specs.ToldChanges.{TellsInHall};
 ghost use Rattle.df_versions.specs.Histories.{AllowsAll};
 
 use crate::reading::tell_last;
-use crate::version_reading::{answer_from_version, has_view, view_names};
+use crate::version_reading::{answer_from_version, has_view, view_names, view_table};
 use df_catalogue::{CatalogueFault, Change, Desk, FrameChange, ViewChange};
 use df_hall::{Hall, Missing};
 use df_session::{
     ChangeStore, Definitions, Numbers, Question, Refusal, ShellFault, VersionFault, ViewStore,
-    end_of,
+    ViewTable, end_of,
 };
 use df_value::{List, Text};
 use df_versions::{ChangeFault, Naming, Reader, Told};
@@ -256,7 +256,7 @@ impl<'r, R: Wait, Acc: Ledger, Del: Ledger, J: Naming> ViewStore for HallStore<'
 
 impl<'r, R: Wait, Acc: Ledger, Del: Ledger, J: Naming> ChangeStore
     for HallStore<'r, R, Acc, Del, J> {
-    ghost use Rattle.df_shell.specs.Halls.{AreNamesInHall, IsFoundInHall};
+    ghost use Rattle.df_shell.specs.Halls.{AreNamesInHall, IsFoundInHall, IsTableInHall};
     ghost use Rattle.df_shell.specs.ToldChanges.{TellsInHall, last_number};
 
     // No clause says what the hall keeps.
@@ -267,6 +267,8 @@ impl<'r, R: Wait, Acc: Ledger, Del: Ledger, J: Naming> ChangeStore
     ghost Finds = { λ old new name r. IsFoundInHall old new name r };
 
     ghost Names = { λ old new r. AreNamesInHall old new r };
+
+    ghost Tables = { λ old new d name r. IsTableInHall old new d name r };
 
     ghost Numbers = { λ s n. n ≡ last_number s.told };
 
@@ -291,6 +293,18 @@ impl<'r, R: Wait, Acc: Ledger, Del: Ledger, J: Naming> ChangeStore
     fn view_names(&mut self, alloc: Global) -> Result<List<Text>, Refusal> {
         match self.reader.snapshot() {
             Some(version) => view_names(alloc, version.as_ref()),
+            None => Err(Refusal::Version(VersionFault::Missing)),
+        }
+    }
+
+    fn view_table(
+        &mut self,
+        alloc: Global,
+        definitions: &Definitions,
+        view: &str,
+    ) -> Result<ViewTable, Refusal> {
+        match self.reader.snapshot() {
+            Some(version) => view_table(alloc, definitions, version.as_ref(), view),
             None => Err(Refusal::Version(VersionFault::Missing)),
         }
     }

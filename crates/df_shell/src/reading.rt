@@ -6,11 +6,13 @@ ghost use Rattle.df_session.specs.Told.{IsTold, names_text};
 ghost use Rattle.df_session.specs.ViewChanges.{change_lines, change_text};
 ghost use Rattle.df_shell.specs.Questions.{books_text, frame_text, rows_text, view_text, work_text};
 ghost use Rattle.df_shell.specs.ToldChanges.{TellsLast};
+ghost use Rattle.df_shell.specs.ViewTables.{GivesTable};
 
 use df_catalogue::{Catalogue, CatalogueFault, ViewChanges};
 use df_expr::WorkCounts;
 use df_session::{
-    Definitions, Format, Part, Refusal, books_of, names_lines, tell_change, write_part, write_rows,
+    Definitions, Format, Part, Refusal, ViewTable, books_of, names_lines, tell_change, write_part,
+    write_rows,
 };
 use df_value::Text;
 use std::alloc::{AllocError, Global};
@@ -34,6 +36,20 @@ pub fn show<Acc: Ledger, Del: Ledger>(
     let name = Text::from_str(alloc, view)?;
     let rows = rows.as_slice();
     Ok(write_part(alloc, &name, schema, rows, part, format)?)
+}
+
+/// The table of a view as it stands.
+pub fn view_table<Acc: Ledger, Del: Ledger>(
+    alloc: Global,
+    catalogue: &Catalogue<Acc, Del>,
+    view: &str,
+) -> Result<ViewTable, Refusal>
+    ensures { GivesTable catalogue.now.state view.now result }
+{
+    match catalogue.view_table(view) {
+        Some(table) => Ok(ViewTable::new(alloc, view, table.schema(), table)?),
+        None => Err(Refusal::Store(CatalogueFault::NoView)),
+    }
 }
 
 /// The table of a frame in a format, and the numbers of its rows.

@@ -10,10 +10,10 @@ ghost use Rattle.df_shell.specs.NextNumbers.{next_numbers};
 ghost use Rattle.df_shell.specs.ToldChanges.{number_behind};
 
 use crate::checking::check;
-use crate::reading::{books, changes, rows, show, views, work};
+use crate::reading::{books, changes, rows, show, view_table, views, work};
 use df_catalogue::{Catalogue, CatalogueFault, Change, Desk};
 use df_session::{
-    ChangeStore, Definitions, Mistake, Numbers, Question, Refusal, RowCounts, ViewStore,
+    ChangeStore, Definitions, Mistake, Numbers, Question, Refusal, RowCounts, ViewStore, ViewTable,
     describe_frames, describe_plan, describe_table, end_if_made, end_of,
 };
 use df_value::{List, Text};
@@ -155,6 +155,7 @@ impl<Acc: Ledger, Del: Ledger> ViewStore for Store<Acc, Del> {
 impl<Acc: Ledger, Del: Ledger> ChangeStore for Store<Acc, Del> {
     ghost use Rattle.df_catalogue.specs.KeptChanges.{none_kept};
     ghost use Rattle.df_shell.specs.ToldChanges.{FindsView, NamesViews, TellsLast};
+    ghost use Rattle.df_shell.specs.ViewTables.{GivesTable};
 
     ghost Turns = { λ old new keeps. (new.catalogue ≡ record old.catalogue {
       staged = None;
@@ -168,6 +169,9 @@ impl<Acc: Ledger, Del: Ledger> ChangeStore for Store<Acc, Del> {
         × (new.catalogue ≡ old.catalogue) × (new.change_number ≡ old.change_number) };
 
     ghost Names = { λ old new r. NamesViews old.catalogue.state r
+        × (new.catalogue ≡ old.catalogue) × (new.change_number ≡ old.change_number) };
+
+    ghost Tables = { λ old new d name r. GivesTable old.catalogue.state name r
         × (new.catalogue ≡ old.catalogue) × (new.change_number ≡ old.change_number) };
 
     ghost Numbers = { λ s n. n ≡ s.change_number };
@@ -186,6 +190,15 @@ impl<Acc: Ledger, Del: Ledger> ChangeStore for Store<Acc, Del> {
 
     fn view_names(&mut self, alloc: Global) -> Result<List<Text>, Refusal> {
         Ok(self.catalogue.view_names(alloc)?)
+    }
+
+    fn view_table(
+        &mut self,
+        alloc: Global,
+        _definitions: &Definitions,
+        view: &str,
+    ) -> Result<ViewTable, Refusal> {
+        view_table(alloc, &self.catalogue, view)
     }
 
     fn change_number(&self) -> u64 {

@@ -5,12 +5,13 @@ ghost use Rattle.df_state.specs.Pictures.{frame_len_in, view_rows_in};
 ghost use Rattle.df_session.specs.Asked.{frame_index_of, plan_named};
 ghost use Rattle.df_session.specs.Told.{IsMemory, IsTold, check_text, names_text};
 ghost use Rattle.df_shell.specs.ToldChanges.{FindsIn, NamesIn};
+ghost use Rattle.df_shell.specs.ViewTables.{GivesTableIn};
 ghost use Rattle.df_shell.specs.Versions.{counted_text, differs_from, first_differing_in, numbered_text, refusal_with_hall, shown_text, text_of_index, text_of_version, version_line};
 
 use df_catalogue::{CatalogueFault, Desk};
 use df_session::{
-    Definitions, Format, Mistake, Part, Question, Refusal, RowCounts, books_of, describe_frames,
-    describe_plan, describe_table, names_lines, verdict, write_part, write_rows,
+    Definitions, Format, Mistake, Part, Question, Refusal, RowCounts, ViewTable, books_of,
+    describe_frames, describe_plan, describe_table, names_lines, verdict, write_part, write_rows,
 };
 use df_value::{List, Text};
 use df_versions::Version;
@@ -119,6 +120,24 @@ fn books<Acc: Ledger, Del: Ledger>(
         return Err(Refusal::Store(CatalogueFault::NoFrame));
     };
     Ok(books_of(alloc, desk.accepted(), desk.deleted(), live)?.into_bytes())
+}
+
+/// The table of a view as it stands in a version, with the schema of the document's plan of its name.
+pub fn view_table(
+    alloc: Global,
+    definitions: &Definitions,
+    version: &Version,
+    view: &str,
+) -> Result<ViewTable, Refusal>
+    ensures { GivesTableIn definitions.now version.now.1 view.now result }
+{
+    let Some(plan) = definitions.plan(view) else {
+        return Err(Refusal::Store(CatalogueFault::NoView));
+    };
+    match version.view_table(view) {
+        Some(table) => Ok(ViewTable::new(alloc, view, plan.schema(), table)?),
+        None => Err(Refusal::Store(CatalogueFault::NoView)),
+    }
 }
 
 /// Whether a view of this name is registered.
