@@ -1,4 +1,5 @@
 pub mod FindFacts
+mod ViewTableFacts
 pub mod DesksFacts
 pub mod HallFacts
 pub mod CheckFacts
