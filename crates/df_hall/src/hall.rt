@@ -11,7 +11,7 @@ ghost use Rattle.df_hall.specs.LastChanges.{AreOfLastStep, IsLastChange};
 ghost use Rattle.df_hall.specs.Rooms.{HasRoomFor, Holds};
 ghost use Rattle.df_value.specs.Limits as limits;
 ghost use Rattle.df_versions.specs.Answered.{told_states};
-ghost use Rattle.df_versions.specs.Histories.{IsHistoryOver, IsLastState, last_state};
+ghost use Rattle.df_versions.specs.Histories.{IsHistoryOver, IsLastStateBy, last_state};
 
 use crate::closing::{Unsettled, settle};
 use crate::totals::{Totals, TotalsRoom};
@@ -225,7 +225,7 @@ impl<Acc: Ledger, Del: Ledger, J: Naming> Hall<Acc, Del, J> {
         ensures totals { IfOk result (λ closed. closed.1 ≡ closing.totals_of closed.0.state) }
         ensures books { IfOk result (λ closed. AgreeWithBooks desks.items closed.0.state) }
         ensures legal { IfOk result (λ closed. IsLegal closed.0.state) }
-        ensures state { IfOk result (λ closed. IsLastState J.schemas closed.0.state) }
+        ensures state { IfOk result (λ closed. IsLastStateBy J.allows J.schemas closed.0.state) }
         ensures missing { IfErr result (λ missing.
             closing.IsMissingAfter J.schemas desks.items missing.told missing.frame) }
         ensures joined { IfErr result (λ missing.

@@ -14,7 +14,7 @@ ghost use Rattle.df_jobs.specs.Loaded.{AreLoaded};
 ghost use Rattle.df_store.specs.Loads as loads;
 ghost use Rattle.df_jobs.specs.Refused.{refusal};
 ghost use Rattle.df_jobs.specs.Counted.{entered_at};
-ghost use Rattle.df_versions.specs.Histories.{IsHistoryOver, IsLastState, last_state};
+ghost use Rattle.df_versions.specs.Histories.{AreAllowed, IsHistoryOver, IsLastStateBy, last_state};
 
 use crate::drawing::jobs_at_once;
 use crate::fault::LoadCause;
@@ -128,7 +128,8 @@ pub fn load_all<
     ensures totals { IfOk result (λ load.
         load.totals ≡ closing.totals_of load.catalogue.state) }
     ensures legal { IfOk result (λ load. IsLegal load.catalogue.state) }
-    ensures state { IfOk result (λ load. IsLastState J.schemas load.catalogue.state) }
+    ensures state { IfOk result (λ load.
+        IsLastStateBy J.allows J.schemas load.catalogue.state) }
     ensures left { IfErr result (λ fault. MatchOption fault.left
         (loads.IsNotLeft J.schemas (chunks_of S.made S.start_of sources.now) views.now
         desks.items fault.cause fault.told)
@@ -202,7 +203,8 @@ fn run_load<
     ensures totals { IfOk result (λ load.
         load.totals ≡ closing.totals_of load.catalogue.state) }
     ensures legal { IfOk result (λ load. IsLegal load.catalogue.state) }
-    ensures state { IfOk result (λ load. IsLastState J.schemas load.catalogue.state) }
+    ensures state { IfOk result (λ load.
+        IsLastStateBy J.allows J.schemas load.catalogue.state) }
     ensures left { IfErr result (λ fault. MatchOption fault.left
         (loads.IsNotLeft J.schemas (chunks_of S.made S.start_of work.now.sources.now) views.now
         desks.items fault.cause fault.told)
@@ -260,6 +262,7 @@ fn ended<Acc: Ledger, Del: Ledger, J: Naming, R: Wait>(
 ) -> (Catalogue<Acc, Del>, Told<J>)
     ensures state { last_state catalogue ≡ Some result.0.state }
     ensures over { IsHistoryOver J.schemas catalogue }
+    ensures allowed { AreAllowed J.allows catalogue }
     ensures told { result.1 ≡ catalogue }
 {
     let (catalogue, publisher) = catalogue.into_parts();
@@ -299,7 +302,8 @@ fn finish<Acc: Ledger, Del: Ledger, J: Naming, S: Source, G: Gate, R: Threads + 
     ensures totals { IfOk result (λ load.
         load.totals ≡ closing.totals_of load.catalogue.state) }
     ensures legal { IfOk result (λ load. IsLegal load.catalogue.state) }
-    ensures state { IfOk result (λ load. IsLastState J.schemas load.catalogue.state) }
+    ensures state { IfOk result (λ load.
+        IsLastStateBy J.allows J.schemas load.catalogue.state) }
     ensures left { IfErr result (λ fault. IfSome fault.left (λ left.
         (last_state catalogue ≡ Some left.0.state)
         × closing.IsSettledState J.schemas desks.items left.0.state)) }

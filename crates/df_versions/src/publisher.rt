@@ -101,7 +101,10 @@ impl<J: Naming> Publisher<J> {
     }
 
     /// Waits until no reader is inside a step, and ends: readers get no version from then on.
-    pub fn end<R: Wait>(self, rt: &R) {
+    pub fn end<R: Wait>(self, rt: &R)
+        ensures over { IsHistoryOver J.schemas self }
+        ensures allowed { AreAllowed J.allows self }
+    {
         let Publisher {
             head: _,
             history: _,
