@@ -90,7 +90,8 @@ impl<J: Naming> Dashboard<J> {
         ensures none { IfNone result (self.new ≡ self.old) }
     {
         let version = self.reader.snapshot()?;
-        self.given = Some(version.number());
+        let number = version.number();
+        self.given = Some(number);
         Some(version)
     }
 

@@ -8,6 +8,7 @@
 mod books;
 mod builder;
 mod cells;
+mod changing;
 mod closing;
 mod csv_rows;
 mod dashboard;
@@ -34,7 +35,7 @@ pub use df_value::{
 };
 pub use df_versions::{ChangeFault, Naming, OpenFault, Reader, Told, Version};
 pub use fault::{FinishFault, ServiceFault};
-pub use opening::Finished;
+pub use opening::{Finished, FrameTotals};
 pub use service::{OpenService, Service, Tell, ViewSchema};
 pub use threads::{Load, ServiceRuntime, Watch};
 pub use view_rows::{ViewRow, ViewRows};

@@ -3,13 +3,12 @@
 
 use clap::{Arg, ArgAction, ArgMatches, Command, Error, value_parser};
 use dataframes::{
-    Agg, Boxed, CellRef, CellType, Dashboard, FinishFault, Finished, List, Load, Naming, Plan,
-    Service, ServiceBuilder, ServiceFault, ServiceRuntime, Tell, Text, ViewRows, Watch, row_of,
+    Agg, Boxed, CellRef, CellType, CsvFault, Dashboard, FinishFault, Finished, List, Load, Naming,
+    Plan, Service, ServiceBuilder, ServiceFault, ServiceRuntime, Tell, Text, Watch, row_of,
 };
 use rand_core::{Rng, SeedableRng};
 use rand_xoshiro::Xoshiro256PlusPlus;
 use std::alloc::{AllocError, Global};
-use std::fmt::Display;
 use std::process::ExitCode;
 use std::rt::Runtime;
 use std::sync::atomic::{AtomicU64, Ordering};
@@ -35,7 +34,11 @@ fn totals(alloc: Global) -> Result<Plan, AllocError> {
     Ok(Plan::GroupBy(Boxed::new(alloc, Plan::Scan(MOVES))?, keys, sums))
 }
 
+type Totals = Vec<(String, i128)>;
+
 type Loaded<S> = Result<(), ServiceFault<<S as Tell>::History>>;
+
+type Ended<'a, R> = Finished<Loader<'a, R>, Watcher<'a, R>>;
 
 // It loads files, of which each loader draws the next one, or makes moves where there are none.
 #[derive(Drop)]
@@ -44,7 +47,7 @@ struct Loader<'a, R> {
     files: &'a [&'a str],
     drawn: &'a AtomicU64,
     random: Xoshiro256PlusPlus,
-    rounds: u64,
+    turns: u64,
     accepted: u64,
     deleted: u64,
     // Whether a file or a round, or a part of one, is left out.
@@ -53,37 +56,29 @@ struct Loader<'a, R> {
 
 impl<'a, R: Runtime + AllocGlobal> Load for Loader<'a, R> {
     fn load<S: Service>(&mut self, service: &S) {
-        for _file in 0..self.files.len() {
+        for _turn in 0..self.turns {
             let next = self.drawn.fetch_add(1, Ordering::SeqCst);
-            if let Some(path) = self.files.get(next as usize) {
-                self.load_file(service, path);
-            }
-        }
-        for _round in 0..self.rounds {
-            if let Err(fault) = self.make_round(service) {
-                self.leave_out("a round", &fault);
-                if !fault.is_memory() {
+            let (what, done) = match self.files.get(next as usize) {
+                Some(path) => (*path, self.load_file(service, path)),
+                None if self.files.is_empty() => ("a round", self.make_round(service)),
+                None => return,
+            };
+            if let Err(fault) = done {
+                let _ = eprintln!(self.rt; "{what}: {fault}");
+                self.is_short = true;
+                if self.files.is_empty() && !fault.is_memory() {
                     return;
                 }
             }
-            thread::sleep(self.rt, Duration::from_millis(50));
         }
     }
 }
 
 impl<'a, R: Runtime + AllocGlobal> Loader<'a, R> {
-    fn load_file<S: Service>(&mut self, service: &S, path: &str) {
-        let Ok(lines) = fs::read(self.rt, path) else {
-            return self.leave_out(path, &"it cannot be read");
-        };
-        if let Err(fault) = self.append_lines(service, lines.as_slice()) {
-            self.leave_out(path, &fault);
-        }
-    }
-
     // A file may have any number of lines: its rows enter by parts.
-    fn append_lines<S: Service>(&mut self, service: &S, lines: &[u8]) -> Loaded<S> {
-        let records = service.read_csv(MOVES, lines)?;
+    fn load_file<S: Service>(&mut self, service: &S, path: &str) -> Loaded<S> {
+        let lines = fs::read(self.rt, path).map_err(|_| CsvFault::ReadFault)?;
+        let records = service.read_csv(MOVES, lines.as_slice())?;
         for part in 0..records.parts() {
             let came = service.append(MOVES, records.rows(service.alloc(), part)?)?;
             self.accepted = self.accepted.wrapping_add(came.rows as u64);
@@ -93,6 +88,7 @@ impl<'a, R: Runtime + AllocGlobal> Loader<'a, R> {
 
     // Two moves come. The first is corrected, and the second, which was entered by mistake, is deleted.
     fn make_round<S: Service>(&mut self, service: &S) -> Loaded<S> {
+        thread::sleep(self.rt, Duration::from_millis(50));
         let alloc = service.alloc();
         let ((one, ones), (two, twos)) = (self.next_move(), self.next_move());
         let lines = format!(in alloc; "good,count\n{one},{ones}\n{two},{twos}\n")?;
@@ -110,39 +106,27 @@ impl<'a, R: Runtime + AllocGlobal> Loader<'a, R> {
         let good = GOODS[(self.random.next_u64() % 4) as usize];
         (good, (self.random.next_u64() % 20) as i64 - 5)
     }
-
-    fn leave_out<D: Display>(&mut self, what: &str, why: &D) {
-        let _ = eprintln!(self.rt; "{what}: {why}");
-        self.is_short = true;
-    }
 }
 
 // It shows the totals of the newest version, by good.
 #[derive(Drop)]
 struct Watcher<'a, R> {
     rt: &'a R,
-    alloc: Global,
-    shown: Vec<(String, i128)>,
+    shown: Totals,
     // Whether memory was refused to the newest totals.
     is_behind: bool,
 }
 
-impl<'a, R: Eprint> Watch for Watcher<'a, R> {
+impl<'a, R: Eprint + AllocGlobal> Watch for Watcher<'a, R> {
     fn look<S: Tell>(&mut self, service: &S, dashboard: &mut Dashboard<S::History>) {
         if let Some(told) = service.told() {
             dashboard.learn(told);
         }
-        if dashboard.changed() || self.is_behind {
-            let totals = newest_totals(self.alloc, dashboard);
-            self.show(totals);
+        if !dashboard.changed() && !self.is_behind {
+            return;
         }
-    }
-}
-
-impl<'a, R: Eprint> Watcher<'a, R> {
-    fn show(&mut self, totals: Option<Vec<(String, i128)>>) {
-        self.is_behind = totals.is_none();
-        let Some(totals) = totals else {
+        let Some(totals) = newest_totals(self.rt.alloc(), dashboard) else {
+            self.is_behind = true;
             let _ = eprintln!(self.rt; "totals: out of memory");
             return;
         };
@@ -152,17 +136,14 @@ impl<'a, R: Eprint> Watcher<'a, R> {
             }
         }
         self.shown = totals;
+        self.is_behind = false;
     }
 }
 
-fn newest_totals<J: Naming>(alloc: Global, dashboard: &mut Dashboard<J>) -> Totals {
+// The totals of the newest version in the order of the goods; None where memory is refused. A good that is null has no name.
+fn newest_totals<J: Naming>(alloc: Global, dashboard: &mut Dashboard<J>) -> Option<Totals> {
     let version = dashboard.newest()?;
     let rows = dashboard.view(alloc, version.as_ref(), "totals").ok()?;
-    by_good(alloc, &rows)
-}
-
-// The totals of the view's rows, in the order of the goods; None where memory is refused. A good that is null has no name.
-fn by_good(alloc: Global, rows: &ViewRows<'_>) -> Totals {
     let mut totals = Vec::new(alloc);
     for at in 0..rows.len() {
         let row = rows.row(at)?;
@@ -178,7 +159,7 @@ fn main(rt: HostRuntime) -> ExitCode {
 }
 
 fn run<R: ServiceRuntime + Runtime>(rt: &R) -> Option<ExitCode> {
-    let words: Vec<String> = env::args(rt).ok()?.skip(1).collect(rt.alloc()).ok()?;
+    let words: Vec<String> = env::args(rt).ok()?.collect(rt.alloc()).ok()?;
     match read_words(rt.alloc(), words.as_slice()) {
         Ok(words) => serve(rt, &words),
         Err(error) => {
@@ -189,17 +170,13 @@ fn run<R: ServiceRuntime + Runtime>(rt: &R) -> Option<ExitCode> {
 }
 
 fn read_words<'a>(alloc: Global, words: &'a [String]) -> Result<ArgMatches<'a>, Error> {
-    let command = Command::new(alloc, "stocklist")
-        .no_binary_name(true)
-        .arg(word(alloc, "file", "PATH").action(ArgAction::Append))?
-        .arg(word(alloc, "loaders", "NUMBER").value_parser(value_parser!(u64).range(1..=16)))?
-        .arg(word(alloc, "seconds", "NUMBER").value_parser(value_parser!(u64).range(1..=600)))?
-        .arg(word(alloc, "seed", "NUMBER").value_parser(value_parser!(u64)))?;
-    command.try_get_matches_from(words)
-}
-
-fn word<'a>(alloc: Global, name: &'a str, value: &'a str) -> Arg<'a> {
-    Arg::new(alloc, name).long(name).value_name(value)
+    let word = |name| Arg::new(alloc, name).long(name);
+    Command::new(alloc, "stocklist")
+        .arg(word("file").action(ArgAction::Append))?
+        .arg(word("loaders").value_parser(value_parser!(u64).range(1..=16)))?
+        .arg(word("seconds").value_parser(value_parser!(u64).range(1..=600)))?
+        .arg(word("seed").value_parser(value_parser!(u64)))?
+        .try_get_matches_from(words)
 }
 
 fn serve<R: ServiceRuntime + Runtime>(rt: &R, words: &ArgMatches<'_>) -> Option<ExitCode> {
@@ -207,7 +184,6 @@ fn serve<R: ServiceRuntime + Runtime>(rt: &R, words: &ArgMatches<'_>) -> Option<
     let files = words.get_raw("file").unwrap_or(&[]);
     let seed: u64 = words.get_one("seed").unwrap_or(1);
     let seconds: u64 = words.get_one("seconds").unwrap_or(1);
-    let rounds = if files.is_empty() { seconds } else { 0 };
     let mut loaders = Vec::new(alloc);
     for number in 0..words.get_one("loaders").unwrap_or(4) {
         let loader = Loader {
@@ -215,18 +191,16 @@ fn serve<R: ServiceRuntime + Runtime>(rt: &R, words: &ArgMatches<'_>) -> Option<
             files,
             drawn: &drawn,
             random: Xoshiro256PlusPlus::seed_from_u64(seed.wrapping_add(number)),
-            rounds: rounds.saturating_mul(20),
+            turns: seconds.saturating_mul(20).max(files.len() as u64),
             accepted: 0,
             deleted: 0,
             is_short: false,
         };
         loaders.push(loader).ok()?;
     }
-    let shown = Vec::new(alloc);
     let watcher = Watcher {
         rt,
-        alloc,
-        shown,
+        shown: Vec::new(alloc),
         is_behind: false,
     };
     let watchers = vec![in alloc; watcher].ok()?;
@@ -234,13 +208,9 @@ fn serve<R: ServiceRuntime + Runtime>(rt: &R, words: &ArgMatches<'_>) -> Option<
     report(rt, &finished)
 }
 
-fn report<R: Print + Eprint>(
-    rt: &R,
-    finished: &Finished<Loader<'_, R>, Watcher<'_, R>>,
-) -> Option<ExitCode> {
-    let totals = &finished.totals;
-    let (accepted, deleted) = (*totals.accepted.get(MOVES)?, *totals.deleted.get(MOVES)?);
-    let live = *totals.live.get(MOVES)?;
+fn report<R: Print + Eprint>(rt: &R, finished: &Ended<'_, R>) -> Option<ExitCode> {
+    let books = finished.totals_of(MOVES)?;
+    let (accepted, deleted, live) = (books.accepted, books.deleted, books.live);
     println!(rt; "accepted {accepted}, deleted {deleted}, live {live}").ok()?;
     let watcher = finished.watchers.first()?;
     for (good, total) in watcher.shown.as_slice() {
@@ -252,9 +222,9 @@ fn report<R: Print + Eprint>(
         went = went.wrapping_add(loader.deleted);
         is_short = is_short || loader.is_short;
     }
-    if (came, went) != (accepted, deleted) {
+    let agree = (came, went) == (accepted, deleted);
+    if !agree {
         let _ = eprintln!(rt; "the loaders counted {came} accepted and {went} deleted");
     }
-    let is_whole = !is_short && (came, went) == (accepted, deleted);
-    Some(ExitCode::from(if is_whole { 0 } else { 1 }))
+    Some(ExitCode::from(if agree && !is_short { 0 } else { 1 }))
 }
