@@ -1,6 +1,6 @@
 #!/usr/bin/env python3
-"""gate_times.py COMMAND..: runs the gate, say `rt ci --anew`, and prints the table of docs/GATE.md: what each crate's
-proof, tests and edits cost, which crate it waits for longest, and the sum of the proofs up to its own.
+"""gate_times.py COMMAND..: runs the gate, say `rt ci --anew`, and prints a table, of which docs/GATE.md has the dearest crates:
+what each crate's proof, tests and edits cost, which crate it waits for longest, and the sum of the proofs up to its own.
 
 It looks at the processes of `rattle` every half second and keeps the processor time of each, so a process that ends
 within that time is missed. Ends with the command's status. Linux, Python 3.11 or later."""
@@ -72,7 +72,7 @@ def table(seconds):
     for crate in sorted(used, key=ends.get):
         costs = [f"{sums[crate, part]:.0f}" if sums[crate, part] else "" for part in ("proof", "tests", "edits")]
         waited = f"`{waits[crate]}`" if waits[crate] else ""
-        yield f"| `{crate}` | {' | '.join(costs)} | {waited} | {ends[crate] / 60:.0f} min |"
+        yield f"| `{crate}` | {' | '.join(costs)} | {waited} | {ends[crate] / 60:.0f} |"
     yield f"in all {sum(sums.values()) / 60:.0f} processor minutes, the longest chain {max(ends.values()) / 60:.0f}"
 
 

@@ -160,8 +160,8 @@ impl Picture {
         self.frames.get(frame)
     }
 
-    // The table of the view of this name.
-    fn view_table(&self, name: &str) -> Option<&Table>
+    /// The table of the view of this name, with the tags of its rows.
+    pub fn view_table(&self, name: &str) -> Option<&Table>
         ensures { option_map pictures.rows_in (option_copied result)
             ≡ option_map (λ v. v.1) (find (λ v. bytes_eq v.0 name.now) self.now.views) }
     {

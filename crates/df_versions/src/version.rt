@@ -1,5 +1,6 @@
 //! What is published.
-ghost use Rattle.std.specs.Prelude.{◌≡◌, ◌+◌, IfOk, Some, length, map, option_map};
+ghost use Rattle.std.specs.Prelude.{◌≡◌, ◌+◌, IfOk, Some, bytes_eq, find, length, map, option_map};
+ghost use Rattle.std.specs.Option.{option_copied};
 ghost use Rattle.std.specs.Arc.{arc_value};
 ghost use Rattle.df_state.specs.Answers.{AnswersMemoryLast};
 ghost use Rattle.df_state.specs.Pictures as pictures;
@@ -12,6 +13,7 @@ ghost use Rattle.df_versions.specs.Histories.{last_state};
 use crate::history::History;
 use atomic_table::{Join, Split};
 use crossbeam_utils::rule::{Outcome, Protocol};
+use df_column::Table;
 use df_plan::CheckedPlan;
 use df_state::{CatalogueFault, Picture};
 use df_value::{List, Row, Text};
@@ -100,6 +102,15 @@ impl Version {
         ensures legal { IsPictureOfLegal self.now.1 }
     {
         self.picture.view_rows(alloc, name)
+    }
+
+    /// The table of the view of this name, with the tags of its rows.
+    pub fn view_table(&self, name: &str) -> Option<&Table>
+        ensures answer { option_map pictures.rows_in (option_copied result)
+            ≡ option_map (λ v. v.1) (find (λ v. bytes_eq v.0 name.now) self.now.1.views) }
+        ensures legal { IsPictureOfLegal self.now.1 }
+    {
+        self.picture.view_table(name)
     }
 
     /// The names of the views, in the order in which they were registered.
