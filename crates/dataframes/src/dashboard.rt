@@ -11,6 +11,7 @@ ghost use Rattle.dataframes.specs.Dashboards.{EndsBy, GoesOnBehind, IsLater, col
 
 use crate::service::ViewSchema;
 use crate::view_rows::ViewRows;
+use crate::view_table::ViewTable;
 use df_catalogue::CatalogueFault;
 use df_value::{List, Schema, index_of_name};
 use df_versions::{Naming, Reader, Told, Version};
@@ -161,6 +162,30 @@ impl<J: Naming> Dashboard<J> {
     {
         match self.view_schema(name) {
             Some(schema) => ViewRows::read(alloc, version, name, schema),
+            None => Err(CatalogueFault::NoView),
+        }
+    }
+
+    /// The table of a view in a version, with the view's columns: no row is copied. Refused is a view with which the service was
+    /// not opened, and one that the version has not.
+    pub fn table<'a>(
+        &'a self,
+        version: &'a Version,
+        name: &str,
+    ) -> Result<ViewTable<'a>, CatalogueFault>
+        ensures rows { IfOk result (λ view.
+            pictures.view_rows_in version.now.1 name.now ≡ Ok (pictures.rows_in view.table.now)) }
+        ensures columns { IfOk result (λ view.
+            columns_of_view name.now self.now.views ≡ Some view.schema.now) }
+        ensures refused { IfErr result (λ fault. (fault ≡ catalogue_fault.NoView)
+            × ((columns_of_view name.now self.now.views ≡ None)
+            ⊎ (pictures.view_rows_in version.now.1 name.now ≡ Err fault))) }
+    {
+        let Some(schema) = self.view_schema(name) else {
+            return Err(CatalogueFault::NoView);
+        };
+        match version.view_table(name) {
+            Some(table) => Ok(ViewTable { schema, table }),
             None => Err(CatalogueFault::NoView),
         }
     }

@@ -17,6 +17,7 @@ mod opening;
 mod service;
 mod threads;
 mod view_rows;
+mod view_table;
 
 pub use books::{Appended, Books};
 pub use builder::ServiceBuilder;
@@ -39,3 +40,4 @@ pub use opening::{Finished, FrameTotals};
 pub use service::{OpenService, Service, Tell, ViewSchema};
 pub use threads::{Load, ServiceRuntime, Watch};
 pub use view_rows::{ViewRow, ViewRows};
+pub use view_table::{OwnedRow, ViewTable};

@@ -73,7 +73,7 @@ fn watch_all<
         rt,
         watchers.as_mut_slice(),
         threads,
-        &|at, watcher| { keep_watch(rt, service, at, watcher) },
+        &move |at, watcher| { keep_watch(rt, service, at, watcher) },
     );
     watchers
 }

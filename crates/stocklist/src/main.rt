@@ -143,10 +143,11 @@ impl<'a, R: Eprint + AllocGlobal> Watch for Watcher<'a, R> {
 // The totals of the newest version in the order of the goods; None where memory is refused. A good that is null has no name.
 fn newest_totals<J: Naming>(alloc: Global, dashboard: &mut Dashboard<J>) -> Option<Totals> {
     let version = dashboard.newest()?;
-    let rows = dashboard.view(alloc, version.as_ref(), "totals").ok()?;
+    let table = dashboard.table(version.as_ref(), "totals").ok()?;
     let mut totals = Vec::new(alloc);
-    for at in 0..rows.len() {
-        let row = rows.row(at)?;
+    for at in 0..table.len() {
+        let row = table.row(alloc, at).ok()??;
+        let row = row.lent();
         let good = String::from_str(alloc, row.text("good").unwrap_or("")).ok()?;
         totals.push((good, row.int("total").unwrap_or(0))).ok()?;
     }
