@@ -15,7 +15,7 @@ use Rattle.dataframes.specs.contracts.dashboard.Dashboard.TheInside as Dashboard
 
 module _ (J : RattleType) (j : Names J.Denot) where
   dashboard_inside_send : IsSend J → IsSend (DashboardInside.the_row J j)
-  dashboard_inside_send s = let r = reader_send in search (sendable, crosses) depth 40
+  dashboard_inside_send s = let r = reader_send in search (sendable, crosses, schema.the_send) depth 40 fits 50000
 
   pub dashboard_send : IsSend J → IsSend (Dashboard.the_row J j)
   dashboard_send s = let i = dashboard_inside_send s in search sendable depth 20

@@ -1,4 +1,4 @@
--- Threads may share a service.
+-- Threads may share a service, and what makes its changes.
 use denote.RattleType.{RattleType}
 use denote.Ref.{NamedLft}
 use denote.Param.Send.{IsSend, IsSync, sendable}
@@ -11,17 +11,17 @@ use Rattle.df_versions.specs.declared.history.Naming.{Ghosts as Names}
 use Rattle.df_hall.proofs.Crosses.{hall_sync}
 use Rattle.dataframes.proofs.Crosses.{locked_books_sync, seat_sync}
 use Rattle.dataframes.proofs.CrossesTables.{schemas_sync}
+use Rattle.dataframes.specs.contracts.changing.LockedBooks as Changes
+use Rattle.dataframes.specs.contracts.changing.LockedBooks.TheInside as ChangesInside
 use Rattle.dataframes.specs.contracts.service.OpenService as Service
 use Rattle.dataframes.specs.contracts.service.OpenService.TheInside as ServiceInside
 
 number_sync : IsSync AtomicU64.the_row
 number_sync = search (sendable, crosses) depth 20
 
-module _ (l : NamedLft) (R A D J : RattleType) (a : Ghosts A.Denot) (d : Ghosts D.Denot) (j : Names J.Denot) where
-  service_inside_sync : IsSync R → IsSend J → IsSync (ServiceInside.the_row l R A D J j a d)
-  service_inside_sync r n =
-      let h = hall_sync A D J a d j in
-      let b = locked_books_sync A D J a d j in
+module _ (l : NamedLft) (M J : RattleType) (j : Names J.Denot) where
+  service_inside_sync : IsSync M → IsSend J → IsSync (ServiceInside.the_row l M J j)
+  service_inside_sync m n =
       let s = schemas_sync in
       let w = seat_sync J j n in
       let u = number_sync in
@@ -29,5 +29,16 @@ module _ (l : NamedLft) (R A D J : RattleType) (a : Ghosts A.Denot) (d : Ghosts 
       let t = text.the_sync in
       search (sendable, crosses) depth 30
 
-  pub service_sync : IsSync R → IsSend J → IsSync (Service.the_row l R A D J j a d)
-  service_sync r n = let i = service_inside_sync r n in search sendable depth 20
+  pub service_sync : IsSync M → IsSend J → IsSync (Service.the_row l M J j)
+  service_sync m n = let i = service_inside_sync m n in search sendable depth 20
+
+module _ (l : NamedLft) (R A D J : RattleType) (a : Ghosts A.Denot) (d : Ghosts D.Denot) (j : Names J.Denot) where
+  changes_inside_sync : IsSync R → IsSync (ChangesInside.the_row l R A D J j a d)
+  changes_inside_sync r =
+      let h = hall_sync A D J a d j in
+      let b = locked_books_sync A D J a d j in
+      let s = schemas_sync in
+      search (sendable, crosses) depth 30
+
+  pub changes_sync : IsSync R → IsSync (Changes.the_row l R A D J j a d)
+  changes_sync r = let i = changes_inside_sync r in search sendable depth 20

@@ -5,3 +5,4 @@ pub mod ClosingFacts
 pub mod Crosses
 pub mod CrossesTables
 pub mod CrossesService
+pub mod TableFacts

@@ -16,6 +16,7 @@ use Rattle.df_versions.specs.declared.fault.OpenFault.TheVariants as open_fault_
 use Rattle.df_versions.specs.declared.fault.ChangeFault.TheVariants as change_fault
 use Rattle.dataframes.specs.Books.{BooksParts}
 use Rattle.dataframes.specs.Builders.{BuilderParts}
+use Rattle.dataframes.specs.declared.opening.FrameTotals.{FrameTotals}
 use Rattle.dataframes.specs.declared.fault.ServiceFault.{ServiceFault}
 use Rattle.dataframes.specs.declared.fault.ServiceFault.TheVariants.{Refused}
 use Rattle.dataframes.specs.declared.fault.FinishFault.{FinishFault}
@@ -31,6 +32,16 @@ pub record IsClosed (schemas : List (List (List ℕ × CellType))) (totals : Tot
   pub settled : missing_frame desks state ≡ None
   pub agree : AgreeWithBooks desks state
   pub is : totals ≡ totals_of state
+
+-- what the totals say of a frame
+abbrev pub AreTotalsOf : Totals → ℕ → FrameTotals → Type 0
+AreTotalsOf totals frame said =
+    (slice_get totals.accepted frame ≡ Some said.accepted) × (slice_get totals.deleted frame ≡ Some said.deleted) × (slice_get totals.live frame ≡ Some said.live)
+
+-- they say nothing of it
+abbrev pub HasNoTotals : Totals → ℕ → Type 0
+HasNoTotals totals frame =
+    (slice_get totals.accepted frame ≡ None) ⊎ ((slice_get totals.deleted frame ≡ None) ⊎ (slice_get totals.live frame ≡ None))
 
 -- the least frame of which the desks are not the books
 abbrev pub IsMissed : List (List (List ℕ × CellType)) → FinishFault → Type 0

@@ -4,5 +4,6 @@ pub mod Builders
 pub mod Cells
 pub mod Closing
 pub mod Dashboards
+pub mod Faults
 pub mod Lines
 pub mod ViewRows

@@ -1,5 +1,5 @@
 //! Dashboards: readers of a service that never wait.
-ghost use Rattle.std.specs.Prelude.{◌≡◌, ◌⊎◌, ◌<◌, IfErr, IfNone, IfOk, IfSome, Err, None, Ok, Some};
+ghost use Rattle.std.specs.Prelude.{◌≡◌, ◌⊎◌, ◌<◌, IfErr, IfNone, IfOk, IfSome, IsTrue, Err, None, Ok, Some, false};
 ghost use Rattle.std.specs.Arc.{arc_value};
 ghost use Rattle.std.specs.Option.{option_copied};
 ghost use mathlib.Core.List.{IsPrefix};
@@ -7,10 +7,11 @@ ghost use Rattle.df_state.specs.Answers.{AnswersMemoryLast};
 ghost use Rattle.df_state.specs.Pictures as pictures;
 ghost use Rattle.df_state.specs.declared.fault.CatalogueFault.TheVariants as catalogue_fault;
 ghost use Rattle.df_versions.specs.Shown.{Shows};
-ghost use Rattle.dataframes.specs.Dashboards.{columns_of_view};
+ghost use Rattle.dataframes.specs.Dashboards.{EndsBy, GoesOnBehind, IsLater, columns_of_view};
 
 use crate::service::ViewSchema;
 use crate::view_rows::ViewRows;
+use crate::view_table::ViewTable;
 use df_catalogue::CatalogueFault;
 use df_value::{List, Schema, index_of_name};
 use df_versions::{Naming, Reader, Told, Version};
@@ -19,9 +20,10 @@ use std::marker::{Model, PhantomData};
 use std::sync::Arc;
 
 /// Takes the versions of a service. Contracts see the states up to the newest version that was taken, the longest list of
-/// states that was learnt, and the views with which the service was opened.
+/// states that was learnt, the number of the version that it gave last, and the views with which the service was opened.
 pub struct Dashboard<J: Naming> {
     reader: Reader,
+    given: Option<u64>,
     views: List<ViewSchema>,
     of: PhantomData<J>,
 }
@@ -29,7 +31,12 @@ pub struct Dashboard<J: Naming> {
 // A body that owns one drops it by a call.
 impl<J: Naming> Drop for Dashboard<J> {
     fn drop(self) {
-        let Dashboard { reader, views, of } = self;
+        let Dashboard {
+            reader,
+            given: _,
+            views,
+            of,
+        } = self;
         drop(reader);
         drop(views);
         drop(of);
@@ -46,7 +53,12 @@ impl<J: Naming> Model for Dashboard<J> {
 
     ghost coded = { Prim.hlevel (codes, state_type.the_row.coded) };
 
-    ghost view = { λ d. record { taken = d.reader.1.0; learnt = d.reader.1.1; views = d.views } };
+    ghost view = { λ d. record {
+      taken = d.reader.1.0;
+      learnt = d.reader.1.1;
+      given = d.given;
+      views = d.views;
+    } };
 
     ghost invariant = { λ d. d.reader.0 ≡ J.book };
 }
@@ -57,10 +69,12 @@ impl<J: Naming> Dashboard<J> {
         requires { reader.0 ≡ J.book }
         ensures taken { result.taken ≡ reader.1.0 }
         ensures learnt { result.learnt ≡ reader.1.1 }
+        ensures given { result.given ≡ None }
         ensures views { result.views ≡ views }
     {
         Dashboard {
             reader,
+            given: None,
             views,
             of: PhantomData,
         }
@@ -71,27 +85,55 @@ impl<J: Naming> Dashboard<J> {
     pub fn newest(&mut self) -> Option<Arc<Version, Global>>
         ensures learnt { self.new.learnt ≡ self.old.learnt }
         ensures views { self.new.views ≡ self.old.views }
-        ensures later { IfSome result (λ v. IsPrefix self.old.taken self.new.taken
-            × IsPrefix self.old.learnt self.new.taken) }
+        ensures later { IfSome result (λ v. IsLater self.old self.new) }
         ensures shows { IfSome result (λ v. Shows self.new.taken (arc_value v)) }
+        ensures given { IfSome result (λ v. self.new.given ≡ Some (arc_value v).0) }
         ensures none { IfNone result (self.new ≡ self.old) }
     {
-        self.reader.snapshot()
+        let version = self.reader.snapshot()?;
+        let number = version.number();
+        self.given = Some(number);
+        Some(version)
+    }
+
+    /// Whether there is a newer version than the one that this dashboard gave last, or, where it gave none, one at all. Behind
+    /// true the version that it gives next is such a one. It waits for nobody and takes no memory.
+    pub fn changed(&mut self) -> bool
+        ensures learnt { self.new.learnt ≡ self.old.learnt }
+        ensures given { self.new.given ≡ self.old.given }
+        ensures views { self.new.views ≡ self.old.views }
+        ensures newer { IsTrue result → IsLater self.old self.new
+            × GoesOnBehind self.old.given self.new.taken }
+        ensures none { result ≡ false → (self.new ≡ self.old)
+            ⊎ (IsLater self.old self.new × EndsBy self.old.given self.new.taken) }
+    {
+        let Some(version) = self.reader.snapshot() else {
+            return false;
+        };
+        let number = version.number();
+        drop(version);
+        match self.given {
+            Some(given) => given < number,
+            None => true,
+        }
     }
 
     /// The newest version, if it is a later one than that of this number.
     pub fn newer_than(&mut self, number: u64) -> Option<Arc<Version, Global>>
         ensures learnt { self.new.learnt ≡ self.old.learnt }
         ensures views { self.new.views ≡ self.old.views }
-        ensures later { IfSome result (λ v. IsPrefix self.old.taken self.new.taken
-            × IsPrefix self.old.learnt self.new.taken) }
+        ensures later { IfSome result (λ v. IsLater self.old self.new) }
         ensures shows { IfSome result (λ v. Shows self.new.taken (arc_value v)) }
+        ensures given { IfSome result (λ v. self.new.given ≡ Some (arc_value v).0) }
         ensures newer { IfSome result (λ v. number < (arc_value v).0) }
+        ensures none { IfNone result (self.new.given ≡ self.old.given) }
     {
-        let version = self.newest()?;
+        let version = self.reader.snapshot()?;
         if version.number() > number {
+            self.given = Some(version.number());
             Some(version)
         } else {
+            drop(version);
             None
         }
     }
@@ -124,10 +166,35 @@ impl<J: Naming> Dashboard<J> {
         }
     }
 
+    /// The table of a view in a version, with the view's columns: no row is copied. Refused is a view with which the service was
+    /// not opened, and one that the version has not.
+    pub fn table<'a>(
+        &'a self,
+        version: &'a Version,
+        name: &str,
+    ) -> Result<ViewTable<'a>, CatalogueFault>
+        ensures rows { IfOk result (λ view.
+            pictures.view_rows_in version.now.1 name.now ≡ Ok (pictures.rows_in view.table.now)) }
+        ensures columns { IfOk result (λ view.
+            columns_of_view name.now self.now.views ≡ Some view.schema.now) }
+        ensures refused { IfErr result (λ fault. (fault ≡ catalogue_fault.NoView)
+            × ((columns_of_view name.now self.now.views ≡ None)
+            ⊎ (pictures.view_rows_in version.now.1 name.now ≡ Err fault))) }
+    {
+        let Some(schema) = self.view_schema(name) else {
+            return Err(CatalogueFault::NoView);
+        };
+        match version.view_table(name) {
+            Some(table) => Ok(ViewTable { schema, table }),
+            None => Err(CatalogueFault::NoView),
+        }
+    }
+
     /// From now on each version that is taken has at least the change that was told. It waits for nobody and takes no
     /// memory.
     pub fn learn(&mut self, told: Told<J>)
         ensures same { self.new.taken ≡ self.old.taken }
+        ensures given { self.new.given ≡ self.old.given }
         ensures views { self.new.views ≡ self.old.views }
         ensures told { IsPrefix self.old.learnt self.new.learnt × IsPrefix told self.new.learnt }
         ensures longest { (self.new.learnt ≡ self.old.learnt) ⊎ (self.new.learnt ≡ told) }

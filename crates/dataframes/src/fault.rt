@@ -2,11 +2,13 @@
 ghost use Rattle.std.specs.Prelude.{◌≡◌};
 ghost use Rattle.df_value.specs.declared.chunk.ChunkFault.TheVariants as chunk_fault;
 ghost use Rattle.df_versions.specs.declared.fault.OpenFault.TheVariants as open_fault;
+ghost use Rattle.dataframes.specs.Faults as faults;
 ghost use Rattle.dataframes.specs.declared.fault.FinishFault.TheVariants as finish_fault;
 ghost use Rattle.dataframes.specs.declared.fault.ServiceFault.TheVariants as service_fault;
 
 use crate::csv_rows::LinesFault;
 use df_catalogue::CatalogueFault;
+use df_csv::CsvFault;
 use df_plan::PlanFault;
 use df_value::{ChunkFault, SchemaFault};
 use df_versions::{ChangeFault, Naming, OpenFault};
@@ -26,6 +28,20 @@ pub enum ServiceFault<J: Naming> {
     FixedView,
     /// The hall refuses the change, or has no version or no memory for it.
     Refused(ChangeFault<J>),
+}
+
+impl<J: Naming> ServiceFault<J> {
+    /// Whether memory was refused, and nothing else: the same change may be made later.
+    pub fn is_memory(&self) -> bool
+        ensures { result ≡ faults.is_memory self.now }
+    {
+        match self {
+            ServiceFault::Lines(LinesFault::Csv(CsvFault::Memory)) => true,
+            ServiceFault::Rows(ChunkFault::Memory) => true,
+            ServiceFault::Refused(ChangeFault::Memory) => true,
+            _ => false,
+        }
+    }
 }
 
 impl<J: Naming> From<AllocError> for ServiceFault<J> {
@@ -49,6 +65,16 @@ impl<J: Naming> From<LinesFault> for ServiceFault<J> {
 
     fn from(fault: LinesFault) -> ServiceFault<J> {
         ServiceFault::Lines(fault)
+    }
+}
+
+impl<J: Naming> From<CsvFault> for ServiceFault<J> {
+    ghost use Rattle.dataframes.specs.declared.csv_rows.LinesFault.TheVariants as lines_fault;
+
+    ghost from_gives = { λ fault e. e ≡ service_fault.Lines (lines_fault.Csv fault) };
+
+    fn from(fault: CsvFault) -> ServiceFault<J> {
+        ServiceFault::Lines(LinesFault::Csv(fault))
     }
 }
 

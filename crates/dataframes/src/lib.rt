@@ -8,6 +8,7 @@
 mod books;
 mod builder;
 mod cells;
+mod changing;
 mod closing;
 mod csv_rows;
 mod dashboard;
@@ -16,6 +17,7 @@ mod opening;
 mod service;
 mod threads;
 mod view_rows;
+mod view_table;
 
 pub use books::{Appended, Books};
 pub use builder::ServiceBuilder;
@@ -34,7 +36,8 @@ pub use df_value::{
 };
 pub use df_versions::{ChangeFault, Naming, OpenFault, Reader, Told, Version};
 pub use fault::{FinishFault, ServiceFault};
-pub use opening::Finished;
+pub use opening::{Finished, FrameTotals};
 pub use service::{OpenService, Service, Tell, ViewSchema};
 pub use threads::{Load, ServiceRuntime, Watch};
 pub use view_rows::{ViewRow, ViewRows};
+pub use view_table::{OwnedRow, ViewTable};

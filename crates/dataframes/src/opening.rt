@@ -1,12 +1,13 @@
 //! The running of a service: its opening, its threads and its closing.
-ghost use Rattle.std.specs.Prelude.{◌≡◌, All, IfErr, IfOk, Ok, OnOk, length, map};
+ghost use Rattle.std.specs.Prelude.{◌≡◌, All, IfErr, IfNone, IfOk, IfSome, Ok, OnOk, length, map};
 ghost use Rattle.df_state.specs.Ledgers as ledgers;
 ghost use Rattle.df_versions.specs.Histories.{AllowsAll, schemas_of};
 ghost use Rattle.dataframes.specs.Books.{InOrder};
-ghost use Rattle.dataframes.specs.Closing.{IsClosed, IsFaultOfView, IsNotAdded, IsNotOpened, IsServed, IsUnfinished, IsViewAdded, IsViewNotAdded};
+ghost use Rattle.dataframes.specs.Closing.{AreTotalsOf, HasNoTotals, IsClosed, IsFaultOfView, IsNotAdded, IsNotOpened, IsServed, IsUnfinished, IsViewAdded, IsViewNotAdded};
 
 use crate::books::Books;
 use crate::builder::{NamedPlan, ServiceBuilder};
+use crate::changing::LockedBooks;
 use crate::closing::close;
 use crate::dashboard::Dashboard;
 use crate::fault::{FinishFault, ServiceFault};
@@ -32,6 +33,32 @@ pub struct Finished<L, W> {
     pub loaders: Vec<L>,
     pub watchers: Vec<W>,
     pub totals: Totals,
+}
+
+/// What a frame accepted and deleted, and what it has.
+#[derive(Clone, Copy)]
+pub struct FrameTotals {
+    /// How many rows it accepted, also those that were deleted.
+    pub accepted: u64,
+    /// How many of them were deleted.
+    pub deleted: u64,
+    /// How many rows it has.
+    pub live: u64,
+}
+
+impl<L, W> Finished<L, W> {
+    /// The totals of the frame of this index, if there is one.
+    pub fn totals_of(&self, frame: usize) -> Option<FrameTotals>
+        ensures totals { IfSome result (AreTotalsOf self.now.totals frame) }
+        ensures none { IfNone result (HasNoTotals self.now.totals frame) }
+    {
+        let totals = &self.totals;
+        Some(FrameTotals {
+            accepted: *totals.accepted.get(frame)?,
+            deleted: *totals.deleted.get(frame)?,
+            live: *totals.live.get(frame)?,
+        })
+    }
 }
 
 /// Opens the hall, runs the service in it, and closes it.
@@ -155,11 +182,16 @@ fn serve<
         Ok((views, dashboards)) => {
             let books = Mutex::new(books);
             let left = AtomicU64::new(1);
-            let service = OpenService {
+            let changes = LockedBooks {
                 rt,
                 alloc,
                 hall: &hall,
                 books: &books,
+                schemas: &schemas,
+            };
+            let service = OpenService {
+                alloc,
+                changes: &changes,
                 schemas: &schemas,
                 views: &views,
                 dashboards: dashboards.as_slice(),
@@ -167,6 +199,7 @@ fn serve<
             };
             let workers = run_threads(rt, &service, workers);
             drop(service);
+            drop(changes);
             drop(dashboards);
             drop(views);
             drop(schemas);

@@ -1,28 +1,24 @@
 //! What loaders share.
 ghost use Rattle.std.specs.Prelude.{◌≡◌, slice_get};
 ghost use Rattle.std.specs.Option.{option_copied};
-ghost use Rattle.df_state.specs.FrameChanges.{change_of};
-ghost use Rattle.df_state.specs.ViewChanges.{change_of_views};
 ghost use Rattle.df_state.specs.declared.change.Change.TheVariants.{Delete, DropView, Register, Replace};
 ghost use Rattle.dataframes.specs.Appends.{AnswersDrop, AnswersOfBooks, AppendsLines, AppendsOne, AppendsToBooks, AreRowsOfLines, ReadsLines};
 ghost use Rattle.dataframes.specs.Cells.{row_lent};
-ghost use Rattle.df_versions.specs.Histories.{AllowsAll};
 
-use crate::books::{Appended, Books};
+use crate::books::Appended;
 use crate::cells::row_of;
+use crate::changing::MakeChanges;
 use crate::csv_rows::{CsvRecords, LinesFault, read_rows};
 use crate::dashboard::Dashboard;
 use crate::fault::ServiceFault;
 use df_catalogue::{FrameChange, ViewChange};
-use df_hall::Hall;
 use df_plan::CheckedPlan;
 use df_value::{CellRef, List, Row, Schema, Text, has_name};
 use df_versions::{Naming, Told};
 use std::alloc::Global;
 use std::marker::Model;
+use std::sync::Mutex;
 use std::sync::atomic::AtomicU64;
-use std::sync::ledger::Ledger;
-use std::sync::{Mutex, Wait};
 
 /// What tells of the changes of a service, and makes none.
 pub trait Tell {
@@ -125,15 +121,13 @@ pub trait Service: Tell {
 /// The name of a view, and its columns.
 pub type ViewSchema = (Text, Schema);
 
-/// What the threads of a service share: a hall with its books, the schemas of its frames, the views with which it was opened,
+/// What the threads of a service share: what makes its changes, the schemas of its frames, the views with which it was opened,
 /// the dashboards of its watchers, and the count of those who still load. [`ServiceBuilder::run`](crate::ServiceBuilder::run)
 /// makes it. Contracts see the views.
 #[derive(Drop)]
-pub struct OpenService<'s, R: Wait, Acc: Ledger, Del: Ledger, J: Naming> {
-    pub(crate) rt: &'s R,
+pub struct OpenService<'s, M, J: Naming> {
     pub(crate) alloc: Global,
-    pub(crate) hall: &'s Hall<Acc, Del, J>,
-    pub(crate) books: &'s Mutex<Books<Acc, Del, J>>,
+    pub(crate) changes: &'s M,
     pub(crate) schemas: &'s List<Schema>,
     pub(crate) views: &'s List<ViewSchema>,
     // Each watcher takes the lock of its own.
@@ -141,58 +135,26 @@ pub struct OpenService<'s, R: Wait, Acc: Ledger, Del: Ledger, J: Naming> {
     pub(crate) left: &'s AtomicU64,
 }
 
-impl<'s, R: Wait, Acc: Ledger, Del: Ledger, J: Naming> Model for OpenService<'s, R, Acc, Del, J> {
+impl<'s, M, J: Naming> Model for OpenService<'s, M, J> {
     ghost use Rattle.std.specs.Prelude.{◌≡◌, ℕ, List as Seq};
     ghost use Rattle.df_value.specs.declared.cell.CellType.{CellType};
-    ghost use Rattle.df_versions.specs.Histories.{AllowsAll};
 
     ghost Value = { Seq (Seq ℕ × Seq (Seq ℕ × CellType)) };
 
     ghost view = { λ s. s.views.now };
 
-    // Its history may have whatever a loader asks for.
-    ghost invariant = { λ s. AllowsAll J.allows × (s.schemas.now ≡ J.schemas) };
+    ghost invariant = { λ s. s.schemas.now ≡ J.schemas };
 }
 
-impl<'s, R: Wait, Acc: Ledger, Del: Ledger, J: Naming> OpenService<'s, R, Acc, Del, J> {
-    // The rows that lines of CSV say.
-    fn rows_of(&self, frame: usize, lines: &[u8]) -> Result<List<Row>, ServiceFault<J>>
-        ensures { AreRowsOfLines J.schemas frame lines.now result }
-    {
-        match self.schemas.get(frame) {
-            Some(schema) => match read_rows(self.alloc, schema, lines) {
-                Ok(rows) => Ok(rows),
-                Err(fault) => Err(ServiceFault::Lines(fault)),
-            },
-            None => Err(ServiceFault::NoFrame),
-        }
-    }
-
-    fn change_rows(&self, frame: usize, change: FrameChange) -> Result<Told<J>, ServiceFault<J>>
-        ensures { AnswersOfBooks J.schemas (change_of frame change.entry) result }
-    {
-        let mut books = self.books.lock(self.rt);
-        books.change_rows(self.rt, self.alloc, self.hall, frame, change)
-    }
-
-    fn change_views(&self, change: ViewChange) -> Result<Told<J>, ServiceFault<J>>
-        ensures { AnswersOfBooks J.schemas (change_of_views change.entry) result }
-    {
-        let mut books = self.books.lock(self.rt);
-        books.change_views(self.rt, self.alloc, self.hall, change)
-    }
-}
-
-impl<'s, R: Wait, Acc: Ledger, Del: Ledger, J: Naming> Tell for OpenService<'s, R, Acc, Del, J> {
+impl<'s, M: MakeChanges<J>, J: Naming> Tell for OpenService<'s, M, J> {
     type History = J;
 
     fn told(&self) -> Option<Told<J>> {
-        let books = self.books.lock(self.rt);
-        books.told()
+        self.changes.told()
     }
 }
 
-impl<'s, R: Wait, Acc: Ledger, Del: Ledger, J: Naming> Service for OpenService<'s, R, Acc, Del, J> {
+impl<'s, M: MakeChanges<J>, J: Naming> Service for OpenService<'s, M, J> {
     ghost fixed = { λ s. s };
 
     fn alloc(&self) -> Global {
@@ -204,8 +166,7 @@ impl<'s, R: Wait, Acc: Ledger, Del: Ledger, J: Naming> Service for OpenService<'
     }
 
     fn append(&self, frame: usize, rows: List<Row>) -> Result<Appended<J>, ServiceFault<J>> {
-        let mut books = self.books.lock(self.rt);
-        books.append(self.rt, self.alloc, self.hall, &self.schemas, frame, rows)
+        self.changes.append(frame, rows)
     }
 
     fn append_row(
@@ -215,12 +176,12 @@ impl<'s, R: Wait, Acc: Ledger, Del: Ledger, J: Naming> Service for OpenService<'
     ) -> Result<Appended<J>, ServiceFault<J>> {
         let row = row_of(self.alloc, cells)?;
         let rows = vec![in self.alloc; row]?;
-        self.append(frame, List::from_vec(rows))
+        self.changes.append(frame, List::from_vec(rows))
     }
 
     fn append_csv(&self, frame: usize, lines: &[u8]) -> Result<Appended<J>, ServiceFault<J>> {
-        match self.rows_of(frame, lines) {
-            Ok(rows) => self.append(frame, rows),
+        match rows_of_frame::<J>(self.alloc, self.schemas, frame, lines) {
+            Ok(rows) => self.changes.append(frame, rows),
             Err(fault) => Err(fault),
         }
     }
@@ -236,21 +197,40 @@ impl<'s, R: Wait, Acc: Ledger, Del: Ledger, J: Naming> Service for OpenService<'
     }
 
     fn delete(&self, frame: usize, numbers: &[u32]) -> Result<Told<J>, ServiceFault<J>> {
-        self.change_rows(frame, FrameChange::Delete(numbers))
+        self.changes
+            .change_rows(frame, FrameChange::Delete(numbers))
     }
 
     fn replace(&self, frame: usize, rows: &[(u32, Row)]) -> Result<Told<J>, ServiceFault<J>> {
-        self.change_rows(frame, FrameChange::Replace(rows))
+        self.changes.change_rows(frame, FrameChange::Replace(rows))
     }
 
     fn register(&self, name: Text, plan: CheckedPlan) -> Result<Told<J>, ServiceFault<J>> {
-        self.change_views(ViewChange::Register(name, plan))
+        self.changes.change_views(ViewChange::Register(name, plan))
     }
 
     fn drop_view(&self, name: &str) -> Result<Told<J>, ServiceFault<J>> {
         if has_name(self.views.as_slice(), name) {
             return Err(ServiceFault::FixedView);
         }
-        self.change_views(ViewChange::Drop(name))
+        self.changes.change_views(ViewChange::Drop(name))
+    }
+}
+
+// The rows that lines of CSV say.
+fn rows_of_frame<J: Naming>(
+    alloc: Global,
+    schemas: &List<Schema>,
+    frame: usize,
+    lines: &[u8],
+) -> Result<List<Row>, ServiceFault<J>>
+    ensures { AreRowsOfLines schemas.now frame lines.now result }
+{
+    match schemas.get(frame) {
+        Some(schema) => match read_rows(alloc, schema, lines) {
+            Ok(rows) => Ok(rows),
+            Err(fault) => Err(ServiceFault::Lines(fault)),
+        },
+        None => Err(ServiceFault::NoFrame),
     }
 }

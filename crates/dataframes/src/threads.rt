@@ -1,11 +1,11 @@
 //! The threads of a service: one for each loader, and one for each watcher.
+use crate::changing::MakeChanges;
 use crate::dashboard::Dashboard;
 use crate::service::{OpenService, Service, Tell};
 use df_versions::Naming;
 use std::rt::Clock;
 use std::sync::Wait;
 use std::sync::atomic::Ordering;
-use std::sync::ledger::Ledger;
 use std::thread;
 use std::thread::Threads;
 use std::time::Duration;
@@ -44,13 +44,12 @@ pub(crate) struct Workers<L, W> {
 /// Runs the loaders and, until they are done, the watchers, each at its dashboard.
 pub(crate) fn run_threads<
     's,
-    Acc: Ledger + Send + Sync,
-    Del: Ledger + Send + Sync,
+    M: MakeChanges<J> + Sync,
     J: Naming + Send + Sync,
     R: Threads + Wait + Clock + Sync,
     L: Load + Send,
     W: Watch + Send,
->(rt: &R, service: &OpenService<'s, R, Acc, Del, J>, workers: Workers<L, W>) -> Workers<L, W> {
+>(rt: &R, service: &OpenService<'s, M, J>, workers: Workers<L, W>) -> Workers<L, W> {
     let Workers { loaders, watchers } = workers;
     // Where no thread can be started for the watchers they come last, and no loader waits for them.
     let (watchers, loaders) = thread::join(
@@ -63,39 +62,39 @@ pub(crate) fn run_threads<
 
 fn watch_all<
     's,
-    Acc: Ledger + Send + Sync,
-    Del: Ledger + Send + Sync,
+    M: MakeChanges<J> + Sync,
     J: Naming + Send + Sync,
     R: Threads + Wait + Clock + Sync,
     W: Watch + Send,
->(rt: &R, service: &OpenService<'s, R, Acc, Del, J>, watchers: Vec<W>) -> Vec<W> {
+>(rt: &R, service: &OpenService<'s, M, J>, watchers: Vec<W>) -> Vec<W> {
     let mut watchers = watchers;
     let threads = watchers.len().max(1);
     thread::for_each_mut(
         rt,
         watchers.as_mut_slice(),
         threads,
-        &|at, watcher| { keep_watch(service, at, watcher) },
+        &move |at, watcher| { keep_watch(rt, service, at, watcher) },
     );
     watchers
 }
 
 // Looks again and again, until no loader is left, and then once at all that they changed.
-fn keep_watch<'s, R: Wait + Clock, Acc: Ledger, Del: Ledger, J: Naming, W: Watch>(
-    service: &OpenService<'s, R, Acc, Del, J>,
+fn keep_watch<'s, M: MakeChanges<J>, J: Naming, R: Wait + Clock, W: Watch>(
+    rt: &R,
+    service: &OpenService<'s, M, J>,
     at: usize,
     watcher: &mut W,
 ) {
     let Some(dashboard) = service.dashboards.get(at) else {
         return;
     };
-    let mut dashboard = dashboard.lock(service.rt);
+    let mut dashboard = dashboard.lock(rt);
     for _turn in 0..u64::MAX {
         if service.left.load(Ordering::SeqCst) == 0 {
             break;
         }
         watcher.look(service, &mut dashboard);
-        thread::sleep(service.rt, watcher.pause());
+        thread::sleep(rt, watcher.pause());
     }
     if let Some(told) = service.told() {
         dashboard.learn(told);
@@ -105,12 +104,11 @@ fn keep_watch<'s, R: Wait + Clock, Acc: Ledger, Del: Ledger, J: Naming, W: Watch
 
 fn load_all<
     's,
-    Acc: Ledger + Send + Sync,
-    Del: Ledger + Send + Sync,
+    M: MakeChanges<J> + Sync,
     J: Naming + Send + Sync,
     R: Threads + Wait + Clock + Sync,
     L: Load + Send,
->(rt: &R, service: &OpenService<'s, R, Acc, Del, J>, loaders: Vec<L>) -> Vec<L> {
+>(rt: &R, service: &OpenService<'s, M, J>, loaders: Vec<L>) -> Vec<L> {
     let mut loaders = loaders;
     let threads = loaders.len().max(1);
     thread::for_each_mut(

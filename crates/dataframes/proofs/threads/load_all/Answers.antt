@@ -7,5 +7,5 @@ use Rattle.dataframes.proofs.threads.load_all.Goals as goal
 pub for_each_mut-requires-sync-F : goal.for_each_mut-requires-sync-F
 for_each_mut-requires-sync-F g c κs within =
     let b = c.type_bounds in
-    let service = λ (l : NamedLft). service_sync l (param 3 g.row.R) (param 0 g.row.Acc) (param 1 g.row.Del) (param 2 g.row.J) g.Acc.Ledger g.Del.Ledger g.J.Naming b.sync-R b.send-J in
+    let service = λ (l : NamedLft). service_sync l (param 0 g.row.M) (param 1 g.row.J) g.J.Naming b.sync-M b.send-J in
     search (sendable, service) depth 20

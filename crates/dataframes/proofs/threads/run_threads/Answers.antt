@@ -14,7 +14,7 @@ three_send name A B C a b c = search sendable depth 20
 pub join-watchers-requires-send-F : goal.join-watchers-requires-send-F
 join-watchers-requires-send-F g c κs within =
     let b = c.type_bounds in
-    let service = service_sync _ (param 3 g.row.R) (param 0 g.row.Acc) (param 1 g.row.Del) (param 2 g.row.J) g.Acc.Ledger g.Del.Ledger g.J.Naming b.sync-R b.send-J in
+    let service = service_sync _ (param 0 g.row.M) (param 1 g.row.J) g.J.Naming b.sync-M b.send-J in
     param_send 1 _
     (arg_send _ no _
-    (three_send _ _ _ _ (shr_send _ _ (param 3 g.row.R) b.sync-R) (shr_send _ _ _ service) (Vec-send (param 5 g.row.W) b.send-W)))
+    (three_send _ _ _ _ (shr_send _ _ (param 2 g.row.R) b.sync-R) (shr_send _ _ _ service) (Vec-send (param 4 g.row.W) b.send-W)))
