@@ -3,14 +3,15 @@
 
 use clap::{Arg, ArgAction, ArgMatches, Command, Error, value_parser};
 use dataframes::{
-    Agg, Boxed, CellRef, CellType, CsvFault, Dashboard, FinishFault, Finished, List, Load, Naming,
-    Plan, Service, ServiceBuilder, ServiceFault, ServiceRuntime, Tell, Text, Watch, row_of,
+    Agg, Boxed, CellRef, CellType, Dashboard, FinishFault, Finished, List, Load, Plan, Service,
+    ServiceBuilder, ServiceFault, ServiceRuntime, Tell, Text, ViewTable, Watch, row_of,
 };
 use rand_core::{Rng, SeedableRng};
 use rand_xoshiro::Xoshiro256PlusPlus;
 use std::alloc::{AllocError, Global};
+use std::fmt::Display;
 use std::process::ExitCode;
-use std::rt::Runtime;
+use std::rt::{Clock, Runtime};
 use std::sync::atomic::{AtomicU64, Ordering};
 use std::time::Duration;
 use std::{env, fs, thread};
@@ -34,51 +35,89 @@ fn totals(alloc: Global) -> Result<Plan, AllocError> {
     Ok(Plan::GroupBy(Boxed::new(alloc, Plan::Scan(MOVES))?, keys, sums))
 }
 
-type Totals = Vec<(String, i128)>;
-
-type Loaded<S> = Result<(), ServiceFault<<S as Tell>::History>>;
-
-type Ended<'a, R> = Finished<Loader<'a, R>, Watcher<'a, R>>;
-
-// It loads files, of which each loader draws the next one, or makes moves where there are none.
+// A CSV file, and its lines, if it can be read.
 #[derive(Drop)]
-struct Loader<'a, R> {
-    rt: &'a R,
-    files: &'a [&'a str],
-    drawn: &'a AtomicU64,
+struct Source {
+    path: String,
+    lines: Option<Vec<u8>>,
+}
+
+// Files of which each loader draws the next one.
+#[derive(Drop)]
+struct Sources {
+    files: Vec<Source>,
+    drawn: AtomicU64,
+}
+
+impl Sources {
+    fn draw(&self) -> Option<&Source> {
+        let at = self.drawn.fetch_add(1, Ordering::SeqCst);
+        self.files.get(at as usize)
+    }
+}
+
+// It loads files, or makes moves where there are none.
+#[derive(Drop)]
+struct Loader<'r, 's, R> {
+    rt: &'r R,
+    sources: &'s Sources,
     random: Xoshiro256PlusPlus,
-    turns: u64,
+    rounds: u64,
     accepted: u64,
     deleted: u64,
     // Whether a file or a round, or a part of one, is left out.
     is_short: bool,
 }
 
-impl<'a, R: Runtime + AllocGlobal> Load for Loader<'a, R> {
+impl<'r, 's, R: Clock + Eprint> Load for Loader<'r, 's, R> {
     fn load<S: Service>(&mut self, service: &S) {
-        for _turn in 0..self.turns {
-            let next = self.drawn.fetch_add(1, Ordering::SeqCst);
-            let (what, done) = match self.files.get(next as usize) {
-                Some(path) => (*path, self.load_file(service, path)),
-                None if self.files.is_empty() => ("a round", self.make_round(service)),
-                None => return,
-            };
-            if let Err(fault) = done {
-                let _ = eprintln!(self.rt; "{what}: {fault}");
-                self.is_short = true;
-                if self.files.is_empty() && !fault.is_memory() {
-                    return;
-                }
+        let sources = self.sources;
+        for _file in 0..sources.files.len() {
+            if let Some(file) = sources.draw() {
+                self.load_file(service, file);
             }
         }
+        self.make_rounds(service);
     }
 }
 
-impl<'a, R: Runtime + AllocGlobal> Loader<'a, R> {
+impl<'r, 's, R: Clock + Eprint> Loader<'r, 's, R> {
+    fn new(
+        rt: &'r R,
+        words: &ArgMatches<'_>,
+        sources: &'s Sources,
+        number: u64,
+    ) -> Loader<'r, 's, R> {
+        let seed: u64 = words.get_one("seed").unwrap_or(1);
+        let seconds: u64 = words.get_one("seconds").unwrap_or(1);
+        let rounds = seconds.saturating_mul(20);
+        Loader {
+            rt,
+            sources,
+            random: Xoshiro256PlusPlus::seed_from_u64(seed.wrapping_add(number)),
+            rounds: if sources.files.is_empty() { rounds } else { 0 },
+            accepted: 0,
+            deleted: 0,
+            is_short: false,
+        }
+    }
+
+    fn load_file<S: Service>(&mut self, service: &S, file: &Source) {
+        let Some(lines) = &file.lines else {
+            return self.leave_out(file.path.as_str(), &"it cannot be read");
+        };
+        if let Err(fault) = self.append_lines(service, lines.as_slice()) {
+            self.leave_out(file.path.as_str(), &fault);
+        }
+    }
+
     // A file may have any number of lines: its rows enter by parts.
-    fn load_file<S: Service>(&mut self, service: &S, path: &str) -> Loaded<S> {
-        let lines = fs::read(self.rt, path).map_err(|_| CsvFault::ReadFault)?;
-        let records = service.read_csv(MOVES, lines.as_slice())?;
+    fn append_lines<S: Service>(
+        &mut self,
+        service: &S,
+        lines: &[u8],
+    ) -> Result<(), ServiceFault<S::History>> {
+        let records = service.read_csv(MOVES, lines)?;
         for part in 0..records.parts() {
             let came = service.append(MOVES, records.rows(service.alloc(), part)?)?;
             self.accepted = self.accepted.wrapping_add(came.rows as u64);
@@ -86,9 +125,20 @@ impl<'a, R: Runtime + AllocGlobal> Loader<'a, R> {
         Ok(())
     }
 
+    fn make_rounds<S: Service>(&mut self, service: &S) {
+        for _round in 0..self.rounds {
+            if let Err(fault) = self.make_round(service) {
+                self.leave_out("a round", &fault);
+                if !fault.is_memory() {
+                    return;
+                }
+            }
+            thread::sleep(self.rt, Duration::from_millis(50));
+        }
+    }
+
     // Two moves come. The first is corrected, and the second, which was entered by mistake, is deleted.
-    fn make_round<S: Service>(&mut self, service: &S) -> Loaded<S> {
-        thread::sleep(self.rt, Duration::from_millis(50));
+    fn make_round<S: Service>(&mut self, service: &S) -> Result<(), ServiceFault<S::History>> {
         let alloc = service.alloc();
         let ((one, ones), (two, twos)) = (self.next_move(), self.next_move());
         let lines = format!(in alloc; "good,count\n{one},{ones}\n{two},{twos}\n")?;
@@ -106,18 +156,24 @@ impl<'a, R: Runtime + AllocGlobal> Loader<'a, R> {
         let good = GOODS[(self.random.next_u64() % 4) as usize];
         (good, (self.random.next_u64() % 20) as i64 - 5)
     }
+
+    fn leave_out<D: Display>(&mut self, what: &str, why: &D) {
+        let _ = eprintln!(self.rt; "{what}: {why}");
+        self.is_short = true;
+    }
 }
 
 // It shows the totals of the newest version, by good.
 #[derive(Drop)]
 struct Watcher<'a, R> {
     rt: &'a R,
-    shown: Totals,
+    alloc: Global,
+    shown: Vec<(String, i128)>,
     // Whether memory was refused to the newest totals.
     is_behind: bool,
 }
 
-impl<'a, R: Eprint + AllocGlobal> Watch for Watcher<'a, R> {
+impl<'a, R: Eprint> Watch for Watcher<'a, R> {
     fn look<S: Tell>(&mut self, service: &S, dashboard: &mut Dashboard<S::History>) {
         if let Some(told) = service.told() {
             dashboard.learn(told);
@@ -125,25 +181,37 @@ impl<'a, R: Eprint + AllocGlobal> Watch for Watcher<'a, R> {
         if !dashboard.changed() && !self.is_behind {
             return;
         }
-        let Some(totals) = newest_totals(self.rt.alloc(), dashboard) else {
-            self.is_behind = true;
-            let _ = eprintln!(self.rt; "totals: out of memory");
+        let Some(version) = dashboard.newest() else {
             return;
         };
-        for total in totals.as_slice() {
-            if self.shown.binary_search(total).is_err() {
-                let _ = eprintln!(self.rt; "{} {}", total.0, total.1);
+        let totals = match dashboard.table(version.as_ref(), "totals") {
+            Ok(table) => by_good(self.alloc, &table),
+            Err(_) => None,
+        };
+        self.is_behind = totals.is_none();
+        match totals {
+            Some(totals) => self.show(version.number(), totals),
+            None => {
+                let _ = eprintln!(self.rt; "totals: out of memory");
             }
         }
-        self.shown = totals;
-        self.is_behind = false;
     }
 }
 
-// The totals of the newest version in the order of the goods; None where memory is refused. A good that is null has no name.
-fn newest_totals<J: Naming>(alloc: Global, dashboard: &mut Dashboard<J>) -> Option<Totals> {
-    let version = dashboard.newest()?;
-    let table = dashboard.table(version.as_ref(), "totals").ok()?;
+impl<'a, R: Eprint> Watcher<'a, R> {
+    fn show(&mut self, number: u64, totals: Vec<(String, i128)>) {
+        for total in totals.as_slice() {
+            if self.shown.binary_search(total).is_err() {
+                let (good, total) = total;
+                let _ = eprintln!(self.rt; "{number}: {good} {total}");
+            }
+        }
+        self.shown = totals;
+    }
+}
+
+// The totals of the view's rows, in the order of the goods; None where memory is refused. A good that is null has no name.
+fn by_good(alloc: Global, table: &ViewTable<'_>) -> Option<Vec<(String, i128)>> {
     let mut totals = Vec::new(alloc);
     for at in 0..table.len() {
         let row = table.row(alloc, at).ok()??;
@@ -160,7 +228,7 @@ fn main(rt: HostRuntime) -> ExitCode {
 }
 
 fn run<R: ServiceRuntime + Runtime>(rt: &R) -> Option<ExitCode> {
-    let words: Vec<String> = env::args(rt).ok()?.collect(rt.alloc()).ok()?;
+    let words: Vec<String> = env::args(rt).ok()?.skip(1).collect(rt.alloc()).ok()?;
     match read_words(rt.alloc(), words.as_slice()) {
         Ok(words) => serve(rt, &words),
         Err(error) => {
@@ -171,36 +239,31 @@ fn run<R: ServiceRuntime + Runtime>(rt: &R) -> Option<ExitCode> {
 }
 
 fn read_words<'a>(alloc: Global, words: &'a [String]) -> Result<ArgMatches<'a>, Error> {
-    let word = |name| Arg::new(alloc, name).long(name);
-    Command::new(alloc, "stocklist")
-        .arg(word("file").action(ArgAction::Append))?
-        .arg(word("loaders").value_parser(value_parser!(u64).range(1..=16)))?
-        .arg(word("seconds").value_parser(value_parser!(u64).range(1..=600)))?
-        .arg(word("seed").value_parser(value_parser!(u64)))?
-        .try_get_matches_from(words)
+    let command = Command::new(alloc, "stocklist")
+        .about("Current totals of goods")
+        .no_binary_name(true)
+        .arg(word(alloc, "file", "PATH").action(ArgAction::Append))?
+        .arg(word(alloc, "loaders", "NUMBER").value_parser(value_parser!(u64).range(1..=16)))?
+        .arg(word(alloc, "seconds", "NUMBER").value_parser(value_parser!(u64).range(1..=600)))?
+        .arg(word(alloc, "seed", "NUMBER").value_parser(value_parser!(u64)))?;
+    command.try_get_matches_from(words)
+}
+
+fn word<'a>(alloc: Global, name: &'a str, value: &'a str) -> Arg<'a> {
+    Arg::new(alloc, name).long(name).value_name(value)
 }
 
 fn serve<R: ServiceRuntime + Runtime>(rt: &R, words: &ArgMatches<'_>) -> Option<ExitCode> {
-    let (alloc, drawn) = (rt.alloc(), AtomicU64::new(0));
-    let files = words.get_raw("file").unwrap_or(&[]);
-    let seed: u64 = words.get_one("seed").unwrap_or(1);
-    let seconds: u64 = words.get_one("seconds").unwrap_or(1);
+    let alloc = rt.alloc();
+    let sources = read_sources(rt, words.get_raw("file").unwrap_or(&[]))?;
     let mut loaders = Vec::new(alloc);
     for number in 0..words.get_one("loaders").unwrap_or(4) {
-        let loader = Loader {
-            rt,
-            files,
-            drawn: &drawn,
-            random: Xoshiro256PlusPlus::seed_from_u64(seed.wrapping_add(number)),
-            turns: seconds.saturating_mul(20).max(files.len() as u64),
-            accepted: 0,
-            deleted: 0,
-            is_short: false,
-        };
+        let loader = Loader::new(rt, words, &sources, number);
         loaders.push(loader).ok()?;
     }
     let watcher = Watcher {
         rt,
+        alloc,
         shown: Vec::new(alloc),
         is_behind: false,
     };
@@ -209,7 +272,21 @@ fn serve<R: ServiceRuntime + Runtime>(rt: &R, words: &ArgMatches<'_>) -> Option<
     report(rt, &finished)
 }
 
-fn report<R: Print + Eprint>(rt: &R, finished: &Ended<'_, R>) -> Option<ExitCode> {
+fn read_sources<R: Runtime + AllocGlobal>(rt: &R, paths: &[&str]) -> Option<Sources> {
+    let mut files = Vec::new(rt.alloc());
+    for path in paths {
+        let lines = fs::read(rt, *path).ok();
+        let path = String::from_str(rt.alloc(), path).ok()?;
+        files.push(Source { path, lines }).ok()?;
+    }
+    let drawn = AtomicU64::new(0);
+    Some(Sources { files, drawn })
+}
+
+fn report<R: Print + Eprint>(
+    rt: &R,
+    finished: &Finished<Loader<'_, '_, R>, Watcher<'_, R>>,
+) -> Option<ExitCode> {
     let books = finished.totals_of(MOVES)?;
     let (accepted, deleted, live) = (books.accepted, books.deleted, books.live);
     println!(rt; "accepted {accepted}, deleted {deleted}, live {live}").ok()?;
@@ -217,15 +294,21 @@ fn report<R: Print + Eprint>(rt: &R, finished: &Ended<'_, R>) -> Option<ExitCode
     for (good, total) in watcher.shown.as_slice() {
         println!(rt; "{good} {total}").ok()?;
     }
-    let (mut came, mut went, mut is_short) = (0u64, 0u64, watcher.is_behind);
-    for loader in finished.loaders.as_slice() {
-        came = came.wrapping_add(loader.accepted);
-        went = went.wrapping_add(loader.deleted);
-        is_short = is_short || loader.is_short;
-    }
-    let agree = (came, went) == (accepted, deleted);
-    if !agree {
+    let (came, went, is_short) = counted(finished.loaders.as_slice());
+    if (came, went) != (accepted, deleted) {
         let _ = eprintln!(rt; "the loaders counted {came} accepted and {went} deleted");
     }
-    Some(ExitCode::from(if agree && !is_short { 0 } else { 1 }))
+    let is_whole = (came, went, false, false) == (accepted, deleted, is_short, watcher.is_behind);
+    Some(ExitCode::from(if is_whole { 0 } else { 1 }))
+}
+
+// How many rows the loaders appended and deleted, and whether one left something out.
+fn counted<R>(loaders: &[Loader<'_, '_, R>]) -> (u64, u64, bool) {
+    let (mut accepted, mut deleted, mut is_short) = (0u64, 0u64, false);
+    for loader in loaders {
+        accepted = accepted.wrapping_add(loader.accepted);
+        deleted = deleted.wrapping_add(loader.deleted);
+        is_short = is_short || loader.is_short;
+    }
+    (accepted, deleted, is_short)
 }
