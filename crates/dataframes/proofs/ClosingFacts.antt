@@ -6,11 +6,9 @@ use Rattle.df_value.specs.declared.cell.CellType.{CellType}
 use Rattle.df_state.specs.declared.change.Change.TheVariants.{Register}
 use Rattle.df_state.specs.declared.state.State.{State}
 use Rattle.df_versions.specs.Answered.{IsAccepted}
-use Rattle.df_versions.specs.Histories.{IsHistoryOver}
 use Rattle.df_versions.specs.declared.fault.ChangeFault.TheVariants as change
 use Rattle.dataframes.specs.Books.{BooksParts, IsAnswered}
-use Rattle.dataframes.specs.Closing.{IsFaultOfView, IsViewAdded, IsViewNotAdded}
-use Rattle.dataframes.specs.declared.fault.FinishFault.{FinishFault}
+use Rattle.dataframes.specs.Closing.{IsViewAdded}
 use Rattle.dataframes.specs.declared.fault.ServiceFault.{ServiceFault}
 use Rattle.dataframes.specs.declared.fault.ServiceFault.TheVariants as fault
 
@@ -19,20 +17,6 @@ if-err (Ok a) P Q p f = tt
 if-err (Err e) P Q p f = f e p
 
 module _ {J : Type 0} where
-  pub view-not-added :
-      (schemas : List (List (List ℕ × CellType))) (old new : BooksParts) (view : List ℕ × CheckedParts) (f : ServiceFault J) (r : FinishFault) →
-      IsAnswered {J = J} schemas old (Register view.0 view.1) (Err f) new → IsFaultOfView {J = J} f r → IsViewNotAdded schemas view r
-  view-not-added schemas old new view (fault.Refused (change.Refused f told)) r h e =
-      subst (IsViewNotAdded schemas view) (sym e)
-      (told, subst (IsHistoryOver schemas) (sym h.0.answer.refused.2) h.0.over, h.0.answer.refused.0)
-  view-not-added schemas old new view (fault.Refused change.Memory) r h e = subst (IsViewNotAdded schemas view) (sym e) refl
-  view-not-added schemas old new view (fault.Refused change.Ahead) r h e = subst (IsViewNotAdded schemas view) (sym e) tt
-  view-not-added schemas old new view (fault.Refused change.Spent) r h e = subst (IsViewNotAdded schemas view) (sym e) tt
-  view-not-added schemas old new view fault.NoFrame r h e = subst (IsViewNotAdded schemas view) (sym e) tt
-  view-not-added schemas old new view (fault.Lines f) r h e = subst (IsViewNotAdded schemas view) (sym e) tt
-  view-not-added schemas old new view (fault.Rows f) r h e = subst (IsViewNotAdded schemas view) (sym e) tt
-  view-not-added schemas old new view fault.FixedView r h e = subst (IsViewNotAdded schemas view) (sym e) tt
-
   pub view-added :
       (schemas : List (List (List ℕ × CellType))) (old new : BooksParts) (name : List ℕ) (plan : CheckedParts) (view : List ℕ × CheckedParts) (told : List State) →
       (name, plan) ≡ view → IsAnswered {J = J} schemas old (Register name plan) (Ok told) new → IsViewAdded old view new

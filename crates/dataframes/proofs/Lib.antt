@@ -1,6 +1,5 @@
 pub mod DesksFacts
 pub mod BooksFacts
-pub mod LinesFacts
 pub mod ClosingFacts
 pub mod Crosses
 pub mod CrossesTables

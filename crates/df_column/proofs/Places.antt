@@ -1,14 +1,13 @@
 -- A key's place in entries in order, as a search finds it, and what a new entry at that place makes.
 use Rattle.std.proofs.Common.{◌≡◌, ℕ, zero, suc, ◌<◌, ◌≤◌, cond, List, [], ◌∷◌, length, map, get_or, Some, None, Result, Ok, Err, IfOk, IfErr, refl, sym, ap, subst, ◌∙◌, arith}
 use Rattle.std.specs.Prelude.{T}
-use Rattle.std.specs.List.{insert}
 use Rattle.std.specs.List.Sorted.{IsNonDecreasingBy, IsSearchInRange, IsBinarySearchResult}
 use Rattle.std.specs.Ordering.{is_eq, ordering_reverse, ordering_index}
 use Rattle.std.specs.declared.cmp.Ordering.{Ordering}
 use Rattle.std.specs.declared.cmp.Ordering.TheVariants.{Less, Equal, Greater}
 use Rattle.std.specs.Cmp.{IsTotalOrder}
-use Rattle.std.specs.FinMap.{is_sorted, find, put, IsAntisymmetric}
-use Rattle.std.specs.FinMap.Entries.{below_all, by_order}
+use Rattle.std.specs.FinMap.{is_sorted, find, IsAntisymmetric}
+use Rattle.std.specs.FinMap.Entries.{below_all}
 use Rattle.df_column.specs.Places.{IsGap, IsPlace}
 use Rattle.df_column.proofs.Bools.{T-first, T-second, less_from_is_lt}
 
@@ -36,14 +35,6 @@ module _ {K X : Type 0} {R : K → K → Ordering} (o : IsTotalOrder R) (same : 
 
   place_tail : (e : K × X) (es : List (K × X)) (k : K) (i : ℕ) → IsPlace R (e ∷ es) k (suc i) → IsPlace R es k i
   place_tail e es k i p = record { in_range = omega (arith, p.in_range); here = λ d. p.here d }
-
-  pub put-gap : (es : List (K × X)) (k : K) (v : X) (i : ℕ) → IsGap R es k i → put R k v es ≡ insert es i (k, v)
-  put-gap [] k v zero g = refl
-  put-gap [] k v (suc i) g = absurd (omega (arith, g.in_range))
-  put-gap (e ∷ es) k v zero g = ap (λ r. by_order r ((k, v) ∷ e ∷ es) ((e.0, v) ∷ es) (e ∷ put R k v es)) (flipped o e.0 k Greater (g.after 0 e (omega arith) (omega arith)))
-  put-gap (e ∷ es) k v (suc i) g =
-      ap (λ r. by_order r ((k, v) ∷ e ∷ es) ((e.0, v) ∷ es) (e ∷ put R k v es)) (flipped o e.0 k Less (g.before 0 e (omega arith)))
-      ∙ ap (λ rest. e ∷ rest) (put-gap es k v i (gap_tail e es k i g))
 
   -- in order, an entry whose key ties with k stands after lesser ones
   less_before_place : (e : K × X) (es : List (K × X)) (k : K) (i : ℕ) → T (below_all R e.0 es) → IsPlace R es k i → R e.0 k ≡ Less

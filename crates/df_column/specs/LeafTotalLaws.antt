@@ -7,12 +7,6 @@ use Rattle.df_column.specs.declared.leaf_totals.MoreBlocks.{MoreBlocks}
 use Rattle.df_column.specs.declared.leaf_totals.MoreRows.{MoreRows}
 use Rattle.df_column.specs.declared.leaf_totals.Totals.{Totals}
 
-capped_left : (m n : ℕ) → capped (capped m + n) ≡ capped (m + n)
-capped_left m n = omega arith
-
-capped_right : (m n : ℕ) → capped (m + capped n) ≡ capped (m + n)
-capped_right m n = omega arith
-
 capped_twice : (m : ℕ) → capped (0 + capped m) ≡ capped m
 capped_twice m = omega arith
 

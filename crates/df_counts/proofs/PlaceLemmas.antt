@@ -86,9 +86,6 @@ module _ (es : List (Cell × ℕ)) (n : ℕ) (v : Cell) (p : IsPlace {I = Cell �
         let less = subst T (sym t) tt in
         subst (λ l. T (below_all cell_cmp v l)) (sym (drop_at es n e at)) (T-both _ _ less (below_more cell_cmp_total v e.0 (drop (suc n) es) (less_from_is_lt _ less) (T-first _ _ behind)))
 
-  pub gap_end : n ≡ length es → IsGap es n v
-  gap_end e = subst (λ l. T (below_all cell_cmp v l)) (sym (drop_none es n e)) tt
-
   -- a value that is not there
   module _ (gap : IsGap es n v) where
     pub found_none : None ≡ find cell_cmp v es

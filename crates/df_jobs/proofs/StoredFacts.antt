@@ -1,5 +1,5 @@
 -- Outcomes whose rows were taken out, and stand one after another among those of a run.
-use Rattle.std.proofs.Common.{◌≡◌, ℕ, suc, ◌+◌, ◌<◌, ◌≤◌, ◌∙◌, List, [], ◌∷◌, ◌++◌, length, length-append, map, take, drop, drop-cons, drop-drop, get_or, refl, ap, subst, sym, arith}
+use Rattle.std.proofs.Common.{◌≡◌, ℕ, ◌+◌, ◌<◌, ◌≤◌, ◌∙◌, List, [], ◌∷◌, ◌++◌, length, length-append, map, take, drop, drop-drop, get_or, refl, ap, subst, sym, arith}
 use Rattle.std.proofs.Math.Seq.{drop-append_seam, take-append_seam}
 use Rattle.df_value.specs.Chunks.{ChunkParts}
 use Rattle.df_value.specs.Limits as limits
@@ -12,7 +12,7 @@ use Rattle.df_jobs.specs.declared.joining.Part.{Part}
 use Rattle.df_jobs.specs.Joined.{FollowFrom, IsGoodAt, StandIn, all_rows, outcome_in, outcomes_in, part_of}
 use Rattle.df_jobs.specs.Loaded.{made_rows}
 use Rattle.df_jobs.specs.Made.{number_in, rows_in}
-use Rattle.df_jobs.proofs.RowFacts.{behind, length-enumerate}
+use Rattle.df_jobs.proofs.RowFacts.{length-enumerate}
 
 -- a piece gives as many rows to its frame as it has
 pub many-given : (p : Piece) → length (made_rows p) ≡ length (rows_in p)
@@ -81,18 +81,3 @@ module _
 
 -- the first of the parts from a place on
 module _ (run : ChunkParts) (ps : List Part) (i : ℕ) (p : Part) (h : i < length ps) (is : p ≡ get_or ps i p) where
-  from-here : drop i ps ≡ p ∷ drop (i + 1) ps
-  from-here =
-      let e : suc i ≡ i + 1 = omega arith in
-      drop-cons ps i p h ∙ (ap (λ d. d ∷ drop (suc i) ps) (sym is) ∙ ap (λ k. p ∷ drop k ps) e)
-
-  pub stands-here : (low : ℕ) → StandIn run low (drop i ps) → StandIn run low (p ∷ drop (i + 1) ps)
-  stands-here low stand = subst (StandIn run low) from-here stand
-
-  pub stored-more :
-      (low : ℕ) (kept : List Outcome) (o : Outcome) → o ≡ outcome_in run low p → kept ++ outcomes_in run low (drop i ps) ≡ outcomes_in run 0 ps →
-      (kept ++ o ∷ []) ++ outcomes_in run (low + p.rows) (drop (i + 1) ps) ≡ outcomes_in run 0 ps
-  stored-more low kept o same all =
-      sym (behind kept (o ∷ []) (outcomes_in run (low + p.rows) (drop (i + 1) ps)))
-      ∙ (ap (λ d. kept ++ d ∷ outcomes_in run (low + p.rows) (drop (i + 1) ps)) same
-      ∙ (sym (ap (λ l. kept ++ outcomes_in run low l) from-here) ∙ all))

@@ -86,7 +86,3 @@ counts_noted rule first staged d e m a n none keys right left =
   where
     add : (m a n x y : ℕ) → a ≡ m + x → n ≡ a + y → n ≡ m + (x + y)
     add m a n x y e f = omega (arith, e, f)
-
--- one count after another
-pub counts_then : (m a n x y : ℕ) → a ≡ m + x → n ≡ a + y → n ≡ m + (x + y)
-counts_then m a n x y e f = omega (arith, e, f)

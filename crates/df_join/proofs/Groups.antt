@@ -163,9 +163,3 @@ on_ok_here (Err e) p is = cc is
 
 pub is_empty : (m : TableParts) → finite.len m.rows ≡ 0 → None ≡ unless_empty m
 is_empty m e = ap (λ (n : ℕ). cond (n == 0) None (Some m)) (sym e)
-
-pub not_empty : (m : TableParts) → (finite.len m.rows ≡ 0 → ⊥) → Some m ≡ unless_empty m
-not_empty m other = elim (finite.len m.rows == 0) as (λ b. (finite.len m.rows == 0) ≡ b → Some m ≡ cond b None (Some m)) [
-  | true ↦ λ e. absurd (other (eqb-true (finite.len m.rows) 0 e))
-  | false ↦ λ e. refl
-] refl

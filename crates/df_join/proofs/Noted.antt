@@ -1,7 +1,6 @@
 -- Making notes one after another.
 use Rattle.std.proofs.Common.{◌≡◌, ◌<◌, ◌+◌, ℕ, Bool, true, false, cond, not, List, [], ◌∷◌, ◌++◌, length, take, get_or, Option, Some, None, refl, sym, ap, subst, ◌∙◌, append-nil}
 use Rattle.std.specs.Prelude.{◌==◌}
-use Rattle.std.proofs.lemmas.Bool.{eqb-true}
 use Rattle.std.specs.List.{flat_map}
 use Rattle.std.specs.Ordering.{eq_by_cmp}
 use Rattle.std.proofs.lemmas.List.{take_more, map-append}
@@ -19,7 +18,7 @@ use Rattle.df_join.specs.Spread.{combine, no_tag}
 use Rattle.df_delta.specs.Deltas.{Changes}
 use Rattle.df_delta.specs.Notes.{moved, then_change}
 use Rattle.df_join.specs.Rules.{joined_row}
-use Rattle.df_join.specs.RowNotes.{Note, Leads, Noted, left_list, pair_notes, lone_notes, replaced_list, replaced_pair, right_list}
+use Rattle.df_join.specs.RowNotes.{Note, Leads, Noted, pair_notes, lone_notes, replaced_list, replaced_pair, right_list}
 use Rattle.df_join.specs.declared.rule.JoinRule.{JoinRule}
 use Rattle.df_join.proofs.Spread.{tied}
 use Rattle.df_join.proofs.Fits.{fits_append, applied_append}
@@ -95,15 +94,3 @@ replaced_more rule one tag y z items i e a b c lt is p q =
 module _ (rule : JoinRule) (one : Bool) (a b : Changes) (goes : Bool) (tag : Tag) (left : Cells) where
   pub alone_stays : (stays : Bool) → stays ≡ true → Noted a b ((combine one tag no_tag, moved goes (joined_row rule left None)) ∷ []) → Noted a b (lone_notes rule one stays goes tag left)
   alone_stays stays e noted = subst (λ s. Noted a b (lone_notes rule one s goes tag left)) (sym e) noted
-
-  pub alone_goes : (stays : Bool) → stays ≡ false → Noted a a (lone_notes rule one stays goes tag left)
-  alone_goes stays e = subst (λ s. Noted a a (lone_notes rule one s goes tag left)) (sym e) (noted_nothing a)
-
-  pub left_none : (keeps : Bool) (items : List (Tag × Cells)) → length items ≡ 0 → Noted a b (lone_notes rule one keeps goes tag left) → Noted a b (left_list rule one keeps goes tag left items)
-  left_none keeps items e noted = subst (λ (n : ℕ). Noted a b (cond (n == 0) (lone_notes rule one keeps goes tag left) (pair_notes rule one goes tag left items))) (sym e) noted
-
-  pub left_some : (keeps : Bool) (items : List (Tag × Cells)) → (length items ≡ 0 → ⊥) → Noted a b (pair_notes rule one goes tag left items) → Noted a b (left_list rule one keeps goes tag left items)
-  left_some keeps items other noted = elim (length items == 0) as (λ t. (length items == 0) ≡ t → Noted a b (cond t (lone_notes rule one keeps goes tag left) (pair_notes rule one goes tag left items))) [
-    | true ↦ λ e. absurd (other (eqb-true (length items) 0 e))
-    | false ↦ λ e. noted
-  ] refl

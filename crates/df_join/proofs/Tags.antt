@@ -90,9 +90,6 @@ module _ (one : Bool) where
   tied_then Equal s = refl
   tied_then Greater s = refl
 
-  same_cmp : (p q : Tag) → tag_cmp p q ≡ ordering_then (tag_cmp (tag_left one p) (tag_left one q)) (tag_cmp (tag_right one p) (tag_right one q))
-  same_cmp p q = cmp_split one p q
-
   tied_self : (q : Tag) → tag_cmp q q ≡ Equal
   tied_self q = equal_from_is_eq _ (subst T (sym (ap is_eq (tied_itself tag_total q))) tt)
 

@@ -1,5 +1,5 @@
 -- Tests on tags: which is below which.
-use Rattle.std.proofs.Common.{◌≡◌, Bool, true, false, cond, not, List, [], ◌∷◌, Some, None, ◌⊎◌, inl, inr, refl, sym, ap, subst, ◌∙◌}
+use Rattle.std.proofs.Common.{◌≡◌, Bool, true, false, not, List, [], ◌∷◌, None, ◌⊎◌, inl, inr, refl, sym, ap, subst, ◌∙◌}
 use Rattle.std.specs.Prelude.{T}
 use Rattle.std.specs.List.{list_all}
 use Rattle.std.specs.Ordering.{eq_by_cmp, is_eq, is_lt, ordering_reverse}
@@ -12,7 +12,7 @@ use Rattle.df_column.specs.Bounds.{is_below}
 use Rattle.df_column.specs.TagOrder.{tag_total, tag_same}
 use Rattle.df_column.specs.Tags.{tag_cmp}
 use Rattle.df_column.specs.declared.tag.Tag.{Tag}
-use Rattle.df_delta.proofs.Collected.{T-first, T-second, T-both, less_from_is_lt, equal_from_is_eq, find_below_all}
+use Rattle.df_delta.proofs.Collected.{T-first, T-second, T-both, less_from_is_lt, find_below_all}
 
 pub false_from_not : (b : Bool) → T (not b) → b ≡ false
 false_from_not true h = absurd h
@@ -82,12 +82,3 @@ module _ {X : Type 0} where
   -- nothing is found below the first
   pub find_before : (q : Tag) (e : Tag × X) (es : List (Tag × X)) → T (finite.is_sorted tag_cmp (e ∷ es)) → T (is_below q e.0) → finite.find tag_cmp q (e ∷ es) ≡ None
   find_before q e es sorted h = find_below_all tag_cmp q (e ∷ es) (T-both _ _ h (below_more q e.0 es h (T-first _ _ sorted)))
-
-  -- what is found behind a tag is above it
-  pub found_above : (a q : Tag) (es : List (Tag × X)) (y : X) → T (below_all tag_cmp a es) → finite.find tag_cmp q es ≡ Some y → T (is_below a q)
-  found_above a q [] y h found = cc
-  found_above a q (e ∷ es) y h found =
-      elim (eq_by_cmp tag_cmp q e.0) as (λ b. eq_by_cmp tag_cmp q e.0 ≡ b → cond b (Some e.1) (finite.find tag_cmp q es) ≡ Some y → T (is_below a q)) [
-        | true ↦ λ t f. subst (λ x. T (is_below a x)) (sym (tag_same q e.0 (equal_from_is_eq _ (from_true _ t)))) (T-first _ _ h)
-        | false ↦ λ t f. found_above a q es y (T-second _ _ h) f
-      ] refl found

@@ -1,17 +1,8 @@
 -- Columns, one row and one column at a time.
-use Rattle.std.proofs.Common.{◌≡◌, ◌+◌, ◌<◌, ◌≤◌, ℕ, List, [], ◌∷◌, ◌++◌, length, get_or, take, map, max, refl, arith}
-use Rattle.std.specs.Prelude.{Some}
+use Rattle.std.proofs.Common.{◌≡◌, ◌+◌, ◌<◌, ◌≤◌, ℕ, List, [], ◌∷◌, ◌++◌, length, get_or, take, map, refl, arith}
 use Rattle.std.specs.List.{enumerate_from}
 use Rattle.std.proofs.lemmas.List.{take_more, take_all, map-append}
-use Rattle.std.proofs.lemmas.List.Sums.{fold-append}
 use Rattle.std.proofs.lemmas.List.FromFn.{length-enumerate_from, get_or-enumerate_from}
-use Rattle.df_value.specs.declared.cell.Cell.{Cell}
-use Rattle.df_value.specs.Rows.{cell_at}
-use Rattle.df_page.specs.Bars.{greatest_at, size_of}
-
-pub greatest_turn : (at : ℕ) (rows : List (List Cell)) (i : ℕ) (d : List Cell) (old new : ℕ) → i < length rows → old ≡ greatest_at at (take i rows)
-    → new ≡ max old (size_of (cell_at (Some at) (get_or rows i d))) → new ≡ greatest_at at (take (i + 1) rows)
-greatest_turn at rows i d old new h inv e = rw (e, inv, take_more rows i d h) (simp (map-append, fold-append))
 
 -- one place more
 pub placed_more : {X Y : Type 0} (f : ℕ × X → Y) (xs : List X) (x : X) (i : ℕ) (old new : List Y) → i < length xs → x ≡ get_or xs i x

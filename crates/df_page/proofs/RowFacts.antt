@@ -153,10 +153,6 @@ bar_closes_none column n =
     (all_both test (codes "\" style=\"--w:") (width ++ codes "\"") refl
     (all_both test width (codes "\"") (width_closes_none (unsigned_abs n) column.greatest) refl)))
 
-plain_closes_none : (number : Bool) → closes_none (plain_tag number) ≡ true
-plain_closes_none true = refl
-plain_closes_none false = refl
-
 null_are_tags : (number : Bool) → list_all is_tag (null_tags number) ≡ true
 null_are_tags true = refl
 null_are_tags false = refl

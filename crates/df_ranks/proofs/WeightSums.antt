@@ -1,5 +1,5 @@
 -- What the values below a cell add to its rank.
-use Rattle.std.proofs.Common.{◌≡◌, ℕ, suc, ◌+◌, ◌%◌, ◌^◌, ◌≤◌, Bool, true, false, cond, not, List, [], ◌∷◌, Option, Some, None, length, pos, refl, sym, ap, subst, ◌∙◌, arith}
+use Rattle.std.proofs.Common.{◌≡◌, ℕ, suc, ◌+◌, ◌%◌, ◌^◌, ◌≤◌, Bool, true, false, cond, not, List, [], ◌∷◌, Option, Some, None, length, refl, sym, ap, subst, ◌∙◌, arith}
 use Rattle.std.specs.Prelude.{T, ◌==◌, is_some}
 use Rattle.std.specs.List.{cons_option}
 use Rattle.std.specs.Option.{option_map, option_and_then}
@@ -12,15 +12,13 @@ use Rattle.std.proofs.lemmas.Bool.{eqb-true}
 use Rattle.df_value.specs.CellOrder.{cell_cmp, cell_cmp_total}
 use Rattle.df_value.specs.declared.cell.Cell.{Cell}
 use Rattle.df_value.specs.declared.cell.Cell.TheVariants as cell
-use Rattle.df_expr.specs.Value.{is_null}
 use Rattle.df_ops.specs.declared.ranks.RankKind.{RankKind}
 use Rattle.df_ops.specs.declared.ranks.RankKind.TheVariants as rank
 use Rattle.df_column.proofs.Bools.{less_from_is_lt}
-use Rattle.df_counts.specs.Counts.{value_in}
 use Rattle.df_counts.proofs.Orders.{cell_same}
 use Rattle.df_delta.specs.Collected.{collected_list}
 use Rattle.df_delta.proofs.Collected.{find-collected, is_sorted-collected}
-use Rattle.df_ranks.specs.Counts.{changes_weight, counted_rank, is_above, rank_number, weight, weight_below, RanksStay, SameBelow}
+use Rattle.df_ranks.specs.Counts.{changes_weight, is_above, weight, weight_below, RanksStay, SameBelow}
 use Rattle.df_ranks.proofs.RowSums.{total, total-sum_by}
 
 -- what one entry adds
@@ -119,12 +117,3 @@ dense_few c (e ∷ es) =
 -- a number that was counted modulo 2^64
 twice : (n m : ℕ) → n ≡ m % 2 ^ 64 → n % 2 ^ 62 ≡ m % 2 ^ 62
 twice n m e = omega (arith, e)
-
--- the rank of a cell that has this value
-pub rank_of_value : (kind : RankKind) (c v : Cell) (counts : List (Cell × ℕ)) (n : ℕ) → Some v ≡ value_in c → n ≡ weight_below kind counts v % 2 ^ 64 → cell.Int (pos (1 + n % 2 ^ 62)) ≡ counted_rank kind counts c
-rank_of_value kind c v counts n is count = by_null (is_null c) is where
-  by_null : (b : Bool) → Some v ≡ cond b None (Some c) → cell.Int (pos (1 + n % 2 ^ 62)) ≡ cond b cell.Null (cell.Int (pos (1 + rank_number (weight_below kind counts c))))
-  by_null true e = cc e
-  by_null false e =
-      let same : v ≡ c = cc e in
-      ap (λ m. cell.Int (pos (1 + m))) (twice n (weight_below kind counts v) count ∙ ap (λ z. rank_number (weight_below kind counts z)) same)

@@ -1,10 +1,9 @@
 -- Answers in frames, and what a reader finds in them.
-use Rattle.std.proofs.Common.{◌≡◌, ◌∙◌, ◌++◌, ◌+◌, ◌<◌, ◌==◌, ℕ, suc, zero, Bool, true, false, Bor, cond, List, [], ◌∷◌, Option, Some, None, ap, arith, flat_map, inl, inr, length, option_map, refl, slice_index_or, sym, take}
+use Rattle.std.proofs.Common.{◌≡◌, ◌∙◌, ◌++◌, ◌+◌, ◌<◌, ◌==◌, ℕ, suc, zero, Bool, true, false, Bor, cond, List, [], ◌∷◌, Option, Some, ap, arith, flat_map, inl, inr, option_map, refl, sym}
 use Rattle.std.proofs.KnownBytes.{Appends-trans}
 use Rattle.std.proofs.lemmas.Bool.{cases_Bool}
-use Rattle.std.proofs.lemmas.Grind.{common_steps}
 use Rattle.std.proofs.lemmas.List.Sums.{sum_by-append, sum_by-cons}
-use Rattle.std.specs.Io.KnownBytes.{Appends, Keeps}
+use Rattle.std.specs.Io.KnownBytes.{Appends}
 use Rattle.std.specs.List.{sum_by}
 use Rattle.df_session.specs.Framed.{answer_written, ends_lines_behind, frame_head, line_ends, lines_and_rest, with_byte}
 
@@ -45,21 +44,6 @@ read_behind last (b ∷ bs) rest whole =
           let after : lines_and_rest (suc m) (bs ++ rest) ≡ Some (bs, rest) = rw (← e) next in
           rw (n, is, after) refl
     ]
-
--- one part more was written
-pub part-more :
-    (a b c : Option (List ℕ)) (d : Bor (List ℕ)) (parts : List (Bor (List ℕ))) (i : ℕ) → i < length parts → Appends a b (flat_map (λ p. p.now) (take i parts))
-    → Appends b c (slice_index_or parts i d).now → Appends a c (flat_map (λ p. p.now) (take (i + 1) parts))
-part-more a b c d parts i h before this =
-    let taken : flat_map (λ p. p.now) (take (i + 1) parts) ≡ flat_map (λ p. p.now) (take i parts) ++ (slice_index_or parts i d).now = grind (arith, common_steps) in
-    rw taken (Appends-trans a b c _ _ before this)
-
--- what was written stays where nothing more is
-pub written-kept : (a b c : Option (List ℕ)) (bs : List ℕ) → Appends a b bs → Keeps b c → Appends a c bs
-written-kept None b c bs written kept = tt
-written-kept (Some xs) None c bs written kept = absurd written
-written-kept (Some xs) (Some ys) None bs written kept = kept
-written-kept (Some xs) (Some ys) (Some zs) bs written kept = kept ∙ written
 
 pub ends-parts : (parts : List (Bor (List ℕ))) → line_ends (flat_map (λ p. p.now) parts) ≡ sum_by (λ p. line_ends p.now) parts
 ends-parts [] = refl

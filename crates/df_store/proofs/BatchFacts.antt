@@ -1,25 +1,6 @@
 -- Batches that are joined, and that are entered one after the other.
 use Rattle.std.proofs.Common.{◌≡◌, ◌+◌, ◌++◌, ◌<◌, ℕ, zero, suc, List, [], ◌∷◌, drop, get_or, length, set, subst, sym, arith}
 use Rattle.std.specs.Prelude.{All, ◌⊎◌}
-use mathlib.Core.Logic.{inl, inr}
-use Rattle.std.proofs.lemmas.List.Elements.{All-append}
-use Rattle.df_value.specs.declared.chunk.Piece.{Piece}
-use Rattle.df_jobs.specs.Jobs.{AreOutcomes, IsOutcome}
-use Rattle.df_store.specs.Batches.{IsBatch, IsRunOfAll, outcomes_of}
-use Rattle.df_store.specs.declared.waiting.Batch.{Batch}
-
--- the outcomes of two batches are one
-pub batch-of-both :
-    (chunks : List (List (ℕ × Piece))) (a b both : Batch) → (outcomes_of both ≡ outcomes_of a ++ outcomes_of b) ⊎ (outcomes_of both ≡ outcomes_of b ++ outcomes_of a) →
-    (IsRunOfAll a → IsRunOfAll b → IsRunOfAll both) → IsBatch chunks a → IsBatch chunks b → IsBatch chunks both
-batch-of-both chunks a b both (inl are) run x y = record {
-  made = subst (AreOutcomes chunks) (sym are) (All-append (IsOutcome chunks) (outcomes_of a) (outcomes_of b) x.made y.made);
-  run = run x.run y.run;
-}
-batch-of-both chunks a b both (inr are) run x y = record {
-  made = subst (AreOutcomes chunks) (sym are) (All-append (IsOutcome chunks) (outcomes_of b) (outcomes_of a) y.made x.made);
-  run = run x.run y.run;
-}
 
 module _ {X : Type 0} (P : X → Type 0) where
   -- the first of those that are left

@@ -1,7 +1,7 @@
 -- One more view, whose table has its name, its source and the steps of a text.
 use Rattle.std.proofs.Common.{◌≡◌, ◌<◌, ◌≤◌, ◌∙◌, ℕ, Bool, true, false, cond, ◌&&◌, List, [], ◌∷◌, length, ◌++◌, codes, Result, Ok, Err, refl, ap, arith}
 use Rattle.std.specs.Prelude.{◌||◌}
-use Rattle.std.proofs.lemmas.Bool.{le-ltb, lt-ltb}
+use Rattle.std.proofs.lemmas.Bool.{lt-ltb}
 use Rattle.toml.specs.Data.{Data, Members, no_members, member}
 use Rattle.df_plan.specs.declared.plan.Plan.TheVariants.{Scan}
 use Rattle.df_text.specs.declared.document.FrameSpec.{FrameSpec}
@@ -63,9 +63,3 @@ pub next_where_room :
 next_where_room frames before name source text ms said few =
     let alone = passed (has_only_keys (codes "steps" ∷ [])) (tree_of (codes "steps = " ++ text)) fault.NotToml ms said in
     rw (said, lt-ltb (length before) 32 few) (view_of_steps frames before name source ms alone)
-
--- and where there is none
-pub next_where_full :
-    (frames : List FrameSpec) (before : List ViewSpec) (name source text : List ℕ) (ms : Members) → steps_alone text ≡ Ok ms → 32 ≤ length before
-    → next_view_of frames before name source text ≡ Err fault.TooManyViews
-next_where_full frames before name source text ms said many = rw (said, le-ltb (length before) 32 many) refl

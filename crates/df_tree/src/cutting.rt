@@ -1,5 +1,5 @@
-//! The items before a place, those behind it, and others in their place.
-ghost use Rattle.std.specs.Prelude.{◌≡◌, ◌<◌, ◌++◌, IfOk, drop, take};
+//! The items before a place, and those behind it.
+ghost use Rattle.std.specs.Prelude.{◌≡◌, ◌<◌, IfOk, drop, take};
 ghost use Rattle.df_tree.specs.Leaves.{items_in, items_of_parts, rank_above};
 ghost use Rattle.df_tree.specs.Level.{AreLevel};
 
@@ -79,22 +79,5 @@ impl<I: Item> Seq<I> {
                 first.joined(alloc, &back)
             }
         }
-    }
-
-    /// The sequence with these items in place of those from `low` up to `high`. Only the nodes at its two edges are new.
-    pub fn spliced(
-        &self,
-        alloc: Global,
-        low: usize,
-        high: usize,
-        run: Vec<I>,
-    ) -> Result<Seq<I>, AllocError>
-        ensures { IfOk result (λ k. items_in k ≡ take low (items_in self.now) ++ (run.items ++ drop high (items_in self.now))) }
-    {
-        let front = self.first(alloc, low)?;
-        let middle = Seq::from_items(alloc, run)?;
-        let back = self.behind(alloc, high)?;
-        let rest = middle.joined(alloc, &back)?;
-        front.joined(alloc, &rest)
     }
 }

@@ -29,23 +29,6 @@ pub(crate) fn put_in_node<I: Item>(node: &mut Node<I>, index: usize, item: I)
     }
 }
 
-/// Gives back what was reserved for one edit at the item at an index.
-#[cycle(release_at)]
-pub(crate) fn release_in_node<I: Item>(node: &mut Node<I>, index: usize)
-    requires { 1 < room_at (leaves_of node.old) index }
-    ensures edited { Edited (leaves_of node.old) (leaves_of node.new) index (λ xs i. xs) 1 }
-    ensures rank { rank_of node.new ≡ rank_of node.old }
-    ensures level { IsLevel node.old → IsLevel node.new }
-{
-    match node {
-        Node::Items(_, reserved) => *reserved -= 1,
-        Node::Parts(parts) => {
-            let spot = spot_at(parts, index);
-            parts[spot.at].release_at(spot.rest);
-        }
-    }
-}
-
 /// Puts this item in, beside the one at an index.
 #[cycle(put_in)]
 pub(crate) fn insert_in_node<I: Item>(node: &mut Node<I>, index: usize, side: usize, item: I)
@@ -132,19 +115,6 @@ impl<I: Item> Seq<I> {
                 put_in_node(node, index, item);
                 self.measure = measure_in(node);
             }
-            Link::Shared(_) => unreachable!(),
-        }
-    }
-
-    /// Gives back what was reserved for one edit at the item at an index.
-    #[cycle(release_at)]
-    pub fn release_at(&mut self, index: usize)
-        requires { 1 < room_at self.old.0 index }
-        ensures edited { Edited self.old.0 self.new.0 index (λ xs i. xs) 1 }
-        ensures rank { self.new.1 ≡ self.old.1 }
-    {
-        match &mut self.link {
-            Link::Own(node) => release_in_node(node, index),
             Link::Shared(_) => unreachable!(),
         }
     }

@@ -6,7 +6,7 @@ use Rattle.df_state.specs.declared.change.Change.{Change}
 use Rattle.df_state.specs.declared.state.State.{State}
 use Rattle.df_state.specs.States.{IsLegal}
 use Rattle.df_state.proofs.Legal.{legal-after}
-use Rattle.df_versions.specs.Histories.{Step, Steps, StepBy, StepsBy, AreAllowed, IsHistory, IsHistoryOver, MayFollow, MayFollowBy, IsOpening, last_of, last_state}
+use Rattle.df_versions.specs.Histories.{Step, Steps, StepBy, StepsBy, AreAllowed, IsHistory, IsHistoryOver, MayFollow, MayFollowBy, last_of, last_state}
 
 steps-snoc : (o : State) (later : List State) (t : State) → Steps o later → Step (last_of o later) t → Steps o (later ++ t ∷ [])
 steps-snoc o [] t h step = (step, tt)
@@ -66,14 +66,6 @@ module _ (allows : Change → Type 0) where
   -- an allowed step is a step
   step-any : (s t : State) → StepBy allows s t → Step s t
   step-any s t step = (step.0, step.2, step.3, step.4)
-
-  steps-any : (s : State) (later : List State) → StepsBy allows s later → Steps s later
-  steps-any s [] h = tt
-  steps-any s (t ∷ ts) h = (step-any s t h.0, steps-any t ts h.1)
-
-  -- an opening and allowed steps are a history
-  pub allowed-history : (o : State) (later : List State) → IsOpening o → AreAllowed allows (o ∷ later) → IsHistory (o ∷ later)
-  allowed-history o later opening h = (opening, steps-any o later h)
 
   pub follows-any : (log : List State) (t : State) → MayFollowBy allows log t → MayFollow log t
   follows-any [] t may = may

@@ -7,13 +7,10 @@ use Rattle.df_ops.specs.declared.agg.Agg.{Agg}
 use Rattle.df_ops.specs.declared.joins.How.{How}
 use Rattle.df_ops.specs.declared.ranks.RankKind.{RankKind}
 use Rattle.df_ops.specs.declared.windows.RollKind.{RollKind}
-use Rattle.df_plan.specs.declared.plan.Plan.{Plan, Scan, Filter, Select, WithColumns, GroupBy, Join, Rolling, CumSum, Rank, the_lemmas}
+use Rattle.df_plan.specs.declared.plan.Plan.{Plan, Filter, Select, WithColumns, GroupBy, Join, Rolling, CumSum, Rank, the_lemmas}
 use Rattle.df_text.specs.declared.document.FrameSpec.{FrameSpec}
 use Rattle.df_writing.specs.ExpressionData.{expr_data, operand_data, triple_data}
 use Rattle.df_writing.specs.StepData.{group_by_data, join_data, outputs_data, rank_data, rolling_data, side_data, then_step, written}
-
-pub written-Scan : (fs : List FrameSpec) (at : ℕ) → written fs (Scan at) ≡ record { source = at; steps = [] }
-written-Scan fs at = search (rules, the_lemmas)
 
 pub written-Filter : (fs : List FrameSpec) (p : Plan) (e : Expr) → written fs (Filter p e) ≡ then_step (written fs p) (operand_data (codes "filter") (expr_data e))
 written-Filter fs p e = search (rules, the_lemmas)

@@ -83,14 +83,6 @@ module _ (fs : List FrameSpec) where
   join_back at p right d how.Left keys false side =
       let keyed = names_back (item_at at 2) keys in let is = side (item_at at 3) in rw (list_of-items (map string keys), keyed, is) refl
 
-  same_next : (r : Result Plan ViewsFault) → then_next r (λ p. Ok p) ≡ r
-  same_next (Ok p) = refl
-  same_next (Err f) = refl
-
-  next_again : (r : Result Plan ViewsFault) (f g : Plan → Result Plan ViewsFault) → then_next (then_next r f) g ≡ then_next r (λ p. then_next (f p) g)
-  next_again (Ok p) f g = refl
-  next_again (Err e) f g = refl
-
   through :
       (r : Result Plan ViewsFault) (before after : Plan) (next more : Plan → Result Plan ViewsFault) → then_next r next ≡ Ok before → ((q : Plan) → next q ≡ Ok before → more q ≡ Ok after)
       → then_next r more ≡ Ok after

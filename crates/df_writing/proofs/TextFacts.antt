@@ -4,8 +4,7 @@ use Rattle.std.proofs.lemmas.List.{append_assoc}
 use Rattle.std.specs.List.{join_by}
 use Rattle.toml.specs.Data.{Data}
 use Rattle.toml.specs.View.{items_of}
-use Rattle.df_writing.specs.ExpressionData.{operands_data}
-use Rattle.df_writing.specs.Texts.{data_text, items_text, last_item, later_items, two_items}
+use Rattle.df_writing.specs.Texts.{data_text, items_text, later_items}
 
 -- the later items of an array, one by one
 pub later_items-map :
@@ -29,7 +28,3 @@ items_text-join [] = refl
 items_text-join (d ∷ ds) =
     ap (λ (t : List ℕ). data_text d ++ t) (later_items-join ds)
     ∙ sym (append_assoc (data_text d) (flat_map (λ d. codes ", " ++ data_text d) ds) (codes "]"))
-
--- an array of three, in two parts
-pub three_items : (word : List ℕ) (a b : Data) → two_items word a ++ last_item b ≡ data_text (operands_data word a b)
-three_items word a b = simp append_assoc
