@@ -143,6 +143,7 @@ impl History {
         requires { self.now.0 ≡ other.now.0 }
         ensures begins { result ≡ true → IsPrefix self.now.1 other.now.1 }
         ensures ends { result ≡ false → IsPrefix other.now.1 self.now.1 }
+        ensures longer { result ≡ false → length other.now.1 < length self.now.1 }
     {
         let mut both = self.seen.again();
         both.learn(&other.seen);

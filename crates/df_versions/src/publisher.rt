@@ -1,5 +1,5 @@
 //! The history that is published.
-ghost use Rattle.std.specs.Prelude.{◌≡◌, ◌++◌, ◌∷◌, ◌-◌, ◌^◌, [], None, drop, IfErr, IfOk, IsErr, ◌<◌, length, true};
+ghost use Rattle.std.specs.Prelude.{◌≡◌, ◌≢◌, ◌++◌, ◌∷◌, ◌-◌, ◌^◌, [], None, drop, IfErr, IfOk, IsErr, ◌<◌, length, true, false};
 ghost use Rattle.df_state.specs.Pictures.{picture_of};
 ghost use Rattle.left_right.specs.Sides.{view};
 ghost use Rattle.df_versions.specs.Histories.{AreAllowed, IsHistory, IsHistoryOver, MayFollow, MayFollowBy};
@@ -134,7 +134,8 @@ impl<J: Naming> Publisher<J> {
     /// Whether nothing was published since this was told.
     #[tactic(auto, using(crate::proofs::Prefixes::prefix_both))]
     pub fn is_last(&self, told: &Told<J>) -> bool
-        ensures { result ≡ true → told.now ≡ self.now }
+        ensures last { result ≡ true → told.now ≡ self.now }
+        ensures later { result ≡ false → told.now ≢ self.now }
     {
         let told = told.history();
         told.begins(&self.history) && self.history.begins(told)

@@ -22,3 +22,9 @@ returns-clause-ends c = λ long.
     let lengths : length c.other.inside.seen.log ≤ length c.self.inside.seen.log = omega (arith, less, c.self.invariant.0, c.other.invariant.0) in
     let found : IsPrefix c.other.inside.seen.log c.self.inside.seen.log = prefix_shorter c.other.inside.seen.log c.self.inside.seen.log both c.learn.ensures.3 this lengths in
     subst (λ (l : List State). IsPrefix l c.args.self.now.1) (ap (λ p. p.1) c.other.view_is) (subst (λ (l : List State). IsPrefix c.other.inside.seen.log l) (ap (λ p. p.1) c.self.view_is) found)
+
+pub returns-clause-longer : goal.returns-clause-longer
+returns-clause-longer c = λ long.
+    let less : c.other.inside.states < c.self.inside.states = grind (arith, nat_tests, long) in
+    let lengths : length c.other.inside.seen.log < length c.self.inside.seen.log = omega (arith, less, c.self.invariant.0, c.other.invariant.0) in
+    subst (λ (l : List State). length l < length c.args.self.now.1) (ap (λ p. p.1) c.other.view_is) (subst (λ (l : List State). length c.other.inside.seen.log < length l) (ap (λ p. p.1) c.self.view_is) lengths)
