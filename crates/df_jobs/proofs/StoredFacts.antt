@@ -78,6 +78,3 @@ module _
         subst (FollowFrom frame run.schema run.first) (sym same) (subst (λ (x : ChunkParts). FollowFrom frame x.schema x.first os) (sym run-is) follow),
         all-in ∙ ap all_rows (sym same),
       )
-
--- the first of the parts from a place on
-module _ (run : ChunkParts) (ps : List Part) (i : ℕ) (p : Part) (h : i < length ps) (is : p ≡ get_or ps i p) where
