@@ -2,7 +2,7 @@
 """report.py [ROWS]: measures the built programs beside those that are installed, and writes the tables and plots of
 docs/BENCHMARKS.md: what stands between `<!-- table NAME -->` and `<!-- end -->`.
 
-Each number is the median of three rounds, in which the programs alternate; ROWS, 1,048,576 if left out, is what is
+Each number is the median of three rounds, in which the programs alternate, of single changes the least; ROWS, 1,048,576 if left out, is what is
 loaded. Peers: sqlite3, miller, datamash, pandas and data.table, where they are installed. For quiet minutes: some ten."""
 
 import os
@@ -136,8 +136,9 @@ def live_table(folder):
     lines = ["| Rows | Append | Replace | Delete | SQLite: append | SQLite: replace | SQLite: delete |", "|---|---|---|---|---|---|---|"]
     plot = []
     for rows in SIZES:
-        rounds = [(views.measured(SHELL, folder, rows, preloaded, kinds)[1:4], views.in_sqlite(rows)[1:4]) for _ in range(ROUNDS)]
-        own, peer = ([statistics.median(numbers) for numbers in zip(*side)] for side in zip(*rounds))
+        # Behind a million rows a change weighs less than the noise of a load: the least of each session is taken.
+        own = views.measured(SHELL, folder, rows, preloaded, kinds, ROUNDS)[1:4]
+        peer = [min(numbers) for numbers in zip(*(views.in_sqlite(rows)[1:4] for _ in range(ROUNDS)))]
         lines.append(f"| {rows:,} | " + " | ".join(f"{number:.1f}" for number in own + peer) + " |")
         plot.append((rows, own, peer))
     return lines, plot

@@ -87,31 +87,34 @@ def write(folder, parts):
         file.writelines(parts)
 
 
-def seconds(program, folder, parts):
-    """The processor seconds of a session of these commands."""
+def seconds(program, folder, parts, rounds=1):
+    """The processor seconds of a session of these commands, the least of so many rounds."""
     write(folder, parts)
-    with open(folder / "typed", "rb") as file:
-        shell = subprocess.Popen([program, "rows.toml"], cwd=folder, stdin=file, stdout=subprocess.DEVNULL)
-        _, status, used = os.wait4(shell.pid, 0)
-    if status != 0:
-        sys.exit("a session failed")
-    return used.ru_utime + used.ru_stime
+    found = []
+    for _ in range(rounds):
+        with open(folder / "typed", "rb") as file:
+            shell = subprocess.Popen([program, "rows.toml"], cwd=folder, stdin=file, stdout=subprocess.DEVNULL)
+            _, status, used = os.wait4(shell.pid, 0)
+        if status != 0:
+            sys.exit("a session failed")
+        found.append(used.ru_utime + used.ru_stime)
+    return min(found)
 
 
-def measured(program, folder, rows, preloaded, kinds):
-    """Microseconds: of a row of the chunks, and of these kinds of single changes, or none. Last, the requests of an
-    appended row."""
+def measured(program, folder, rows, preloaded, kinds, rounds=1):
+    """Microseconds: of a row of the chunks, and of these kinds of single changes, or none; a session takes the least of
+    so many rounds. Last, the requests of an appended row."""
     source = random.Random(20260101)
     loaded = list(chunks(source, rows, False))
     made = [loaded[0], *chunks(random.Random(20260101), rows, True)]
-    load = seconds(program, folder, loaded)
-    result = [(load - seconds(program, folder, made)) / rows * 1e6]
+    load = seconds(program, folder, loaded, rounds)
+    result = [(load - seconds(program, folder, made, rounds)) / rows * 1e6]
     for kind in ("append", "replace", "delete"):
         if kind not in kinds:
             result.append(None)
             continue
-        each = seconds(program, folder, [*loaded, *changes(kind, source, rows, False)])
-        read = seconds(program, folder, [*loaded, *changes(kind, source, rows, True)])
+        each = seconds(program, folder, [*loaded, *changes(kind, source, rows, False)], rounds)
+        read = seconds(program, folder, [*loaded, *changes(kind, source, rows, True)], rounds)
         result.append((each - read) / singles(rows) * 1e6)
     asked = []
     for refused in (False, True):
