@@ -6,11 +6,8 @@ use Rattle.df_value.specs.declared.cell.CellType.{CellType}
 use Rattle.df_state.specs.declared.change.Change.TheVariants.{Register}
 use Rattle.df_state.specs.declared.state.State.{State}
 use Rattle.df_versions.specs.Answered.{IsAccepted}
-use Rattle.df_versions.specs.declared.fault.ChangeFault.TheVariants as change
 use Rattle.dataframes.specs.Books.{BooksParts, IsAnswered}
 use Rattle.dataframes.specs.Closing.{IsViewAdded}
-use Rattle.dataframes.specs.declared.fault.ServiceFault.{ServiceFault}
-use Rattle.dataframes.specs.declared.fault.ServiceFault.TheVariants as fault
 
 pub if-err : {A E : Type 0} (r : Result A E) (P : E → Type 0) (Q : E → Type 0) → IfErr r P → ((e : E) → P e → Q e) → IfErr r Q
 if-err (Ok a) P Q p f = tt

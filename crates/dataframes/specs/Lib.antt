@@ -6,4 +6,5 @@ pub mod Closing
 pub mod Dashboards
 pub mod Faults
 pub mod Lines
+pub mod Loads
 pub mod ViewRows

@@ -36,7 +36,7 @@ IsTypedPart schema records part (Err (Csv f)) = f ≡ csv_fault.Memory
 IsTypedPart schema records part (Err TooMany) = ⊥
 IsTypedPart schema records part (Err (BadCell cell)) = slice_get (pieces_of schema most_rows_of_chunk records) part ≡ Some (piece.Bad cell)
 
--- the same of lines that have these records
+-- what the records of lines make
 pub record HaveRecords (schema : List (List ℕ × CellType)) (lines : List ℕ) (result : Result (List (List Cell)) LinesFault) : Type 0 where
   pub records : FieldRows
   pub said : records_of lines schema ≡ Ok records

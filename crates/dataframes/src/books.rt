@@ -9,13 +9,12 @@ ghost use Rattle.dataframes.specs.Appends.{Appends, IsAppendedChunk};
 ghost use Rattle.dataframes.specs.Books.{InOrder, IsAnswered, IsKept, IsNextOr, IsNumbered, IsThrough, states_told};
 
 use crate::fault::ServiceFault;
+use crate::hall_changes::{Answer, HallChanges};
 use df_catalogue::{Desk, FrameChange, ViewChange};
-use df_hall::Hall;
 use df_value::{Chunk, ChunkFault, List, Row, Schema};
-use df_versions::{ChangeFault, Naming, Told};
+use df_versions::{Naming, Told};
 use std::alloc::Global;
 use std::marker::Model;
-use std::sync::Wait;
 use std::sync::ledger::Ledger;
 
 /// What was appended: the number of its first row, the others have the numbers after it; how many rows it has; and what is
@@ -70,9 +69,6 @@ impl<Acc: Ledger, Del: Ledger, J: Naming> Model for Books<Acc, Del, J> {
         × (length b.desks.items ≡ length J.schemas) };
 }
 
-/// What a hall answers to a change.
-type Answer<J> = Result<Told<J>, ChangeFault<J>>;
-
 impl<Acc: Ledger, Del: Ledger, J: Naming> Books<Acc, Del, J> {
     /// The books of a hall with its first desks.
     pub fn new(desks: Vec<Desk<Acc, Del>>) -> Books<Acc, Del, J>
@@ -87,11 +83,10 @@ impl<Acc: Ledger, Del: Ledger, J: Naming> Books<Acc, Del, J> {
     /// number is left out. `schemas` are those of the frames.
     ///
     /// Refused are, in this order: an index of no frame; rows that are no chunk behind these numbers; what the hall refuses.
-    pub fn append<R: Wait>(
+    pub fn append<H: HallChanges<Acc, Del, J>>(
         &mut self,
-        rt: &R,
         alloc: Global,
-        hall: &Hall<Acc, Del, J>,
+        hall: &H,
         schemas: &List<Schema>,
         frame: usize,
         rows: List<Row>,
@@ -101,7 +96,7 @@ impl<Acc: Ledger, Del: Ledger, J: Naming> Books<Acc, Del, J> {
         ensures { Appends J.schemas self.old frame rows result self.new }
     {
         match self.next_chunk(alloc, schemas, frame, rows) {
-            Some(Ok(chunk)) => self.append_chunk(rt, alloc, hall, frame, &chunk),
+            Some(Ok(chunk)) => self.append_chunk(hall, frame, &chunk),
             Some(Err(fault)) => Err(ServiceFault::Rows(fault)),
             None => Err(ServiceFault::NoFrame),
         }
@@ -128,18 +123,16 @@ impl<Acc: Ledger, Del: Ledger, J: Naming> Books<Acc, Del, J> {
     }
 
     // Appends the next chunk of a frame.
-    fn append_chunk<R: Wait>(
+    fn append_chunk<H: HallChanges<Acc, Del, J>>(
         &mut self,
-        rt: &R,
-        alloc: Global,
-        hall: &Hall<Acc, Del, J>,
+        hall: &H,
         frame: usize,
         chunk: &Chunk,
     ) -> Result<Appended<J>, ServiceFault<J>>
         requires { J.allows (Append frame chunk.now) }
         ensures { IsAppendedChunk J.schemas self.old frame chunk.now result self.new }
     {
-        match self.change_rows(rt, alloc, hall, frame, FrameChange::Append(chunk)) {
+        match self.change_rows(hall, frame, FrameChange::Append(chunk)) {
             Ok(told) => Ok(Appended {
                 first: chunk.first(),
                 rows: chunk.rows().len(),
@@ -151,44 +144,38 @@ impl<Acc: Ledger, Del: Ledger, J: Naming> Books<Acc, Del, J> {
 
     /// Changes the rows of a frame. The history that is told of it is longer than that of every change before, and the
     /// frame's desk counts the rows that are added and taken out.
-    pub fn change_rows<R: Wait>(
+    pub fn change_rows<H: HallChanges<Acc, Del, J>>(
         &mut self,
-        rt: &R,
-        alloc: Global,
-        hall: &Hall<Acc, Del, J>,
+        hall: &H,
         frame: usize,
         change: FrameChange,
     ) -> Result<Told<J>, ServiceFault<J>>
         requires allowed { J.allows (change_of frame change) }
         ensures { IsAnswered J.schemas self.old (change_of frame change.entry) result self.new }
     {
-        match self.through_desk(rt, alloc, hall, frame, change) {
+        match self.through_desk(hall, frame, change) {
             Some(answer) => self.keep(answer),
             None => Err(ServiceFault::NoFrame),
         }
     }
 
     /// Changes the views. The history that is told of it is longer than that of every change before.
-    pub fn change_views<R: Wait>(
+    pub fn change_views<H: HallChanges<Acc, Del, J>>(
         &mut self,
-        rt: &R,
-        alloc: Global,
-        hall: &Hall<Acc, Del, J>,
+        hall: &H,
         change: ViewChange,
     ) -> Result<Told<J>, ServiceFault<J>>
         requires allowed { J.allows (change_of_views change) }
         ensures { IsAnswered J.schemas self.old (change_of_views change.entry) result self.new }
     {
-        let answer = self.ask_for_views(rt, alloc, hall, change);
+        let answer = self.ask_for_views(hall, change);
         self.keep(answer)
     }
 
     // What the hall answers to a change of a frame's rows through its desk. None: there is no desk for it.
-    fn through_desk<R: Wait>(
+    fn through_desk<H: HallChanges<Acc, Del, J>>(
         &mut self,
-        rt: &R,
-        alloc: Global,
-        hall: &Hall<Acc, Del, J>,
+        hall: &H,
         frame: usize,
         change: FrameChange,
     ) -> Option<Answer<J>>
@@ -200,21 +187,15 @@ impl<Acc: Ledger, Del: Ledger, J: Naming> Books<Acc, Del, J> {
         }
         let told = self.told.as_ref();
         let desk = &mut self.desks.as_mut_slice()[frame];
-        Some(hall.change_rows(rt, alloc, desk, change, told))
+        Some(hall.change_rows(desk, change, told))
     }
 
     // What the hall answers to a change of the views.
-    fn ask_for_views<R: Wait>(
-        &self,
-        rt: &R,
-        alloc: Global,
-        hall: &Hall<Acc, Del, J>,
-        change: ViewChange,
-    ) -> Answer<J>
+    fn ask_for_views<H: HallChanges<Acc, Del, J>>(&self, hall: &H, change: ViewChange) -> Answer<J>
         requires { J.allows (change_of_views change) }
         ensures { IsThrough J.schemas self.now (change_of_views change.entry) (Some result) self.now }
     {
-        hall.change_views(rt, alloc, change, self.told.as_ref())
+        hall.change_views(change, self.told.as_ref())
     }
 
     // Keeps what is told of a change that was made, for the next one.

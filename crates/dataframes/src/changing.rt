@@ -5,8 +5,8 @@ ghost use Rattle.dataframes.specs.Appends.{AnswersOfBooks, AppendsToBooks};
 
 use crate::books::{Appended, Books};
 use crate::fault::ServiceFault;
+use crate::hall_changes::HallChanges;
 use df_catalogue::{FrameChange, ViewChange};
-use df_hall::Hall;
 use df_value::{List, Row, Schema};
 use df_versions::{Naming, Told};
 use std::alloc::Global;
@@ -33,17 +33,18 @@ pub trait MakeChanges<J: Naming> {
     fn told(&self) -> Option<Told<J>>;
 }
 
-/// A hall, and its books behind a lock.
+/// What answers the changes, and the books behind a lock.
 #[derive(Drop)]
-pub(crate) struct LockedBooks<'s, R: Wait, Acc: Ledger, Del: Ledger, J: Naming> {
+pub(crate) struct LockedBooks<'s, R: Wait, H, Acc: Ledger, Del: Ledger, J: Naming> {
     pub rt: &'s R,
     pub alloc: Global,
-    pub hall: &'s Hall<Acc, Del, J>,
+    pub hall: &'s H,
     pub books: &'s Mutex<Books<Acc, Del, J>>,
     pub schemas: &'s List<Schema>,
 }
 
-impl<'s, R: Wait, Acc: Ledger, Del: Ledger, J: Naming> Model for LockedBooks<'s, R, Acc, Del, J> {
+impl<'s, R: Wait, H, Acc: Ledger, Del: Ledger, J: Naming> Model
+    for LockedBooks<'s, R, H, Acc, Del, J> {
     ghost use Rattle.std.specs.Prelude.{◌≡◌, ℕ, List as Seq};
     ghost use Rattle.df_value.specs.declared.cell.CellType.{CellType};
     ghost use Rattle.df_versions.specs.Histories.{AllowsAll};
@@ -56,21 +57,21 @@ impl<'s, R: Wait, Acc: Ledger, Del: Ledger, J: Naming> Model for LockedBooks<'s,
     ghost invariant = { λ b. AllowsAll J.allows × (b.schemas.now ≡ J.schemas) };
 }
 
-impl<'s, R: Wait, Acc: Ledger, Del: Ledger, J: Naming> MakeChanges<J>
-    for LockedBooks<'s, R, Acc, Del, J> {
+impl<'s, R: Wait, H: HallChanges<Acc, Del, J>, Acc: Ledger, Del: Ledger, J: Naming> MakeChanges<J>
+    for LockedBooks<'s, R, H, Acc, Del, J> {
     fn append(&self, frame: usize, rows: List<Row>) -> Result<Appended<J>, ServiceFault<J>> {
         let mut books = self.books.lock(self.rt);
-        books.append(self.rt, self.alloc, self.hall, self.schemas, frame, rows)
+        books.append(self.alloc, self.hall, self.schemas, frame, rows)
     }
 
     fn change_rows(&self, frame: usize, change: FrameChange) -> Result<Told<J>, ServiceFault<J>> {
         let mut books = self.books.lock(self.rt);
-        books.change_rows(self.rt, self.alloc, self.hall, frame, change)
+        books.change_rows(self.hall, frame, change)
     }
 
     fn change_views(&self, change: ViewChange) -> Result<Told<J>, ServiceFault<J>> {
         let mut books = self.books.lock(self.rt);
-        books.change_views(self.rt, self.alloc, self.hall, change)
+        books.change_views(self.hall, change)
     }
 
     fn told(&self) -> Option<Told<J>> {

@@ -1,7 +1,7 @@
 //! The rows that lines of CSV say.
 ghost use Rattle.std.specs.Prelude.{◌≡◌, ◌<◌, IfErr, IfOk, length};
 ghost use Rattle.df_csv.specs.Records.{IsRecords};
-ghost use Rattle.df_csv.specs.Typed.{piece_count};
+ghost use Rattle.df_csv.specs.Typed.{piece_count, piece_start};
 ghost use Rattle.df_value.specs.Limits.{most_rows_of_chunk};
 ghost use Rattle.dataframes.specs.Lines.{AreTyped, HaveNoRecords, IsReadFrom, IsTypedPart, SayRows};
 
@@ -44,7 +44,7 @@ impl fmt::Display for LinesFault {
     }
 }
 
-/// The records of a CSV file of any length, under the columns of a frame. A frame takes their rows in parts of 65,536 records,
+/// The records of a CSV file, up to 1,048,576, under the columns of a frame. A frame takes their rows in parts of 65,536 records,
 /// each as one change; the last part has those that are left.
 pub struct CsvRecords {
     records: Records,
@@ -79,6 +79,21 @@ impl CsvRecords {
                 Err(CsvFault::Memory)
             }
         }
+    }
+
+    /// How many records there are.
+    pub fn len(&self) -> usize
+        ensures { result ≡ length self.now.records }
+    {
+        self.records.len()
+    }
+
+    // How many records stand before a part.
+    pub(crate) fn before(&self, part: usize) -> usize
+        requires { part < piece_count most_rows_of_chunk (length self.now.records) }
+        ensures { result ≡ piece_start most_rows_of_chunk part }
+    {
+        part * MOST_ROWS_OF_CHUNK
     }
 
     /// How many parts the records make: none where there is no record.

@@ -138,6 +138,41 @@ impl<J: Naming> Dashboard<J> {
         }
     }
 
+    /// Learns what was told, and gives the newest version, if there is a later one than that which this dashboard gave last, or,
+    /// where it gave none, one at all. It waits for nobody and takes no memory.
+    pub fn follow(&mut self, told: Option<Told<J>>) -> Option<Arc<Version, Global>>
+        ensures views { self.new.views ≡ self.old.views }
+        ensures learnt { IsPrefix self.old.learnt self.new.learnt
+            × IfSome told (λ t. IsPrefix t self.new.learnt) }
+        ensures later { IfSome result (λ v. IsPrefix self.old.taken self.new.taken
+            × IsPrefix self.new.learnt self.new.taken) }
+        ensures shows { IfSome result (λ v. Shows self.new.taken (arc_value v)) }
+        ensures given { IfSome result (λ v. self.new.given ≡ Some (arc_value v).0) }
+        ensures newer { IfSome result (λ v. IfSome self.old.given (λ n. n < (arc_value v).0)) }
+        ensures none { IfNone result (self.new.given ≡ self.old.given) }
+    {
+        if let Some(told) = told {
+            self.learn(told);
+        }
+        self.next()
+    }
+
+    // The newest version, if it is a later one than that which was given last.
+    fn next(&mut self) -> Option<Arc<Version, Global>>
+        ensures learnt { self.new.learnt ≡ self.old.learnt }
+        ensures views { self.new.views ≡ self.old.views }
+        ensures later { IfSome result (λ v. IsLater self.old self.new) }
+        ensures shows { IfSome result (λ v. Shows self.new.taken (arc_value v)) }
+        ensures given { IfSome result (λ v. self.new.given ≡ Some (arc_value v).0) }
+        ensures newer { IfSome result (λ v. IfSome self.old.given (λ n. n < (arc_value v).0)) }
+        ensures none { IfNone result (self.new.given ≡ self.old.given) }
+    {
+        match self.given {
+            Some(given) => self.newer_than(given),
+            None => self.newest(),
+        }
+    }
+
     /// The columns of a view with which the service was opened, by name, with their types; None of any other view.
     pub fn view_schema(&self, name: &str) -> Option<&Schema>
         ensures { option_copied result ≡ columns_of_view name.now self.now.views }

@@ -11,10 +11,11 @@ use crate::changing::LockedBooks;
 use crate::closing::close;
 use crate::dashboard::Dashboard;
 use crate::fault::{FinishFault, ServiceFault};
+use crate::hall_changes::{HallChanges, RunningHall};
 use crate::service::{OpenService, ViewSchema};
 use crate::threads::{Load, Watch, Workers, run_threads};
 use df_catalogue::ViewChange;
-use df_hall::{Hall, OpenedHall, Totals};
+use df_hall::{OpenedHall, Totals};
 use df_value::{Duplicate, List, Schema};
 use df_versions::{ChangeFault, Naming, OpenFault, Reader};
 use std::alloc::{AllocError, Global};
@@ -176,7 +177,12 @@ fn serve<
 {
     let (hall, desks, readers) = opened.named::<J>();
     let mut books = Books::new(desks);
-    let prepared = prepare(rt, alloc, &hall, &mut books, views.as_slice(), readers);
+    let running = RunningHall {
+        rt,
+        alloc,
+        hall: &hall,
+    };
+    let prepared = prepare(alloc, &running, &mut books, views.as_slice(), readers);
     drop(views);
     match prepared {
         Ok((views, dashboards)) => {
@@ -185,7 +191,7 @@ fn serve<
             let changes = LockedBooks {
                 rt,
                 alloc,
-                hall: &hall,
+                hall: &running,
                 books: &books,
                 schemas: &schemas,
             };
@@ -203,12 +209,14 @@ fn serve<
             drop(dashboards);
             drop(views);
             drop(schemas);
+            drop(running);
             close(rt, hall, books.into_inner(), workers)
         }
         Err(fault) => {
             drop(books);
             drop(schemas);
             drop(workers);
+            drop(running);
             hall.end(rt);
             Err(fault)
         }
@@ -216,10 +224,9 @@ fn serve<
 }
 
 // What a service is served with: the names and columns of its views, which are added, and its dashboards.
-fn prepare<Acc: Ledger, Del: Ledger, J: Naming, R: Wait>(
-    rt: &R,
+fn prepare<Acc: Ledger, Del: Ledger, J: Naming, H: HallChanges<Acc, Del, J>>(
     alloc: Global,
-    hall: &Hall<Acc, Del, J>,
+    hall: &H,
     books: &mut Books<Acc, Del, J>,
     views: &[NamedPlan],
     readers: Vec<Reader>,
@@ -229,7 +236,7 @@ fn prepare<Acc: Ledger, Del: Ledger, J: Naming, R: Wait>(
     ensures views { IfOk result (λ made. made.0 ≡ map (λ v. (v.0, v.1.schema)) views.now) }
     ensures refused { IfErr result (IsNotAdded J.schemas views.now) }
 {
-    match add_views(rt, alloc, hall, books, views) {
+    match add_views(alloc, hall, books, views) {
         Ok(views) => match dashboards::<J>(alloc, readers, &views) {
             Ok(dashboards) => Ok((views, dashboards)),
             Err(_) => {
@@ -245,10 +252,9 @@ fn prepare<Acc: Ledger, Del: Ledger, J: Naming, R: Wait>(
 }
 
 // Adds the views in their order, and answers their names and columns.
-fn add_views<Acc: Ledger, Del: Ledger, J: Naming, R: Wait>(
-    rt: &R,
+fn add_views<Acc: Ledger, Del: Ledger, J: Naming, H: HallChanges<Acc, Del, J>>(
     alloc: Global,
-    hall: &Hall<Acc, Del, J>,
+    hall: &H,
     books: &mut Books<Acc, Del, J>,
     views: &[NamedPlan],
 ) -> Result<List<ViewSchema>, FinishFault>
@@ -258,16 +264,15 @@ fn add_views<Acc: Ledger, Del: Ledger, J: Naming, R: Wait>(
 {
     let mut added = Vec::with_capacity(alloc, views.len())?;
     for view in views {
-        added.push(add_view(rt, alloc, hall, books, view)?)?;
+        added.push(add_view(alloc, hall, books, view)?)?;
     }
     Ok(List::from_vec(added))
 }
 
 // Adds a view, and answers its name and columns.
-fn add_view<Acc: Ledger, Del: Ledger, J: Naming, R: Wait>(
-    rt: &R,
+fn add_view<Acc: Ledger, Del: Ledger, J: Naming, H: HallChanges<Acc, Del, J>>(
     alloc: Global,
-    hall: &Hall<Acc, Del, J>,
+    hall: &H,
     books: &mut Books<Acc, Del, J>,
     view: &NamedPlan,
 ) -> Result<ViewSchema, FinishFault>
@@ -277,7 +282,7 @@ fn add_view<Acc: Ledger, Del: Ledger, J: Naming, R: Wait>(
     ensures refused { IfErr result (IsViewNotAdded J.schemas view.now) }
 {
     let (name, plan) = view.copy(alloc)?;
-    let answer = books.change_views(rt, alloc, hall, ViewChange::Register(name, plan));
+    let answer = books.change_views(hall, ViewChange::Register(name, plan));
     match answer {
         Ok(told) => {
             drop(told);

@@ -77,7 +77,7 @@ pub trait Service: Tell {
     ) -> Result<Appended<Self::History>, ServiceFault<Self::History>>
         ensures { AppendsLines Self.History.schemas frame lines.now result };
 
-    /// Reads lines of CSV of any length for a frame, which takes their rows part by part ([`CsvRecords::rows`]).
+    /// Reads lines of CSV of up to 1,048,576 records for a frame, which takes their rows part by part ([`CsvRecords::rows`]).
     ///
     /// Refused are, in this order: an index of no frame; lines without records of the frame ([`CsvRecords::read`]).
     fn read_csv(

@@ -3,54 +3,42 @@
 
 use clap::{Arg, ArgAction, ArgMatches, Command, Error, value_parser};
 use dataframes::{
-    Agg, Boxed, CellRef, CellType, Dashboard, FinishFault, Finished, List, Load, Plan, Service,
-    ServiceBuilder, ServiceFault, ServiceRuntime, Tell, Text, ViewTable, Watch, row_of,
+    Agg, Boxed, CellRef, CellType, CsvFile, Dashboard, FinishFault, Finished, List, Load, Plan,
+    Service, ServiceBuilder, ServiceFault, ServiceRuntime, Tell, Text, ViewTable, Watch, load_into,
+    read_files, row_of,
 };
 use rand_core::{Rng, SeedableRng};
 use rand_xoshiro::Xoshiro256PlusPlus;
-use std::alloc::{AllocError, Global};
+use std::alloc::Global;
 use std::fmt::Display;
 use std::process::ExitCode;
 use std::rt::{Clock, Runtime};
 use std::sync::atomic::{AtomicU64, Ordering};
 use std::time::Duration;
-use std::{env, fs, thread};
+use std::{env, thread};
 
 // The frame of the moves: of which good, and how many came, or left where it is below 0.
 const MOVES: usize = 0;
 
-// The goods of the moves that are made where there are no files.
-const GOODS: [&str; 4] = ["apples", "bread", "cheese", "dates"];
-
 fn stock(alloc: Global) -> Result<ServiceBuilder, FinishFault> {
-    ServiceBuilder::new(alloc)
-        .frame(&[("good", CellType::Text), ("count", CellType::Int)])?
-        .view("totals", totals(alloc)?)
-}
-
-fn totals(alloc: Global) -> Result<Plan, AllocError> {
     let keys = List::from_vec(vec![in alloc; Text::from_str(alloc, "good")?]?);
     let sum = Agg::Sum(Text::from_str(alloc, "count")?);
     let sums = List::from_vec(vec![in alloc; (Text::from_str(alloc, "total")?, sum)]?);
-    Ok(Plan::GroupBy(Boxed::new(alloc, Plan::Scan(MOVES))?, keys, sums))
-}
-
-// A CSV file, and its lines, if it can be read.
-#[derive(Drop)]
-struct Source {
-    path: String,
-    lines: Option<Vec<u8>>,
+    let totals = Plan::GroupBy(Boxed::new(alloc, Plan::Scan(MOVES))?, keys, sums);
+    ServiceBuilder::new(alloc)
+        .frame(&[("good", CellType::Text), ("count", CellType::Int)])?
+        .view("totals", totals)
 }
 
 // Files of which each loader draws the next one.
 #[derive(Drop)]
 struct Sources {
-    files: Vec<Source>,
+    files: Vec<CsvFile>,
     drawn: AtomicU64,
 }
 
 impl Sources {
-    fn draw(&self) -> Option<&Source> {
+    fn draw(&self) -> Option<&CsvFile> {
         let at = self.drawn.fetch_add(1, Ordering::SeqCst);
         self.files.get(at as usize)
     }
@@ -102,27 +90,15 @@ impl<'r, 's, R: Clock + Eprint> Loader<'r, 's, R> {
         }
     }
 
-    fn load_file<S: Service>(&mut self, service: &S, file: &Source) {
+    fn load_file<S: Service>(&mut self, service: &S, file: &CsvFile) {
         let Some(lines) = &file.lines else {
             return self.leave_out(file.path.as_str(), &"it cannot be read");
         };
-        if let Err(fault) = self.append_lines(service, lines.as_slice()) {
-            self.leave_out(file.path.as_str(), &fault);
+        let loaded = load_into(service, MOVES, lines.as_slice());
+        self.accepted = self.accepted.wrapping_add(loaded.rows as u64);
+        if let Some(fault) = &loaded.refused {
+            self.leave_out(file.path.as_str(), fault);
         }
-    }
-
-    // A file may have any number of lines: its rows enter by parts.
-    fn append_lines<S: Service>(
-        &mut self,
-        service: &S,
-        lines: &[u8],
-    ) -> Result<(), ServiceFault<S::History>> {
-        let records = service.read_csv(MOVES, lines)?;
-        for part in 0..records.parts() {
-            let came = service.append(MOVES, records.rows(service.alloc(), part)?)?;
-            self.accepted = self.accepted.wrapping_add(came.rows as u64);
-        }
-        Ok(())
     }
 
     fn make_rounds<S: Service>(&mut self, service: &S) {
@@ -139,13 +115,12 @@ impl<'r, 's, R: Clock + Eprint> Loader<'r, 's, R> {
 
     // Two moves come. The first is corrected, and the second, which was entered by mistake, is deleted.
     fn make_round<S: Service>(&mut self, service: &S) -> Result<(), ServiceFault<S::History>> {
-        let alloc = service.alloc();
         let ((one, ones), (two, twos)) = (self.next_move(), self.next_move());
-        let lines = format!(in alloc; "good,count\n{one},{ones}\n{two},{twos}\n")?;
+        let lines = format!(in service.alloc(); "good,count\n{one},{ones}\n{two},{twos}\n")?;
         let came = service.append_csv(MOVES, lines.as_bytes())?;
         self.accepted = self.accepted.wrapping_add(came.rows as u64);
         let (good, count) = self.next_move();
-        let corrected = row_of(alloc, &[CellRef::Text(good), CellRef::Int(count)])?;
+        let corrected = row_of(service.alloc(), &[CellRef::Text(good), CellRef::Int(count)])?;
         let _told = service.replace(MOVES, &[(came.first, corrected)])?;
         let _told = service.delete(MOVES, &[came.first.wrapping_add(1)])?;
         self.deleted = self.deleted.wrapping_add(1);
@@ -153,7 +128,8 @@ impl<'r, 's, R: Clock + Eprint> Loader<'r, 's, R> {
     }
 
     fn next_move(&mut self) -> (&'static str, i64) {
-        let good = GOODS[(self.random.next_u64() % 4) as usize];
+        let goods = ["apples", "bread", "cheese", "dates"];
+        let good = goods[(self.random.next_u64() % 4) as usize];
         (good, (self.random.next_u64() % 20) as i64 - 5)
     }
 
@@ -167,43 +143,31 @@ impl<'r, 's, R: Clock + Eprint> Loader<'r, 's, R> {
 #[derive(Drop)]
 struct Watcher<'a, R> {
     rt: &'a R,
-    alloc: Global,
     shown: Vec<(String, i128)>,
     // Whether memory was refused to the newest totals.
     is_behind: bool,
 }
 
-impl<'a, R: Eprint> Watch for Watcher<'a, R> {
+impl<'a, R: Eprint + AllocGlobal> Watch for Watcher<'a, R> {
     fn look<S: Tell>(&mut self, service: &S, dashboard: &mut Dashboard<S::History>) {
-        if let Some(told) = service.told() {
-            dashboard.learn(told);
-        }
-        if !dashboard.changed() && !self.is_behind {
-            return;
-        }
-        let Some(version) = dashboard.newest() else {
+        let Some(version) = dashboard.follow(service.told()) else {
             return;
         };
-        let totals = match dashboard.table(version.as_ref(), "totals") {
-            Ok(table) => by_good(self.alloc, &table),
-            Err(_) => None,
-        };
+        let table = dashboard.table(version.as_ref(), "totals").ok();
+        let totals = table.and_then(|table| by_good(self.rt.alloc(), &table));
         self.is_behind = totals.is_none();
         match totals {
             Some(totals) => self.show(version.number(), totals),
-            None => {
-                let _ = eprintln!(self.rt; "totals: out of memory");
-            }
+            None => drop(eprintln!(self.rt; "totals: out of memory")),
         }
     }
 }
 
 impl<'a, R: Eprint> Watcher<'a, R> {
     fn show(&mut self, number: u64, totals: Vec<(String, i128)>) {
-        for total in totals.as_slice() {
+        for total in &totals {
             if self.shown.binary_search(total).is_err() {
-                let (good, total) = total;
-                let _ = eprintln!(self.rt; "{number}: {good} {total}");
+                let _ = eprintln!(self.rt; "{number}: {} {}", total.0, total.1);
             }
         }
         self.shown = totals;
@@ -215,9 +179,9 @@ fn by_good(alloc: Global, table: &ViewTable<'_>) -> Option<Vec<(String, i128)>> 
     let mut totals = Vec::new(alloc);
     for at in 0..table.len() {
         let row = table.row(alloc, at).ok()??;
-        let row = row.lent();
-        let good = String::from_str(alloc, row.text("good").unwrap_or("")).ok()?;
-        totals.push((good, row.int("total").unwrap_or(0))).ok()?;
+        let good = String::from_str(alloc, row.lent().text("good").unwrap_or("")).ok()?;
+        let total = row.lent().int("total").unwrap_or(0);
+        totals.push((good, total)).ok()?;
     }
     totals.sort().ok()?;
     Some(totals)
@@ -228,7 +192,7 @@ fn main(rt: HostRuntime) -> ExitCode {
 }
 
 fn run<R: ServiceRuntime + Runtime>(rt: &R) -> Option<ExitCode> {
-    let words: Vec<String> = env::args(rt).ok()?.skip(1).collect(rt.alloc()).ok()?;
+    let words: Vec<String> = env::args(rt).ok()?.collect(rt.alloc()).ok()?;
     match read_words(rt.alloc(), words.as_slice()) {
         Ok(words) => serve(rt, &words),
         Err(error) => {
@@ -241,7 +205,6 @@ fn run<R: ServiceRuntime + Runtime>(rt: &R) -> Option<ExitCode> {
 fn read_words<'a>(alloc: Global, words: &'a [String]) -> Result<ArgMatches<'a>, Error> {
     let command = Command::new(alloc, "stocklist")
         .about("Current totals of goods")
-        .no_binary_name(true)
         .arg(word(alloc, "file", "PATH").action(ArgAction::Append))?
         .arg(word(alloc, "loaders", "NUMBER").value_parser(value_parser!(u64).range(1..=16)))?
         .arg(word(alloc, "seconds", "NUMBER").value_parser(value_parser!(u64).range(1..=600)))?
@@ -255,7 +218,9 @@ fn word<'a>(alloc: Global, name: &'a str, value: &'a str) -> Arg<'a> {
 
 fn serve<R: ServiceRuntime + Runtime>(rt: &R, words: &ArgMatches<'_>) -> Option<ExitCode> {
     let alloc = rt.alloc();
-    let sources = read_sources(rt, words.get_raw("file").unwrap_or(&[]))?;
+    let files = read_files(rt, words.get_raw("file").unwrap_or(&[])).ok()?;
+    let drawn = AtomicU64::new(0);
+    let sources = Sources { files, drawn };
     let mut loaders = Vec::new(alloc);
     for number in 0..words.get_one("loaders").unwrap_or(4) {
         let loader = Loader::new(rt, words, &sources, number);
@@ -263,7 +228,6 @@ fn serve<R: ServiceRuntime + Runtime>(rt: &R, words: &ArgMatches<'_>) -> Option<
     }
     let watcher = Watcher {
         rt,
-        alloc,
         shown: Vec::new(alloc),
         is_behind: false,
     };
@@ -272,17 +236,7 @@ fn serve<R: ServiceRuntime + Runtime>(rt: &R, words: &ArgMatches<'_>) -> Option<
     report(rt, &finished)
 }
 
-fn read_sources<R: Runtime + AllocGlobal>(rt: &R, paths: &[&str]) -> Option<Sources> {
-    let mut files = Vec::new(rt.alloc());
-    for path in paths {
-        let lines = fs::read(rt, *path).ok();
-        let path = String::from_str(rt.alloc(), path).ok()?;
-        files.push(Source { path, lines }).ok()?;
-    }
-    let drawn = AtomicU64::new(0);
-    Some(Sources { files, drawn })
-}
-
+// It prints the books and the totals. All is well where the books are what the loaders counted, and nothing is left out.
 fn report<R: Print + Eprint>(
     rt: &R,
     finished: &Finished<Loader<'_, '_, R>, Watcher<'_, R>>,

@@ -1,4 +1,4 @@
-use Rattle.std.proofs.Common.{◌≡◌, ◌∙◌, ◌++◌, ◌∷◌, [], ap, subst}
+use Rattle.std.proofs.Common.{◌∙◌, ◌++◌, ◌∷◌, [], ap, subst}
 use Rattle.dataframes.specs.Builders.{BuilderParts, HasOneMore}
 use Rattle.dataframes.proofs.builder.ServiceBuilder.add_view.Goals as goal
 

@@ -1,4 +1,4 @@
-use Rattle.std.proofs.Common.{rules, ◌≡◌}
+use Rattle.std.proofs.Common.{rules}
 use Rattle.dataframes.proofs.csv_rows.CsvRecords.rows.Goals as goal
 
 pub returns-in-Ok-Good : goal.returns-in-Ok-Good
