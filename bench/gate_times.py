@@ -1,6 +1,7 @@
 #!/usr/bin/env python3
 """gate_times.py COMMAND..: runs the gate, say `rt ci --anew`, and prints a table, of which docs/GATE.md has the dearest crates:
-what each crate's proof, tests and edits cost, which crate it waits for longest, and the sum of the proofs up to its own.
+what each crate's proof, tests and edits cost, which crate it waits for longest, and the sum of the proofs up to its own; last, in what
+time four idle processors would do all this.
 
 It looks at the processes of `rattle` every half second and keeps the processor time of each, so a process that ends
 within that time is missed. Ends with the command's status. Linux, Python 3.11 or later."""
@@ -61,6 +62,29 @@ def chains(used, proofs):
     return waits, ends
 
 
+def clock(used, sums, processors):
+    """The seconds in which so many idle processors do it all: a crate's proof once those of the crates that it uses are done, then its tests
+    and its edits, first what has most waiting behind it, and edits last."""
+    tasks = {key: seconds for key, seconds in sums.items() if key[0] in used}
+    needs = {(crate, part): [(name, "proof") for name in used[crate]] if part == "proof" else [(crate, "proof")] for crate, part in tasks}
+    behind = {}
+
+    def length(task):
+        if task not in behind:
+            behind[task] = tasks[task] + max((length(other) for other in tasks if task in needs[other]), default=0)
+        return behind[task]
+
+    now, done, running, left = 0, set(), [], sorted(tasks, key=lambda task: (task[1] == "edits", -length(task)))
+    while left or running:
+        for task in [it for it in left if done.issuperset(needs[it])][: processors - len(running)]:
+            left.remove(task)
+            running.append((now + tasks[task], task))
+        now, task = min(running)
+        running.remove((now, task))
+        done.add(task)
+    return now
+
+
 def table(seconds):
     sums = collections.Counter()
     for (crate, part, _), spent in seconds.items():
@@ -73,7 +97,8 @@ def table(seconds):
         costs = [f"{sums[crate, part]:.0f}" if sums[crate, part] else "" for part in ("proof", "tests", "edits")]
         waited = f"`{waits[crate]}`" if waits[crate] else ""
         yield f"| `{crate}` | {' | '.join(costs)} | {waited} | {ends[crate] / 60:.0f} |"
-    yield f"in all {sum(sums.values()) / 60:.0f} processor minutes, the longest chain {max(ends.values()) / 60:.0f}"
+    minutes = [sum(sums.values()) / 60, max(ends.values()) / 60, clock(used, sums, 4) / 60]
+    yield "in all {:.0f} processor minutes, the longest chain {:.0f}; four idle processors need {:.0f}".format(*minutes)
 
 
 def main():
