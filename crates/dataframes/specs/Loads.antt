@@ -53,8 +53,10 @@ module _ {J : Type 0} where
     pub parts : loaded.parts.items ≡ []
     pub refused : loaded.refused ≡ Some fault
 
-  -- What comes of lines of CSV: what comes of the records that they have; or why they have none, or that memory was refused.
+  -- What comes of lines of CSV: what comes of the records that they have, or that memory was refused; or why they have none.
   abbrev pub LoadsLines : List (List (List ℕ × CellType)) → ℕ → List ℕ → Loaded J → Type 0
   LoadsLines schemas frame lines loaded =
-      ((file : CsvRecords) × ReadsLines {J = J} schemas frame lines (Ok file) × LoadsRecords schemas frame file.schema file.records loaded)
-      ⊎ ((fault : ServiceFault J) × (ReadsLines schemas frame lines (Err fault) ⊎ (fault ≡ Rows Memory)) × IsNotLoaded fault loaded)
+      ((file : CsvRecords)
+      × ReadsLines {J = J} schemas frame lines (Ok file)
+      × (LoadsRecords schemas frame file.schema file.records loaded ⊎ IsNotLoaded (Rows Memory) loaded))
+      ⊎ ((fault : ServiceFault J) × ReadsLines schemas frame lines (Err fault) × IsNotLoaded fault loaded)

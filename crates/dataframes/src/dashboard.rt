@@ -127,6 +127,7 @@ impl<J: Naming> Dashboard<J> {
         ensures given { IfSome result (λ v. self.new.given ≡ Some (arc_value v).0) }
         ensures newer { IfSome result (λ v. number < (arc_value v).0) }
         ensures none { IfNone result (self.new.given ≡ self.old.given) }
+        ensures grown { IsPrefix self.old.taken self.new.taken }
     {
         let version = self.reader.snapshot()?;
         if version.number() > number {
@@ -144,12 +145,14 @@ impl<J: Naming> Dashboard<J> {
         ensures views { self.new.views ≡ self.old.views }
         ensures learnt { IsPrefix self.old.learnt self.new.learnt
             × IfSome told (λ t. IsPrefix t self.new.learnt) }
+        ensures longest { (self.new.learnt ≡ self.old.learnt) ⊎ (told ≡ Some self.new.learnt) }
         ensures later { IfSome result (λ v. IsPrefix self.old.taken self.new.taken
             × IsPrefix self.new.learnt self.new.taken) }
         ensures shows { IfSome result (λ v. Shows self.new.taken (arc_value v)) }
         ensures given { IfSome result (λ v. self.new.given ≡ Some (arc_value v).0) }
         ensures newer { IfSome result (λ v. IfSome self.old.given (λ n. n < (arc_value v).0)) }
         ensures none { IfNone result (self.new.given ≡ self.old.given) }
+        ensures grown { IsPrefix self.old.taken self.new.taken }
     {
         if let Some(told) = told {
             self.learn(told);
@@ -166,6 +169,7 @@ impl<J: Naming> Dashboard<J> {
         ensures given { IfSome result (λ v. self.new.given ≡ Some (arc_value v).0) }
         ensures newer { IfSome result (λ v. IfSome self.old.given (λ n. n < (arc_value v).0)) }
         ensures none { IfNone result (self.new.given ≡ self.old.given) }
+        ensures grown { IsPrefix self.old.taken self.new.taken }
     {
         match self.given {
             Some(given) => self.newer_than(given),
