@@ -9,6 +9,7 @@ mod NumberFacts
 mod LoadFacts
 mod FramedFacts
 mod PlaceFacts
+mod PlainWords
 mod WatchFacts
 mod ReportFacts
 mod FollowFacts

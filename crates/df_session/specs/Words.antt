@@ -1,6 +1,7 @@
 -- The words of a line: the fields of the record that `csv` (RFC 4180) reads in it with blanks in the place of commas,
 -- several of which count as one.
-use Rattle.std.specs.Prelude.{◌++◌, ◌==◌, ◌-◌, List, ℕ, [], ◌∷◌, Bool, true, false, Option, Some, None, fold, if◌then◌else◌}
+use Rattle.std.specs.Prelude.{◌++◌, ◌==◌, ◌&&◌, ◌-◌, ◌<◌, ◌≡◌, List, ℕ, [], ◌∷◌, Bool, true, false, Option, Some, None, T, fold, if◌then◌else◌, length, not}
+use Rattle.std.specs.List.{list_all}
 use Rattle.csv.specs.Machine.{Read, next_record}
 use Rattle.csv.specs.Reading.{strip_bom}
 use Rattle.csv.specs.declared.parser.Config.{Config}
@@ -19,6 +20,15 @@ fields_read (Some p) = p.0
 
 abbrev pub words_of_record : List ℕ → List (List ℕ)
 words_of_record line = fields_read (next_record word_config state.StartRecord [] [] (strip_bom line))
+
+-- a byte that is neither a quote nor a line feed
+abbrev pub is_plain_byte : ℕ → Bool
+is_plain_byte b = not (b == 34) && not (b == 10)
+
+-- a line in which blanks alone have a meaning: it has a byte, no byte order mark at its start, and neither a quote nor a line
+-- feed
+abbrev pub IsPlain : List ℕ → Type 0
+IsPlain line = (0 < length line) × (strip_bom line ≡ line) × T (list_all is_plain_byte line)
 
 -- where the byte behind one stands: quotes begin where a word does, and a blank outside them ends a word
 abbrev pub place_behind : Place → ℕ → Place

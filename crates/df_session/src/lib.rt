@@ -29,6 +29,7 @@ mod loading;
 mod numbers;
 mod options;
 mod parts;
+mod plain_words;
 mod prepared;
 mod prompts;
 mod question_words;

@@ -77,58 +77,51 @@ fn with_name(
 fn mistake_words(alloc: Global, name: &str, mistake: Mistake) -> Result<String, AllocError>
     ensures { IfOk result (λ words. string_bytes words ≡ texts.mistake_words name.now mistake) }
 {
-    let (before, kind, behind) = mistake_parts(mistake);
-    with_name(alloc, before, kind, name, behind)
+    let (kind, behind) = named_in_mistake(mistake);
+    with_name(alloc, mistake_begin(mistake), kind, name, behind)
 }
 
-// The words before what a line names, of which kind that is, and the words behind it.
-fn mistake_parts(mistake: Mistake) -> (&'static str, &'static str, &'static str)
-    ensures { (result.0.now, result.1.now, result.2.now) ≡ texts.mistake_parts mistake }
+// The words of a mistake, or those before what it names.
+fn mistake_begin(mistake: Mistake) -> &'static str
+    ensures { result.now ≡ (texts.mistake_parts mistake).0 }
 {
     match mistake {
-        Mistake::NoCommand => (" no ", "command", ": help lists them"),
-        Mistake::MissingWord => (
-            " a word is missing: help lists the words of each command",
-            "",
-            "",
-        ),
-        Mistake::ExtraWord => (
-            " a word too many: a name with spaces stands in double quotes",
-            "",
-            "",
-        ),
-        Mistake::NotRowNumber => (" a row number is a whole number below 4294967296", "", ""),
-        Mistake::NotCount => (
-            " COUNT is a whole number below 18446744073709551616",
-            "",
-            "",
-        ),
-        Mistake::NotText => (" the line is not UTF-8", "", ""),
-        Mistake::LongLine => (" a line has more than 1048576 bytes", "", ""),
-        Mistake::MissingLines => (" the input ends before the lines of the command", "", ""),
-        Mistake::OtherRowCount => (" not as many rows as numbers", "", ""),
-        Mistake::NoView => (" the document has no ", "view", ""),
-        Mistake::NoTable => (
-            " the document has no ",
-            "frame or view",
-            ": frames and views list them",
-        ),
-        Mistake::NoFile => (" the ", "file", " cannot be opened or read"),
-        Mistake::NestedSource => (" source stands in no file that is sourced itself", "", ""),
-        Mistake::LateFrame => (
+        Mistake::NoCommand => " no ",
+        Mistake::MissingWord => " a word is missing: help lists the words of each command",
+        Mistake::ExtraWord => " a word too many: a name with spaces stands in double quotes",
+        Mistake::NotRowNumber => " a row number is a whole number below 4294967296",
+        Mistake::NotCount => " COUNT is a whole number below 18446744073709551616",
+        Mistake::NotText => " the line is not UTF-8",
+        Mistake::LongLine => " a line has more than 1048576 bytes",
+        Mistake::MissingLines => " the input ends before the lines of the command",
+        Mistake::OtherRowCount => " not as many rows as numbers",
+        Mistake::NoView => " the document has no ",
+        Mistake::NoTable => " the document has no ",
+        Mistake::NoFile => " the ",
+        Mistake::NestedSource => " source stands in no file that is sourced itself",
+        Mistake::LateFrame =>
             " a frame is declared before all changes: begin a session with it, or put it into the document",
-            "",
-            "",
-        ),
-        Mistake::OnlyWithHall => (" only with --hall", "", ""),
-        Mistake::NotWithHall => (" not with --hall", "", ""),
-        Mistake::NotWatched => (" the ", "view", " is not watched: watch begins it"),
-        Mistake::NotFollowed => (" the ", "path", " is not followed: follow begins it"),
-        Mistake::NoChange => (
-            " the last change was none of rows, or came before the watch",
-            "",
-            "",
-        ),
+        Mistake::OnlyWithHall => " only with --hall",
+        Mistake::NotWithHall => " not with --hall",
+        Mistake::NotWatched => " the ",
+        Mistake::NotFollowed => " the ",
+        Mistake::NoChange => " the last change was none of rows, or came before the watch",
+    }
+}
+
+// Of which kind is what a mistake names, and the words behind it; none where it names nothing.
+fn named_in_mistake(mistake: Mistake) -> (&'static str, &'static str)
+    ensures kind { result.0.now ≡ (texts.mistake_parts mistake).1 }
+    ensures behind { result.1.now ≡ (texts.mistake_parts mistake).2 }
+{
+    match mistake {
+        Mistake::NoCommand => ("command", ": help lists them"),
+        Mistake::NoView => ("view", ""),
+        Mistake::NoTable => ("frame or view", ": frames and views list them"),
+        Mistake::NoFile => ("file", " cannot be opened or read"),
+        Mistake::NotWatched => ("view", " is not watched: watch begins it"),
+        Mistake::NotFollowed => ("path", " is not followed: follow begins it"),
+        _ => ("", ""),
     }
 }
 

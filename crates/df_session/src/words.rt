@@ -5,6 +5,7 @@ ghost use Rattle.df_session.specs.Words as words_spec;
 ghost use Rattle.df_session.specs.Words.{kept_behind, place_behind, single_blanked, words_in, words_of_record};
 
 use crate::command::{line_count, row_number};
+use crate::plain_words::{is_plain, plain_words};
 use crate::refusal::{Mistake, Refusal};
 use csv::{ErrorKind, ReaderBuilder, StringRecord, Terminator};
 use std::alloc::{AllocError, Global};
@@ -28,6 +29,9 @@ pub fn read_words(alloc: Global, line: &[u8]) -> Result<StringRecord, Refusal>
     ensures { IfOk result (λ words. fields_of words ≡ words_in line.now) }
 {
     let line = single_blanks(alloc, line)?;
+    if is_plain(line.as_slice()) {
+        return plain_words(alloc, line.as_slice());
+    }
     read_record(alloc, line.as_slice())
 }
 
