@@ -1,9 +1,7 @@
 -- What a text is printed as has no control character, and no other text is printed so.
-use Rattle.std.proofs.Common.{◌≡◌, ◌≢◌, ℕ, ◌+◌, ◌<◌, ◌≤◌, ◌/◌, ◌%◌, ◌∙◌, Bool, true, false, cond, List, [], ◌∷◌, ◌++◌, length, flat_map, nat_eq, nat_lt, refl, ap, sym, arith, codes, chars, IsUtf8}
+use Rattle.std.proofs.Common.{◌≡◌, ◌≢◌, ℕ, ◌+◌, ◌<◌, ◌≤◌, ◌/◌, ◌%◌, ◌∙◌, Bool, true, false, cond, List, [], ◌∷◌, ◌++◌, length, flat_map, nat_lt, refl, ap, sym, arith, codes, chars, IsUtf8}
 use Rattle.std.specs.Prelude.{◌&&◌, ◌||◌, ◌==◌, encode_utf8}
-use Rattle.std.specs.List.{list_all}
 use Rattle.std.proofs.lemmas.Bool.Decides.{nat_tests}
-use Rattle.std.proofs.lemmas.Grind.{common_steps}
 use Rattle.std.proofs.lemmas.List.{length-append}
 use Rattle.std.proofs.lemmas.Str.{encode_ascii, encode_same, encodes-chars, length-encode, len_utf8_bounds}
 use lib.Utf8.{encode, encodes, next}

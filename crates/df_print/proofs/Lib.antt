@@ -5,3 +5,4 @@ pub mod LineFacts
 pub mod SpaceFacts
 pub mod TableFacts
 pub mod TableLines
+mod PlainFacts

@@ -2,6 +2,7 @@
 -- by Unicode's East Asian Width (UAX 11), emoji sequences and combining characters.
 use Rattle.std.specs.Prelude.{◌≡◌, ◌+◌, ◌-◌, ◌==◌, ◌||◌, ◌&&◌, not, nat_le, IsTrue, IsUtf8, All, ◌<◌, slice_index_or, ◌/◌, ◌%◌, ℕ, Bool, true, false, ⊤, nat_lt, max, List, [], ◌∷◌, ◌++◌, length, map, fold, slice_get, unwrap_or, replicate, codes, decimal, chars, encode_utf8, flat_map, if◌then◌else◌}
 use Rattle.std.specs.Fmt.{signed_decimal}
+use Rattle.std.specs.Int.{is_in_range}
 use Rattle.std.specs.List.{enumerate_from, join_by, list_all, range_with_len}
 use Rattle.unicode_width.specs.Width.{str_width}
 use Rattle.df_value.specs.declared.cell.Cell.{Cell}
@@ -20,6 +21,10 @@ escaped_char c = if c == 92 then codes "\\\\" else if nat_lt c 32 || (c == 127) 
 -- a text as it is printed, character by character
 abbrev pub escaped_text : List ℕ → List ℕ
 escaped_text text = flat_map escaped_char (chars text)
+
+-- whether a byte is a character of ASCII that is printed as it stands
+abbrev pub is_plain : ℕ → Bool
+is_plain b = is_in_range 0x20 0x7E b && not (b == 92)
 
 -- whether a byte is no control character of ASCII
 abbrev pub is_printable : ℕ → Bool

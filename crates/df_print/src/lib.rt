@@ -3,6 +3,7 @@
 //! [`column_width`] is the width of a column, and [`escape`] a text as it is printed.
 #![tactic(auto)]
 
+mod cells;
 mod escapes;
 mod printing;
 mod widths;

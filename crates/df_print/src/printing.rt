@@ -1,12 +1,12 @@
 //! Printed tables.
-ghost use Rattle.std.specs.Prelude.{◌≡◌, ◌++◌, codes, length, map, vec_len, IfOk, OnOk, string_bytes};
+ghost use Rattle.std.specs.Prelude.{◌≡◌, ◌++◌, codes, length, vec_len, IfOk, OnOk};
 ghost use Rattle.df_print.specs.Printed.{AreUtf8, IsTableOf, column_widths, gap, header_texts, is_left, padded, printed, printed_line, row_texts, title};
 
+use crate::cells::CellPrinter;
 use crate::escapes::escape;
-use crate::widths::{column_width, print_cell_at};
+use crate::widths::{column_width, text_width};
 use df_value::{CellType, Row, Schema, Text};
 use std::alloc::{AllocError, Global};
-use unicode_width::UnicodeWidthStr;
 
 /// A table as it is printed, in UTF-8: the title `name (R x C)` with the numbers of rows and
 /// columns, a line of the columns' names and one line for each row, each line ended by a newline.
@@ -26,11 +26,11 @@ pub fn print_table(
 {
     let columns = schema.columns().as_slice();
     let widths = print_widths(alloc, columns, rows)?;
-    let header = print_header(alloc, columns)?;
     let mut out = print_title(alloc, name, columns.len(), rows.len())?;
-    push_line(&mut out, columns, widths.as_slice(), header.as_slice())?;
+    let mut printer = CellPrinter::new(alloc);
+    push_names(&mut printer, &mut out, columns, widths.as_slice())?;
     for row in rows {
-        push_row(alloc, &mut out, columns, widths.as_slice(), row)?;
+        push_row(&mut printer, &mut out, columns, widths.as_slice(), row)?;
     }
     Ok(out)
 }
@@ -65,33 +65,11 @@ fn print_widths(
     Ok(widths)
 }
 
-fn print_header(alloc: Global, columns: &[(Text, CellType)]) -> Result<Vec<String>, AllocError>
-    ensures texts { IfOk result (λ v. map string_bytes v.items ≡ header_texts columns.now) }
-    ensures len { IfOk result (λ v. length v.items ≡ length columns.now) }
-{
-    let mut texts = Vec::with_capacity(alloc, columns.len())?;
-    for column in columns {
-        texts.push(escape(alloc, column.0.as_str())?)?;
-    }
-    Ok(texts)
-}
-
-fn print_row(alloc: Global, columns: usize, row: &Row) -> Result<Vec<String>, AllocError>
-    ensures texts { IfOk result (λ v. map string_bytes v.items ≡ row_texts columns row.now) }
-    ensures len { IfOk result (λ v. length v.items ≡ columns) }
-{
-    let mut texts = Vec::with_capacity(alloc, columns)?;
-    for at in 0..columns {
-        texts.push(print_cell_at(alloc, at, row)?)?;
-    }
-    Ok(texts)
-}
-
 // Appends a text, filled to a width.
 fn push_padded(out: &mut Vec<u8>, left: bool, width: usize, text: &str) -> Result<(), AllocError>
     ensures { OnOk result (out.new.items ≡ out.old.items ++ padded left width text.now) }
 {
-    let fill = width.saturating_sub(text.width());
+    let fill = width.saturating_sub(text_width(text));
     if left {
         out.extend_from_slice(text.as_bytes())?;
     }
@@ -120,21 +98,35 @@ fn is_text(dtype: CellType) -> bool
     matches!(dtype, CellType::Text)
 }
 
-// Appends a line: at each index the text there, filled to the width there.
-fn push_line(
+// Appends a text of a line: behind a gap if it is not the first, and filled to the width of its column.
+fn push_text(
+    out: &mut Vec<u8>,
+    is_first: bool,
+    column: &(Text, CellType),
+    width: usize,
+    text: &str,
+) -> Result<(), AllocError>
+    ensures { OnOk result (out.new.items
+        ≡ out.old.items ++ (gap is_first ++ padded (is_left column.now.1) width text.now)) }
+{
+    push_gap(out, is_first)?;
+    push_padded(out, is_text(column.1), width, text)
+}
+
+// Appends the line of the names.
+fn push_names(
+    printer: &mut CellPrinter,
     out: &mut Vec<u8>,
     columns: &[(Text, CellType)],
     widths: &[usize],
-    texts: &[String],
 ) -> Result<(), AllocError>
-    requires widths { length widths.now ≡ length columns.now }
-    requires texts { length texts.now ≡ length columns.now }
+    requires { length widths.now ≡ length columns.now }
     ensures { OnOk result (out.new.items ≡ out.old.items
-        ++ printed_line columns.now widths.now (map string_bytes texts.now)) }
+        ++ printed_line columns.now widths.now (header_texts columns.now)) }
 {
     for i in 0..columns.len() {
-        push_gap(out, i == 0)?;
-        push_padded(out, is_text(columns[i].1), widths[i], texts[i].as_str())?;
+        let name = printer.print_text(columns[i].0.as_str())?;
+        push_text(out, i == 0, &columns[i], widths[i], name)?;
     }
     out.push(b'\n')?;
     Ok(())
@@ -142,7 +134,7 @@ fn push_line(
 
 // Appends the line of a row.
 fn push_row(
-    alloc: Global,
+    printer: &mut CellPrinter,
     out: &mut Vec<u8>,
     columns: &[(Text, CellType)],
     widths: &[usize],
@@ -152,6 +144,10 @@ fn push_row(
     ensures { OnOk result (out.new.items ≡ out.old.items
         ++ printed_line columns.now widths.now (row_texts (length columns.now) row.now)) }
 {
-    let texts = print_row(alloc, columns.len(), row)?;
-    push_line(out, columns, widths, texts.as_slice())
+    for i in 0..columns.len() {
+        let cell = printer.print_at(i, row)?;
+        push_text(out, i == 0, &columns[i], widths[i], cell)?;
+    }
+    out.push(b'\n')?;
+    Ok(())
 }

@@ -1,50 +1,52 @@
-//! Cells as they are printed, and how wide their columns are.
-ghost use Rattle.std.specs.Prelude.{◌≡◌, All, Bool, IfOk, IsUtf8, max, string_bytes};
+//! How wide texts and columns are.
+ghost use Rattle.std.specs.Prelude.{◌≡◌, true, All, Bool, IfOk, IsUtf8, max};
+ghost use Rattle.std.specs.Int.{is_in_range};
+ghost use Rattle.std.specs.List.{list_all};
 ghost use Rattle.df_print.specs.Printed as printed;
 ghost use Rattle.df_print.specs.Printed.{cell_or_null, cell_text, column_texts, padded, width_of};
 
+use crate::cells::CellPrinter;
 use crate::escapes::escape;
-use df_value::{Cell, Row, Text};
+use df_value::{Row, Text};
 use std::alloc::{AllocError, Global};
 use unicode_width::UnicodeWidthStr;
 
-/// A cell as it is printed.
-pub fn print_cell(alloc: Global, cell: &Cell) -> Result<String, AllocError>
-    ensures { IfOk result (λ s. string_bytes s ≡ cell_text cell.now) }
+/// How many columns of a terminal a text takes.
+pub(crate) fn text_width(text: &str) -> usize
+    ensures { result ≡ width_of text.now }
 {
-    match cell {
-        Cell::Null => String::from_str(alloc, "null"),
-        Cell::Int(n) => n.to_string(alloc),
-        Cell::Wide(n) => n.to_string(alloc),
-        Cell::Text(t) => escape(alloc, t.as_str()),
-        Cell::Bool(true) => String::from_str(alloc, "true"),
-        Cell::Bool(false) => String::from_str(alloc, "false"),
-        Cell::Frac(f) => {
-            let sum = f.sum();
-            let count = f.count();
-            format!(in alloc; "{sum}/{count}")
-        }
+    if are_printable(text.as_bytes()) {
+        text.len()
+    } else {
+        text.width()
     }
 }
 
-/// The cell of a row at an index as it is printed; a cell that is missing prints as null.
-pub fn print_cell_at(alloc: Global, at: usize, row: &Row) -> Result<String, AllocError>
-    ensures { IfOk result (λ s. string_bytes s ≡ cell_text (cell_or_null at row.now)) }
+// Whether each byte is a printable character of ASCII, which takes one column.
+fn are_printable(bytes: &[u8]) -> bool
+    ensures { result ≡ true → list_all (is_in_range 0x20 0x7E) bytes.now ≡ true }
 {
-    match row.get(at) {
-        Some(cell) => print_cell(alloc, cell),
-        None => print_cell(alloc, &Cell::Null),
+    for byte in bytes {
+        if *byte < b' ' || *byte > b'~' {
+            return false;
+        }
     }
+    true
 }
 
 // How many columns of a terminal the cell at an index takes, or this width, where it is greater.
-fn widened(alloc: Global, width: usize, at: usize, row: &Row) -> Result<usize, AllocError>
+fn widened(
+    printer: &mut CellPrinter,
+    width: usize,
+    at: usize,
+    row: &Row,
+) -> Result<usize, AllocError>
     ensures greater { IfOk result
         (λ w. w ≡ max width (width_of (cell_text (cell_or_null at row.now)))) }
     ensures utf8 { IfOk result (λ _. IsUtf8 (cell_text (cell_or_null at row.now))) }
 {
-    let text = print_cell_at(alloc, at, row)?;
-    Ok(width.max(text.as_str().width()))
+    let text = printer.print_at(at, row)?;
+    Ok(width.max(text_width(text)))
 }
 
 /// How many columns of a terminal the column at an index takes: the greatest width of its texts,
@@ -64,9 +66,10 @@ pub fn column_width(
     ensures utf8 { IfOk result (λ _. All IsUtf8 (column_texts at name.now rows.now)) }
 {
     let header = escape(alloc, name.as_str())?;
+    let mut printer = CellPrinter::new(alloc);
     let mut width = header.as_str().width();
     for row in rows {
-        width = widened(alloc, width, at, row)?;
+        width = widened(&mut printer, width, at, row)?;
     }
     Ok(width)
 }
