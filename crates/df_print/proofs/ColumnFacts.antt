@@ -1,14 +1,14 @@
 -- The widths of columns, one row and one column at a time, and that no text of a column is wider than it.
-use Rattle.std.proofs.Common.{◌≡◌, ◌+◌, ◌<◌, ◌≤◌, ℕ, zero, suc, List, [], ◌∷◌, ◌++◌, length, get_or, take, map, max, refl, arith, All, fold, Bool, IsUtf8}
+use Rattle.std.proofs.Common.{◌≡◌, ◌+◌, ◌<◌, ◌≤◌, ℕ, zero, suc, List, [], ◌∷◌, ◌++◌, length, get_or, take, map, max, refl, arith, All, fold, Bool, IsUtf8, ap, subst, ◌∙◌}
 use Rattle.std.specs.List.{enumerate_from}
-use Rattle.std.proofs.lemmas.List.{take_more, take_all, map-append, length-map}
+use Rattle.std.proofs.lemmas.List.{get_or_default, take_more, take_all, map-append, length-map}
 use Rattle.std.proofs.lemmas.List.Elements.{All-cons, All-map}
 use Rattle.std.proofs.lemmas.List.Sums.{fold-append}
 use Rattle.std.proofs.lemmas.List.FromFn.{length-enumerate_from, get_or-enumerate_from}
 use Rattle.std.proofs.Math.ListN.{get_or-map}
 use Rattle.df_value.specs.declared.cell.Cell.{Cell}
 use Rattle.df_value.specs.declared.cell.CellType.{CellType}
-use Rattle.df_print.specs.Printed.{cell_or_null, cell_text, column_texts, column_width, column_widths, escaped_text, padded, width_of}
+use Rattle.df_print.specs.Printed.{IsWidthAt, cell_or_null, cell_text, column_texts, column_width, column_widths, escaped_text, padded, width_of}
 use Rattle.df_print.proofs.SpaceFacts.{width-padded}
 
 pub width_turn : (at : ℕ) (name : List ℕ) (rows : List (List Cell)) (i : ℕ) (d : List Cell) (old new : ℕ) → i < length rows → old ≡ column_width at name (take i rows)
@@ -60,3 +60,9 @@ pub widths_end : (columns : List (List ℕ × CellType)) (rows : List (List Cell
 widths_end columns rows i new h inv =
     let n = take_all i (enumerate_from 0 columns) (omega (arith, length-enumerate_from 0 columns)) in
     rw n at inv
+
+-- the width of the column at an index, whichever column would stand where there is none
+pub width_at : (columns : List (List ℕ × CellType)) (rows : List (List Cell)) (at w : ℕ) (c : List ℕ × CellType) → at < length columns
+    → w ≡ column_width at (get_or columns at c).0 rows → All IsUtf8 (column_texts at (get_or columns at c).0 rows) → IsWidthAt columns rows at w
+width_at columns rows at w c h e utf8 = λ d. let there = get_or_default columns at c d h in
+    (e ∙ ap (λ (x : List ℕ × CellType). column_width at x.0 rows) there, subst (λ (x : List ℕ × CellType). All IsUtf8 (column_texts at x.0 rows)) there utf8)

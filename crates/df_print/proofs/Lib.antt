@@ -6,3 +6,4 @@ pub mod SpaceFacts
 pub mod TableFacts
 pub mod TableLines
 mod PlainFacts
+mod ThreadFacts

@@ -119,6 +119,11 @@ abbrev pub AreUtf8 : List (List ℕ × CellType) → List (List Cell) → Type 0
 AreUtf8 columns rows =
     (at : ℕ) → at < length columns → (d : List ℕ × CellType) → All IsUtf8 (column_texts at (slice_index_or columns at d).0 rows)
 
+-- the width of the column at an index, whose texts are UTF-8
+abbrev pub IsWidthAt : List (List ℕ × CellType) → List (List Cell) → ℕ → ℕ → Type 0
+IsWidthAt columns rows at w =
+    (d : List ℕ × CellType) → (w ≡ column_width at (slice_index_or columns at d).0 rows) × All IsUtf8 (column_texts at (slice_index_or columns at d).0 rows)
+
 -- a text with spaces beside it up to a width: behind it where it stands at the left, else before it
 abbrev pub Fills : Bool → ℕ → List ℕ → List ℕ → Type 0
 Fills left width text field =

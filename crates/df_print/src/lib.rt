@@ -6,10 +6,12 @@
 mod cells;
 mod escapes;
 mod printing;
+mod threaded;
 mod widths;
 mod writing;
 
 pub use escapes::escape;
 pub use printing::print_table;
+pub use threaded::print_table_by;
 pub use widths::column_width;
 pub use writing::{WriteFault, write_text};

@@ -1,5 +1,5 @@
 //! Printed tables.
-ghost use Rattle.std.specs.Prelude.{◌≡◌, ◌++◌, codes, length, vec_len, IfOk, OnOk};
+ghost use Rattle.std.specs.Prelude.{◌≡◌, ◌++◌, codes, flat_map, length, vec_len, IfOk, OnOk};
 ghost use Rattle.df_print.specs.Printed.{AreUtf8, IsTableOf, column_widths, gap, header_texts, is_left, padded, printed, printed_line, row_texts, title};
 
 use crate::cells::CellPrinter;
@@ -26,13 +26,61 @@ pub fn print_table(
 {
     let columns = schema.columns().as_slice();
     let widths = print_widths(alloc, columns, rows)?;
-    let mut out = print_title(alloc, name, columns.len(), rows.len())?;
-    let mut printer = CellPrinter::new(alloc);
-    push_names(&mut printer, &mut out, columns, widths.as_slice())?;
-    for row in rows {
-        push_row(&mut printer, &mut out, columns, widths.as_slice(), row)?;
-    }
+    let mut out = print_head(alloc, name, columns, widths.as_slice(), rows.len())?;
+    push_rows(alloc, &mut out, columns, widths.as_slice(), rows)?;
     Ok(out)
+}
+
+/// The title and the line of the names.
+pub(crate) fn print_head(
+    alloc: Global,
+    name: &Text,
+    columns: &[(Text, CellType)],
+    widths: &[usize],
+    rows: usize,
+) -> Result<Vec<u8>, AllocError>
+    requires { length widths.now ≡ length columns.now }
+    ensures { IfOk result (λ v. v.items ≡ title name.now (length columns.now) rows
+        ++ printed_line columns.now widths.now (header_texts columns.now)) }
+{
+    let mut out = print_title(alloc, name, columns.len(), rows)?;
+    push_names(&mut CellPrinter::new(alloc), &mut out, columns, widths)?;
+    Ok(out)
+}
+
+/// The lines of these rows.
+pub(crate) fn print_rows(
+    alloc: Global,
+    columns: &[(Text, CellType)],
+    widths: &[usize],
+    rows: &[Row],
+) -> Result<Vec<u8>, AllocError>
+    requires { length widths.now ≡ length columns.now }
+    ensures { IfOk result (λ v. v.items ≡
+        flat_map (λ row. printed_line columns.now widths.now (row_texts (length columns.now) row)) rows.now) }
+{
+    let mut out = Vec::new(alloc);
+    push_rows(alloc, &mut out, columns, widths, rows)?;
+    Ok(out)
+}
+
+// Appends the lines of these rows.
+fn push_rows(
+    alloc: Global,
+    out: &mut Vec<u8>,
+    columns: &[(Text, CellType)],
+    widths: &[usize],
+    rows: &[Row],
+) -> Result<(), AllocError>
+    requires { length widths.now ≡ length columns.now }
+    ensures { OnOk result (out.new.items ≡ out.old.items
+        ++ flat_map (λ row. printed_line columns.now widths.now (row_texts (length columns.now) row)) rows.now) }
+{
+    let mut printer = CellPrinter::new(alloc);
+    for row in rows {
+        push_row(&mut printer, out, columns, widths, row)?;
+    }
+    Ok(())
 }
 
 fn print_title(

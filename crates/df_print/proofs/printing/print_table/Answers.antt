@@ -8,8 +8,9 @@ use Rattle.df_print.proofs.printing.print_table.Goals as goal
 pub returns-clause-value : goal.returns-clause-value
 returns-clause-value c =
     let same = c.as_slice-columns.ensures ∙ c.columns.ensures.value in
-    let line = rw c.as_slice.ensures.value at c.in_ok-push_names.ensures in
-    table_end c.args.name.now c.args.schema.now c.as_slice-columns.result.now c.args.rows.now c.loop-row.row-index c.in_ok-widths.widths.items c.in_ok-out.out.items _ c.loop-row.out.items same c.loop-row-test.false c.in_ok-widths.ensures.widths c.in_ok-out.ensures line c.loop-row.invariant
+    let head = rw c.as_slice.ensures.value at c.in_ok-out.ensures in
+    let lines = rw c.as_slice-2.ensures.value at c.in_ok-push_rows.ensures in
+    table_end c.args.name.now c.args.schema.now c.as_slice-columns.result.now c.args.rows.now c.in_ok-widths.widths.items c.in_ok-out.out.items _ same c.in_ok-widths.ensures.widths head lines
 
 pub returns-clause-lines : goal.returns-clause-lines
 returns-clause-lines c =
