@@ -1,5 +1,5 @@
 #!/usr/bin/env python3
-"""Runs `stocklist`, by 1, 4 and 16 loaders, over CSV files that they draw and over moves of a seed: stock_files.py PROGRAM [SEED]
+"""Runs `stocklist`, by 1, 4 and 16 loaders, over CSV files that they share and over moves of a seed: stock_files.py PROGRAM [SEED]
 
 What it prints are the books and totals that Python's csv module reads in these files, whoever loads them, also of one with more
 records than a change may have. Of a file that is not there, that lacks a column or that has a bad cell no row enters, and of a longer
@@ -127,10 +127,12 @@ def main():
     with tempfile.TemporaryDirectory() as folder:
         good, bad = make_good(folder), make_bad(folder)
         mixed = random.sample(good + bad, len(good + bad))
+        # Where files are fewer than loaders, some load none.
+        for loaders, paths in [(1, good), (4, good), (16, good), (16, good[:4])]:
+            ran = run(program, loaders, paths)
+            if (ran.returncode, ran.stdout) != (0, expected(paths)):
+                faults.append(f"{loaders} loaders: {ran.returncode} {ran.stdout}, and not {expected(paths)}")
         for loaders in (1, 4, 16):
-            ran = run(program, loaders, good)
-            if (ran.returncode, ran.stdout) != (0, expected(good)):
-                faults.append(f"{loaders} loaders: {ran.returncode} {ran.stdout}, and not {expected(good)}")
             ran = run(program, loaders, mixed)
             if (ran.returncode, ran.stdout) != (1, expected(good, LATE)):
                 faults.append(f"{loaders} loaders, bad files: {ran.returncode} {ran.stdout}, and not {expected(good, LATE)}")
@@ -139,7 +141,7 @@ def main():
                 faults.append(f"{loaders} loaders: named are {sorted(named)}")
     for fault in faults:
         print(fault)
-    print(f"3 runs over moves and 6 over files, {len(faults)} otherwise")
+    print(f"3 runs over moves and 7 over files, {len(faults)} otherwise")
     return 1 if faults else 0
 
 
