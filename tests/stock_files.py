@@ -1,10 +1,11 @@
 #!/usr/bin/env python3
-"""Runs `stocklist`, by 1, 4 and 16 loaders, over CSV files that they draw and over moves of a seed: stock_files.py PROGRAM [SEED]
+"""Runs `stocklist`, by 1, 4 and 16 loaders, over CSV files that they share and over moves of a seed: stock_files.py PROGRAM [SEED]
 
 What it prints are the books and totals that Python's csv module reads in these files, whoever loads them, also of one with more
 records than a change may have. Of a file that is not there, that lacks a column or that has a bad cell no row enters, and of a longer
-one none from the part with that cell on: the program names it, loads the others, and ends with status 1. Without files books and totals
-are those of the moves that the seed makes, of which each round appends two, replaces one and deletes one."""
+one none from the part with that cell on, or from the part that the frame has no room for: the program names it, loads the others, and ends
+with status 1. Without files books and totals are those of the moves that the seed makes, of which each round appends two, replaces one
+and deletes one."""
 
 import collections
 import csv
@@ -14,8 +15,11 @@ import subprocess
 import sys
 import tempfile
 
+# A file enters in parts of so many rows, and a frame accepts no more than these.
+PART = 65_536
+MOST = 1_048_576
 # So many rows of late.csv come in parts before that with its bad cell.
-LATE = 2 * 65_536
+LATE = 2 * PART
 MASK = 2**64 - 1
 MADE = ["apples", "bread", "cheese", "dates"]
 # The program knows nothing of these; the last is null.
@@ -59,6 +63,15 @@ def make_bad(folder):
         with open(os.path.join(folder, name), "w", errors="surrogateescape") as file:
             file.write(text)
     return [os.path.join(folder, name) for name in [*bad, "absent.csv"]]
+
+
+def make_full(folder):
+    """A file with a row, and one for whose last part the frame has no room behind that."""
+    texts = {"one.csv": "good,count\napples,1\n", "full.csv": "good,count\n" + "dates,1\n" * MOST}
+    for name, text in texts.items():
+        with open(os.path.join(folder, name), "w") as file:
+            file.write(text)
+    return [os.path.join(folder, name) for name in texts]
 
 
 def printed(accepted, deleted, rows):
@@ -114,6 +127,11 @@ def run(program, loaders, paths, *words):
     )
 
 
+def said(ran, folder):
+    """What a run says of the files in the folder, and of loaders that counted other rows than the books."""
+    return [line for line in ran.stderr.splitlines() if line.startswith((folder, "the loaders counted"))]
+
+
 def main():
     program = os.path.abspath(sys.argv[1])
     random.seed(int(sys.argv[2]) if len(sys.argv) > 2 else 64)
@@ -127,19 +145,26 @@ def main():
     with tempfile.TemporaryDirectory() as folder:
         good, bad = make_good(folder), make_bad(folder)
         mixed = random.sample(good + bad, len(good + bad))
+        # Where files are fewer than loaders, some load none.
+        for loaders, paths in [(1, good), (4, good), (16, good), (16, good[:4])]:
+            ran = run(program, loaders, paths)
+            if (ran.returncode, ran.stdout) != (0, expected(paths)):
+                faults.append(f"{loaders} loaders: {ran.returncode} {ran.stdout}, and not {expected(paths)}")
         for loaders in (1, 4, 16):
-            ran = run(program, loaders, good)
-            if (ran.returncode, ran.stdout) != (0, expected(good)):
-                faults.append(f"{loaders} loaders: {ran.returncode} {ran.stdout}, and not {expected(good)}")
             ran = run(program, loaders, mixed)
             if (ran.returncode, ran.stdout) != (1, expected(good, LATE)):
                 faults.append(f"{loaders} loaders, bad files: {ran.returncode} {ran.stdout}, and not {expected(good, LATE)}")
-            named = {line.split(": ")[0] for line in ran.stderr.splitlines() if line.startswith(folder)}
+            named = {line.split(": ")[0] for line in said(ran, folder)}
             if named != set(bad):
                 faults.append(f"{loaders} loaders: named are {sorted(named)}")
+        one, full = make_full(folder)
+        ran = run(program, 1, [one, full])
+        wanted = expected([one], MOST - PART)
+        if (ran.returncode, ran.stdout, said(ran, folder)) != (1, wanted, [f"{full}: C3 more than {MOST} rows accepted"]):
+            faults.append(f"a full frame: {ran.returncode} {ran.stdout} {said(ran, folder)}, and not {wanted}")
     for fault in faults:
         print(fault)
-    print(f"3 runs over moves and 6 over files, {len(faults)} otherwise")
+    print(f"3 runs over moves and 8 over files, {len(faults)} otherwise")
     return 1 if faults else 0
 
 

@@ -3,7 +3,7 @@ ghost use Rattle.std.specs.Prelude.{◌≡◌, All, IfErr, IfNone, IfOk, IfSome,
 ghost use Rattle.df_state.specs.Ledgers as ledgers;
 ghost use Rattle.df_versions.specs.Histories.{AllowsAll, schemas_of};
 ghost use Rattle.dataframes.specs.Books.{InOrder};
-ghost use Rattle.dataframes.specs.Closing.{AreTotalsOf, HasNoTotals, IsClosed, IsFaultOfView, IsNotAdded, IsNotOpened, IsServed, IsUnfinished, IsViewAdded, IsViewNotAdded};
+ghost use Rattle.dataframes.specs.Closing.{AreTotalsOf, HasNoTotals, IsClosed, IsFaultOfView, IsMissed, IsNotAdded, IsNotOpened, IsServed, IsUnfinished, IsViewAdded, IsViewNotAdded};
 
 use crate::books::Books;
 use crate::builder::{NamedPlan, ServiceBuilder};
@@ -15,7 +15,7 @@ use crate::hall_changes::{HallChanges, RunningHall};
 use crate::service::{OpenService, ViewSchema};
 use crate::threads::{Load, Watch, Workers, run_threads};
 use df_catalogue::ViewChange;
-use df_hall::{OpenedHall, Totals};
+use df_hall::{Hall, OpenedHall, Totals};
 use df_value::{Duplicate, List, Schema};
 use df_versions::{ChangeFault, Naming, OpenFault, Reader};
 use std::alloc::{AllocError, Global};
@@ -183,44 +183,75 @@ fn serve<
         hall: &hall,
     };
     let prepared = prepare(alloc, &running, &mut books, views.as_slice(), readers);
+    drop(running);
     drop(views);
     match prepared {
         Ok((views, dashboards)) => {
-            let books = Mutex::new(books);
-            let left = AtomicU64::new(1);
-            let changes = LockedBooks {
-                rt,
-                alloc,
-                hall: &running,
-                books: &books,
-                schemas: &schemas,
-            };
-            let service = OpenService {
-                alloc,
-                changes: &changes,
-                schemas: &schemas,
-                views: &views,
-                dashboards: dashboards.as_slice(),
-                left: &left,
-            };
-            let workers = run_threads(rt, &service, workers);
-            drop(service);
-            drop(changes);
-            drop(dashboards);
-            drop(views);
-            drop(schemas);
-            drop(running);
-            close(rt, hall, books.into_inner(), workers)
+            serve_workers(rt, alloc, hall, books, schemas, views, dashboards, workers)
         }
         Err(fault) => {
             drop(books);
             drop(schemas);
             drop(workers);
-            drop(running);
             hall.end(rt);
             Err(fault)
         }
     }
+}
+
+// Runs the workers, with the views added, and closes the books behind them.
+fn serve_workers<
+    Acc: Ledger + Send + Sync,
+    Del: Ledger + Send + Sync,
+    J: Naming + Send + Sync,
+    R: Threads + Wait + Clock + Sync,
+    L: Load + Send,
+    W: Watch + Send,
+>(
+    rt: &R,
+    alloc: Global,
+    hall: Hall<Acc, Del, J>,
+    books: Books<Acc, Del, J>,
+    schemas: List<Schema>,
+    views: List<ViewSchema>,
+    dashboards: Dashboards<J>,
+    workers: Workers<L, W>,
+) -> Result<Finished<L, W>, FinishFault>
+    requires allowed { AllowsAll J.allows }
+    requires schemas { schemas ≡ J.schemas }
+    ensures totals { IfOk result (λ finished. IsClosed J.schemas finished.totals) }
+    ensures refused { IfErr result (IsMissed J.schemas) }
+{
+    let running = RunningHall {
+        rt,
+        alloc,
+        hall: &hall,
+    };
+    let books = Mutex::new(books);
+    let left = AtomicU64::new(1);
+    let changes = LockedBooks {
+        rt,
+        alloc,
+        hall: &running,
+        books: &books,
+        schemas: &schemas,
+    };
+    let service = OpenService {
+        alloc,
+        changes: &changes,
+        schemas: &schemas,
+        views: &views,
+        dashboards: dashboards.as_slice(),
+        left: &left,
+    };
+    let workers = run_threads(rt, &service, workers);
+    drop(service);
+    drop(changes);
+    drop(dashboards);
+    drop(views);
+    drop(schemas);
+    drop(running);
+    close(rt, hall, books.into_inner(), workers)
 }
 
 // What a service is served with: the names and columns of its views, which are added, and its dashboards.

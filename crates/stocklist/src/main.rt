@@ -1,7 +1,7 @@
 //! `stocklist`: current totals of goods that loader threads change. docs/LIBRARY.md explains each part.
 #![tactic(auto)]
 
-use clap::{Arg, ArgAction, ArgMatches, Command, Error, value_parser};
+use clap::{ArgMatches, Command, Error, arg, value_parser};
 use dataframes::{
     Agg, Boxed, CellRef, CellType, CsvFile, Dashboard, FinishFault, Finished, List, Load, Plan,
     Service, ServiceBuilder, ServiceFault, ServiceRuntime, Tell, Text, ViewTable, Watch, load_into,
@@ -13,7 +13,6 @@ use std::alloc::Global;
 use std::fmt::Display;
 use std::process::ExitCode;
 use std::rt::{Clock, Runtime};
-use std::sync::atomic::{AtomicU64, Ordering};
 use std::time::Duration;
 use std::{env, thread};
 
@@ -30,25 +29,11 @@ fn stock(alloc: Global) -> Result<ServiceBuilder, FinishFault> {
         .view("totals", totals)
 }
 
-// Files of which each loader draws the next one.
+// It loads its share of the files, or makes moves where there are none.
 #[derive(Drop)]
-struct Sources {
-    files: Vec<CsvFile>,
-    drawn: AtomicU64,
-}
-
-impl Sources {
-    fn draw(&self) -> Option<&CsvFile> {
-        let at = self.drawn.fetch_add(1, Ordering::SeqCst);
-        self.files.get(at as usize)
-    }
-}
-
-// It loads files, or makes moves where there are none.
-#[derive(Drop)]
-struct Loader<'r, 's, R> {
+struct Loader<'r, 'f, R> {
     rt: &'r R,
-    sources: &'s Sources,
+    files: &'f [CsvFile],
     random: Xoshiro256PlusPlus,
     rounds: u64,
     accepted: u64,
@@ -57,39 +42,16 @@ struct Loader<'r, 's, R> {
     is_short: bool,
 }
 
-impl<'r, 's, R: Clock + Eprint> Load for Loader<'r, 's, R> {
+impl<'r, 'f, R: Clock + Eprint> Load for Loader<'r, 'f, R> {
     fn load<S: Service>(&mut self, service: &S) {
-        let sources = self.sources;
-        for _file in 0..sources.files.len() {
-            if let Some(file) = sources.draw() {
-                self.load_file(service, file);
-            }
+        for file in self.files {
+            self.load_file(service, file);
         }
         self.make_rounds(service);
     }
 }
 
-impl<'r, 's, R: Clock + Eprint> Loader<'r, 's, R> {
-    fn new(
-        rt: &'r R,
-        words: &ArgMatches<'_>,
-        sources: &'s Sources,
-        number: u64,
-    ) -> Loader<'r, 's, R> {
-        let seed: u64 = words.get_one("seed").unwrap_or(1);
-        let seconds: u64 = words.get_one("seconds").unwrap_or(1);
-        let rounds = seconds.saturating_mul(20);
-        Loader {
-            rt,
-            sources,
-            random: Xoshiro256PlusPlus::seed_from_u64(seed.wrapping_add(number)),
-            rounds: if sources.files.is_empty() { rounds } else { 0 },
-            accepted: 0,
-            deleted: 0,
-            is_short: false,
-        }
-    }
-
+impl<'r, 'f, R: Clock + Eprint> Loader<'r, 'f, R> {
     fn load_file<S: Service>(&mut self, service: &S, file: &CsvFile) {
         let Some(lines) = &file.lines else {
             return self.leave_out(file.path.as_str(), &"it cannot be read");
@@ -156,18 +118,12 @@ impl<'a, R: Eprint + AllocGlobal> Watch for Watcher<'a, R> {
         let table = dashboard.table(version.as_ref(), "totals").ok();
         let totals = table.and_then(|table| by_good(self.rt.alloc(), &table));
         self.is_behind = totals.is_none();
-        match totals {
-            Some(totals) => self.show(version.number(), totals),
-            None => drop(eprintln!(self.rt; "totals: out of memory")),
-        }
-    }
-}
-
-impl<'a, R: Eprint> Watcher<'a, R> {
-    fn show(&mut self, number: u64, totals: Vec<(String, i128)>) {
+        let Some(totals) = totals else {
+            return drop(eprintln!(self.rt; "totals: out of memory"));
+        };
         for total in &totals {
             if self.shown.binary_search(total).is_err() {
-                let _ = eprintln!(self.rt; "{number}: {} {}", total.0, total.1);
+                let _ = eprintln!(self.rt; "{}: {} {}", version.number(), total.0, total.1);
             }
         }
         self.shown = totals;
@@ -203,27 +159,36 @@ fn run<R: ServiceRuntime + Runtime>(rt: &R) -> Option<ExitCode> {
 }
 
 fn read_words<'a>(alloc: Global, words: &'a [String]) -> Result<ArgMatches<'a>, Error> {
-    let command = Command::new(alloc, "stocklist")
+    Command::new(alloc, "stocklist")
         .about("Current totals of goods")
-        .arg(word(alloc, "file", "PATH").action(ArgAction::Append))?
-        .arg(word(alloc, "loaders", "NUMBER").value_parser(value_parser!(u64).range(1..=16)))?
-        .arg(word(alloc, "seconds", "NUMBER").value_parser(value_parser!(u64).range(1..=600)))?
-        .arg(word(alloc, "seed", "NUMBER").value_parser(value_parser!(u64)))?;
-    command.try_get_matches_from(words)
-}
-
-fn word<'a>(alloc: Global, name: &'a str, value: &'a str) -> Arg<'a> {
-    Arg::new(alloc, name).long(name).value_name(value)
+        .arg(arg!(in alloc; --file <PATH> ...))?
+        .arg(arg!(in alloc; --loaders <NUMBER>).value_parser(value_parser!(u64).range(1..=16)))?
+        .arg(arg!(in alloc; --seconds <NUMBER>).value_parser(value_parser!(u64).range(1..=600)))?
+        .arg(arg!(in alloc; --seed <NUMBER>).value_parser(value_parser!(u64)))?
+        .try_get_matches_from(words)
 }
 
 fn serve<R: ServiceRuntime + Runtime>(rt: &R, words: &ArgMatches<'_>) -> Option<ExitCode> {
     let alloc = rt.alloc();
     let files = read_files(rt, words.get_raw("file").unwrap_or(&[])).ok()?;
-    let drawn = AtomicU64::new(0);
-    let sources = Sources { files, drawn };
+    let seconds: u64 = words.get_one("seconds").unwrap_or(1);
+    let rounds = seconds.saturating_mul(20);
+    let seed: u64 = words.get_one("seed").unwrap_or(1);
+    let count: u64 = words.get_one("loaders").unwrap_or(4);
+    // Each loader has a share of the files; the last shares may be empty.
+    let share = files.len().div_ceil(count.max(1) as usize);
+    let mut shares = files.chunks(share.max(1));
     let mut loaders = Vec::new(alloc);
-    for number in 0..words.get_one("loaders").unwrap_or(4) {
-        let loader = Loader::new(rt, words, &sources, number);
+    for number in 0..count {
+        let loader = Loader {
+            rt,
+            files: shares.next().unwrap_or_default(),
+            random: Xoshiro256PlusPlus::seed_from_u64(seed.wrapping_add(number)),
+            rounds: if files.is_empty() { rounds } else { 0 },
+            accepted: 0,
+            deleted: 0,
+            is_short: false,
+        };
         loaders.push(loader).ok()?;
     }
     let watcher = Watcher {
@@ -248,21 +213,15 @@ fn report<R: Print + Eprint>(
     for (good, total) in watcher.shown.as_slice() {
         println!(rt; "{good} {total}").ok()?;
     }
-    let (came, went, is_short) = counted(finished.loaders.as_slice());
-    if (came, went) != (accepted, deleted) {
+    let loaders = finished.loaders.as_slice();
+    let (came, went) = loaders.iter().fold((0u64, 0u64), |(came, went), loader| {
+        let came = came.wrapping_add(loader.accepted);
+        (came, went.wrapping_add(loader.deleted))
+    });
+    let is_counted = (came, went) == (accepted, deleted);
+    if !is_counted {
         let _ = eprintln!(rt; "the loaders counted {came} accepted and {went} deleted");
     }
-    let is_whole = (came, went, false, false) == (accepted, deleted, is_short, watcher.is_behind);
-    Some(ExitCode::from(if is_whole { 0 } else { 1 }))
-}
-
-// How many rows the loaders appended and deleted, and whether one left something out.
-fn counted<R>(loaders: &[Loader<'_, '_, R>]) -> (u64, u64, bool) {
-    let (mut accepted, mut deleted, mut is_short) = (0u64, 0u64, false);
-    for loader in loaders {
-        accepted = accepted.wrapping_add(loader.accepted);
-        deleted = deleted.wrapping_add(loader.deleted);
-        is_short = is_short || loader.is_short;
-    }
-    (accepted, deleted, is_short)
+    let is_short = watcher.is_behind || loaders.iter().any(|loader| loader.is_short);
+    Some(ExitCode::from(if is_counted && !is_short { 0 } else { 1 }))
 }
