@@ -112,7 +112,7 @@ fn load_opened<
         workers,
         gate,
     ) {
-        Ok(loaded) => Ok(output(alloc, frames, views.as_slice(), &loaded)?),
+        Ok(loaded) => Ok(output(rt, alloc, frames, views.as_slice(), &loaded, workers)?),
         Err(fault) => Err(RunFault::Load(NamedLoadCause::of(alloc, frames, fault.cause)?)),
     }
 }

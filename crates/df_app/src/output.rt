@@ -9,18 +9,23 @@ use crate::outcome::{Outcome, Output};
 use crate::refused::lines_of;
 use df_catalogue::{Catalogue, CatalogueFault};
 use df_plan::CheckedPlan;
+use df_print::print_table_by;
 use df_store::{Loaded, Refused};
-use df_text::{FrameSpec, print_table};
+use df_text::FrameSpec;
 use df_value::{List, Text};
 use std::alloc::{AllocError, Global};
 use std::sync::ledger::Ledger;
+use std::thread::Threads;
 
-/// What a run over a document of these frames and views writes of what was loaded with the views.
-pub(crate) fn output<Acc: Ledger, Del: Ledger>(
+/// What a run over a document of these frames and views writes of what was loaded with the views. At most so many threads
+/// print a view.
+pub(crate) fn output<Acc: Ledger, Del: Ledger, R: Threads + Sync>(
+    rt: &R,
     alloc: Global,
     frames: &[FrameSpec],
     views: &[(Text, CheckedPlan)],
     loaded: &Loaded<Acc, Del>,
+    threads: usize,
 ) -> Result<Output, AllocError>
     requires { All (λ view. IsOk (view_rows_of loaded.now.catalogue.state view.0)) views.now }
     ensures text { IfOk result (λ o. o.text
@@ -29,7 +34,7 @@ pub(crate) fn output<Acc: Ledger, Del: Ledger>(
 {
     let refused = loaded.refused.as_slice();
     let lines = lines_of(alloc, frames, refused)?;
-    let mut blocks = print_views(alloc, &loaded.catalogue, views)?;
+    let mut blocks = print_views(rt, alloc, &loaded.catalogue, views, threads)?;
     add_lines(&mut blocks, lines)?;
     Ok(Output {
         text: joined(alloc, blocks.as_slice())?,
@@ -57,10 +62,12 @@ fn add_lines(blocks: &mut Vec<List<u8>>, lines: List<u8>) -> Result<(), AllocErr
     Ok(())
 }
 
-fn print_views<Acc: Ledger, Del: Ledger>(
+fn print_views<Acc: Ledger, Del: Ledger, R: Threads + Sync>(
+    rt: &R,
     alloc: Global,
     catalogue: &Catalogue<Acc, Del>,
     views: &[(Text, CheckedPlan)],
+    threads: usize,
 ) -> Result<Vec<List<u8>>, AllocError>
     requires { All (λ view. IsOk (view_rows_of catalogue.now.state view.0)) views.now }
     ensures { IfOk result
@@ -68,16 +75,18 @@ fn print_views<Acc: Ledger, Del: Ledger>(
 {
     let mut tables = Vec::new(alloc);
     for view in views {
-        tables.push(print_view(alloc, catalogue, view)?)?;
+        tables.push(print_view(rt, alloc, catalogue, view, threads)?)?;
     }
     Ok(tables)
 }
 
 // The catalogue has the view, so that nothing but memory is refused.
-fn print_view<Acc: Ledger, Del: Ledger>(
+fn print_view<Acc: Ledger, Del: Ledger, R: Threads + Sync>(
+    rt: &R,
     alloc: Global,
     catalogue: &Catalogue<Acc, Del>,
     view: &(Text, CheckedPlan),
+    threads: usize,
 ) -> Result<List<u8>, AllocError>
     requires { IsOk (view_rows_of catalogue.now.state view.now.0) }
     ensures { IfOk result (λ table. table ≡ printed_in catalogue.now.state view.now) }
@@ -85,7 +94,8 @@ fn print_view<Acc: Ledger, Del: Ledger>(
     let (name, plan) = view;
     match catalogue.view_rows(alloc, name.as_str()) {
         Ok(rows) => {
-            let table = print_table(alloc, name, plan.schema(), rows.as_slice())?;
+            let schema = plan.schema();
+            let table = print_table_by(rt, alloc, name, schema, rows.as_slice(), threads)?;
             Ok(List::from_vec(table))
         }
         Err(CatalogueFault::Memory) => Err(AllocError),
