@@ -1,6 +1,6 @@
 -- What a run did, from what its document gave and what was then written.
 use Rattle.std.proofs.Common.{◌≡◌, ℕ, List, sym, subst, ap, ◌∙◌}
-use Rattle.std.specs.Prelude.{Option, Some, None, IfSome, IfErr, Result, Ok, Err}
+use Rattle.std.specs.Prelude.{Option, Some, None, IfSome, Result, Ok, Err}
 use Rattle.std.specs.Io.KnownBytes.{Keeps}
 use Rattle.df_document.specs.Answers as opening
 use Rattle.df_document.specs.Answers.{IsFaultOfOpening, IsOpening, KnowsFiles}
@@ -11,7 +11,7 @@ use Rattle.df_document.specs.declared.fault.DocumentFault.TheVariants as documen
 use Rattle.df_document.specs.declared.opening.OpenedDocument.{OpenedDocument}
 use Rattle.df_app.specs.Faults.{run_fault_of}
 use Rattle.df_app.specs.Output.{outcome_of, output_by, output_of, text_from}
-use Rattle.df_app.specs.Ran.{IsFaultBefore, IsOutput, IsRunOn, IsStop, IsWriting, KeepsUnlessWrite, LeavesFiles}
+use Rattle.df_app.specs.Ran.{IsFaultBefore, IsOutput, IsStop, LeavesFiles}
 use Rattle.df_app.specs.declared.fault.RunFault.{RunFault}
 use Rattle.df_app.specs.declared.fault.RunFault.TheVariants as fault
 use Rattle.df_app.specs.declared.outcome.Outcome.{Outcome}

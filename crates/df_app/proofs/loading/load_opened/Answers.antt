@@ -17,8 +17,8 @@ load_all-requires-clause-jobs g c κs within =
     let many = c.requires.sources in
     jobs_few c.args.chunk sources c.requires.some each (omega (arith, few, many, same))
 
-pub output-requires : goal.output-requires
-output-requires g c =
+pub output-requires-after_bounds : goal.output-requires-after_bounds
+output-requires-after_bounds g c κs within =
     let load = c.in-Ok.ensures in
     views-there c.in-Ok.loaded.catalogue.state c.as_slice-in-Ok.result.now load.legal (load.views ∙ (c.as_slice.ensures.value ∙ sym c.as_slice-in-Ok.ensures.value))
 
