@@ -191,6 +191,28 @@ for kind in lines "carriage returns" marks "blank lines" quote; do
     ended "a long file, $kind, $workers workers" 0 "$sums" ""
   done
 done
+
+# A view of as many rows, which several threads print: the widest text is in one of the last parts.
+cat > rows.toml << 'END'
+[[frame]]
+name = "t"
+columns = [["g", "Text"], ["x", "Int"]]
+path = "long.csv"
+[[view]]
+name = "rows"
+from = "t"
+END
+sed '29001s/b/日本/' lines > long.csv
+rows=$(awk 'BEGIN {
+  print "rows (30000 x 2)"
+  print "g         x"
+  for (x = 1; x <= 30000; x++) printf "%s  %5d\n", x == 29000 ? "日本" : "b   ", x
+}')
+for workers in 1 2 16; do
+  with rows.toml --workers "$workers"
+  ended "a long view, $workers workers" 0 "$rows"$'\n' ""
+done
+
 long_file "short record" > long.csv
 for workers in 1 2 16; do
   with long.toml --workers "$workers"
