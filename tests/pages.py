@@ -424,8 +424,8 @@ class Followed:
     """A page that follows two views of a frame: all of its rows, and those with a number above 0. `states` has the rows of the frame behind
     each change, and each view of the page that was last seen stands in `before`."""
 
-    def __init__(self, path, views, states, number):
-        self.path, self.views, self.states, self.number, self.seen, self.counts = path, views, states, number, time.monotonic(), [0, 0, 0]
+    def __init__(self, path, views, states, number, begun):
+        self.path, self.views, self.states, self.number, self.begun, self.counts = path, views, states, number, begun, [0, 0, 0]
         self.check_against([None], Page(path.read_text()))
 
     def rows(self, view, number):
@@ -449,14 +449,15 @@ class Followed:
             self.counts = [count + more for count, more in zip(self.counts, [changes.count(("new", None)), sum(c == "changed" for c, _ in changes), len(lines)])]
         self.number = number
 
-    def look(self, number, reload="2"):
-        """The page has this change, once a command was settled. Where that took a second, pages that were not seen may stand between."""
+    def look(self, number, begun, reload="2"):
+        """The page has this change, once a command was settled that was begun then. Where a second went by since the one before was begun,
+        pages that were not seen may stand between."""
         page = Page(self.path.read_text())
         check("the page", (page.lines, page.reload), ([f"change {number}"], reload))
-        slow = time.monotonic() - self.seen > 0.9
+        slow = time.monotonic() - self.begun > 0.9
         if number != self.number or reload is None:
             self.check_against([self.number, *(range(self.number + 1, number + 1) if slow else [])], page)
-        self.seen = time.monotonic()
+        self.begun = begun
 
 
 def marks(program, folder, words, random):
@@ -485,9 +486,10 @@ def marks(program, folder, words, random):
     pages = []
     for views in (["all", "some"], ["some"]):
         path = folder / f"{len(pages)}.html"
+        begun = time.monotonic()
         check("follow", shell.ask(f"follow {path.name} {' '.join(views)}")[0], "ok")
-        pages.append(Followed(path, views, states, number))
-    tried, settled = number, time.monotonic()
+        pages.append(Followed(path, views, states, number, begun))
+    tried, settled = number, begun
     for _ in range(12):
         for _ in range(random.randrange(3)):
             chosen = sorted(random.sample(sorted(rows), min(len(rows), random.randrange(1, 4))))
@@ -505,17 +507,18 @@ def marks(program, folder, words, random):
         is_blocked = random.random() < 0.3
         if is_blocked:
             (folder / "0.html.part").write_text("theirs")
+        begun = time.monotonic()
         told = [head for head, _ in shell.settled("views")[1]]
         if is_blocked:
             (folder / "0.html.part").unlink()
         if time.monotonic() - settled < 0.9:
             check("told", told, [f"unwritten 0.html {number}"] * (is_blocked and number != tried))
         for page in pages[is_blocked:] if number != tried else []:
-            page.look(number)
-        tried, settled = number, time.monotonic()
+            page.look(number, begun)
+        tried, settled = number, begun
     add([some()])
     check("unfollow", shell.settled("unfollow 0.html"), (("ok", ["ok\n"]), []))
-    pages[0].look(number, None)
+    pages[0].look(number, begun, None)
     shell.close()
     return [sum(counts) for counts in zip(*(page.counts for page in pages))]
 
