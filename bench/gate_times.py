@@ -79,6 +79,8 @@ def clock(used, sums, processors):
         for task in [it for it in left if done.issuperset(needs[it])][: processors - len(running)]:
             left.remove(task)
             running.append((now + tasks[task], task))
+        if not running:  # what is left waits for a crate that was not proved
+            break
         now, task = min(running)
         running.remove((now, task))
         done.add(task)
