@@ -1,11 +1,11 @@
 -- The new rows of a delta fit where the rows that it leads to do.
-use Rattle.std.proofs.Common.{◌≡◌, ℕ, Bool, true, false, cond, List, [], ◌∷◌, map, Option, Some, None, Result, Ok, Err, IfOk, IsTrue, refl, sym, ap, subst, ◌∙◌}
-use Rattle.std.specs.Prelude.{T, ◌&&◌}
+use Rattle.std.proofs.Common.{◌≡◌, ◌↔◌, ℕ, Bool, true, false, cond, List, [], ◌∷◌, map, Option, Some, None, Result, Ok, Err, IfOk, IsTrue, refl, sym, ap, subst, ◌∙◌}
+use Rattle.std.specs.Prelude.{T, not}
 use Rattle.std.specs.List.{list_all}
+use Rattle.std.proofs.lemmas.Bool.{false≢true}
 use Rattle.std.specs.Option.{IfSome}
 use Rattle.std.specs.Ordering.{eq_by_cmp, is_eq}
 use Rattle.std.specs.Cmp.{tied_itself}
-use Rattle.std.specs.declared.cmp.Ordering.{Ordering}
 use Rattle.std.specs.FinMap as finite
 use Rattle.std.specs.FinMap.Entries.{below_all}
 use Rattle.df_value.specs.Rows.{row_fits}
@@ -13,7 +13,7 @@ use Rattle.df_value.specs.declared.cell.Cell.{Cell}
 use Rattle.df_value.specs.declared.cell.CellType.{CellType}
 use Rattle.df_column.specs.Changes.{Change, applied}
 use Rattle.df_column.specs.TagOrder.{tag_total, tag_same}
-use Rattle.df_column.specs.Tables.{NewRowsFit, TableParts, TaggedRows, entry_change, new_row_fits}
+use Rattle.df_column.specs.Tables.{NewRowsFit, TableParts, TaggedRows, after_entries, entry_change, new_row_fits, new_rows_fit}
 use Rattle.df_column.specs.Tags.{tag_cmp}
 use Rattle.df_column.specs.declared.entry.Entry.{Entry}
 use Rattle.df_column.specs.declared.tag.Tag.{Tag}
@@ -66,3 +66,17 @@ changes_of d entries e =
 pub applied_where : {E : Type 0} (made : Result TableParts E) (t : TableParts) (rows : TaggedRows) → t.rows ≡ rows → IfOk made (λ m. m ≡ t) → IfOk made (λ m. m.rows ≡ rows)
 applied_where (Ok m) t rows e is = ap (λ m. m.rows) is ∙ e
 applied_where (Err f) t rows e is = tt
+
+-- where changes of a table without rows leave it some, these are the rows that they make
+pub made_rows :
+    (none made : TableParts) (entries : List Entry) (d : Changes) (is_empty : Bool) → none.rows ≡ finite.empty → finite.from_sorted (map entry_change entries) ≡ d →
+    (NewRowsFit none.schema entries → made ≡ after_entries none entries) → (not (new_rows_fit none.schema entries) ≡ true → made ≡ none) →
+    IsTrue is_empty ↔ (finite.len made.rows ≡ 0) → is_empty ≡ false → made.rows ≡ applied finite.empty d
+made_rows none made entries d is_empty without is fitting unlike test some = by_fit (new_rows_fit none.schema entries) refl where
+  by_fit : (b : Bool) → new_rows_fit none.schema entries ≡ b → made.rows ≡ applied finite.empty d
+  by_fit true e =
+      ap (λ (t : TableParts). t.rows) (fitting (subst T (sym e) tt))
+      ∙ (ap (λ t. applied t (finite.from_sorted (map entry_change entries))) without ∙ ap (applied finite.empty) is)
+  by_fit false e =
+      let same = ap (λ (t : TableParts). t.rows) (unlike (ap not e)) ∙ without in
+      absurd (false≢true (sym some ∙ test.1 (ap finite.len same ∙ finite.len-empty tag_cmp (List Cell))))

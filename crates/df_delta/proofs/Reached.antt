@@ -1,7 +1,7 @@
 -- The changes at the tags that an operator reaches are its delta, where its output differs at no other tag.
 use Rattle.std.proofs.Common.{◌≡◌, Bool, true, false, cond, List, [], ◌∷◌, map, Option, Some, None, refl, sym, ap, subst, ◌∙◌}
 use Rattle.std.specs.Prelude.{T, ◌||◌}
-use Rattle.std.specs.List.{cons_option, list_any}
+use Rattle.std.specs.List.{cons_option}
 use Rattle.std.specs.Option.{option_and_then, option_map}
 use Rattle.std.specs.Ordering.{eq_by_cmp}
 use Rattle.std.specs.FinMap as finite

@@ -1,5 +1,5 @@
 -- What an operator answers that looks again at some tags: the change at each of them, where the two outputs differ.
-use Rattle.std.specs.Prelude.{Bool, true, List, [], ◌∷◌, ◌++◌, map, T, Option}
+use Rattle.std.specs.Prelude.{Bool, true, List, [], ◌∷◌, map}
 use Rattle.std.specs.List.{cons_option, list_any}
 use Rattle.std.specs.Option.{option_map}
 use Rattle.std.specs.Ordering.{eq_by_cmp}

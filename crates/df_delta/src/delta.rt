@@ -1,5 +1,6 @@
 //! Deltas: changes of the rows of a table, by rising tags.
-ghost use Rattle.std.specs.Prelude.{◌≡◌, IfOk, MatchResult, false, length, map};
+ghost use Rattle.std.specs.Prelude.{◌≡◌, IfOk, IfSome, MatchResult, false, length, map};
+ghost use Rattle.std.specs.Arc.{arc_value};
 ghost use Rattle.std.specs.FinMap as finite;
 ghost use Rattle.df_column.specs.Changes.{applied};
 ghost use Rattle.df_column.specs.Tables.{entry_change};
@@ -8,27 +9,38 @@ ghost use Rattle.df_delta.specs.Differences.{IsDiff};
 
 use crate::entries::{are_changes, whole_entries};
 use df_column::{Entry, Table};
-use df_value::Duplicate;
+use df_value::{Duplicate, Schema};
 use std::alloc::{AllocError, Global};
 use std::marker::Model;
+use std::sync::Arc;
+
+// So many rows come in blocks of their own: as many as one block has.
+const LEAST_ROWS_IN_BLOCKS: usize = 128;
 
 /// Changes of the rows of a table, by rising tags. Each names what stood at the tag and what stands there afterwards,
 /// at least one of the two being a row.
+///
+/// It may have the rows that it makes in an empty table as such a table, whose blocks are then shared by the tables that
+/// it is [applied](apply) to. Contracts see the changes alone.
 pub struct Delta {
     entries: Vec<Entry>,
+    made: Option<Arc<Table>>,
 }
 
 // A body that owns one drops it by a call.
 impl Drop for Delta {
     fn drop(self) {
-        let Delta { entries } = self;
+        let Delta { entries, made } = self;
         drop(entries);
+        drop(made);
     }
 }
 
 impl Model for Delta {
-    ghost use Rattle.std.specs.Prelude.{map};
+    ghost use Rattle.std.specs.Prelude.{◌≡◌, IfSome, map};
+    ghost use Rattle.std.specs.Arc.{arc_value};
     ghost use Rattle.std.specs.FinMap as finite;
+    ghost use Rattle.df_column.specs.Changes.{applied};
     ghost use Rattle.df_column.specs.Tables.{entry_change};
     ghost use Rattle.df_delta.specs.Deltas.{Changes, IsDelta, changes_code};
 
@@ -38,7 +50,9 @@ impl Model for Delta {
 
     ghost view = { λ d. finite.from_sorted (map entry_change d.entries.items) };
 
-    ghost invariant = { λ d. IsDelta d.entries.items };
+    ghost invariant = { λ d. IsDelta d.entries.items
+        × IfSome d.made (λ t. (arc_value t).rows
+        ≡ applied finite.empty (finite.from_sorted (map entry_change d.entries.items))) };
 }
 
 impl Delta {
@@ -53,7 +67,7 @@ impl Delta {
         if !are_changes(&entries) {
             return Err(entries);
         }
-        Ok(Delta { entries })
+        Ok(Delta::from_entries(entries))
     }
 
     /// The delta of these entries.
@@ -61,7 +75,10 @@ impl Delta {
         requires { IsDelta entries.items }
         ensures { result ≡ finite.from_sorted (map entry_change entries.items) }
     {
-        Delta { entries }
+        Delta {
+            entries,
+            made: None,
+        }
     }
 
     /// The delta that names no tag.
@@ -70,6 +87,7 @@ impl Delta {
     {
         Delta {
             entries: Vec::new(alloc),
+            made: None,
         }
     }
 
@@ -77,9 +95,40 @@ impl Delta {
     pub fn whole(alloc: Global, table: &Table) -> Result<Delta, AllocError>
         ensures { IfOk result (IsDiff finite.empty table.now.rows) }
     {
+        let made = Arc::new(alloc, table.share(alloc)?)?;
+        let entries = whole_entries(alloc, table)?;
         Ok(Delta {
-            entries: whole_entries(alloc, table)?,
+            entries,
+            made: Some(made),
         })
+    }
+
+    /// The same delta, with a table of the rows that it makes in an empty one.
+    pub fn with_table(self, table: Arc<Table>) -> Delta
+        requires { (arc_value table).rows ≡ applied finite.empty self }
+        ensures { result ≡ self }
+    {
+        let Delta { entries, made } = self;
+        drop(made);
+        Delta {
+            entries,
+            made: Some(table),
+        }
+    }
+
+    /// The same delta. Where many rows come and they fit this schema, it has them in blocks, which are made once for all tables
+    /// that it is applied to.
+    pub fn in_blocks(self, alloc: Global, schema: &Schema) -> Result<Delta, AllocError>
+        ensures { IfOk result (λ d. d ≡ self) }
+    {
+        match blocks_of(alloc, schema, &self) {
+            Ok(Some(table)) => Ok(self.with_table(table)),
+            Ok(None) => Ok(self),
+            Err(refused) => {
+                drop(self);
+                Err(refused)
+            }
+        }
     }
 
     /// The changes by rising tags.
@@ -96,7 +145,8 @@ impl Delta {
         ensures all { map entry_change result.items ≡ finite.entries self }
         ensures sound { IsDelta result.items }
     {
-        let Delta { entries } = self;
+        let Delta { entries, made } = self;
+        drop(made);
         entries
     }
 
@@ -108,8 +158,36 @@ impl Delta {
     }
 }
 
+// A table of the rows that the delta makes in an empty one of this schema, where many come and they fit.
+fn blocks_of(
+    alloc: Global,
+    schema: &Schema,
+    delta: &Delta,
+) -> Result<Option<Arc<Table>>, AllocError>
+    ensures { IfOk result (λ o. IfSome o (λ table.
+        (arc_value table).rows ≡ applied finite.empty delta.now)) }
+{
+    if delta.made.is_some() || !many_come(delta.entries()) {
+        return Ok(None);
+    }
+    let none = Table::new(alloc, schema.copy(alloc)?)?;
+    let made = none.edited(alloc, delta.entries())?;
+    // Rows that do not fit leave the table as it was.
+    if made.is_empty() {
+        return Ok(None);
+    }
+    Ok(Some(Arc::new(alloc, made)?))
+}
+
+// Whether many rows come, the first and the last of them where none stood.
+fn many_come(entries: &[Entry]) -> bool {
+    entries.len() >= LEAST_ROWS_IN_BLOCKS
+        && entries[0].old.is_none()
+        && entries[entries.len() - 1].old.is_none()
+}
+
 /// The table after these changes: at each tag that they name stands the new row, or nothing. It shares the blocks
-/// without a change, which no clause says.
+/// without a change, and those that the delta has where [`Table::edited_with`] can take them, which no clause says.
 ///
 /// The schema is asked of the rows that it gives: where one of them does not fit, the call promises no more than that
 /// the schema stays.
@@ -118,21 +196,8 @@ pub fn apply(alloc: Global, table: &Table, delta: &Delta) -> Result<Table, Alloc
     ensures rows { RowsFit table.now.schema (applied table.now.rows delta.now)
         → IfOk result (λ t. t.rows ≡ applied table.now.rows delta.now) }
 {
-    table.edited(alloc, delta.entries())
-}
-
-/// The table after these changes, as [`apply`] gives it, where another table has the rows that they make in an empty one.
-/// Where [`Table::edited_with`] can take the blocks of that table, none is made.
-pub fn apply_with(
-    alloc: Global,
-    table: &Table,
-    delta: &Delta,
-    made: &Table,
-) -> Result<Table, AllocError>
-    requires { made.now.rows ≡ applied finite.empty delta.now }
-    ensures schema { IfOk result (λ t. t.schema ≡ table.now.schema) }
-    ensures rows { RowsFit table.now.schema (applied table.now.rows delta.now)
-        → IfOk result (λ t. t.rows ≡ applied table.now.rows delta.now) }
-{
-    table.edited_with(alloc, delta.entries(), made)
+    match &delta.made {
+        Some(made) => table.edited_with(alloc, delta.entries(), made),
+        None => table.edited(alloc, delta.entries()),
+    }
 }

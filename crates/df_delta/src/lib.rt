@@ -14,7 +14,7 @@ mod notes;
 mod row_key;
 mod two_sided;
 
-pub use delta::{Delta, apply, apply_with};
+pub use delta::{Delta, apply};
 pub use entries::push_change;
 pub use keyed::{KeyChanges, keyed_changes};
 pub use node::LiveNode;

@@ -15,8 +15,9 @@ use Rattle.df_value.specs.declared.cell.Cell.{Cell}
 use Rattle.df_value.specs.declared.cell.CellType.{CellType}
 use Rattle.df_column.specs.Changes.{Change, applied, applied_list, set_at}
 use Rattle.df_column.specs.RowRuns.{StandFrom}
-use Rattle.df_column.specs.Tables.{TableParts, TaggedRows}
+use Rattle.df_column.specs.Tables.{TableParts, TaggedRows, entry_change}
 use Rattle.df_column.specs.Tags.{tag_cmp}
+use Rattle.df_column.specs.declared.entry.Entry.{Entry}
 use Rattle.df_column.specs.declared.tag.Tag.{Tag}
 use Rattle.df_delta.specs.Deltas.{Changes, RowsFit}
 use Rattle.df_delta.specs.Differences.{IsDiff}
@@ -114,6 +115,14 @@ run-made c sound t d schema delta rows =
       },
       is,
     )
+
+-- what its delta makes of a table without rows
+pub run-table :
+    (c : ChunkParts) → IsRun c.schema c.first c.rows → (none t : TableParts) (d : Changes) → none.schema ≡ c.schema → none.rows ≡ finite.empty → d ≡ delta_of_chunk c →
+    (RowsFit none.schema (applied none.rows d) → t.rows ≡ applied none.rows d) → t.rows ≡ applied finite.empty d
+run-table c sound none t d schema without delta made =
+    let rows : applied none.rows d ≡ applied finite.empty d = ap (λ u. applied u d) without in
+    made (subst (λ s. RowsFit s (applied none.rows d)) (sym schema) (subst (RowsFit c.schema) (sym (rows ∙ ap (applied finite.empty) delta)) (chunk-fits c sound))) ∙ rows
 
 -- what stands in the table of a chunk from an index on are rows of the chunk
 pub part-rows :
@@ -225,6 +234,16 @@ both-delta run next goes es are =
           (coming-rise (enumerate_from both.first both.rows) (ap is_rising (enumerated-numbers both.first both.rows) ∙ rising-block both.first (length both.rows))),
       ap finite.from_sorted is,
     )
+
+-- so are entries of the one behind which stand those of the other
+pub both-entries-delta :
+    (run next : ChunkParts) → GoesOn run next → (own more all : List Entry) →
+    map entry_change own ≡ finite.entries (delta_of_chunk run) → map entry_change more ≡ finite.entries (delta_of_chunk next) → all ≡ own ++ more →
+    T (finite.is_sorted tag_cmp (map entry_change all)) × (finite.from_sorted (map entry_change all) ≡ delta_of_chunk (run_of_both run next))
+both-entries-delta run next goes own more all one other is =
+    both-delta run next goes (map entry_change all)
+    (ap (map entry_change) is ∙ (map-append entry_change own more
+    ∙ (ap (λ es. es ++ map entry_change more) one ∙ ap (λ es. finite.entries (delta_of_chunk run) ++ es) other)))
 
 -- the rows of both stand where those of the one do and then those of the other come
 pub both-rows :

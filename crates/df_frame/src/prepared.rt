@@ -11,7 +11,7 @@ ghost use Rattle.df_delta.specs.Deltas.{RowsFit};
 use crate::deltas::delta_of_rows;
 use crate::stored::StoredChunk;
 use df_column::Table;
-use df_delta::{Delta, apply, apply_with};
+use df_delta::{Delta, apply};
 use df_value::{Duplicate, MOST_ROWS_OF_FRAME, Row, Schema, same};
 use std::alloc::{AllocError, Global};
 use std::marker::Model;
@@ -87,12 +87,7 @@ impl FrameDelta<'_> {
         ensures rows { RowsFit table.now.schema (applied table.now.rows (delta_in self.now))
             → IfOk result (λ t. t.rows ≡ applied table.now.rows (delta_in self.now)) }
     {
-        match self {
-            FrameDelta::Made(delta) => apply(alloc, table, delta),
-            FrameDelta::Lent(prepared) => {
-                apply_with(alloc, table, prepared.delta(), prepared.table())
-            }
-        }
+        apply(alloc, table, self.get())
     }
 }
 
@@ -112,7 +107,7 @@ impl PreparedRun {
         let table = Arc::new(alloc, apply(alloc, &none, &delta)?)?;
         Ok(PreparedRun {
             first,
-            delta,
+            delta: delta.with_table(Arc::try_clone(&table)?),
             table,
         })
     }
@@ -143,13 +138,15 @@ impl PreparedRun {
             delta: coming,
             table: behind,
         } = next;
-        let table = Arc::new(alloc, apply_with(alloc, &table, &coming, &behind)?)?;
+        drop(behind);
+        let table = Arc::new(alloc, apply(alloc, &table, &coming)?)?;
         let mut entries = delta.into_entries();
         let mut more = coming.into_entries();
         entries.append(&mut more)?;
+        let delta = Delta::from_entries(entries);
         Ok(PreparedRun {
             first,
-            delta: Delta::from_entries(entries),
+            delta: delta.with_table(Arc::try_clone(&table)?),
             table,
         })
     }
@@ -190,13 +187,6 @@ impl PreparedRun {
         ensures { result.now ≡ delta_of_chunk self.now }
     {
         &self.delta
-    }
-
-    // Its rows, each at the tag of its number.
-    fn table(&self) -> &Table
-        ensures { result.now.rows ≡ applied finite.empty (delta_of_chunk self.now) }
-    {
-        &self.table
     }
 
     /// The chunk of so many of its rows from an index on, in its blocks; its first row has the number `first`. It takes no

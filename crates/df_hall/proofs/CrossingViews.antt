@@ -8,7 +8,7 @@ use Rattle.std.specs.contracts.impls.GlobalAllocator.TheImpl.{ghosts}
 use Rattle.df_value.proofs.list.List.TheSendSync as list
 use Rattle.df_value.proofs.row.Row.TheSendSync as row
 use Rattle.df_value.proofs.shared.Shared.TheSendSync as shared
-use Rattle.df_column.proofs.Crossing.{table_send}
+use Rattle.df_column.proofs.Crossing.{table_send, table_sync}
 use Rattle.df_column.specs.contracts.entry.Entry as Entry
 use Rattle.df_delta.specs.contracts.delta.Delta as Delta
 use Rattle.df_delta.specs.contracts.delta.Delta.TheInside as DeltaInside
@@ -53,10 +53,10 @@ entry_sync : IsSync (Entry.the_field).row
 entry_sync = search (sendable, crosses, row.the_sync) depth 20
 
 delta_inside_send : IsSend DeltaInside.the_row
-delta_inside_send = let e = entry_send in search (sendable, crosses) depth 20
+delta_inside_send = let e = entry_send in search (sendable, crosses, table_send, table_sync) depth 40
 
 delta_inside_sync : IsSync DeltaInside.the_row
-delta_inside_sync = let e = entry_sync in search (sendable, crosses) depth 20
+delta_inside_sync = let e = entry_sync in search (sendable, crosses, table_send, table_sync) depth 40
 
 delta_send : IsSend Delta.the_row
 delta_send = let i = delta_inside_send in search sendable depth 20

@@ -2,8 +2,11 @@
 use denote.Param.Send.{IsSend, sendable}
 use Rattle.std.proofs.Crossing.{crosses}
 use Rattle.df_value.proofs.chunk.Piece.TheSendSync as piece
+use Rattle.df_value.proofs.row.Row.TheSendSync as row
 use Rattle.df_column.proofs.Crossing.{table_send, table_sync}
-use Rattle.df_delta.proofs.delta.Delta.TheSendSync as delta
+use Rattle.df_column.specs.contracts.entry.Entry as Entry
+use Rattle.df_delta.specs.contracts.delta.Delta as Delta
+use Rattle.df_delta.specs.contracts.delta.Delta.TheInside as DeltaInside
 use Rattle.df_frame.specs.contracts.prepared.PreparedRun as PreparedRun
 use Rattle.df_frame.specs.contracts.prepared.PreparedRun.TheInside as PreparedInside
 use Rattle.df_frame.specs.contracts.stored.StoredChunk as StoredChunk
@@ -32,8 +35,17 @@ made_send = let i = made_inside_send in search sendable depth 20
 pub outcome_send : IsSend (Outcome.the_field).row
 outcome_send = let m = made_send in search (sendable, crosses) depth 40
 
+entry_send : IsSend (Entry.the_field).row
+entry_send = search (sendable, crosses, row.the_send) depth 20
+
+delta_inside_send : IsSend DeltaInside.the_row
+delta_inside_send = let e = entry_send in search (sendable, crosses, table_send, table_sync) depth 40
+
+delta_send : IsSend Delta.the_row
+delta_send = let i = delta_inside_send in search sendable depth 20
+
 prepared_inside_send : IsSend PreparedInside.the_row
-prepared_inside_send = search (sendable, crosses, delta.the_send, table_send, table_sync) depth 40
+prepared_inside_send = let d = delta_send in search (sendable, crosses, table_send, table_sync) depth 40
 
 prepared_send : IsSend PreparedRun.the_row
 prepared_send = let i = prepared_inside_send in search sendable depth 20

@@ -3,6 +3,7 @@ ghost use Rattle.std.specs.Prelude.{◌≡◌, IfOk, Some, None, if◌then◌els
 ghost use Rattle.df_column.specs.Changes.{applied};
 ghost use Rattle.df_delta.specs.Deltas.{RowsFit};
 
+use crate::tree_delta::TreeDelta;
 use df_column::Table;
 use df_delta::{Delta, apply};
 use df_value::Shared;
@@ -12,15 +13,15 @@ use std::alloc::{AllocError, Global};
 pub fn with_changes(
     alloc: Global,
     table: &Table,
-    changes: Delta,
+    changes: TreeDelta<'_>,
     keeps: bool,
 ) -> Result<(Table, Option<Shared<Delta>>), AllocError>
     ensures schema { IfOk result (λ made. made.0.schema ≡ table.now.schema) }
-    ensures rows { IfOk result (λ made. RowsFit table.now.schema (applied table.now.rows changes)
-        → made.0.rows ≡ applied table.now.rows changes) }
-    ensures kept { IfOk result (λ made. made.1 ≡ (if keeps then Some changes else None)) }
+    ensures rows { IfOk result (λ made. RowsFit table.now.schema (applied table.now.rows changes.entry)
+        → made.0.rows ≡ applied table.now.rows changes.entry) }
+    ensures kept { IfOk result (λ made. made.1 ≡ (if keeps then Some changes.entry else None)) }
 {
-    match apply(alloc, table, &changes) {
+    match apply(alloc, table, changes.get()) {
         Ok(after) => {
             let kept = if_kept(alloc, changes, keeps)?;
             Ok((after, kept))
@@ -33,12 +34,17 @@ pub fn with_changes(
 }
 
 // The changes, where they are kept.
-fn if_kept(alloc: Global, changes: Delta, keeps: bool) -> Result<Option<Shared<Delta>>, AllocError>
-    ensures { IfOk result (λ kept. kept ≡ (if keeps then Some changes else None)) }
+fn if_kept(
+    alloc: Global,
+    changes: TreeDelta<'_>,
+    keeps: bool,
+) -> Result<Option<Shared<Delta>>, AllocError>
+    ensures { IfOk result (λ kept. kept ≡ (if keeps then Some changes.entry else None)) }
 {
     if !keeps {
         drop(changes);
         return Ok(None);
     }
-    Ok(Some(Shared::new(alloc, changes)?))
+    let own = changes.into_own(alloc)?;
+    Ok(Some(Shared::new(alloc, own)?))
 }

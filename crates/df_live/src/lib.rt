@@ -16,6 +16,7 @@ mod row_wise_trees;
 mod scan;
 mod staging;
 mod tree;
+mod tree_delta;
 mod view;
 mod window_trees;
 

@@ -15,6 +15,7 @@ use crate::joined::JoinOperator;
 use crate::operator::{LiveOperator, StagedOperator};
 use crate::scan::scanned;
 use crate::staging::{boxed, over_one, over_two};
+use crate::tree_delta::TreeDelta;
 use df_delta::{Delta, LiveNode, TwoSidedNode};
 use df_expr::Meter;
 use df_join::StagedJoin;
@@ -63,13 +64,13 @@ pub enum StagedTree {
 impl LiveTree {
     /// Makes the delta of the output under a delta of one frame, and all that a commit needs. The delta reaches every
     /// scan of the frame at once. The tree stands over the frames that it stood over, also where memory was refused.
-    pub fn prepare(
+    pub fn prepare<'a>(
         &mut self,
         alloc: Global,
         frame: usize,
-        delta: &Delta,
+        delta: &'a Delta,
         meter: &mut Meter,
-    ) -> Result<(StagedTree, Delta), AllocError>
+    ) -> Result<(StagedTree, TreeDelta<'a>), AllocError>
         requires counts { IsBelow (plus meter.old (budget self.old)) (2 ^ 128) }
         ensures grows { IsWithin meter.old meter.new }
         ensures within { IsWithin meter.new (plus meter.old (budget self.old)) }
@@ -99,21 +100,18 @@ impl LiveTree {
 
     // The same, said by one clause, so that each exit on the way down has one to show.
     #[cycle(prepared)]
-    fn prepared(
+    fn prepared<'a>(
         &mut self,
         alloc: Global,
         frame: usize,
-        delta: &Delta,
+        delta: &'a Delta,
         meter: &mut Meter,
-    ) -> Result<(StagedTree, Delta), AllocError>
+    ) -> Result<(StagedTree, TreeDelta<'a>), AllocError>
         requires counts { IsBelow (plus meter.old (budget self.old)) (2 ^ 128) }
         ensures { IsPrepared self.old self.new frame delta.now meter.old meter.new result }
     {
         match self {
-            LiveTree::Scan(scan) => {
-                let changes = scanned(alloc, *scan, frame, delta)?;
-                Ok((StagedTree::Scan, changes))
-            }
+            LiveTree::Scan(scan) => { Ok((StagedTree::Scan, scanned(alloc, *scan, frame, delta))) }
             LiveTree::Operator(input, node) => {
                 LiveTree::prepared_over(alloc, input, node, frame, delta, meter)
             }
@@ -125,14 +123,14 @@ impl LiveTree {
 
     // Of an operator over its input.
     #[cycle(prepared)]
-    fn prepared_over(
+    fn prepared_over<'a>(
         alloc: Global,
         input: &mut LiveTree,
         node: &mut LiveOperator,
         frame: usize,
-        delta: &Delta,
+        delta: &'a Delta,
         meter: &mut Meter,
-    ) -> Result<(StagedTree, Delta), AllocError>
+    ) -> Result<(StagedTree, TreeDelta<'a>), AllocError>
         requires counts { IsBelow
             (plus meter.old (plus (budget input.old) (operator_budget node.old))) (2 ^ 128) }
         ensures { (p : _) → IsPrepared (trees.Operator' p input.old node.old)
@@ -140,21 +138,21 @@ impl LiveTree {
     {
         let below = input.prepared(alloc, frame, delta, meter);
         let (below, between) = boxed(alloc, below)?;
-        let made = over_one(below, node.prepare(&between, meter));
+        let made = over_one(below, delta, node.prepare(between.get(), meter));
         then_drop(made, between)
     }
 
     // Of a join of two inputs.
     #[cycle(prepared)]
-    fn prepared_join(
+    fn prepared_join<'a>(
         alloc: Global,
         left: &mut LiveTree,
         right: &mut LiveTree,
         node: &mut JoinOperator,
         frame: usize,
-        delta: &Delta,
+        delta: &'a Delta,
         meter: &mut Meter,
-    ) -> Result<(StagedTree, Delta), AllocError>
+    ) -> Result<(StagedTree, TreeDelta<'a>), AllocError>
         requires counts { IsBelow (plus meter.old
             (plus (budget left.old) (plus (budget right.old) (join_budget node.old)))) (2 ^ 128) }
         ensures { (p q : _) → IsPrepared (trees.Join' p left.old q right.old node.old)
@@ -164,8 +162,8 @@ impl LiveTree {
         let (on_left, from_left) = boxed(alloc, on_left)?;
         let on_right = right.prepared(alloc, frame, delta, meter);
         let (on_right, from_right) = boxed(alloc, on_right)?;
-        let made = node.prepare(&from_left, &from_right, meter);
-        let made = over_two(on_left, on_right, made);
+        let made = node.prepare(from_left.get(), from_right.get(), meter);
+        let made = over_two(on_left, on_right, delta, made);
         then_drop(then_drop(made, from_left), from_right)
     }
 

@@ -277,6 +277,7 @@ impl LiveNode for LiveWindow {
     ) -> Result<(ChangedTables, Delta), AllocError> {
         let input = apply(self.alloc, &self.input, delta)?;
         let changes = self.changes(&input, delta, meter)?;
+        let changes = changes.in_blocks(self.alloc, self.output.schema())?;
         let output = apply(self.alloc, &self.output, &changes)?;
         Ok((ChangedTables { input, output }, changes))
     }

@@ -11,7 +11,6 @@ use Rattle.std.specs.FinMap.Entries.{same_entries}
 use Rattle.std.proofs.lemmas.Bool.{eqb-true}
 use Rattle.df_value.specs.CellOrder.{cell_cmp, cell_cmp_total}
 use Rattle.df_value.specs.declared.cell.Cell.{Cell}
-use Rattle.df_value.specs.declared.cell.Cell.TheVariants as cell
 use Rattle.df_ops.specs.declared.ranks.RankKind.{RankKind}
 use Rattle.df_ops.specs.declared.ranks.RankKind.TheVariants as rank
 use Rattle.df_column.proofs.Bools.{less_from_is_lt}

@@ -189,6 +189,7 @@ impl LiveNode for LiveRank {
         let _few = input.len();
         let rises = rises_of(self.alloc, self.column.index(), delta.entries())?;
         let (counts, changes) = self.counts_and_changes(delta, &input, &rises)?;
+        let changes = changes.in_blocks(self.alloc, self.output.schema())?;
         let output = apply(self.alloc, &self.output, &changes)?;
         Ok((
             StagedRank {

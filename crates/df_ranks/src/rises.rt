@@ -35,9 +35,12 @@ fn raise(
     let Some(value) = value else {
         return Ok(());
     };
-    let rise = rises.get(value).copied().unwrap_or(0);
+    if let Some(rise) = rises.get_mut(value) {
+        *rise = rise.wrapping_add(by);
+        return Ok(());
+    }
     let value = value.copy(alloc)?;
-    rises.insert(value, rise.wrapping_add(by))?;
+    rises.insert(value, by)?;
     Ok(())
 }
 

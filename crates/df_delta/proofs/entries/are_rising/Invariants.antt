@@ -1,4 +1,4 @@
-use Rattle.std.proofs.Common.{◌≡◌, ◌-◌, ◌≤◌}
+use Rattle.std.proofs.Common.{◌≡◌, ◌-◌}
 use Rattle.df_delta.proofs.Rising.{rises_from}
 use Rattle.df_delta.proofs.entries.are_rising.Given as goal
 

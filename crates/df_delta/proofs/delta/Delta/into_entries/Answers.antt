@@ -4,4 +4,4 @@ use Rattle.df_column.specs.Tags.{tag_cmp}
 use Rattle.df_delta.proofs.delta.Delta.into_entries.Goals as goal
 
 pub returns-clause-all : goal.returns-clause-all
-returns-clause-all c = sym (finite.entries-from_sorted tag_cmp _ c.self.invariant.rising) ∙ ap finite.entries c.self.view_is
+returns-clause-all c = sym (finite.entries-from_sorted tag_cmp _ c.self.invariant.0.rising) ∙ ap finite.entries c.self.view_is

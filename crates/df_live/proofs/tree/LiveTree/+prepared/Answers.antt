@@ -1,4 +1,5 @@
-use Rattle.std.proofs.Common.{◌^◌, ◌∙◌}
+use Rattle.std.proofs.Common.{◌^◌, ◌∙◌, ap, sym}
+use Rattle.std.specs.Prelude.{Ok}
 use Rattle.df_live.specs.Operators.{operator_budget}
 use Rattle.df_live.specs.Trees.{budget}
 use Rattle.df_live.proofs.Preparing.{prepared_join, prepared_over, refused_left, refused_over, refused_right, room_left}
@@ -15,9 +16,9 @@ pub prepared_over-returns : goal.prepared_over-returns
 prepared_over-returns t c p =
     let e = c.prepare.ensures in
     rw c.then_drop.ensures
-    (prepared_over p _ c.args.input.now c.prepared-below.new.self c.args.node.now c.prepare.new.self c.args.frame c.args.delta.now c.in_ok-below.between
+    (prepared_over p _ c.args.input.now c.prepared-below.new.self c.args.node.now c.prepare.new.self c.args.frame c.args.delta.now c.get.result.now
     c.args.meter.now c.prepared-below.new.meter c.prepare.new.meter c.prepared-below.result c.in_ok-below.below.value c.prepare.result c.over_one-made.result
-    c.prepared-below.ensures c.in_ok-below.ensures (record {
+    c.prepared-below.ensures (c.in_ok-below.ensures ∙ ap (λ d. Ok (c.in_ok-below.below.value, d)) (sym c.get.ensures)) (record {
       stays = record { contents = e.contents; operator = e.operator; takes = e.takes; same_budget = e.same_budget; same_bound = e.same_bound };
       grows = e.grows;
       within = e.within;
@@ -32,9 +33,10 @@ prepared_join-returns t c p q =
     let e = c.prepare-made.ensures in
     rw (c.then_drop-2.ensures ∙ c.then_drop.ensures)
     (prepared_join p q _ _ c.args.left.now c.prepared-on_left.new.self c.args.right.now c.prepared-on_right.new.self c.args.node.now c.prepare-made.new.self c.args.frame
-    c.args.delta.now c.in_ok-on_left.from_left c.in_ok-on_right.from_right c.args.meter.now c.prepared-on_left.new.meter c.prepared-on_right.new.meter
+    c.args.delta.now c.get.result.now c.get-2.result.now c.args.meter.now c.prepared-on_left.new.meter c.prepared-on_right.new.meter
     c.prepare-made.new.meter c.prepared-on_left.result c.prepared-on_right.result c.in_ok-on_left.on_left.value c.in_ok-on_right.on_right.value c.prepare-made.result
-    c.over_two-made.result c.prepared-on_left.ensures c.in_ok-on_left.ensures c.prepared-on_right.ensures c.in_ok-on_right.ensures (record {
+    c.over_two-made.result c.prepared-on_left.ensures (c.in_ok-on_left.ensures ∙ ap (λ d. Ok (c.in_ok-on_left.on_left.value, d)) (sym c.get.ensures))
+    c.prepared-on_right.ensures (c.in_ok-on_right.ensures ∙ ap (λ d. Ok (c.in_ok-on_right.on_right.value, d)) (sym c.get-2.ensures)) (record {
       stays = record { contents = e.contents; operator = e.operator; takes = e.takes; same_budget = e.same_budget; same_bound = e.same_bound };
       grows = e.grows;
       within = e.within;

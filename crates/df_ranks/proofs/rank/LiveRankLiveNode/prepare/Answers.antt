@@ -2,6 +2,7 @@ use Rattle.std.proofs.Common.{◌≤◌, ◌^◌, ◌∙◌, ap, subst, sym}
 use Rattle.std.specs.FinMap as finite
 use Rattle.df_column.specs.Changes.{applied}
 use Rattle.df_delta.specs.Deltas.{RowsFit}
+use Rattle.df_delta.specs.Differences.{IsDiff}
 use Rattle.df_ranks.specs.Rises.{AreRises}
 use Rattle.df_ranks.proofs.RankDeltas.{prepared}
 use Rattle.df_ranks.proofs.rank.LiveRankLiveNode.prepare.Goals as goal
@@ -19,7 +20,7 @@ returns-clause-diff c t h =
     c.in_ok-counts.counts stage.again.least stage.again.tags c.in_ok-counts.changes
     stage.sorted h.over.few h.over.rows h.over.ranks h.over.values h.fits c.entries.ensures.all (subst (λ i. AreRises rises i c.entries.result.now) c.index.ensures c.in_ok-rises.ensures) stage.rising
     (c.in_ok-input.ensures.rows fit) few stage.counted stage.again.stay stage.again.reach stage.again.made in
-    p.diff
+    subst (IsDiff _ _) (sym c.in_ok-changes.ensures) p.diff
 
 pub returns-clause-staged : goal.returns-clause-staged
 returns-clause-staged c t h =
@@ -34,7 +35,7 @@ returns-clause-staged c t h =
     c.in_ok-counts.counts stage.again.least stage.again.tags c.in_ok-counts.changes
     stage.sorted h.over.few h.over.rows h.over.ranks h.over.values h.fits c.entries.ensures.all (subst (λ i. AreRises rises i c.entries.result.now) c.index.ensures c.in_ok-rises.ensures) stage.rising
     (c.in_ok-input.ensures.rows fit) few stage.counted stage.again.stay stage.again.reach stage.again.made in
-    let gives = ap (λ m. applied m c.in_ok-counts.changes) h.over.ranks ∙ p.diff.gives in
+    let gives = ap (λ m. applied m c.in_ok-changes.changes) h.over.ranks ∙ (returns-clause-diff c t h).gives in
     record {
       few = subst (λ m. finite.len m ≤ 2 ^ 60) p.rows_are few;
       rows = p.rows_are;

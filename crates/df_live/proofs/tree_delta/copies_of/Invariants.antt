@@ -1,5 +1,5 @@
 use Rattle.std.proofs.Common.{◌≡◌, take}
-use Rattle.df_live.proofs.scan.copies_of.Given as goal
+use Rattle.df_live.proofs.tree_delta.copies_of.Given as goal
 
 abbrev pub invariant-loop-entry : goal.invariant-loop-entry
 invariant-loop-entry l = l.copies.items ≡ take l.entry-index l.entries
