@@ -7,9 +7,11 @@ ghost use Rattle.df_value.specs.CellOrder.{cell_cmp};
 ghost use Rattle.df_value.specs.declared.cell.Cell.{Cell as AnyCell};
 ghost use Rattle.df_column.specs.Changes.{after_changes, edit};
 ghost use Rattle.df_counts.specs.Counts.{count_change, some_count};
+ghost use Rattle.df_counts.specs.Positions.{IsPosition};
 
-use crate::entries::{find, set_count};
+use crate::entries::{position_of, set_at};
 use crate::order::is_less;
+use crate::position::Position;
 use crate::value_count::{IsBelow, ValueCount};
 use df_tree::Seq;
 use df_value::Cell;
@@ -95,14 +97,24 @@ impl Counts {
         }
     }
 
+    /// Where this value stands, or would stand.
+    pub fn position(&self, value: &Cell) -> Position
+        ensures { IsPosition self.now value.now result }
+    {
+        match &self.entries {
+            None => Position {
+                index: 0,
+                count: None,
+            },
+            Some(entries) => position_of(&entries.seq, value),
+        }
+    }
+
     /// How many rows have this value, if one has it.
     pub fn find(&self, value: &Cell) -> Option<u64>
         ensures { result ≡ entry_of cell_cmp value.now self.now }
     {
-        match &self.entries {
-            None => None,
-            Some(entries) => find(&entries.seq, value),
-        }
+        self.position(value).count
     }
 
     /// How many rows have this value.
@@ -120,8 +132,25 @@ impl Counts {
             (λ _. self.new ≡ edit cell_cmp self.old value.now (some_count count))
             (λ _. self.new ≡ self.old) }
     {
+        let position = self.position(value);
+        self.set_at(alloc, position, value, count)
+    }
+
+    /// Gives the value this count, as `set_count` does, where its position is known already.
+    pub fn set_at(
+        &mut self,
+        alloc: Global,
+        position: Position,
+        value: &Cell,
+        count: u64,
+    ) -> Result<(), AllocError>
+        requires { IsPosition self.old value.now position }
+        ensures { MatchResult result
+            (λ _. self.new ≡ edit cell_cmp self.old value.now (some_count count))
+            (λ _. self.new ≡ self.old) }
+    {
         match &mut self.entries {
-            Some(entries) => set_count(&mut entries.seq, alloc, value, count),
+            Some(entries) => set_at(&mut entries.seq, alloc, position, value, count),
             None => self.set_first(alloc, value, count),
         }
     }
@@ -137,7 +166,8 @@ impl Counts {
             return Ok(());
         }
         let mut seq = Seq::empty(alloc)?;
-        set_count(&mut seq, alloc, value, count)?;
+        let position = position_of(&seq, value);
+        set_at(&mut seq, alloc, position, value, count)?;
         self.entries = Some(Entries { alloc, seq });
         Ok(())
     }

@@ -6,7 +6,9 @@
 mod counts;
 mod entries;
 mod order;
+mod position;
 mod totals;
 mod value_count;
 
 pub use counts::Counts;
+pub use position::Position;

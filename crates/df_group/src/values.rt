@@ -96,8 +96,9 @@ fn add_one(alloc: Global, counts: &mut Counts, value: &Cell) -> Result<(), Alloc
     requires { count_in counts.old value.now + 1 < 2 ^ 64 }
     ensures { IfOk result (λ _. counts.new ≡ totals_spec.with_row counts.old (Some value.now)) }
 {
-    let count = counts.count(value) + 1;
-    counts.set_count(alloc, value, count)?;
+    let position = counts.position(value);
+    let count = position.count.unwrap_or(0) + 1;
+    counts.set_at(alloc, position, value, count)?;
     Ok(())
 }
 
@@ -149,8 +150,9 @@ fn take_value(alloc: Global, counts: &mut Counts, value: Option<&Cell>) -> Resul
     let Some(value) = value else {
         return Ok(());
     };
-    let count = counts.count(value).saturating_sub(1);
-    counts.set_count(alloc, value, count)?;
+    let position = counts.position(value);
+    let count = position.count.unwrap_or(0).saturating_sub(1);
+    counts.set_at(alloc, position, value, count)?;
     Ok(())
 }
 
@@ -161,10 +163,11 @@ fn add_value(alloc: Global, counts: &mut Counts, value: Option<&Cell>) -> Result
     let Some(value) = value else {
         return Ok(());
     };
-    if counts.count(value) == u64::MAX {
+    let position = counts.position(value);
+    let Some(count) = position.count.unwrap_or(0).checked_add(1) else {
         return Err(CountFault::TooMany);
-    }
-    add_one(alloc, counts, value)?;
+    };
+    counts.set_at(alloc, position, value, count)?;
     Ok(())
 }
 

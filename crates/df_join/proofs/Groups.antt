@@ -1,13 +1,14 @@
 -- The rows of a key, in tables and as they are staged.
 use Rattle.std.proofs.Common.{◌≡◌, ℕ, zero, suc, Bool, true, false, cond, List, [], ◌∷◌, ◌++◌, map, Option, Some, None, Result, Ok, Err, OnOk, IsOk, refl, sym, ap, subst, ◌∙◌}
-use Rattle.std.specs.Prelude.{◌==◌, slice_get}
+use Rattle.std.specs.Prelude.{◌==◌, ◌||◌, slice_get}
+use Rattle.std.specs.List.{list_any}
 use Rattle.std.specs.Map.{lookup}
 use Rattle.std.specs.Option.{option_and_then}
 use Rattle.std.specs.Ordering.{eq_by_cmp}
 use Rattle.std.proofs.lemmas.Bool.{eqb-true}
 use Rattle.std.specs.FinMap as finite
 use Rattle.indexmap.specs.IndexMap.{IndexMap, get, set_value_at}
-use Rattle.df_value.specs.Rows.{row_eq}
+use Rattle.df_value.specs.Rows.{cell_at, row_eq}
 use Rattle.df_value.specs.RowEq.{row_eq-Decides}
 use Rattle.df_value.specs.declared.cell.CellType.{CellType}
 use Rattle.df_column.specs.Changes.{set_at}
@@ -16,6 +17,7 @@ use Rattle.df_column.specs.Tables.{TableParts, TaggedRows}
 use Rattle.df_column.specs.Tags.{tag_cmp}
 use Rattle.df_column.specs.declared.tag.Tag.{Tag}
 use Rattle.df_delta.proofs.Changes.{get-set_at}
+use Rattle.df_expr.specs.Value.{is_null}
 use Rattle.df_ops.specs.Groups.{key_of}
 use Rattle.df_join.specs.Keyed.{group_of, table_or_none, unless_empty, rows_or_empty, table_or, staged_or, state_of}
 use Rattle.df_join.specs.RowNotes.{row_before, row_after, without}
@@ -163,3 +165,8 @@ on_ok_here (Err e) p is = cc is
 
 pub is_empty : (m : TableParts) → finite.len m.rows ≡ 0 → None ≡ unless_empty m
 is_empty m e = ap (λ (n : ℕ). cond (n == 0) None (Some m)) (sym e)
+
+-- a key has a null where one of the cells is null of which it is made
+pub null_cells : (row : Cells) (indices : List (Option ℕ)) → list_any (λ i. is_null (cell_at i row)) indices ≡ list_any is_null (key_of indices row)
+null_cells row [] = refl
+null_cells row (i ∷ is) = ap (λ b. is_null (cell_at i row) || b) (null_cells row is)

@@ -1,14 +1,15 @@
 -- How what is staged follows the changes of its side.
-use Rattle.std.proofs.Common.{◌≡◌, ◌≤◌, ◌<◌, ◌+◌, ℕ, Bool, true, false, cond, List, [], ◌∷◌, map, length, drop, get_or, Option, None, Result, Ok, Err, MatchResult, OnOk, IfOk, refl, sym, ap, subst, ◌∙◌, drop-cons, add-one}
+use Rattle.std.proofs.Common.{◌≡◌, ◌≤◌, ◌<◌, ◌+◌, ℕ, Bool, true, false, cond, List, [], ◌∷◌, map, length, drop, get_or, Option, Some, None, Result, Ok, Err, MatchResult, OnOk, IfOk, refl, sym, ap, subst, ◌∙◌, drop-cons, add-one}
 use Rattle.std.specs.Prelude.{T, ◌==◌}
 use Rattle.std.specs.Option.{IfSome}
 use Rattle.std.proofs.Math.ListN.{drop_of_length-le}
 use Rattle.std.specs.FinMap as finite
-use Rattle.indexmap.specs.IndexMap.{get}
+use Rattle.indexmap.specs.IndexMap.{IndexMap, get}
 use Rattle.df_value.specs.Rows.{row_eq}
 use Rattle.df_column.specs.Changes.{set_at, applied_list, applied}
 use Rattle.df_column.specs.TagOrder.{tag_total, tag_same}
-use Rattle.df_column.specs.Tables.{TaggedRows, entry_change, new_row_fits}
+use Rattle.df_value.specs.declared.cell.CellType.{CellType}
+use Rattle.df_column.specs.Tables.{TableParts, TaggedRows, entry_change, new_row_fits}
 use Rattle.df_column.specs.Tags.{tag_cmp}
 use Rattle.df_column.specs.declared.entry.Entry.{Entry}
 use Rattle.df_column.specs.declared.tag.Tag.{Tag}
@@ -17,7 +18,7 @@ use Rattle.df_delta.specs.Deltas.{Changes}
 use Rattle.df_delta.specs.Differences.{Fits}
 use Rattle.df_delta.proofs.Changes.{get-set_at}
 use Rattle.df_delta.proofs.Collected.{T-first, T-second}
-use Rattle.df_join.specs.Keyed.{IsGroup, IsIndexOf, LeadsTo, group_of, staged_or, state_of, table_or, table_or_none}
+use Rattle.df_join.specs.Keyed.{IsGroup, IsIndexOf, LeadsTo, group_of, staged_or, state_of, table_or, table_or_none, unless_empty}
 use Rattle.df_join.specs.RowNotes.{CanMove, FitsList, NewFit, Note, row_after, without}
 use Rattle.df_join.specs.Rules.{Cells}
 use Rattle.df_join.specs.declared.keyed.KeyedTables.{KeyedTables}
@@ -126,3 +127,21 @@ module _ (indices : List (Option ℕ)) (members : Members) where
   follows_all staged items i u le f =
       let f' : Follows indices members staged [] u = subst (λ es. Follows indices members staged (map entry_change es) u) (drop_of_length-le items le) f in
       subst (LeadsTo indices members staged) f'.gives f'.leads
+
+pub both_ways : {A E P Q R : Type 0} (r : Result A E) → MatchResult r (λ _. P) (λ _. Q) → (P → R) → (Q → R) → R
+both_ways (Ok a) p f g = f p
+both_ways (Err e) q f g = g q
+
+pub match_map : {A E P R : Type 0} (Q : Type 0) (r : Result A E) → MatchResult r (λ _. P) (λ _. Q) → (P → R) → MatchResult r (λ _. R) (λ _. Q)
+match_map Q (Ok a) p f = f p
+match_map Q (Err e) q f = q
+
+-- the table of a key takes the place of the one that is staged, or is staged first
+module _ {S : Type 0} (tables staged next : IndexMap Cells TableParts S) (key : Cells) (made : TableParts) (rows : TaggedRows) (schema : List (List ℕ × CellType)) where
+  pub state_moved : ((k : Cells) → get row_eq next k ≡ cond (row_eq key k) (Some made) (get row_eq staged k)) → made ≡ record { schema = schema; rows = rows }
+      → (k : Cells) → state_of tables next k ≡ cond (row_eq key k) (table_or_none schema rows) (state_of tables staged k)
+  state_moved put is k = ap (λ s. staged_or s (get row_eq tables k)) (put k) ∙ either (row_eq key k)
+    where
+      either : (b : Bool) → staged_or (cond b (Some made) (get row_eq staged k)) (get row_eq tables k) ≡ cond b (table_or_none schema rows) (state_of tables staged k)
+      either true = ap unless_empty is
+      either false = refl

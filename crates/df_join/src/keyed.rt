@@ -4,17 +4,20 @@ ghost use Rattle.std.specs.Option.{option_copied};
 ghost use Rattle.indexmap.specs.IndexMap.{get, spare, index_map_len, IsUnchanged};
 ghost use Rattle.df_value.specs.Rows.{row_eq};
 ghost use Rattle.df_join.specs.Rules.{Cells};
+ghost use Rattle.df_delta.specs.RowKeys.{key_cells};
 ghost use Rattle.df_join.specs.Keyed.{state_of, unless_empty};
 
 use crate::tree_table::TreeTable;
+use df_delta::RowKey;
 use df_expr::Counter;
-use df_value::{Duplicate, Row};
+use df_ops::key_of;
+use df_value::Row;
 use indexmap::IndexMap;
 use std::alloc::{AllocError, Global};
 
 /// A table for each of some keys. Each look-up of a key is a probe, and is counted; to put a table under a key is none.
 pub struct KeyedTables {
-    tables: IndexMap<Row, TreeTable>,
+    pub tables: IndexMap<Row, TreeTable>,
 }
 
 // A body that owns one drops it by a call.
@@ -35,31 +38,26 @@ impl KeyedTables {
     }
 
     /// The table of the key. Makes one probe.
-    pub fn look(&self, key: &Row, probes: &mut Counter) -> Option<&TreeTable>
+    pub fn look(&self, key: RowKey<'_>, probes: &mut Counter) -> Option<&TreeTable>
         requires { probes.old + 1 < 2 ^ 128 }
-        ensures table { option_copied result ≡ get row_eq self.now.tables key.now }
+        ensures table { option_copied result ≡ get row_eq self.now.tables (key_cells key.entry) }
         ensures counted { probes.new ≡ probes.old + 1 }
     {
         probes.raise();
         self.tables.get(key)
     }
 
-    /// Takes the table of the key out. Makes one probe.
-    pub fn take(&mut self, key: &Row, probes: &mut Counter) -> Option<TreeTable>
-        requires { probes.old + 1 < 2 ^ 128 }
-        ensures table { result ≡ get row_eq self.old.tables key.now }
-        ensures rest { (k : Cells) → get row_eq self.new.tables k ≡ cond (row_eq key.now k) None (get row_eq self.old.tables k) }
-        ensures counted { probes.new ≡ probes.old + 1 }
-    {
-        probes.raise();
-        self.tables.swap_remove(key)
-    }
-
     /// Puts the table under the key.
-    pub fn put(&mut self, alloc: Global, key: &Row, table: TreeTable) -> Result<(), AllocError>
-        ensures { OnOk result ((k : Cells) → get row_eq self.new.tables k ≡ cond (row_eq key.now k) (Some table) (get row_eq self.old.tables k)) }
+    pub fn put(
+        &mut self,
+        alloc: Global,
+        key: RowKey<'_>,
+        table: TreeTable,
+    ) -> Result<(), AllocError>
+        ensures { OnOk result ((k : Cells) → get row_eq self.new.tables k ≡ cond (row_eq (key_cells key.entry) k) (Some table) (get row_eq self.old.tables k)) }
     {
-        match self.tables.insert(key.copy(alloc)?, table) {
+        let key = key_of(alloc, key.indices, key.row)?;
+        match self.tables.insert(key, table) {
             Ok(_) => Ok(()),
             Err(_) => Err(AllocError),
         }

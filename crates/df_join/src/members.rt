@@ -7,6 +7,7 @@ ghost use Rattle.df_value.specs.Rows.{row_eq};
 ghost use Rattle.df_column.specs.Changes.{set_at, applied};
 ghost use Rattle.df_column.specs.Tables.{TaggedRows, new_row_fits};
 ghost use Rattle.df_delta.specs.Differences.{Fits};
+ghost use Rattle.df_delta.specs.RowKeys.{key_cells};
 ghost use Rattle.df_join.specs.Keyed.{IsGroup, IsIndexOf, LeadsTo, group_of, state_of, table_or, table_or_none, unless_empty};
 ghost use Rattle.df_join.specs.Probes.{Grows, all_probes, change_probes, is_staged, nothing_staged, probes_over, stage_probes, with_key, with_keys};
 ghost use Rattle.df_join.specs.RowNotes.{CanMove, NewFit, row_after, without};
@@ -15,9 +16,8 @@ ghost use Rattle.df_join.specs.Rules.{Cells};
 use crate::keyed::KeyedTables;
 use crate::tree_table::TreeTable;
 use df_column::{Entry, Tag};
-use df_delta::Delta;
+use df_delta::{Delta, RowKey};
 use df_expr::Counter;
-use df_ops::key_of;
 use df_value::{Duplicate, Row, Schema};
 use std::alloc::{AllocError, Global};
 
@@ -41,21 +41,37 @@ impl Drop for Members {
     }
 }
 
-/// The table without the row that goes, or with the row that comes.
-fn edited_by(
+/// Takes the row that goes out of the table, or puts the one that comes there.
+fn edit_by(
     alloc: Global,
-    table: TreeTable,
+    table: &mut TreeTable,
     goes: bool,
     tag: Tag,
     row: &Row,
-) -> Result<TreeTable, AllocError>
-    ensures { IfOk result (λ t. t ≡ record { schema = table.schema; rows = set_at table.rows tag (row_after goes row.now) }) }
+) -> Result<(), AllocError>
+    ensures { OnOk result (table.new ≡ record { schema = table.old.schema; rows = set_at table.old.rows tag (row_after goes row.now) }) }
 {
     if goes {
-        table.without_row(alloc, tag)
+        table.take(alloc, tag)
     } else {
-        table.with_row(alloc, tag, row.copy(alloc)?)
+        table.put(alloc, tag, row.copy(alloc)?)
     }
+}
+
+/// The same, and answers whether the table has no other row.
+fn move_row(
+    alloc: Global,
+    table: &mut TreeTable,
+    goes: bool,
+    tag: Tag,
+    row: &Row,
+) -> Result<bool, AllocError>
+    ensures table { OnOk result (table.new ≡ record { schema = table.old.schema; rows = set_at table.old.rows tag (row_after goes row.now) }) }
+    ensures alone { IfOk result (λ alone. alone ≡ (finite.len (without goes table.old.rows tag) == 0)) }
+{
+    let was_empty = table.is_empty();
+    edit_by(alloc, table, goes, tag, row)?;
+    Ok(if goes { table.is_empty() } else { was_empty })
 }
 
 impl Members {
@@ -72,29 +88,18 @@ impl Members {
     }
 
     /// The rows of the key. Makes one probe.
-    pub fn look(&self, key: &Row, probes: &mut Counter) -> Option<&TreeTable>
+    pub fn look(&self, key: RowKey<'_>, probes: &mut Counter) -> Option<&TreeTable>
         requires { probes.old + 1 < 2 ^ 128 }
-        ensures table { option_copied result ≡ get row_eq self.now.keyed.tables key.now }
+        ensures table { option_copied result ≡ get row_eq self.now.keyed.tables (key_cells key.entry) }
         ensures counted { probes.new ≡ probes.old + 1 }
     {
         self.keyed.look(key, probes)
     }
 
-    /// The table, or where it is empty one that is of the schema.
-    fn or_empty(&self, table: TreeTable) -> Result<TreeTable, AllocError>
-        ensures { IfOk result (λ t. t ≡ table_or self.now.empty (unless_empty table)) }
-    {
-        if table.is_empty() {
-            self.empty.share(self.alloc)
-        } else {
-            Ok(table)
-        }
-    }
-
     /// The rows of the key as they are. Makes one probe.
-    fn kept_table(&self, key: &Row, probes: &mut Counter) -> Result<TreeTable, AllocError>
+    fn kept_table(&self, key: RowKey<'_>, probes: &mut Counter) -> Result<TreeTable, AllocError>
         requires { probes.old + 1 < 2 ^ 128 }
-        ensures table { IfOk result (λ t. t ≡ table_or self.now.empty (get row_eq self.now.keyed.tables key.now)) }
+        ensures table { IfOk result (λ t. t ≡ table_or self.now.empty (get row_eq self.now.keyed.tables (key_cells key.entry))) }
         ensures counted { probes.new ≡ probes.old + 1 }
     {
         match self.keyed.look(key, probes) {
@@ -103,23 +108,14 @@ impl Members {
         }
     }
 
-    /// Takes the rows of the key out of what is staged, or shares those that are there. Makes at most two probes.
-    fn take_table(
-        &self,
-        staged: &mut KeyedTables,
-        key: &Row,
-        probes: &mut Counter,
-    ) -> Result<TreeTable, AllocError>
-        requires { probes.old + 2 < 2 ^ 128 }
-        ensures table { IfOk result (λ t. t ≡ table_or self.now.empty (state_of self.now.keyed.tables staged.old.tables key.now)) }
-        ensures rest { (k : Cells) → get row_eq staged.new.tables k ≡ cond (row_eq key.now k) None (get row_eq staged.old.tables k) }
-        ensures exact { probes.new ≡ probes.old + probes_over (is_staged staged.old key.now) }
-        ensures counted { Grows probes.old probes.new 2 }
+    /// Makes a table without rows one that is of the schema.
+    fn give_schema(&self, table: &mut TreeTable) -> Result<(), AllocError>
+        ensures { OnOk result (table.new ≡ table_or self.now.empty (unless_empty table.old)) }
     {
-        match staged.take(key, probes) {
-            Some(table) => self.or_empty(table),
-            None => self.kept_table(key, probes),
+        if table.is_empty() {
+            *table = self.empty.share(self.alloc)?;
         }
+        Ok(())
     }
 
     /// Takes the row out of its key's rows, or puts it there. Answers whether the key has no other row.
@@ -129,27 +125,30 @@ impl Members {
         goes: bool,
         tag: Tag,
         row: &Row,
-        key: &Row,
+        key: RowKey<'_>,
         probes: &mut Counter,
     ) -> Result<bool, AllocError>
         requires { probes.old + 2 < 2 ^ 128 }
-        ensures states { OnOk result ((g : TaggedRows) → IsGroup self.now staged.old key.now g
+        ensures states { OnOk result ((g : TaggedRows) → IsGroup self.now staged.old (key_cells key.entry) g
             → T (new_row_fits self.now.empty.schema (row_after goes row.now))
             → (k : Cells) → state_of self.now.keyed.tables staged.new.tables k
-            ≡ cond (row_eq key.now k) (table_or_none self.now.empty.schema (set_at g tag (row_after goes row.now)))
+            ≡ cond (row_eq (key_cells key.entry) k) (table_or_none self.now.empty.schema (set_at g tag (row_after goes row.now)))
             (state_of self.now.keyed.tables staged.old.tables k)) }
-        ensures alone { IfOk result (λ alone. (g : TaggedRows) → IsGroup self.now staged.old key.now g
+        ensures alone { IfOk result (λ alone. (g : TaggedRows) → IsGroup self.now staged.old (key_cells key.entry) g
             → T (new_row_fits self.now.empty.schema (row_after goes row.now))
             → alone ≡ (finite.len (without goes g tag) == 0)) }
-        ensures exact { probes.new ≡ probes.old + probes_over (is_staged staged.old key.now) }
-        ensures touched { OnOk result ((k : Cells) → is_staged staged.new k ≡ (row_eq key.now k || is_staged staged.old k)) }
+        ensures exact { probes.new ≡ probes.old + probes_over (is_staged staged.old (key_cells key.entry)) }
+        ensures touched { OnOk result ((k : Cells) → is_staged staged.new k ≡ (row_eq (key_cells key.entry) k || is_staged staged.old k)) }
         ensures counted { Grows probes.old probes.new 2 }
     {
-        let before = self.take_table(staged, key, probes)?;
-        let was_empty = before.is_empty();
-        let after = edited_by(self.alloc, before, goes, tag, row)?;
-        let alone = if goes { after.is_empty() } else { was_empty };
-        staged.put(self.alloc, key, after)?;
+        probes.raise();
+        if let Some(table) = staged.tables.get_mut(key) {
+            self.give_schema(table)?;
+            return move_row(self.alloc, table, goes, tag, row);
+        }
+        let mut table = self.kept_table(key, probes)?;
+        let alone = move_row(self.alloc, &mut table, goes, tag, row)?;
+        staged.put(self.alloc, key, table)?;
         Ok(alone)
     }
 
@@ -160,20 +159,20 @@ impl Members {
         goes: bool,
         tag: Tag,
         row: &Row,
-        key: &Row,
+        key: RowKey<'_>,
         probes: &mut Counter,
     ) -> Result<bool, AllocError>
         requires { probes.old + 2 < 2 ^ 128 }
         ensures leads { OnOk result ((indices : List (Option ℕ)) (t : TaggedRows)
-            → CanMove self.now.empty.schema indices goes tag row.now key.now t
+            → CanMove self.now.empty.schema indices goes tag row.now (key_cells key.entry) t
             → LeadsTo indices self.now staged.old t
             → LeadsTo indices self.now staged.new (set_at t tag (row_after goes row.now))) }
         ensures alone { IfOk result (λ alone. (indices : List (Option ℕ)) (t : TaggedRows)
-            → CanMove self.now.empty.schema indices goes tag row.now key.now t
+            → CanMove self.now.empty.schema indices goes tag row.now (key_cells key.entry) t
             → LeadsTo indices self.now staged.old t
-            → alone ≡ (finite.len (group_of indices key.now (without goes t tag)) == 0)) }
-        ensures exact { probes.new ≡ probes.old + probes_over (is_staged staged.old key.now) }
-        ensures touched { OnOk result ((k : Cells) → is_staged staged.new k ≡ (row_eq key.now k || is_staged staged.old k)) }
+            → alone ≡ (finite.len (group_of indices (key_cells key.entry) (without goes t tag)) == 0)) }
+        ensures exact { probes.new ≡ probes.old + probes_over (is_staged staged.old (key_cells key.entry)) }
+        ensures touched { OnOk result ((k : Cells) → is_staged staged.new k ≡ (row_eq (key_cells key.entry) k || is_staged staged.old k)) }
         ensures counted { Grows probes.old probes.new 2 }
     {
         self.stage_in_key(staged, goes, tag, row, key, probes)
@@ -200,8 +199,8 @@ impl Members {
     {
         match row {
             Some(row) => {
-                let key = key_of(self.alloc, indices, row)?;
-                self.stage_row(staged, goes, tag, row, &key, probes)?;
+                let key = RowKey { indices, row };
+                self.stage_row(staged, goes, tag, row, key, probes)?;
                 Ok(())
             }
             None => Ok(()),

@@ -1,13 +1,31 @@
 //! How a join matches rows, and what it makes of them.
 ghost use Rattle.std.specs.Prelude.{◌≡◌, ◌&&◌, IfOk, None, Some};
-ghost use Rattle.df_value.specs.Rows.{row_eq};
+ghost use Rattle.std.specs.List.{list_any};
+ghost use Rattle.df_value.specs.Rows.{cell_at, row_eq};
+ghost use Rattle.df_expr.specs.Value.{is_null};
+ghost use Rattle.df_delta.specs.RowKeys as row_keys;
 ghost use Rattle.df_ops.specs.Groups.{key_of as key_cells};
 ghost use Rattle.df_join.specs.Rules as rules;
 
 use df_delta::RowKey;
-use df_ops::{How, JoinIndices, has_null, key_of, nulls, row_beside};
-use df_value::Row;
+use df_ops::{How, JoinIndices, key_of, nulls, row_beside};
+use df_value::{CellRef, Row};
 use std::alloc::{AllocError, Global};
+
+/// Whether the row's cell at an index is null, or there is none.
+fn is_null_at(row: &Row, index: Option<usize>) -> bool
+    ensures { result ≡ is_null (cell_at index row.now) }
+{
+    matches!(row.cell_at(index), CellRef::Null)
+}
+
+/// Whether one of the cells of the key is null.
+fn has_null(key: RowKey<'_>) -> bool
+    ensures { result ≡ list_any (λ i. is_null (cell_at i key.entry.row.now)) key.entry.indices.now }
+{
+    let row = key.row;
+    key.indices.iter().any(|index| is_null_at(row, *index))
+}
 
 /// Which rows match, and which cells stand beside a left row.
 pub struct JoinRule {
@@ -25,10 +43,10 @@ impl Drop for JoinRule {
 
 impl JoinRule {
     /// Whether the key is null, so that it matches nothing.
-    pub fn is_null_key(&self, key: &Row) -> bool
-        ensures { result ≡ rules.is_null_key self.now key.now }
+    pub fn is_null_key(&self, key: RowKey<'_>) -> bool
+        ensures { result ≡ rules.is_null_key self.now (row_keys.key_cells key.entry) }
     {
-        !self.indices.nulls_equal && has_null(key.as_slice())
+        !self.indices.nulls_equal && has_null(key)
     }
 
     /// Whether a left row stays that has no match.
@@ -49,17 +67,19 @@ impl JoinRule {
     }
 
     /// The key of a left row.
-    pub fn left_key(&self, alloc: Global, row: &Row) -> Result<Row, AllocError>
-        ensures { IfOk result (λ key. key ≡ key_cells self.now.indices.left row.now) }
+    pub fn left_key<'a>(&'a self, row: &'a Row) -> RowKey<'a>
+        ensures { row_keys.key_cells result ≡ key_cells self.now.indices.left row.now }
     {
-        key_of(alloc, self.indices.left.as_slice(), row)
+        let indices = self.indices.left.as_slice();
+        RowKey { indices, row }
     }
 
     /// The key of a right row.
-    pub fn right_key(&self, alloc: Global, row: &Row) -> Result<Row, AllocError>
-        ensures { IfOk result (λ key. key ≡ key_cells self.now.indices.right row.now) }
+    pub fn right_key<'a>(&'a self, row: &'a Row) -> RowKey<'a>
+        ensures { row_keys.key_cells result ≡ key_cells self.now.indices.right row.now }
     {
-        key_of(alloc, self.indices.right.as_slice(), row)
+        let indices = self.indices.right.as_slice();
+        RowKey { indices, row }
     }
 
     /// Whether two right rows have the same key.
@@ -67,8 +87,7 @@ impl JoinRule {
         ensures { result ≡ row_eq (key_cells self.now.indices.right a.now)
             (key_cells self.now.indices.right b.now) }
     {
-        let indices = self.indices.right.as_slice();
-        RowKey { indices, row: a } == RowKey { indices, row: b }
+        self.right_key(a) == self.right_key(b)
     }
 
     /// A left row beside a match.

@@ -1,5 +1,5 @@
 //! Tables whose rows stand in a sequence that finds them by tag.
-ghost use Rattle.std.specs.Prelude.{◌≡◌, ◌==◌, IfOk, Some, None};
+ghost use Rattle.std.specs.Prelude.{◌≡◌, ◌==◌, IfOk, None, OnOk, Some};
 ghost use Rattle.std.specs.FinMap as finite;
 ghost use Rattle.df_column.specs.Changes.{set_at};
 
@@ -88,24 +88,20 @@ impl TreeTable {
         self.rows.make_shared(alloc)
     }
 
-    /// The table with this row at the tag.
-    pub fn with_row(self, alloc: Global, tag: Tag, row: Row) -> Result<TreeTable, AllocError>
-        ensures { IfOk result (λ t. t ≡ record
-            { schema = self.schema; rows = set_at self.rows tag (Some row) }) }
+    /// Puts this row at the tag. Where memory is refused the table stays.
+    pub fn put(&mut self, alloc: Global, tag: Tag, row: Row) -> Result<(), AllocError>
+        ensures { OnOk result (self.new ≡ record
+            { schema = self.old.schema; rows = set_at self.old.rows tag (Some row) }) }
     {
-        let TreeTable { schema, mut rows } = self;
-        put_row(&mut rows, alloc, TaggedRow::new(tag, row))?;
-        Ok(TreeTable { schema, rows })
+        put_row(&mut self.rows, alloc, TaggedRow::new(tag, row))
     }
 
-    /// The table without the row at the tag, if there is one.
-    pub fn without_row(self, alloc: Global, tag: Tag) -> Result<TreeTable, AllocError>
-        ensures { IfOk result (λ t. t ≡ record
-            { schema = self.schema; rows = set_at self.rows tag None }) }
+    /// Takes the row at the tag out, if there is one. Where memory is refused the table stays.
+    pub fn take(&mut self, alloc: Global, tag: Tag) -> Result<(), AllocError>
+        ensures { OnOk result (self.new ≡ record
+            { schema = self.old.schema; rows = set_at self.old.rows tag None }) }
     {
-        let TreeTable { schema, mut rows } = self;
-        take_row(&mut rows, alloc, tag)?;
-        Ok(TreeTable { schema, rows })
+        take_row(&mut self.rows, alloc, tag)
     }
 
     /// The tags with copies of their rows, by rising tag.

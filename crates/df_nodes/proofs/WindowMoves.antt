@@ -1,12 +1,11 @@
 -- A window that moves on over rows.
-use Rattle.std.proofs.Common.{◌≡◌, ℕ, ◌+◌, ◌-◌, ◌^◌, ◌<◌, ◌≤◌, min, List, [], ◌∷◌, ◌++◌, length, take, drop, get_or, refl, sym, ap, subst, ◌∙◌, arith, length-drop, length-take, get_or-take}
+use Rattle.std.proofs.Common.{◌≡◌, ℕ, ◌+◌, ◌-◌, ◌^◌, ◌<◌, ◌≤◌, List, [], ◌∷◌, ◌++◌, length, take, drop, get_or, sym, ap, subst, ◌∙◌, arith, length-drop, length-take}
 use Rattle.std.proofs.lemmas.List.{drop-append-le, drop-drop, drop_all, drop_more, get_or-map, length-map, take-append-drop, take-map, take-take, take_more}
 use Rattle.df_value.specs.declared.cell.Cell.{Cell}
 use Rattle.df_value.specs.declared.cell.Cell.TheVariants as cell
 use Rattle.df_value.specs.Rows.{cell_at}
 use Rattle.df_ops.specs.Aggregates.{cells_of}
 use Rattle.df_ops.specs.Windows.{window_of}
-use Rattle.df_ops.specs.declared.windows.RollKind.{RollKind}
 use Rattle.df_nodes.specs.Sliding.{AreWords, IsLast, IsOver, IsReady, IsSmall, IsWord, joined_totals, stacked, totals_of, whole_totals}
 use Rattle.df_nodes.specs.declared.rolling.Rolling.{Rolling}
 use Rattle.df_nodes.specs.declared.sliding.SlidingWindow.{SlidingWindow}

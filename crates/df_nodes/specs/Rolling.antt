@@ -2,7 +2,6 @@
 use Rattle.std.specs.Prelude.{ℕ, ◌-◌, List, [], ◌∷◌, ◌++◌, filter, map, take}
 use Rattle.df_value.specs.declared.cell.Cell.{Cell}
 use Rattle.df_expr.specs.declared.meter.Meter.{Meter}
-use Rattle.df_ops.specs.Aggregates.{cells_of}
 use Rattle.df_ops.specs.Places.{placed_cell}
 use Rattle.df_ops.specs.Windows.{rolling_cell, window_of}
 use Rattle.df_ops.specs.declared.places.Place.{Place}

@@ -1,5 +1,5 @@
 -- A window that moves on over rows, and what a rolling column takes of its cells.
-use Rattle.std.specs.Prelude.{◌≡◌, ℕ, ℤ, pos, ◌+◌, ◌+ℤ◌, ◌-◌, ◌≤◌, ◌≤ℤ◌, ◌^◌, List, [], ◌∷◌, ◌++◌, Option, Some, None, drop, length, slice_index_or, take}
+use Rattle.std.specs.Prelude.{◌≡◌, ℕ, pos, ◌+◌, ◌+ℤ◌, ◌-◌, ◌≤◌, ◌≤ℤ◌, ◌^◌, List, [], ◌∷◌, ◌++◌, Option, Some, None, drop, length, slice_index_or, take}
 use Rattle.df_value.specs.declared.cell.Cell.{Cell}
 use Rattle.df_ops.specs.Aggregates.{cells_of, count_of, min_or_max_in, non_null, sum_of}
 use Rattle.df_ops.specs.LoopStates.{min_or_max_with}

@@ -22,7 +22,7 @@ ghost use Rattle.df_nodes.specs.Sums.{AreSums, HasSumsBefore, cell_in, made_outp
 ghost use Rattle.df_nodes.specs.Sums.{shift_of, sum_output, sum_to, summed_row};
 
 use crate::added_column::schema_with;
-use crate::changed_tables::{ChangedTables, rows_before_entry};
+use crate::changed_tables::{ChangedTables, place_and_next, rows_before_entry};
 use crate::tail_sums::{TailSums, first_tag, is_null, is_within, sum_in, sums_behind};
 use df_column::{Entry, Table, Tag};
 use df_delta::{Delta, LiveNode, apply, push_change};
@@ -210,8 +210,8 @@ impl LiveSum {
         ensures rows { T (list_all has_row entries.old.items)
             → OnOk result (T (list_all has_row entries.new.items)) }
     {
-        let from = input.upper_bound(tag);
-        self.push_at(all, tag, input.find(tag), entries)?;
+        let (at, from) = place_and_next(input, tag);
+        self.push_at(all, tag, at, entries)?;
         self.push_run(input, all, from, from.max(stop), entries)?;
         Ok(())
     }

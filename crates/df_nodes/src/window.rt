@@ -22,7 +22,7 @@ ghost use Rattle.df_nodes.specs.Rolling.{reached_by, rolling_output, windows};
 ghost use Rattle.df_nodes.specs.Sliding.{IsLast, output_row};
 
 use crate::added_column::schema_with;
-use crate::changed_tables::{ChangedTables, rows_before_entry};
+use crate::changed_tables::{ChangedTables, place_and_next, rows_before_entry};
 use crate::rolling::Rolling;
 use crate::sliding::SlidingWindow;
 use df_column::{Entry, Table, Tag};
@@ -155,9 +155,9 @@ impl LiveWindow {
         ensures counted { IsWithin meter.new
             (plus meter.old (windows self.now.rolling.w)) }
     {
-        let from = input.upper_bound(tag);
+        let (at, from) = place_and_next(input, tag);
         let end = from + stop.saturating_sub(from).min(self.rolling.w - 1);
-        self.push_at(input, tag, input.find(tag), window, entries, meter)?;
+        self.push_at(input, tag, at, window, entries, meter)?;
         self.push_run(input, from, end, window, entries, meter)?;
         Ok(())
     }

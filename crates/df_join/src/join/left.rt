@@ -5,6 +5,7 @@ ghost use Rattle.std.specs.FinMap as finite;
 ghost use Rattle.df_column.specs.Changes.{set_at, applied};
 ghost use Rattle.df_column.specs.Tables.{TaggedRows};
 ghost use Rattle.df_delta.specs.Differences.{Fits};
+ghost use Rattle.df_delta.specs.RowKeys as row_keys;
 ghost use Rattle.df_ops.specs.Groups.{key_of as key_cells};
 ghost use Rattle.df_join.specs.Keyed.{LeadsTo, rows_or_empty};
 ghost use Rattle.df_join.specs.Probes.{Grows, all_probes, is_staged, note_probes, nothing_staged, probes_right};
@@ -18,7 +19,7 @@ use super::pairs::tagged_rows;
 use crate::keyed::KeyedTables;
 use crate::tree_table::TreeTable;
 use df_column::{Entry, Tag};
-use df_delta::{Delta, Notes};
+use df_delta::{Delta, Notes, RowKey};
 use df_expr::Counter;
 use df_value::Row;
 use std::alloc::AllocError;
@@ -29,14 +30,14 @@ impl LiveJoin {
     fn right_table<'a>(
         &'a self,
         staged: &'a KeyedTables,
-        key: &Row,
+        key: RowKey<'_>,
         probes: &mut Counter,
     ) -> Option<&'a TreeTable>
         requires { probes.old + 2 < 2 ^ 128 }
         ensures rows { (r : TaggedRows) → LeadsTo self.now.rule.indices.right self.now.right staged.now r
-            → rows_or_empty (option_copied result) ≡ keyed_rows self.now.rule self.now.rule.indices.right key.now r }
+            → rows_or_empty (option_copied result) ≡ keyed_rows self.now.rule self.now.rule.indices.right (row_keys.key_cells key.entry) r }
         ensures exact { probes.new ≡ probes.old
-            + probes_right self.now.rule key.now (is_staged staged.now key.now) }
+            + probes_right self.now.rule (row_keys.key_cells key.entry) (is_staged staged.now (row_keys.key_cells key.entry)) }
         ensures counted { Grows probes.old probes.new 2 }
     {
         if self.rule.is_null_key(key) {
@@ -69,8 +70,8 @@ impl LiveJoin {
             (is_staged staged.now (key_cells self.now.rule.indices.left left.now))) }
         ensures counted { Grows probes.old probes.new 2 }
     {
-        let key = self.rule.left_key(self.alloc, left)?;
-        let table = self.right_table(staged, &key, probes);
+        let key = self.rule.left_key(left);
+        let table = self.right_table(staged, key, probes);
         let matching = tagged_rows(self.alloc, table)?;
         self.note_left(notes, goes, tag, left, &matching)
     }

@@ -5,6 +5,7 @@ ghost use Rattle.std.specs.FinMap as finite;
 ghost use Rattle.df_column.specs.Changes.{set_at, applied};
 ghost use Rattle.df_column.specs.Tables.{TaggedRows, new_row_fits};
 ghost use Rattle.df_delta.specs.Differences.{Fits};
+ghost use Rattle.df_delta.specs.RowKeys as row_keys;
 ghost use Rattle.df_ops.specs.Groups.{key_of as key_cells};
 ghost use Rattle.df_join.specs.Keyed.{IsIndexOf, rows_or_empty};
 ghost use Rattle.df_join.specs.Probes.{Grows, all_probes, change_probes, is_staged, probes_left, probes_over, right_probes, with_key, with_keys};
@@ -19,18 +20,18 @@ use super::pairs::tagged_rows;
 use crate::keyed::KeyedTables;
 use crate::tree_table::TreeTable;
 use df_column::{Entry, Tag};
-use df_delta::{Delta, Notes};
+use df_delta::{Delta, Notes, RowKey};
 use df_expr::Counter;
 use df_value::Row;
 use std::alloc::AllocError;
 
 impl LiveJoin {
     /// The table of the left rows of the key, where it is not null. Makes at most one probe.
-    fn left_table(&self, key: &Row, probes: &mut Counter) -> Option<&TreeTable>
+    fn left_table(&self, key: RowKey<'_>, probes: &mut Counter) -> Option<&TreeTable>
         requires { probes.old + 1 < 2 ^ 128 }
         ensures rows { (l : TaggedRows) → IsIndexOf self.now.rule.indices.left self.now.left l
-            → rows_or_empty (option_copied result) ≡ keyed_rows self.now.rule self.now.rule.indices.left key.now l }
-        ensures exact { probes.new ≡ probes.old + probes_left self.now.rule key.now }
+            → rows_or_empty (option_copied result) ≡ keyed_rows self.now.rule self.now.rule.indices.left (row_keys.key_cells key.entry) l }
+        ensures exact { probes.new ≡ probes.old + probes_left self.now.rule (row_keys.key_cells key.entry) }
         ensures counted { Grows probes.old probes.new 1 }
     {
         if self.rule.is_null_key(key) {
@@ -62,11 +63,9 @@ impl LiveJoin {
             ≡ (row_eq (key_cells self.now.rule.indices.right right.now) k || is_staged staged.old k)) }
         ensures counted { Grows probes.old probes.new 3 }
     {
-        let key = self.rule.right_key(self.alloc, right)?;
-        let alone = self
-            .right
-            .stage_row(staged, goes, tag, right, &key, probes)?;
-        let left = self.left_table(&key, probes);
+        let key = self.rule.right_key(right);
+        let alone = self.right.stage_row(staged, goes, tag, right, key, probes)?;
+        let left = self.left_table(key, probes);
         let matching = tagged_rows(self.alloc, left)?;
         let lone = self.rule.keeps_alone(alone);
         self.note_right(notes, lone, goes, tag, right, &matching)
@@ -98,12 +97,12 @@ impl LiveJoin {
             (is_staged staged.old) (Some old.now) (Some new.now)) }
         ensures counted { Grows probes.old probes.new 6 }
     {
-        let key = self.rule.right_key(self.alloc, old)?;
-        self.right.stage_row(staged, true, tag, old, &key, probes)?;
+        let key = self.rule.right_key(old);
+        self.right.stage_row(staged, true, tag, old, key, probes)?;
         // The work of a change is that of a row that goes and of one that comes, whatever their keys are.
-        let _before = self.left_table(&key, probes);
-        self.right.stage_row(staged, false, tag, new, &key, probes)?;
-        let table = self.left_table(&key, probes);
+        let _before = self.left_table(key, probes);
+        self.right.stage_row(staged, false, tag, new, key, probes)?;
+        let table = self.left_table(key, probes);
         let matching = tagged_rows(self.alloc, table)?;
         self.note_replaced(notes, tag, old, new, &matching)
     }

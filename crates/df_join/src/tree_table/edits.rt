@@ -1,5 +1,5 @@
 //! Edits of a sequence of rows that stand by rising tags.
-ghost use Rattle.std.specs.Prelude.{◌≡◌, Some, None, OnOk, T};
+ghost use Rattle.std.specs.Prelude.{◌≡◌, MatchResult, None, Some, T};
 ghost use Rattle.std.specs.FinMap as finite;
 ghost use Rattle.df_column.specs.Changes.{edit};
 ghost use Rattle.df_column.specs.Tags.{tag_cmp};
@@ -31,10 +31,12 @@ fn stands_at(rows: &Seq<TaggedRow>, index: usize, tag: Tag) -> bool
     tag.cmp(&rows.get(index).tag()).is_eq()
 }
 
-/// Puts the row at its tag.
+/// Puts the row at its tag. Where memory is refused the rows stay.
 pub fn put_row(rows: &mut Seq<TaggedRow>, alloc: Global, row: TaggedRow) -> Result<(), AllocError>
-    ensures { OnOk result (T (finite.is_sorted tag_cmp (items_in rows.old))
-        → items_in rows.new ≡ edit tag_cmp (items_in rows.old) row.0 (Some row.1)) }
+    ensures { MatchResult result
+        (λ _. T (finite.is_sorted tag_cmp (items_in rows.old))
+        → items_in rows.new ≡ edit tag_cmp (items_in rows.old) row.0 (Some row.1))
+        (λ _. items_in rows.new ≡ items_in rows.old) }
 {
     let index = place_of(rows, row.tag());
     if stands_at(rows, index, row.tag()) {
@@ -43,10 +45,12 @@ pub fn put_row(rows: &mut Seq<TaggedRow>, alloc: Global, row: TaggedRow) -> Resu
     rows.insert(alloc, index, row)
 }
 
-/// Takes the row at the tag out, if there is one.
+/// Takes the row at the tag out, if there is one. Where memory is refused the rows stay.
 pub fn take_row(rows: &mut Seq<TaggedRow>, alloc: Global, tag: Tag) -> Result<(), AllocError>
-    ensures { OnOk result (T (finite.is_sorted tag_cmp (items_in rows.old))
-        → items_in rows.new ≡ edit tag_cmp (items_in rows.old) tag None) }
+    ensures { MatchResult result
+        (λ _. T (finite.is_sorted tag_cmp (items_in rows.old))
+        → items_in rows.new ≡ edit tag_cmp (items_in rows.old) tag None)
+        (λ _. items_in rows.new ≡ items_in rows.old) }
 {
     let index = place_of(rows, tag);
     if !stands_at(rows, index, tag) {

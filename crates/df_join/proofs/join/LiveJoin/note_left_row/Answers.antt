@@ -9,4 +9,4 @@ use Rattle.df_join.proofs.join.LiveJoin.note_left_row.Goals as goal
 pub returns-clause-noted : goal.returns-clause-noted
 returns-clause-noted c = on_ok_then c.note_left.result c.note_left.ensures (λ noted r over.
     subst (λ fs. Noted c.args.notes.now c.note_left.new.notes (left_list c.args.self.now.rule (is_one c.args.self.now.left_scans) (keeps_left c.args.self.now.rule.how) c.args.goes c.args.tag c.args.left.now fs))
-    (c.deref.ensures.value ∙ c.in_ok-matching.ensures ∙ ap (λ t. finite.entries t) (c.right_table-table.ensures.rows r over) ∙ ap (λ k. finite.entries (keyed_rows c.args.self.now.rule c.args.self.now.rule.indices.right k r)) c.in_ok-key.ensures) noted)
+    (c.deref.ensures.value ∙ c.in_ok-matching.ensures ∙ ap (λ t. finite.entries t) (c.right_table-table.ensures.rows r over) ∙ ap (λ k. finite.entries (keyed_rows c.args.self.now.rule c.args.self.now.rule.indices.right k r)) c.left_key-key.ensures) noted)

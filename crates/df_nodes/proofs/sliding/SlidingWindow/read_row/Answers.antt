@@ -1,4 +1,4 @@
-use Rattle.std.proofs.Common.{◌≡◌, ◌<◌, ◌≤◌, ◌^◌, [], ap, arith, ◌∙◌, get_or, length, List, subst, sym}
+use Rattle.std.proofs.Common.{[], ap, arith, ◌∙◌, get_or, List, sym}
 use Rattle.std.specs.FinMap as finite
 use Rattle.std.proofs.lemmas.List.{get_or-map, length-map}
 use Rattle.df_value.specs.declared.cell.Cell.{Cell}

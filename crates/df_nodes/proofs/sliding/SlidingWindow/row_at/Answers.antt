@@ -1,4 +1,4 @@
-use Rattle.std.proofs.Common.{◌≡◌, ◌+◌, [], Some, ap, arith, ◌∙◌, get_or, take}
+use Rattle.std.proofs.Common.{[], Some, ap, arith, ◌∙◌, get_or, take}
 use Rattle.std.specs.FinMap as finite
 use Rattle.std.proofs.lemmas.List.{length-map}
 use Rattle.df_ops.specs.Aggregates.{cells_of}

@@ -1,4 +1,4 @@
-use Rattle.std.proofs.Common.{[], ap, arith, ◌∙◌, length, refl, subst, sym}
+use Rattle.std.proofs.Common.{ap, arith, ◌∙◌, length, refl, subst, sym}
 use Rattle.df_nodes.specs.Sliding.{AreWords, stacked, totals_of}
 use Rattle.df_nodes.proofs.WindowMoves.{turned_window}
 use Rattle.df_nodes.proofs.WindowTotals.{stacked_length}
