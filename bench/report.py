@@ -25,7 +25,6 @@ SHELL = str(ROOT / "crates/dfshell/out/dfshell")
 PYTHON = "/usr/bin/python3"
 ROUNDS = 3
 SIZES = (10_000, 100_000, 1_000_000)
-LARGE = ("filter", "with_columns", "rolling_sum 7", "rank dense", "rank min of texts", "join with a group_by")
 
 REGIONS = "SELECT region, count(*), sum(qty), min(CAST(qty AS INTEGER)), max(CAST(qty AS INTEGER)) FROM rows GROUP BY region"
 KEYS = "SELECT key, count(*), sum(amount) FROM rows GROUP BY key"
@@ -118,10 +117,10 @@ def load_table(folder):
     return lines, bars
 
 
-def steps_table(rows, names):
-    """The table of single steps."""
+def steps_table(rows):
+    """The table of single steps over so many rows."""
     lines = ["| Step | 1 worker | 4 workers | pandas |", "|---|---|---|---|"]
-    for name, seconds in steps.measured(PROGRAM, rows, ROUNDS, names):
+    for name, seconds in steps.measured(PROGRAM, rows, ROUNDS, steps.STEPS):
         cells = " | ".join("-" if s is None else f"{s:.2f}" for s in seconds)
         lines.append(f"| {name} | {cells} |")
     return lines
@@ -222,8 +221,8 @@ def main():
         load, bars = load_table(folder)
         live, plot = live_table(folder)
     tables = {"machine": machine(), "load": load, "live": live}
-    tables["steps"] = steps_table(131_072, list(steps.STEPS))
-    tables["large"] = steps_table(rows, LARGE)
+    tables["steps"] = steps_table(131_072)
+    tables["large"] = steps_table(rows)
     text = PAGE.read_text()
     for name, lines in tables.items():
         text = put(text, name, lines)

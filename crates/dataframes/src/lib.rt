@@ -40,7 +40,7 @@ pub use df_value::{
 pub use df_versions::{ChangeFault, Naming, OpenFault, Reader, Told, Version};
 pub use fault::{FinishFault, ServiceFault};
 pub use files::{CsvFile, read_files};
-pub use hall_changes::{Answer, HallChanges, RunningHall};
+pub use hall_changes::{HallChanges, RunningHall};
 pub use loading::{Loaded, load_into};
 pub use opening::{Finished, FrameTotals};
 pub use service::{OpenService, Service, Tell, ViewSchema};
