@@ -87,6 +87,11 @@ impl<Acc: Ledger, Del: Ledger, J: Naming> VersionedCatalogue<Acc, Del, J> {
         self.publisher.len()
     }
 
+    /// How many groups the views finished at the last change of rows that was accepted, a measure of its work.
+    pub fn finished_groups(&self) -> u128 {
+        self.catalogue.work().finishes
+    }
+
     /// From now on each view keeps what a change of rows does to its table, or keeps it no longer. What is kept now is
     /// forgotten.
     pub fn keep_changes(&mut self, keeps: bool)

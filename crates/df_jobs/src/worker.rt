@@ -42,6 +42,8 @@ impl<Acc: Ledger, Del: Ledger> Drop for Worker<Acc, Del> {
 /// How many jobs a worker draws at once.
 #[derive(Clone, Copy)]
 pub struct AtOnce {
+    /// Where none were drawn before.
+    pub first: usize,
     pub least: usize,
     /// Where many were drawn before.
     pub most: usize,
@@ -71,6 +73,9 @@ impl<S, G> Work<'_, S, G> {
     // How many jobs a worker draws at once where so many were drawn before. A commit may change every row of a view: where
     // each brings half as many rows as stand, all commits together change three times as many as the last one.
     fn jobs_behind(&self, drawn: u64) -> usize {
+        if drawn == 0 {
+            return self.at_once.first;
+        }
         let half = (drawn / 2).min(self.at_once.most as u64);
         self.at_once.least.max(half as usize)
     }
@@ -93,9 +98,13 @@ impl<Acc: Ledger, Del: Ledger> Worker<Acc, Del> {
         })
     }
 
-    /// Draws the next jobs. They follow one another where no other worker draws meanwhile. There are none where no job is
-    /// left.
-    pub fn draw<S: Source, G: Gate>(&mut self, work: &Work<S, G>) -> Result<Vec<u64>, AllocError>
+    /// Draws the next jobs, at least so many if they are left. They follow one another where no other worker draws
+    /// meanwhile. There are none where no job is left.
+    pub fn draw<S: Source, G: Gate>(
+        &mut self,
+        work: &Work<S, G>,
+        least: usize,
+    ) -> Result<Vec<u64>, AllocError>
         requires { IsWorker work.now.claims.now work.now.desks
             (chunks_of S.made S.start_of work.now.sources.now)
             self.old }
@@ -110,7 +119,7 @@ impl<Acc: Ledger, Del: Ledger> Worker<Acc, Del> {
             return Ok(jobs);
         };
         jobs.push(first)?;
-        for _ in 1..work.jobs_behind(first) {
+        for _ in 1..work.jobs_behind(first).max(least) {
             let Some(job) = work.claims.next(&mut self.seat) else {
                 return Ok(jobs);
             };

@@ -5,7 +5,10 @@ use df_plan::{CheckedPlan, Plan};
 use df_value::Text;
 
 /// As many as make a full frame in chunks of 1,000 rows.
-const JOBS_OF_FULL_FRAME: usize = 1049;
+pub(crate) const JOBS_OF_FULL_FRAME: usize = 1049;
+
+/// How many jobs are drawn at first, so that a first commit shows what views make of rows.
+const JOBS_OF_FIRST_COMMIT: usize = 8;
 
 /// How many jobs each of so many workers draws at once, where these views are kept.
 ///
@@ -15,6 +18,7 @@ const JOBS_OF_FULL_FRAME: usize = 1049;
 pub(crate) fn jobs_at_once(jobs: u64, workers: usize, views: &[(Text, CheckedPlan)]) -> AtOnce {
     if views.iter().any(|view| may_change_every_row(view.1.plan())) {
         return AtOnce {
+            first: JOBS_OF_FULL_FRAME,
             least: JOBS_OF_FULL_FRAME,
             most: JOBS_OF_FULL_FRAME,
         };
@@ -25,8 +29,10 @@ pub(crate) fn jobs_at_once(jobs: u64, workers: usize, views: &[(Text, CheckedPla
         (128 / workers).max(1)
     };
     let parts = if workers <= 1 { 1 } else { workers.max(4) };
+    let least = jobs.div_ceil(parts as u64).clamp(1, most as u64) as usize;
     AtOnce {
-        least: jobs.div_ceil(parts as u64).clamp(1, most as u64) as usize,
+        first: least.min(JOBS_OF_FIRST_COMMIT),
+        least,
         most,
     }
 }

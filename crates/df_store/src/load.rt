@@ -213,7 +213,7 @@ fn run_load<
     ensures left_totals { IfErr result (λ fault. IfSome fault.left (λ left.
         left.1 ≡ closing.totals_of left.0.state)) }
 {
-    let hall: LoadingHall<Acc, Del, J, B> = LoadingHall::over(work.alloc, catalogue);
+    let hall: LoadingHall<Acc, Del, J, B> = LoadingHall::over(work.alloc, catalogue, work.workers);
     let (desks, outcomes) = do_jobs(rt, &hall, work, seats, desks);
     finish(
         rt,

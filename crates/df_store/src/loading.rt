@@ -44,17 +44,18 @@ pub(crate) struct LoadingHall<Acc: Ledger, Del: Ledger, J: Naming, B: Beginning>
 }
 
 impl<Acc: Ledger, Del: Ledger, J: Naming, B: Beginning> LoadingHall<Acc, Del, J, B> {
-    /// A lock round the catalogue that the load begins with, for which nothing waits.
+    /// A lock round the catalogue that so many workers begin with, for which nothing waits.
     pub(crate) fn over(
         alloc: Global,
         catalogue: VersionedCatalogue<Acc, Del, J>,
+        workers: usize,
     ) -> LoadingHall<Acc, Del, J, B>
         requires history { catalogue ≡ B.history }
         requires allowed { AllowsAppends J.allows }
     {
         LoadingHall {
             catalogue: Mutex::new(LoadingCatalogue::over(catalogue)),
-            waiting: Mutex::new(Waiting::new(alloc)),
+            waiting: Mutex::new(Waiting::new(alloc, workers)),
         }
     }
 
@@ -101,14 +102,29 @@ impl<Acc: Ledger, Del: Ledger, J: Naming, B: Beginning> LoadingHall<Acc, Del, J,
         }
     }
 
-    /// Takes out all batches that wait, for the worker that commits. Where there are none, it has ended.
+    /// Takes out the batches that are to be committed now, for the worker that commits. Where there are none, it has ended.
     pub(crate) fn take_waiting<R: Wait>(&self, rt: &R, alloc: Global) -> Vec<Batch>
         ensures { All (IsBatch B.chunks) result.items }
     {
         let mut waiting = self.waiting.lock(rt);
-        let batches = waiting.take_all(alloc);
+        let batches = waiting.take_ready(alloc);
         MutexGuard::unlock(waiting);
         batches
+    }
+
+    /// A worker has found no job to draw. Whether it is the last one, which commits what waits.
+    pub(crate) fn end_drawing<R: Wait>(&self, rt: &R) -> bool {
+        let mut waiting = self.waiting.lock(rt);
+        let is_last = waiting.end_drawing();
+        MutexGuard::unlock(waiting);
+        is_last
+    }
+
+    /// Notes how many groups a change finished by which so many rows came.
+    pub(crate) fn note_groups<R: Wait>(&self, rt: &R, rows: usize, groups: u128) {
+        let mut waiting = self.waiting.lock(rt);
+        waiting.note_groups(rows, groups);
+        MutexGuard::unlock(waiting);
     }
 
     /// Leaves batches that have entered, for whoever frees them, and takes those that were left before.
@@ -184,6 +200,11 @@ impl<Acc: Ledger, Del: Ledger, J: Naming, B: Beginning> LoadingCatalogue<Acc, De
         let LoadingCatalogue { catalogue, of } = self;
         drop(of);
         catalogue
+    }
+
+    /// How many groups the last change finished.
+    pub(crate) fn finished_groups(&self) -> u128 {
+        self.catalogue.finished_groups()
     }
 
     /// Appends a whole chunk to the desk's frame.

@@ -4,6 +4,7 @@ ghost use Rattle.std.specs.Prelude.{◌≡◌, ◌++◌, ◌⊎◌, IfOk, IfSome
 ghost use Rattle.df_jobs.specs.Joined.{IsJoined};
 ghost use Rattle.df_store.specs.Batches.{IsBatch, IsRunOfAll, outcomes_of};
 
+use crate::drawing::JOBS_OF_FULL_FRAME;
 use crate::loading::Beginning;
 use core::mem;
 use df_jobs::{Joined, Outcome};
@@ -36,6 +37,14 @@ impl Batch {
         match self {
             Batch::Run(run) => run.outcomes.len(),
             Batch::Apart(outcomes) => outcomes.len(),
+        }
+    }
+
+    /// How many rows its run has; none where its chunks enter one by one.
+    pub(crate) fn rows(&self) -> usize {
+        match self {
+            Batch::Run(run) => run.run.len(),
+            Batch::Apart(_) => 0,
         }
     }
 
@@ -120,6 +129,9 @@ fn apart(outcomes: Vec<Outcome>, next: Batch) -> Result<Batch, AllocError>
     Ok(Batch::Apart(outcomes))
 }
 
+/// Where a commit brings fewer rows than this for each group that it finishes, there are many groups.
+const ROWS_OF_A_GROUP: usize = 2;
+
 /// What a worker is to do whose batch waits.
 #[derive(Clone, Copy, PartialEq, Eq)]
 pub(crate) enum Turn {
@@ -127,7 +139,7 @@ pub(crate) enum Turn {
     Commit,
     /// Make more.
     Make,
-    /// Let the commit end that is going on: so much waits already.
+    /// Let the commit end that is going on: so much waits already, or it is the first.
     Pause,
 }
 
@@ -138,6 +150,13 @@ pub(crate) struct Waiting<B: Beginning> {
     count: usize,
     /// Whether a worker commits.
     is_committing: bool,
+    /// Whether the last commit finished a group for few rows each. Each further commit may finish them all once more, so
+    /// that there are to be few.
+    has_many_groups: bool,
+    /// Whether a commit has ended.
+    has_entered: bool,
+    /// How many workers may still draw jobs.
+    drawing: usize,
     /// Batches that have entered, and are to be freed.
     spent: Vec<Batch>,
     of: PhantomData<B>,
@@ -150,6 +169,9 @@ impl<B: Beginning> Drop for Waiting<B> {
             batches,
             count: _,
             is_committing: _,
+            has_many_groups: _,
+            has_entered: _,
+            drawing: _,
             spent,
             of,
         } = self;
@@ -171,12 +193,15 @@ impl<B: Beginning> Model for Waiting<B> {
 }
 
 impl<B: Beginning> Waiting<B> {
-    /// None.
-    pub(crate) fn new(alloc: Global) -> Waiting<B> {
+    /// None, of so many workers.
+    pub(crate) fn new(alloc: Global, workers: usize) -> Waiting<B> {
         Waiting {
             batches: Vec::new(alloc),
             count: 0,
             is_committing: false,
+            has_many_groups: false,
+            has_entered: false,
+            drawing: workers,
             spent: Vec::new(alloc),
             of: PhantomData,
         }
@@ -192,7 +217,8 @@ impl<B: Beginning> Waiting<B> {
             self.is_committing = true;
             return Ok(Turn::Commit);
         }
-        Ok(if self.count / 2 < workers {
+        // Until the first commit has ended nobody knows how many groups there are.
+        Ok(if self.has_entered && self.count / 2 < workers {
             Turn::Make
         } else {
             Turn::Pause
@@ -210,8 +236,57 @@ impl<B: Beginning> Waiting<B> {
         Some(self.batches.remove(at))
     }
 
-    /// Takes all out, in the order in which they came, for the worker that commits. Where there are none, it has ended.
-    pub(crate) fn take_all(&mut self, alloc: Global) -> Vec<Batch>
+    /// Notes how many groups a change finished by which so many rows came.
+    pub(crate) fn note_groups(&mut self, rows: usize, groups: u128) {
+        self.has_entered = true;
+        if rows > 0 {
+            self.has_many_groups = groups > (rows / ROWS_OF_A_GROUP) as u128;
+        }
+    }
+
+    /// The least jobs that a worker is to draw at once.
+    pub(crate) fn least_jobs(&self) -> usize {
+        if self.has_many_groups {
+            JOBS_OF_FULL_FRAME
+        } else {
+            1
+        }
+    }
+
+    /// A worker has found no job to draw. Whether it is the last one, which commits what waits. There is none where one
+    /// stopped before: then the load fails.
+    pub(crate) fn end_drawing(&mut self) -> bool {
+        self.drawing = self.drawing.saturating_sub(1);
+        self.drawing == 0
+    }
+
+    // Whether what waits is to wait for more.
+    fn is_to_wait(&self) -> bool {
+        self.has_many_groups && self.drawing > 0 && self.jobs() < JOBS_OF_FULL_FRAME
+    }
+
+    // How many jobs wait.
+    fn jobs(&self) -> usize {
+        let mut jobs: usize = 0;
+        for batch in &self.batches {
+            jobs = jobs.saturating_add(batch.len());
+        }
+        jobs
+    }
+
+    /// Takes out what is to be committed now, for the worker that commits. Where that is nothing, it has ended.
+    pub(crate) fn take_ready(&mut self, alloc: Global) -> Vec<Batch>
+        ensures { All (IsBatch B.chunks) result.items }
+    {
+        if self.is_to_wait() {
+            self.is_committing = false;
+            return Vec::new(alloc);
+        }
+        self.take_all(alloc)
+    }
+
+    // Takes all out, in the order in which they came.
+    fn take_all(&mut self, alloc: Global) -> Vec<Batch>
         ensures { All (IsBatch B.chunks) result.items }
     {
         let batches = mem::replace(&mut self.batches, Vec::new(alloc));

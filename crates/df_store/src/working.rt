@@ -33,17 +33,63 @@ pub(crate) fn run<Acc: Ledger, Del: Ledger, J: Naming, B: Beginning, S: Source, 
     ensures counted { AreCounted worker.old.desks.items worker.old.done.items
         worker.new.desks.items worker.new.done.items }
 {
+    if let Err(stop) = do_all(rt, hall, work, worker) {
+        worker.stopped = Some(stop);
+    }
+}
+
+// Does the jobs that it draws, until none is left, and commits what then waits.
+fn do_all<Acc: Ledger, Del: Ledger, J: Naming, B: Beginning, S: Source, G: Gate, R: Wait>(
+    rt: &R,
+    hall: &LoadingHall<Acc, Del, J, B>,
+    work: &Work<S, G>,
+    worker: &mut Worker<Acc, Del>,
+) -> Result<(), Stop>
+    requires chunks { B.chunks ≡ chunks_of S.made S.start_of work.now.sources.now }
+    requires worker { IsWorker work.now.claims.now work.now.desks
+        (chunks_of S.made S.start_of work.now.sources.now)
+        worker.old }
+    ensures worker { IsWorker work.now.claims.now work.now.desks
+        (chunks_of S.made S.start_of work.now.sources.now)
+        worker.new }
+    ensures desks { all_without_accepted worker.new.desks.items
+        ≡ all_without_accepted worker.old.desks.items }
+    ensures counted { AreCounted worker.old.desks.items worker.old.done.items
+        worker.new.desks.items worker.new.done.items }
+{
     let mut told: Option<Told<J>> = None;
     for _ in 0..work.jobs {
-        match do_next(rt, hall, work, worker, &mut told) {
-            Ok(true) => {}
-            Ok(false) => return,
-            Err(stop) => {
-                worker.stopped = Some(stop);
-                return;
-            }
+        if !do_next(rt, hall, work, worker, &mut told)? {
+            return commit_rest(rt, hall, work, worker, &mut told);
         }
     }
+    commit_rest(rt, hall, work, worker, &mut told)
+}
+
+// Has the last worker that found no job commit what waits.
+fn commit_rest<Acc: Ledger, Del: Ledger, J: Naming, B: Beginning, S: Source, G: Gate, R: Wait>(
+    rt: &R,
+    hall: &LoadingHall<Acc, Del, J, B>,
+    work: &Work<S, G>,
+    worker: &mut Worker<Acc, Del>,
+    told: &mut Option<Told<J>>,
+) -> Result<(), Stop>
+    requires chunks { B.chunks ≡ chunks_of S.made S.start_of work.now.sources.now }
+    requires worker { IsWorker work.now.claims.now work.now.desks
+        (chunks_of S.made S.start_of work.now.sources.now)
+        worker.old }
+    ensures worker { IsWorker work.now.claims.now work.now.desks
+        (chunks_of S.made S.start_of work.now.sources.now)
+        worker.new }
+    ensures desks { all_without_accepted worker.new.desks.items
+        ≡ all_without_accepted worker.old.desks.items }
+    ensures counted { AreCounted worker.old.desks.items worker.old.done.items
+        worker.new.desks.items worker.new.done.items }
+{
+    if hall.end_drawing(rt) {
+        return commit_waiting(rt, hall, work, worker, told);
+    }
+    Ok(())
 }
 
 // Does the next jobs that it draws, and tells whether there were any. Those of one frame are committed together.
@@ -96,7 +142,7 @@ fn draw<Acc: Ledger, Del: Ledger, J: Naming, B: Beginning, S: Source, G: Gate, R
     ensures done { worker.new.done ≡ worker.old.done }
 {
     let waiting = hall.lock_waiting(rt);
-    let jobs = worker.draw(work);
+    let jobs = worker.draw(work, waiting.least_jobs());
     MutexGuard::unlock(waiting);
     jobs
 }
@@ -211,7 +257,9 @@ fn commit_next<Acc: Ledger, Del: Ledger, J: Naming, B: Beginning, S: Source, G: 
         &mut worker.done,
         told,
     );
+    let groups = catalogue.finished_groups();
     MutexGuard::unlock(catalogue);
+    hall.note_groups(rt, rows_of_last(batches.as_slice()), groups);
     // The deltas of runs that entered are freed once the lock is free, by other workers where there are any: that takes as long
     // as a commit.
     if work.workers > 1 {
@@ -220,4 +268,12 @@ fn commit_next<Acc: Ledger, Del: Ledger, J: Naming, B: Beginning, S: Source, G: 
     drop(batches);
     entered?;
     Ok(true)
+}
+
+// How many rows the last run of these batches has.
+fn rows_of_last(batches: &[Batch]) -> usize {
+    match batches.last() {
+        Some(batch) => batch.rows(),
+        None => 0,
+    }
 }

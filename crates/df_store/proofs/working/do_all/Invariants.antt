@@ -2,7 +2,7 @@ use Rattle.std.proofs.Common.{◌≡◌}
 use Rattle.df_jobs.specs.Jobs.{chunks_of}
 use Rattle.df_jobs.specs.Counted.{AreCounted, all_without_accepted}
 use Rattle.df_jobs.specs.Workers.{IsWorker}
-use Rattle.df_store.proofs.working.run.Given as goal
+use Rattle.df_store.proofs.working.do_all.Given as goal
 
 abbrev pub invariant-loop : goal.invariant-loop
 invariant-loop g l = record {
